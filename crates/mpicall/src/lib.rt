@@ -1,0 +1,4 @@
+#![tactic(auto)]
+
+pub mod call;
+pub mod record;
