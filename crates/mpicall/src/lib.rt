@@ -4,4 +4,6 @@ pub mod call;
 pub mod fault;
 pub mod fields;
 pub mod number;
+pub mod reading;
 pub mod record;
+pub mod word;
