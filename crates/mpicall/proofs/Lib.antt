@@ -2,3 +2,4 @@ pub mod NumberLemmas
 pub mod FieldLemmas
 pub mod DecimalLemmas
 pub mod ReadingLemmas
+pub mod DeviceLemmas

@@ -4,3 +4,5 @@ pub mod Word
 pub mod Spelling
 pub mod Line
 pub mod Reading
+pub mod Device
+pub mod FailsAt

@@ -1,9 +1,13 @@
 #![tactic(auto)]
 
 pub mod call;
+pub mod counted;
+pub mod device;
+pub mod fails_at;
 pub mod fault;
 pub mod fields;
 pub mod line;
+pub mod memory;
 pub mod number;
 pub mod reading;
 pub mod record;

@@ -1,0 +1,67 @@
+//! Readers and writers of std as devices, with a count of their failures. What a file, a pipe or a
+//! terminal gives or takes is not told.
+
+ghost use Rattle.std.specs.Prelude.{◌≡◌, None};
+
+use crate::device::{DeviceFault, Input, Output};
+use std::io::{Read, Write};
+
+/// A std reader as an input, or a std writer as an output, with the count of its failures.
+#[derive(Debug, Drop)]
+pub struct Counted<T> {
+    inner: T,
+    failures: u64,
+}
+
+impl<T> Counted<T> {
+    /// The reader or writer, with no failure so far.
+    pub fn new(inner: T) -> Counted<T>
+        ensures { result.failures ≡ 0 }
+    {
+        Counted { inner, failures: 0 }
+    }
+
+    /// How many reads or writes have failed, up to the greatest `u64`.
+    pub fn failures(&self) -> u64
+        ensures { result ≡ self.now.failures }
+    {
+        self.failures
+    }
+}
+
+impl<R: Read> Input for Counted<R> {
+    ghost left = { λ _. None };
+
+    ghost failures = { λ c. c.failures };
+
+    fn read_some(&mut self, into: &mut [u8]) -> Result<usize, DeviceFault> {
+        match self.inner.read(into) {
+            Ok(count) => Ok(count),
+            Err(_) => {
+                self.failures = self.failures.saturating_add(1);
+                Err(DeviceFault)
+            }
+        }
+    }
+}
+
+impl<W: Write> Output for Counted<W> {
+    ghost written = { λ _. None };
+
+    ghost failures = { λ c. c.failures };
+
+    fn write_some(&mut self, from: &[u8]) -> Result<usize, DeviceFault> {
+        match self.inner.write(from) {
+            // A writer that takes nothing will take nothing again.
+            Ok(0) if !from.is_empty() => {
+                self.failures = self.failures.saturating_add(1);
+                Err(DeviceFault)
+            }
+            Ok(count) => Ok(count),
+            Err(_) => {
+                self.failures = self.failures.saturating_add(1);
+                Err(DeviceFault)
+            }
+        }
+    }
+}

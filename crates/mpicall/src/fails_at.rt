@@ -1,0 +1,75 @@
+//! A device that fails once, at one stated call.
+
+ghost use Rattle.std.specs.Prelude.{◌≡◌, ◌+◌, if◌then◌else◌};
+ghost use Rattle.mpicall.specs.FailsAt.{own_failures, all_failures};
+
+use crate::device::{DeviceFault, Input, Output};
+
+/// A device whose call `at`, counted from 0, fails; each other call is one of the device within.
+#[derive(Debug, Drop)]
+pub struct FailsAt<D> {
+    device: D,
+    before: Option<u64>,
+}
+
+/// Whether this call is the stated one; counts the calls before it down.
+fn is_stated_call(before: &mut Option<u64>) -> bool
+    ensures { own_failures before.new ≡ own_failures before.old + (if result then 1 else 0) }
+{
+    match *before {
+        None => false,
+        Some(0) => {
+            *before = None;
+            true
+        }
+        Some(count) => {
+            *before = Some(count - 1);
+            false
+        }
+    }
+}
+
+impl<D> FailsAt<D> {
+    /// The device, with a failure at call `at`.
+    pub fn new(device: D, at: u64) -> FailsAt<D>
+        ensures { result.device ≡ device }
+    {
+        FailsAt {
+            device,
+            before: Some(at),
+        }
+    }
+
+    /// The device within.
+    pub fn device(&self) -> &D
+        ensures { result.now ≡ self.now.device }
+    {
+        &self.device
+    }
+}
+
+impl<D: Input> Input for FailsAt<D> {
+    ghost left = { λ f. D.left f.device };
+
+    ghost failures = { λ f. all_failures (D.failures f.device) f.before };
+
+    fn read_some(&mut self, into: &mut [u8]) -> Result<usize, DeviceFault> {
+        if is_stated_call(&mut self.before) {
+            return Err(DeviceFault);
+        }
+        self.device.read_some(into)
+    }
+}
+
+impl<D: Output> Output for FailsAt<D> {
+    ghost written = { λ f. D.written f.device };
+
+    ghost failures = { λ f. all_failures (D.failures f.device) f.before };
+
+    fn write_some(&mut self, from: &[u8]) -> Result<usize, DeviceFault> {
+        if is_stated_call(&mut self.before) {
+            return Err(DeviceFault);
+        }
+        self.device.write_some(from)
+    }
+}

@@ -1,0 +1,90 @@
+//! Inputs and outputs over memory, which tell their bytes.
+
+ghost use Rattle.std.specs.Prelude.{◌≡◌, ◌+◌, ◌<◌, [], Some};
+ghost use Rattle.mpicall.specs.Device.{one_more};
+
+use crate::device::{DeviceFault, Input, Output};
+use std::alloc::Global;
+
+/// An input over bytes in memory, which never fails.
+///
+/// It gives at most `most` bytes a read, so that a test can hand out a text in pieces.
+#[derive(Debug, Drop)]
+pub struct MemoryInput<'a> {
+    left: &'a [u8],
+    most: usize,
+    ghost some: { 0 < most },
+}
+
+impl<'a> MemoryInput<'a> {
+    /// An input that gives as many of the bytes as a read has room for.
+    pub fn new(bytes: &'a [u8]) -> MemoryInput<'a>
+        ensures { result.left.now ≡ bytes.now }
+    {
+        MemoryInput::in_pieces(bytes, usize::MAX)
+    }
+
+    /// An input that gives at most `most` bytes a read.
+    pub fn in_pieces(bytes: &'a [u8], most: usize) -> MemoryInput<'a>
+        requires { 0 < most }
+        ensures { result.left.now ≡ bytes.now }
+    {
+        MemoryInput { left: bytes, most }
+    }
+}
+
+impl<'a> Input for MemoryInput<'a> {
+    ghost left = { λ input. Some input.left.now };
+
+    ghost failures = { λ _. 0 };
+
+    fn read_some(&mut self, into: &mut [u8]) -> Result<usize, DeviceFault> {
+        let count = self.left.len().min(into.len()).min(self.most);
+        let (given, left) = self.left.split_at(count);
+        into[..count].copy_from_slice(given);
+        self.left = left;
+        Ok(count)
+    }
+}
+
+/// An output that keeps its bytes in memory, and fails where memory is refused.
+#[derive(Debug, Drop)]
+pub struct MemoryOutput {
+    bytes: Vec<u8>,
+    failures: u64,
+}
+
+impl MemoryOutput {
+    /// An output to which nothing was written.
+    pub fn new(alloc: Global) -> MemoryOutput
+        ensures { result.bytes.items ≡ [] }
+    {
+        MemoryOutput {
+            bytes: Vec::new(alloc),
+            failures: 0,
+        }
+    }
+
+    /// What was written so far.
+    pub fn bytes(&self) -> &[u8]
+        ensures { result.now ≡ self.now.bytes.items }
+    {
+        self.bytes.as_slice()
+    }
+}
+
+impl Output for MemoryOutput {
+    ghost written = { λ output. Some output.bytes.items };
+
+    ghost failures = { λ output. output.failures };
+
+    fn write_some(&mut self, from: &[u8]) -> Result<usize, DeviceFault> {
+        match self.bytes.extend_from_slice(from) {
+            Ok(()) => Ok(from.len()),
+            Err(_) => {
+                self.failures = self.failures.saturating_add(1);
+                Err(DeviceFault)
+            }
+        }
+    }
+}
