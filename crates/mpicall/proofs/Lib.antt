@@ -3,3 +3,4 @@ pub mod FieldLemmas
 pub mod DecimalLemmas
 pub mod ReadingLemmas
 pub mod DeviceLemmas
+pub mod SpellingLemmas

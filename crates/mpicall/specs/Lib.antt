@@ -6,3 +6,4 @@ pub mod Line
 pub mod Reading
 pub mod Device
 pub mod FailsAt
+pub mod Devices

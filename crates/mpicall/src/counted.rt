@@ -14,16 +14,18 @@ pub struct Counted<T> {
 }
 
 impl<T> Counted<T> {
+    ghost use Rattle.mpicall.specs.Devices.{counted_failures};
+
     /// The reader or writer, with no failure so far.
     pub fn new(inner: T) -> Counted<T>
-        ensures { result.failures ≡ 0 }
+        ensures { counted_failures result ≡ 0 }
     {
         Counted { inner, failures: 0 }
     }
 
     /// How many reads or writes have failed, up to the greatest `u64`.
     pub fn failures(&self) -> u64
-        ensures { result ≡ self.now.failures }
+        ensures { result ≡ counted_failures self.now }
     {
         self.failures
     }

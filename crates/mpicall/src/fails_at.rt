@@ -30,9 +30,11 @@ fn is_stated_call(before: &mut Option<u64>) -> bool
 }
 
 impl<D> FailsAt<D> {
+    ghost use Rattle.mpicall.specs.Devices.{device_within};
+
     /// The device, with a failure at call `at`.
     pub fn new(device: D, at: u64) -> FailsAt<D>
-        ensures { result.device ≡ device }
+        ensures { device_within result ≡ device }
     {
         FailsAt {
             device,
@@ -42,7 +44,7 @@ impl<D> FailsAt<D> {
 
     /// The device within.
     pub fn device(&self) -> &D
-        ensures { result.now ≡ self.now.device }
+        ensures { result.now ≡ device_within self.now }
     {
         &self.device
     }

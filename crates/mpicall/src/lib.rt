@@ -11,4 +11,5 @@ pub mod memory;
 pub mod number;
 pub mod reading;
 pub mod record;
+pub mod spelling;
 pub mod word;

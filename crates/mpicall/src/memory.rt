@@ -17,9 +17,11 @@ pub struct MemoryInput<'a> {
 }
 
 impl<'a> MemoryInput<'a> {
+    ghost use Rattle.mpicall.specs.Devices.{bytes_left};
+
     /// An input that gives as many of the bytes as a read has room for.
     pub fn new(bytes: &'a [u8]) -> MemoryInput<'a>
-        ensures { result.left.now ≡ bytes.now }
+        ensures { bytes_left result ≡ bytes.now }
     {
         MemoryInput::in_pieces(bytes, usize::MAX)
     }
@@ -27,7 +29,7 @@ impl<'a> MemoryInput<'a> {
     /// An input that gives at most `most` bytes a read.
     pub fn in_pieces(bytes: &'a [u8], most: usize) -> MemoryInput<'a>
         requires { 0 < most }
-        ensures { result.left.now ≡ bytes.now }
+        ensures { bytes_left result ≡ bytes.now }
     {
         MemoryInput { left: bytes, most }
     }
@@ -55,9 +57,11 @@ pub struct MemoryOutput {
 }
 
 impl MemoryOutput {
+    ghost use Rattle.mpicall.specs.Devices.{bytes_written};
+
     /// An output to which nothing was written.
     pub fn new(alloc: Global) -> MemoryOutput
-        ensures { result.bytes.items ≡ [] }
+        ensures { bytes_written result ≡ [] }
     {
         MemoryOutput {
             bytes: Vec::new(alloc),
@@ -67,7 +71,7 @@ impl MemoryOutput {
 
     /// What was written so far.
     pub fn bytes(&self) -> &[u8]
-        ensures { result.now ≡ self.now.bytes.items }
+        ensures { result.now ≡ bytes_written self.now }
     {
         self.bytes.as_slice()
     }

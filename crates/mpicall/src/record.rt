@@ -81,6 +81,13 @@ impl Record {
         Record { call }
     }
 
+    /// The call in its place, for those that only look at it.
+    pub(crate) fn as_call(&self) -> &Call
+        ensures { result.now ≡ self.now }
+    {
+        &self.call
+    }
+
     /// The call, with its fields in their ranges.
     pub fn call(&self) -> Call
         ensures value { result ≡ self.now }
