@@ -4,3 +4,5 @@ pub mod DecimalLemmas
 pub mod ReadingLemmas
 pub mod DeviceLemmas
 pub mod SpellingLemmas
+pub mod BeginningLemmas
+pub mod WindowLemmas

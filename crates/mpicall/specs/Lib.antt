@@ -7,3 +7,6 @@ pub mod Reading
 pub mod Device
 pub mod FailsAt
 pub mod Devices
+pub mod Trace
+pub mod Window
+pub mod Source

@@ -29,3 +29,26 @@ pub enum LineFault {
     #[error("no line feed")]
     NoLineFeed,
 }
+
+/// Why a source of records has no next one.
+#[derive(Clone, Copy, Debug, PartialEq, Eq, Error)]
+pub enum SourceFault {
+    /// The next line is no spelling of a record.
+    #[error("{0}")]
+    Line(LineFault),
+    /// There are bytes behind the line of `finalize`.
+    #[error("text after finalize")]
+    TextAfterFinalize,
+    /// The bytes end where a line would begin, and no `finalize` came.
+    #[error("no finalize")]
+    NoFinalize,
+    /// A read of the input failed.
+    #[error("read failed")]
+    ReadFailed,
+    /// The gate of a feeding thread stopped it. A source never answers this.
+    #[error("gate stopped")]
+    GateStopped,
+    /// A feeding thread didn't start. A source never answers this.
+    #[error("thread not started")]
+    ThreadNotStarted,
+}

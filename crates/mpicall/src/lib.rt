@@ -11,5 +11,7 @@ pub mod memory;
 pub mod number;
 pub mod reading;
 pub mod record;
+pub mod source;
 pub mod spelling;
+pub mod window;
 pub mod word;

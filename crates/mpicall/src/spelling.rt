@@ -1,10 +1,11 @@
 //! The spelling of a record, written to an output.
 
-ghost use Rattle.std.specs.Prelude.{◌≡◌, ◌+◌, ◌≤◌, ◌<◌, [], ◌∷◌, ◌++◌, length, IsTrue, OnOk, OnErr};
+ghost use Rattle.std.specs.Prelude.{ℕ, List, ◌≡◌, ◌+◌, ◌≤◌, ◌<◌, [], ◌∷◌, ◌++◌, length, IsTrue, OnOk, OnErr};
 ghost use Rattle.std.specs.Fmt.{decimal};
 ghost use Rattle.std.specs.List.{join_with_byte};
 ghost use Rattle.std.specs.Io.KnownBytes.{Appends};
 ghost use Rattle.mpicall.specs.Limits.{in_ranges};
+ghost use Rattle.mpicall.specs.declared.call.Call.{Call as CallValue};
 ghost use Rattle.mpicall.specs.Word.{text_of};
 ghost use Rattle.mpicall.specs.Spelling.{space, peer_field, spelling};
 ghost use Rattle.mpicall.specs.Device.{CountsFailure, AppendsBeginning};
@@ -133,14 +134,20 @@ fn text_of(word: Word) -> &'static [u8]
 }
 
 /// Writes the one spelling of a record; after a fault a beginning of it was written.
-pub fn write_line<O: Output>(record: &Record, output: &mut O) -> Result<(), DeviceFault>
+pub fn write_line<O: Output>(entry: &Record, output: &mut O) -> Result<(), DeviceFault>
     ensures ok { OnOk result
-        (Appends (O.written output.old) (O.written output.new) (spelling record.now)) }
+        (Appends (O.written output.old) (O.written output.new) (spelling entry.now)) }
     ensures fault { OnErr result
-        (AppendsBeginning (O.written output.old) (O.written output.new) (spelling record.now)) }
+        (AppendsBeginning (O.written output.old) (O.written output.new) (spelling entry.now)) }
     ensures count { CountsFailure (O.failures output.old) (O.failures output.new) result }
 {
     let mut line = Draft::new();
-    line.push_call(record.as_call());
+    line.push_call(entry.as_call());
     write_all(output, line.bytes())
 }
+
+/// No spelling begins another one: of a text, at most one record can be read at its front.
+pub fn no_spelling_begins_another()
+    ensures { (x y : CallValue) (rest : List ℕ) → IsTrue (in_ranges x) → IsTrue (in_ranges y)
+        → spelling x ++ rest ≡ spelling y → (x ≡ y) × (rest ≡ []) }
+{}

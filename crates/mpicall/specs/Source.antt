@@ -1,0 +1,68 @@
+-- What a source of records still gives.
+use Rattle.std.specs.Prelude.{◌≡◌, ◌≢◌, ℕ, Bool, true, false, ◌&&◌, if◌then◌else◌, Option, Some, None, is_none, option_map, Result, Ok, Err, List, ⊤}
+use Rattle.std.specs.Io.KnownBytes.{prepend_known}
+use Rattle.mpicall.specs.Device.{one_more}
+use Rattle.mpicall.specs.Trace.{Trace, End, Sealed, Torn, trace_of, lines_of, end_after_finalize, ends_here, put_first}
+use Rattle.mpicall.specs.declared.call.Call.{Call}
+use Rattle.mpicall.specs.declared.fault.SourceFault.{SourceFault}
+use Rattle.mpicall.specs.declared.fault.SourceFault.TheVariants.{Line, TextAfterFinalize, NoFinalize, ReadFailed, GateStopped, ThreadNotStarted}
+use Rattle.mpicall.specs.declared.source.Source.{Source}
+use Rattle.mpicall.specs.declared.source.Stage.{Stage}
+use Rattle.mpicall.specs.declared.source.Stage.TheVariants.{Reading, Finalized, Done, Failed}
+
+-- the trace that is still to come, by how far the source is and the bytes that it has not used
+abbrev pub trace_at : Stage → Option (List ℕ) → Option Trace
+trace_at Reading bytes = option_map trace_of bytes
+trace_at Finalized bytes = option_map (λ behind. ends_here (end_after_finalize (lines_of behind))) bytes
+trace_at Done bytes = Some (ends_here Sealed)
+trace_at (Failed fault) bytes = Some (ends_here (Torn fault))
+
+-- the same of a source, where its input tells the bytes that are left
+unfoldable pub coming : {I : Type 0} → (I → Option (List ℕ)) → Source I → Option Trace
+coming left source = trace_at source.stage (prepend_known source.window (left source.input))
+
+-- the end that a source has answered; None before
+abbrev pub ended_at : Stage → Option End
+ended_at Reading = None
+ended_at Finalized = None
+ended_at Done = Some Sealed
+ended_at (Failed fault) = Some (Torn fault)
+
+abbrev pub ended : {I : Type 0} → Source I → Option End
+ended source = ended_at source.stage
+
+-- the input of a source
+abbrev pub input_of : {I : Type 0} → Source I → I
+input_of source = source.input
+
+-- an answer gives the next record of the trace that was to come, or its end; a failed read ends it
+abbrev pub Gives : Option Trace → Option Trace → Result (Option Call) SourceFault → Type 0
+Gives None new answer = ⊤
+Gives (Some old) new (Ok (Some call)) = (rest : Trace) × (old ≡ put_first call rest) × (new ≡ Some rest)
+Gives (Some old) new (Ok None) = (old ≡ ends_here Sealed) × (new ≡ Some old)
+Gives (Some old) new (Err ReadFailed) = new ≡ Some (ends_here (Torn ReadFailed))
+Gives (Some old) new (Err fault) = (old ≡ ends_here (Torn fault)) × (new ≡ Some old)
+
+-- the end that an answer tells
+abbrev pub end_of_answer : Result (Option Call) SourceFault → Option End
+end_of_answer (Ok (Some call)) = None
+end_of_answer (Ok None) = Some Sealed
+end_of_answer (Err fault) = Some (Torn fault)
+
+-- an end is answered for good: the same answer each time, and nothing changes
+abbrev pub answer_of : End → Result (Option Call) SourceFault
+answer_of Sealed = Ok None
+answer_of (Torn fault) = Err fault
+
+-- the answer says that a read failed
+abbrev pub is_read_failed : Result (Option Call) SourceFault → Bool
+is_read_failed (Err ReadFailed) = true
+is_read_failed answer = false
+
+-- the count of the input's failures after an answer: one more just where a read failed in that call
+abbrev pub count_after : Option End → Result (Option Call) SourceFault → ℕ → ℕ
+count_after old_end answer count = if is_none old_end && is_read_failed answer then one_more count else count
+
+-- a fault that a source itself may answer
+abbrev pub IsOwnFault : SourceFault → Type 0
+IsOwnFault fault = (fault ≢ GateStopped) × (fault ≢ ThreadNotStarted)

@@ -1,0 +1,106 @@
+//! The bytes that were read ahead of an input, held in place.
+
+ghost use Rattle.std.specs.Prelude.{◌≡◌, ◌+◌, ◌-◌, ◌≤◌, ◌<◌, ℕ, List, [], ◌++◌, length, drop, IsTrue, IfOk, OnErr, ◌↔◌};
+ghost use Rattle.std.specs.Io.KnownBytes.{Keeps, prepend_known, IsAtEnd};
+ghost use Rattle.mpicall.specs.Device.{CountsFailure};
+ghost use Rattle.mpicall.specs.Window.{Fills, held_between};
+
+use crate::device::{DeviceFault, Input};
+use std::marker::Model;
+
+/// How many bytes may be held.
+const CAPACITY: usize = 16384;
+
+/// Bytes that were read and not yet used; contracts see their list.
+#[derive(Debug, Drop)]
+pub(crate) struct Window {
+    buffer: [u8; CAPACITY],
+    /// Where the held bytes begin and end in the buffer.
+    start: usize,
+    end: usize,
+}
+
+impl Model for Window {
+    ghost use Rattle.std.specs.Prelude.{List, ℕ, ◌≤◌};
+    ghost use Rattle.mpicall.specs.Window.{held_between};
+
+    ghost Value = { List ℕ };
+
+    ghost view = { λ w. held_between w.start w.end w.buffer };
+
+    ghost invariant = { λ w. (w.start ≤ w.end) × (w.end ≤ 16384) };
+}
+
+/// Makes room behind the bytes that are held from `start` to `end`; they go to the buffer's front
+/// where that is needed.
+fn make_room(buffer: &mut [u8; CAPACITY], start: &mut usize, end: &mut usize)
+    requires order { start.old ≤ end.old }
+    requires within { end.old ≤ 16384 }
+    requires few { end.old - start.old ≤ 1024 }
+    ensures held { held_between start.new end.new buffer.new ≡ held_between start.old end.old buffer.old }
+    ensures order { start.new ≤ end.new }
+    ensures room { end.new < 16384 }
+{
+    if *start == *end {
+        *start = 0;
+        *end = 0;
+    }
+    if *end == CAPACITY {
+        buffer.copy_within(*start..*end, 0);
+        *end -= *start;
+        *start = 0;
+    }
+}
+
+impl Window {
+    pub(crate) fn new() -> Window
+        ensures { result ≡ [] }
+    {
+        Window {
+            buffer: [0; CAPACITY],
+            start: 0,
+            end: 0,
+        }
+    }
+
+    pub(crate) fn held(&self) -> &[u8]
+        ensures { result.now ≡ self.now }
+    {
+        &self.buffer[self.start..self.end]
+    }
+
+    pub(crate) fn is_empty(&self) -> bool
+        ensures { IsTrue result ↔ (self.now ≡ []) }
+    {
+        self.start == self.end
+    }
+
+    /// Lets the first `count` bytes go.
+    pub(crate) fn drop_front(&mut self, count: usize)
+        requires { count ≤ length self.old }
+        ensures { self.new ≡ drop count self.old }
+    {
+        self.start += count;
+    }
+
+    /// Reads once, straight behind the held bytes, and says how many bytes came; 0 at the input's end.
+    pub(crate) fn fill<I: Input>(&mut self, input: &mut I) -> Result<usize, DeviceFault>
+        requires { length self.old ≤ 1024 }
+        ensures known { Keeps
+            (prepend_known self.old (I.left input.old))
+            (prepend_known self.new (I.left input.new)) }
+        ensures ok { IfOk result (λ count. Fills self.old self.new count) }
+        ensures end { IfOk result (λ count. count ≡ 0 → IsAtEnd (I.left input.new)) }
+        ensures fault { OnErr result (self.new ≡ self.old) }
+        ensures count { CountsFailure (I.failures input.old) (I.failures input.new) result }
+    {
+        make_room(&mut self.buffer, &mut self.start, &mut self.end);
+        match input.read_some(&mut self.buffer[self.end..]) {
+            Ok(count) => {
+                self.end += count;
+                Ok(count)
+            }
+            Err(fault) => Err(fault),
+        }
+    }
+}
