@@ -1,13 +1,10 @@
 -- What is read as a number is its decimal text, and the decimal text of a number is read as it.
-use Rattle.std.proofs.Common.{◌≡◌, ℕ, ◌+◌, ◌-◌, ◌*◌, ◌<◌, ◌≤◌, ◌^◌, Bool, true, false, List, [], ◌∷◌, ◌++◌, length, get_or, take, drop, sym, ap, ◌∙◌, refl, arith, rules, Option, Some, None, Result, Ok, Err, cond, nat_le, nat_lt, IsTrue, length-append, ◌||◌, ◌&&◌, not, zero, suc, lit<}
+use Rattle.std.proofs.Common.{◌≡◌, ℕ, ◌<◌, ◌≤◌, ◌^◌, Bool, true, false, List, length, get_or, sym, refl, arith, rules, Some, None, cond, nat_le, nat_lt, ◌&&◌, not, zero, suc}
 use Rattle.std.specs.Fmt.{decimal}
-use Rattle.std.specs.Str.{bytes_eq, all_ascii_digits}
-use Rattle.std.specs.List.{slice_split, join_with_byte, list_any}
-use Rattle.std.specs.Option.{ok_or}
+use Rattle.std.specs.Str.{all_ascii_digits}
 use Rattle.std.proofs.lemmas.Fmt.{decimal-digits_value, digits_value-decimal, digits_decimal, first_decimal, decimal_nonempty, decimal_digit}
 use Rattle.std.proofs.lemmas.Str.Parse.{IsNumeralModel, numerals_by_fold, tells_all_ascii_digits}
 use Rattle.std.proofs.lemmas.Bool.Decides.{nat_tests}
-use Rattle.mpicall.specs.Limits.{in_ranges, greatest_comm, greatest_rank, greatest_tag}
 use Rattle.mpicall.specs.Number.{value_after, value_of, has_leading_zero, is_canonical, number_up_to}
 
 own : IsNumeralModel (λ ds. all_ascii_digits ds ≡ true) value_of

@@ -6,3 +6,7 @@ pub mod DeviceLemmas
 pub mod SpellingLemmas
 pub mod BeginningLemmas
 pub mod WindowLemmas
+pub mod FeedLemmas
+pub mod SourceLemmas
+pub mod TraceLemmas
+pub mod GivesLemmas

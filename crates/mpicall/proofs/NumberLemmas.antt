@@ -1,7 +1,6 @@
 -- What the digits of a number say of its value.
-use Rattle.std.proofs.Common.{◌≡◌, ℕ, ◌+◌, ◌-◌, ◌*◌, ◌<◌, ◌≤◌, ◌^◌, Bool, true, false, List, [], ◌∷◌, length, get_or, drop, drop-cons, add-one, ap, ◌∙◌, sym, refl, arith, rules, Option, Some, None, ◌&&◌, nat_le, if◌then◌else◌}
+use Rattle.std.proofs.Common.{◌≡◌, ℕ, ◌+◌, ◌-◌, ◌*◌, ◌<◌, ◌≤◌, false, List, [], ◌∷◌, length, get_or, drop, drop-cons, add-one, sym, refl, arith, nat_le}
 use Rattle.std.proofs.lemmas.Bool.Decides.{nat_tests}
-use Rattle.std.specs.Str.{all_ascii_digits}
 use Rattle.mpicall.specs.Number.{value_after, value_of}
 
 -- further digits make no number smaller

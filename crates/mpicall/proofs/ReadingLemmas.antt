@@ -1,9 +1,8 @@
 -- A line is read as a call exactly where it is that call's spelling, and else its first fault is told.
-use Rattle.std.proofs.Common.{◌≡◌, ℕ, ◌+◌, ◌-◌, ◌*◌, ◌<◌, ◌≤◌, ◌^◌, Bool, true, false, not, List, [], ◌∷◌, ◌++◌, length, get_or, take, drop, sym, ap, ◌∙◌, refl, arith, rules, Option, Some, None, Result, Ok, Err, cond, nat_le, nat_lt, nat_eq, IsTrue, length-append, ◌||◌, ◌&&◌, codes, drop-cons, is_some, option_map, ◌==◌, zero, suc}
+use Rattle.std.proofs.Common.{◌≡◌, ℕ, ◌+◌, ◌-◌, ◌<◌, ◌≤◌, ◌^◌, Bool, true, false, not, List, [], ◌∷◌, ◌++◌, length, get_or, drop, sym, ap, ◌∙◌, refl, arith, Option, Some, None, Result, Ok, Err, cond, nat_le, nat_lt, length-append, ◌||◌, ◌&&◌, codes, drop-cons, is_some, option_map, ◌==◌, suc}
 use Rattle.std.specs.Fmt.{decimal}
-use Rattle.std.specs.Str.{bytes_eq}
 use Rattle.std.specs.Int.{IsInRange}
-use Rattle.std.specs.List.{All, slice_split, join_with_byte, list_any, list_all}
+use Rattle.std.specs.List.{All, join_with_byte, list_any, list_all}
 use Rattle.std.specs.Option.{ok_or}
 use Rattle.std.proofs.lemmas.Fmt.{decimal_is_IsNumeral, length-decimal-le}
 use Rattle.std.proofs.lemmas.Str.Parse.{digit_at}
@@ -20,7 +19,7 @@ use Rattle.mpicall.specs.Number.{number_up_to}
 use Rattle.mpicall.specs.Word.{word_of, text_of}
 use Rattle.mpicall.specs.Spelling.{space, line_feed, fields_of, spelling}
 use Rattle.mpicall.specs.Line.{is_any, is_blank, most_bytes, has_line_feed, body_of, split_fields, fault_of_line, fault_of_fields, fault_by_word}
-use Rattle.mpicall.specs.Reading.{comm_of, peer_of, tag_of, three_of, make_send, make_recv, read_send, read_recv, read_finalize, read_shape, read_fields, blank_first, call_of_fields, record_of_line}
+use Rattle.mpicall.specs.Reading.{comm_of, peer_of, tag_of, make_send, make_recv, read_send, read_recv, read_finalize, read_shape, read_fields, blank_first, call_of_fields, record_of_line}
 use Rattle.mpicall.specs.declared.call.Mode.{Mode}
 use Rattle.mpicall.specs.declared.call.Mode.TheVariants.{Standard}
 use Rattle.mpicall.specs.declared.call.Peer.{Peer}
@@ -30,7 +29,7 @@ use Rattle.mpicall.specs.declared.call.Call.TheVariants.{Send, Recv, Finalize}
 use Rattle.mpicall.specs.declared.word.Word.{Word}
 use Rattle.mpicall.specs.declared.word.Word.TheVariants.{Send as SendWord, Recv as RecvWord, Finalize as FinalizeWord}
 use Rattle.mpicall.specs.declared.fault.LineFault.{LineFault}
-use Rattle.mpicall.specs.declared.fault.LineFault.TheVariants.{EmptyField, UnknownWord, FieldCount, FieldForm, Wildcard, TooLong, NoLineFeed}
+use Rattle.mpicall.specs.declared.fault.LineFault.TheVariants.{EmptyField, FieldForm, Wildcard, TooLong, NoLineFeed}
 
 -- What is read was spelled so.
 
@@ -406,3 +405,14 @@ read_spells line x e =
 -- a line that is spelled is read as what it spells
 pub spelled_only : (line : List ℕ) (r : Result Call LineFault) (x : Call) → record_of_line line ≡ r → in_ranges x ≡ true → line ≡ spelling x → r ≡ Ok x
 spelled_only line r x is h e = sym is ∙ ap record_of_line e ∙ spelling_read x h
+
+-- only a line with its line feed is read
+pub read_has_feed : (line : List ℕ) (x : Call) → record_of_line line ≡ Ok x → has_line_feed line ≡ true
+unfolding record_of_line
+read_has_feed line x e =
+    (line_ok (nat_lt most_bytes (length line)) (has_line_feed line) (call_of_fields (split_fields (body_of line))) x e).0
+
+-- a line of more than the most bytes is too long, whatever it holds
+pub too_long : (line : List ℕ) → most_bytes < length line → record_of_line line ≡ Err TooLong
+unfolding record_of_line
+too_long line h = rw (lt_true most_bytes (length line) h) refl

@@ -1,5 +1,5 @@
 -- How the fields of a line are put together one behind the other.
-use Rattle.std.proofs.Common.{◌≡◌, ℕ, List, [], ◌∷◌, ◌++◌, append_assoc, refl}
+use Rattle.std.proofs.Common.{◌≡◌, ℕ, List, [], ◌∷◌, ◌++◌, append_assoc}
 use Rattle.std.specs.List.{join_with_byte}
 use Rattle.mpicall.specs.Spelling.{space}
 

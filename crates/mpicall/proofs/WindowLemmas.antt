@@ -1,9 +1,9 @@
 -- What the buffer of a window holds after a read behind its end.
-use Rattle.std.proofs.Common.{◌≡◌, ℕ, ◌+◌, ◌-◌, ◌≤◌, ◌<◌, List, [], ◌++◌, length, take, drop, sym, ap, ◌∙◌, refl, arith, Option, Some, None, append_assoc}
+use Rattle.std.proofs.Common.{◌≡◌, ℕ, ◌+◌, ◌-◌, ◌≤◌, List, ◌++◌, length, take, drop, sym, ap, ◌∙◌, refl, arith, Option, Some, None, append_assoc}
 use Rattle.std.proofs.Math.Seq.{take-append-add}
-use Rattle.std.proofs.lemmas.List.{drop-take, drop-drop, take-take, drop-append-le, length-take, length-drop, take_all}
+use Rattle.std.proofs.lemmas.List.{drop-take, drop-drop, take-take, drop-append-le, length-take, length-drop}
 use Rattle.std.proofs.lemmas.Slice.{take-put_mid, take-put_mid_below}
-use Rattle.std.specs.Io.KnownBytes.{Keeps, prepend_known, Consumes, IsAtEnd}
+use Rattle.std.specs.Io.KnownBytes.{Keeps, prepend_known, Consumes}
 use borrow.Rule.Slice.PartMut.{put_mid}
 
 -- the bytes between two places, from the front that ends at the second one

@@ -1,5 +1,5 @@
 -- Inputs and outputs: what their calls do to the bytes that they tell, and to their counts of failures.
-use Rattle.std.specs.Prelude.{◌≡◌, ℕ, ◌+◌, ◌-◌, ◌^◌, ◌<◌, ◌≤◌, min, Option, Result, IfOk, MatchResult, List, length, take}
+use Rattle.std.specs.Prelude.{◌≡◌, ℕ, ◌+◌, ◌-◌, ◌^◌, ◌<◌, min, Option, Result, IfOk, MatchResult, List, length, take}
 use Rattle.std.specs.Io.KnownBytes.{Appends}
 
 -- a count of failures with one more; like every count here it stays at the greatest `u64`

@@ -9,4 +9,5 @@ pub mod FailsAt
 pub mod Devices
 pub mod Trace
 pub mod Window
+pub mod Stage
 pub mod Source

@@ -1,6 +1,6 @@
 -- The first fault of a line. A line's body is its bytes without the last line feed; its fields are
 -- what lies between single spaces. A word has a shape, and a shape gives each further field a form.
-use Rattle.std.specs.Prelude.{ℕ, ◌-◌, Bool, true, false, ◌||◌, ◌&&◌, not, ◌==◌, nat_lt, Option, Some, None, is_some, if◌then◌else◌, List, [], ◌∷◌, length, slice_index, take, codes}
+use Rattle.std.specs.Prelude.{ℕ, ◌-◌, Bool, true, false, ◌||◌, ◌&&◌, ◌==◌, nat_lt, Option, Some, None, is_some, if◌then◌else◌, List, [], ◌∷◌, length, slice_index, take, codes}
 use Rattle.std.specs.List.{slice_split, list_any}
 use Rattle.std.specs.Str.{bytes_eq}
 use Rattle.std.specs.Borrow.{Bor}

@@ -1,5 +1,5 @@
 -- Numbers in fields. A canonical number is `0`, or decimal digits the first of which isn't `0`.
-use Rattle.std.specs.Prelude.{ℕ, ◌+◌, ◌-◌, ◌*◌, Bool, ◌&&◌, ◌||◌, not, ◌==◌, nat_le, nat_lt, Option, Some, None, if◌then◌else◌, List, [], ◌∷◌, length, slice_index}
+use Rattle.std.specs.Prelude.{ℕ, ◌+◌, ◌-◌, ◌*◌, Bool, ◌&&◌, not, ◌==◌, nat_le, nat_lt, Option, Some, None, if◌then◌else◌, List, [], ◌∷◌, length, slice_index}
 use Rattle.std.specs.Str.{all_ascii_digits}
 
 -- the number that digits write after those of `n`

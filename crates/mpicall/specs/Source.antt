@@ -5,7 +5,7 @@ use Rattle.mpicall.specs.Device.{one_more}
 use Rattle.mpicall.specs.Trace.{Trace, End, Sealed, Torn, trace_of, lines_of, end_after_finalize, ends_here, put_first}
 use Rattle.mpicall.specs.declared.call.Call.{Call}
 use Rattle.mpicall.specs.declared.fault.SourceFault.{SourceFault}
-use Rattle.mpicall.specs.declared.fault.SourceFault.TheVariants.{Line, TextAfterFinalize, NoFinalize, ReadFailed, GateStopped, ThreadNotStarted}
+use Rattle.mpicall.specs.declared.fault.SourceFault.TheVariants.{ReadFailed, GateStopped, ThreadNotStarted}
 use Rattle.mpicall.specs.declared.source.Source.{Source}
 use Rattle.mpicall.specs.declared.source.Stage.{Stage}
 use Rattle.mpicall.specs.declared.source.Stage.TheVariants.{Reading, Finalized, Done, Failed}
@@ -66,3 +66,9 @@ count_after old_end answer count = if is_none old_end && is_read_failed answer t
 -- a fault that a source itself may answer
 abbrev pub IsOwnFault : SourceFault → Type 0
 IsOwnFault fault = (fault ≢ GateStopped) × (fault ≢ ThreadNotStarted)
+
+-- the answer of a reader into one place
+abbrev pub answer_into : Result Bool SourceFault → Call → Result (Option Call) SourceFault
+answer_into (Ok true) call = Ok (Some call)
+answer_into (Ok false) call = Ok None
+answer_into (Err fault) call = Err fault

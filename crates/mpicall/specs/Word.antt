@@ -1,7 +1,6 @@
 -- The words of the format and their texts.
 use Rattle.std.specs.Prelude.{ℕ, Option, Some, None, if◌then◌else◌, List, codes}
 use Rattle.std.specs.Str.{bytes_eq}
-use Rattle.mpicall.specs.declared.call.Mode.{Mode}
 use Rattle.mpicall.specs.declared.call.Mode.TheVariants.{Standard}
 use Rattle.mpicall.specs.declared.word.Word.{Word}
 use Rattle.mpicall.specs.declared.word.Word.TheVariants.{Send, Recv, Finalize}

@@ -1,14 +1,14 @@
 //! A source of records: the lines of an input, read one by one.
 
-ghost use Rattle.std.specs.Prelude.{◌≡◌, ◌≤◌, ◌<◌, ℕ, Some, None, Ok, Err, length, option_map, IsTrue, IfOk, IfErr, IfSome, MatchResult};
+ghost use Rattle.mpicall.specs.Stage.{is_own, stage_behind};
+ghost use Rattle.std.specs.Prelude.{◌≡◌, ◌≢◌, ◌≤◌, ◌<◌, ℕ, true, Some, None, Ok, Err, length, option_map, IsTrue, IfOk, IfErr, IfSome, MatchResult};
 
 use crate::call::Call;
-use crate::device::{DeviceFault, Input};
+use crate::device::Input;
 use crate::fault::SourceFault;
 use crate::line::{MOST_BYTES, read_into};
 use crate::record::Record;
-use crate::window::Window;
-use memchr::memchr;
+use crate::window::{Window, has_more, line_end};
 
 /// How far a source is.
 #[derive(Clone, Copy, Debug, PartialEq, Eq)]
@@ -30,12 +30,17 @@ pub struct Source<I> {
     input: I,
     window: Window,
     stage: Stage,
+    ghost own: { is_own stage ≡ true },
 }
 
 impl<I: Input> Source<I> {
     ghost use Rattle.mpicall.specs.Trace.{trace_of};
-    ghost use Rattle.mpicall.specs.Source.{coming, ended, input_of};
+    ghost use Rattle.mpicall.specs.declared.call.Call.{Call as CallValue};
+    ghost use Rattle.mpicall.specs.declared.source.Stage.TheVariants.{Reading, Finalized};
+    ghost use Rattle.mpicall.specs.Limits.{in_ranges};
+    ghost use Rattle.mpicall.specs.Source.{coming, ended, input_of, Gives, end_of_answer, answer_of, answer_into, count_after, IsOwnFault};
 
+    #[tactic(auto, using(crate::proofs::SourceLemmas::source_steps), unfolding(crate::specs::Source::coming))]
     /// The source of the records that an input's bytes hold.
     pub fn new(input: I) -> Source<I>
         ensures trace { coming I.left result ≡ option_map trace_of (I.left input) }
@@ -47,5 +52,110 @@ impl<I: Input> Source<I> {
             window: Window::new(),
             stage: Stage::Reading,
         }
+    }
+    /// The next line's record; None once the bytes end behind `finalize`. A fault is answered for good,
+    /// and so is None.
+    pub fn next(&mut self) -> Result<Option<Record>, SourceFault>
+        ensures trace { Gives (coming I.left self.old) (coming I.left self.new) result }
+        ensures end { ended self.new ≡ end_of_answer result }
+        ensures repeats { IfSome (ended self.old) (λ end. (result ≡ answer_of end) × (self.new ≡ self.old)) }
+        ensures count { I.failures (input_of self.new)
+            ≡ count_after (ended self.old) result (I.failures (input_of self.old)) }
+        ensures own { IfErr result IsOwnFault }
+    {
+        let mut call = Call::Finalize;
+        match self.next_into(&mut call) {
+            Ok(true) => Ok(Some(Record::of_ranged(call))),
+            Ok(false) => Ok(None),
+            Err(fault) => Err(fault),
+        }
+    }
+
+    /// Reads the next record into one place, and says whether there was one.
+    fn next_into(&mut self, into: &mut Call) -> Result<bool, SourceFault>
+        ensures trace { Gives (coming I.left self.old) (coming I.left self.new) (answer_into result into.new) }
+        ensures end { ended self.new ≡ end_of_answer (answer_into result into.new) }
+        ensures repeats { IfSome (ended self.old) (λ end. (answer_into result into.new ≡ answer_of end) × (self.new ≡ self.old)) }
+        ensures count { I.failures (input_of self.new)
+            ≡ count_after (ended self.old) (answer_into result into.new) (I.failures (input_of self.old)) }
+        ensures own { IfErr result IsOwnFault }
+        ensures in_ranges { result ≡ Ok true → IsTrue (in_ranges into.new) }
+    {
+        match self.stage {
+            Stage::Reading => self.read_record(into),
+            Stage::Finalized => self.read_end(),
+            Stage::Done => Ok(false),
+            Stage::Failed(fault) => Err(fault),
+        }
+    }
+
+    /// Reads the next line, where no `finalize` came so far.
+    fn read_record(&mut self, into: &mut Call) -> Result<bool, SourceFault>
+        requires { self.old.stage ≡ Reading }
+        ensures trace { Gives (coming I.left self.old) (coming I.left self.new) (answer_into result into.new) }
+        ensures end { ended self.new ≡ end_of_answer (answer_into result into.new) }
+        ensures count { I.failures (input_of self.new)
+            ≡ count_after None (answer_into result into.new) (I.failures (input_of self.old)) }
+        ensures own { IfErr result IsOwnFault }
+        ensures in_ranges { result ≡ Ok true → IsTrue (in_ranges into.new) }
+    {
+        let len = match line_end(&mut self.window, &mut self.input) {
+            Ok(len) => len,
+            Err(_) => {
+                self.stage = Stage::Failed(SourceFault::ReadFailed);
+                return Err(SourceFault::ReadFailed);
+            }
+        };
+        if len == 0 {
+            self.stage = Stage::Failed(SourceFault::NoFinalize);
+            return Err(SourceFault::NoFinalize);
+        }
+        match read_into(&self.window.held()[..len], into) {
+            Ok(()) => {
+                self.window.drop_front(len);
+                self.stage = stage_behind(into);
+                Ok(true)
+            }
+            Err(fault) => {
+                self.stage = Stage::Failed(SourceFault::Line(fault));
+                Err(SourceFault::Line(fault))
+            }
+        }
+    }
+
+    /// Looks for bytes behind `finalize`.
+    fn read_end(&mut self) -> Result<bool, SourceFault>
+        requires { self.old.stage ≡ Finalized }
+        ensures trace { (call : CallValue) → Gives (coming I.left self.old) (coming I.left self.new) (answer_into result call) }
+        ensures end { (call : CallValue) → ended self.new ≡ end_of_answer (answer_into result call) }
+        ensures count { (call : CallValue) → I.failures (input_of self.new)
+            ≡ count_after None (answer_into result call) (I.failures (input_of self.old)) }
+        ensures own { IfErr result IsOwnFault }
+        ensures no_record { result ≢ Ok true }
+    {
+        match has_more(&mut self.window, &mut self.input) {
+            Ok(false) => {
+                self.stage = Stage::Done;
+                Ok(false)
+            }
+            Ok(true) => {
+                self.stage = Stage::Failed(SourceFault::TextAfterFinalize);
+                Err(SourceFault::TextAfterFinalize)
+            }
+            Err(_) => {
+                self.stage = Stage::Failed(SourceFault::ReadFailed);
+                Err(SourceFault::ReadFailed)
+            }
+        }
+    }
+}
+
+/// How far a source is behind a record.
+fn stage_behind(call: &Call) -> Stage
+    ensures { result ≡ stage_behind call.now }
+{
+    match *call {
+        Call::Finalize => Stage::Finalized,
+        _ => Stage::Reading,
     }
 }

@@ -1,11 +1,13 @@
 //! The bytes that were read ahead of an input, held in place.
 
-ghost use Rattle.std.specs.Prelude.{◌≡◌, ◌+◌, ◌-◌, ◌≤◌, ◌<◌, ℕ, List, [], ◌++◌, length, drop, IsTrue, IfOk, OnErr, ◌↔◌};
+ghost use Rattle.std.specs.Prelude.{◌≡◌, ◌≢◌, true, false, Ok, ◌+◌, ◌-◌, ◌≤◌, ◌<◌, ℕ, List, [], ◌++◌, length, drop, IsTrue, IfOk, MatchOption, OnErr, ◌↔◌};
 ghost use Rattle.std.specs.Io.KnownBytes.{Keeps, prepend_known, IsAtEnd};
 ghost use Rattle.mpicall.specs.Device.{CountsFailure};
-ghost use Rattle.mpicall.specs.Window.{Fills, held_between};
+ghost use Rattle.mpicall.specs.Window.{Fills, held_between, NoFeedBelow, FirstFeed, EndsLine};
 
 use crate::device::{DeviceFault, Input};
+use crate::line::MOST_BYTES;
+use memchr::memchr;
 use std::marker::Model;
 
 /// How many bytes may be held.
@@ -102,5 +104,57 @@ impl Window {
             }
             Err(fault) => Err(fault),
         }
+    }
+}
+
+/// Where the first line feed stands, which is no place before `from`.
+fn feed_at(bytes: &[u8], from: usize) -> Option<usize>
+    requires within { from ≤ length bytes.now }
+    requires before { NoFeedBelow bytes.now from }
+    ensures { MatchOption result (NoFeedBelow bytes.now (length bytes.now)) (FirstFeed bytes.now) }
+{
+    match memchr(b'\n', &bytes[from..]) {
+        Some(at) => Some(from + at),
+        None => None,
+    }
+}
+
+/// Reads on until the next line is held or too long, or no bytes are left; says how many of the held
+/// bytes it has.
+pub(crate) fn line_end<I: Input>(window: &mut Window, input: &mut I) -> Result<usize, DeviceFault>
+    ensures known { Keeps
+        (prepend_known window.old (I.left input.old))
+        (prepend_known window.new (I.left input.new)) }
+    ensures ends { IfOk result (EndsLine window.new (I.left input.new)) }
+    ensures count { CountsFailure (I.failures input.old) (I.failures input.new) result }
+{
+    let mut searched = 0;
+    loop {
+        if let Some(at) = feed_at(window.held(), searched) {
+            return Ok(at + 1);
+        }
+        searched = window.held().len();
+        if searched > MOST_BYTES || window.fill(input)? == 0 {
+            return Ok(searched);
+        }
+    }
+}
+
+/// Whether any bytes are left, held or in the input.
+pub(crate) fn has_more<I: Input>(window: &mut Window, input: &mut I) -> Result<bool, DeviceFault>
+    ensures known { Keeps
+        (prepend_known window.old (I.left input.old))
+        (prepend_known window.new (I.left input.new)) }
+    ensures some { result ≡ Ok true → window.new ≢ [] }
+    ensures none { result ≡ Ok false → (window.new ≡ []) × IsAtEnd (I.left input.new) }
+    ensures count { CountsFailure (I.failures input.old) (I.failures input.new) result }
+{
+    if !window.is_empty() {
+        return Ok(true);
+    }
+    match window.fill(input) {
+        Ok(0) => Ok(false),
+        Ok(_) => Ok(true),
+        Err(fault) => Err(fault),
     }
 }
