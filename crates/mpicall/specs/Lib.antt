@@ -11,3 +11,4 @@ pub mod Trace
 pub mod Window
 pub mod Stage
 pub mod Source
+pub mod Code

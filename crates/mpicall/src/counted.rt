@@ -14,6 +14,7 @@ pub struct Counted<T> {
 }
 
 impl<T> Counted<T> {
+    ghost use Rattle.mpicall.specs.Device.{one_more};
     ghost use Rattle.mpicall.specs.Devices.{counted_failures};
 
     /// The reader or writer, with no failure so far.
@@ -29,6 +30,14 @@ impl<T> Counted<T> {
     {
         self.failures
     }
+
+    fn count_failure(&mut self) -> DeviceFault
+        ensures { counted_failures self.new ≡ one_more (counted_failures self.old) }
+    {
+        let Counted { failures, .. } = self;
+        *failures = failures.saturating_add(1);
+        DeviceFault
+    }
 }
 
 impl<R: Read> Input for Counted<R> {
@@ -39,10 +48,7 @@ impl<R: Read> Input for Counted<R> {
     fn read_some(&mut self, into: &mut [u8]) -> Result<usize, DeviceFault> {
         match self.inner.read(into) {
             Ok(count) => Ok(count),
-            Err(_) => {
-                self.failures = self.failures.saturating_add(1);
-                Err(DeviceFault)
-            }
+            Err(_) => Err(self.count_failure()),
         }
     }
 }
@@ -55,15 +61,9 @@ impl<W: Write> Output for Counted<W> {
     fn write_some(&mut self, from: &[u8]) -> Result<usize, DeviceFault> {
         match self.inner.write(from) {
             // A writer that takes nothing will take nothing again.
-            Ok(0) if !from.is_empty() => {
-                self.failures = self.failures.saturating_add(1);
-                Err(DeviceFault)
-            }
+            Ok(0) if !from.is_empty() => Err(self.count_failure()),
             Ok(count) => Ok(count),
-            Err(_) => {
-                self.failures = self.failures.saturating_add(1);
-                Err(DeviceFault)
-            }
+            Err(_) => Err(self.count_failure()),
         }
     }
 }

@@ -1,6 +1,6 @@
 //! A device that fails once, at one stated call.
 
-ghost use Rattle.std.specs.Prelude.{◌≡◌, ◌+◌, if◌then◌else◌};
+ghost use Rattle.std.specs.Prelude.{◌≡◌, ◌+◌, Some, if◌then◌else◌};
 ghost use Rattle.mpicall.specs.FailsAt.{own_failures, all_failures};
 
 use crate::device::{DeviceFault, Input, Output};
@@ -30,11 +30,12 @@ fn is_stated_call(before: &mut Option<u64>) -> bool
 }
 
 impl<D> FailsAt<D> {
-    ghost use Rattle.mpicall.specs.Devices.{device_within};
+    ghost use Rattle.mpicall.specs.Devices.{device_within, calls_before};
 
     /// The device, with a failure at call `at`.
     pub fn new(device: D, at: u64) -> FailsAt<D>
-        ensures { device_within result ≡ device }
+        ensures within { device_within result ≡ device }
+        ensures fresh { calls_before result ≡ Some at }
     {
         FailsAt {
             device,

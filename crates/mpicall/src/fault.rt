@@ -1,5 +1,7 @@
 //! What can be wrong with a line, and with a source of lines.
 
+ghost use Rattle.std.specs.Prelude.{◌≡◌};
+
 use thiserror::Error;
 
 /// Why a line is no spelling of a record: the first of these that holds, where a line too long comes
@@ -51,4 +53,41 @@ pub enum SourceFault {
     /// A feeding thread didn't start. A source never answers this.
     #[error("thread not started")]
     ThreadNotStarted,
+}
+
+impl LineFault {
+    ghost use Rattle.mpicall.specs.Code.{line_code};
+
+    /// The code under which the fault is reported.
+    pub fn code(self) -> &'static str
+        ensures { result.now ≡ line_code self }
+    {
+        match self {
+            LineFault::EmptyField => "L1",
+            LineFault::UnknownWord => "L2",
+            LineFault::FieldCount => "L3",
+            LineFault::FieldForm => "L4",
+            LineFault::Wildcard => "L5",
+            LineFault::TooLong => "L6",
+            LineFault::NoLineFeed => "L7",
+        }
+    }
+}
+
+impl SourceFault {
+    ghost use Rattle.mpicall.specs.Code.{source_code};
+
+    /// The code under which the fault is reported.
+    pub fn code(self) -> &'static str
+        ensures { result.now ≡ source_code self }
+    {
+        match self {
+            SourceFault::Line(fault) => fault.code(),
+            SourceFault::TextAfterFinalize => "L8",
+            SourceFault::NoFinalize => "E1",
+            SourceFault::ReadFailed => "E2",
+            SourceFault::GateStopped => "E3",
+            SourceFault::ThreadNotStarted => "E4",
+        }
+    }
 }

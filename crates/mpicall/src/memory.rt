@@ -57,11 +57,12 @@ pub struct MemoryOutput {
 }
 
 impl MemoryOutput {
-    ghost use Rattle.mpicall.specs.Devices.{bytes_written};
+    ghost use Rattle.mpicall.specs.Devices.{bytes_written, refusals};
 
     /// An output to which nothing was written.
     pub fn new(alloc: Global) -> MemoryOutput
-        ensures { bytes_written result ≡ [] }
+        ensures nothing { bytes_written result ≡ [] }
+        ensures fresh { refusals result ≡ 0 }
     {
         MemoryOutput {
             bytes: Vec::new(alloc),

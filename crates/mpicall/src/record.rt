@@ -93,6 +93,6 @@ impl Record {
         ensures value { result ≡ self.now }
         ensures in_ranges { IsTrue (in_ranges result) }
     {
-        self.call
+        *self.as_call()
     }
 }
