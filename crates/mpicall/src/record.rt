@@ -83,7 +83,8 @@ impl Record {
 
     /// The call in its place, for those that only look at it.
     pub(crate) fn as_call(&self) -> &Call
-        ensures { result.now ≡ self.now }
+        ensures value { result.now ≡ self.now }
+        ensures in_ranges { IsTrue (in_ranges result.now) }
     {
         &self.call
     }
