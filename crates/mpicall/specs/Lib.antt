@@ -1,2 +1,4 @@
 pub mod Limits
 pub mod Number
+pub mod Spelling
+pub mod Line
