@@ -6,6 +6,9 @@ use Rattle.std.specs.Str.{bytes_eq}
 use Rattle.std.specs.Borrow.{Bor}
 use Rattle.mpicall.specs.Limits.{greatest_comm, greatest_rank, greatest_tag}
 use Rattle.mpicall.specs.Number.{number_up_to}
+use Rattle.mpicall.specs.Word.{word_of}
+use Rattle.mpicall.specs.declared.word.Word.{Word}
+use Rattle.mpicall.specs.declared.word.Word.TheVariants.{Send, Recv, Finalize}
 use Rattle.mpicall.specs.Spelling.{space, line_feed}
 use Rattle.mpicall.specs.declared.fault.LineFault.{LineFault}
 use Rattle.mpicall.specs.declared.fault.LineFault.TheVariants.{EmptyField, UnknownWord, FieldCount, FieldForm, Wildcard, TooLong, NoLineFeed}
@@ -18,21 +21,24 @@ pub data Form : Type 0 where
 pub data Shape : Type 0 where
   Fixed : List Form → Shape
 
--- the shape of a word, if the format has the word
-abbrev pub shape_of : List ℕ → Option Shape
-shape_of word =
-    if bytes_eq word (codes "send") then Some (Fixed (Comm ∷ Destination ∷ SendTag ∷ []))
-    else (if bytes_eq word (codes "recv") then Some (Fixed (Comm ∷ Source ∷ ReceiveTag ∷ []))
-    else (if bytes_eq word (codes "finalize") then Some (Fixed []) else None))
+-- the shape of a word
+abbrev pub shape_of : Word → Shape
+shape_of (Send mode) = Fixed (Comm ∷ Destination ∷ SendTag ∷ [])
+shape_of Recv = Fixed (Comm ∷ Source ∷ ReceiveTag ∷ [])
+shape_of Finalize = Fixed []
 
 -- the forms of `count` fields under a shape, if it takes so many
 abbrev pub forms_of : Shape → ℕ → Option (List Form)
 forms_of (Fixed forms) count = if length forms == count then Some forms else None
 
--- the field is `any`, at a place where MPI has a wildcard
+-- the field is a wildcard
+abbrev pub is_any : List ℕ → Bool
+is_any field = bytes_eq field (codes "any")
+
+-- the field is a wildcard at a place where MPI allows one
 abbrev pub is_wildcard : Form → List ℕ → Bool
-is_wildcard Source field = bytes_eq field (codes "any")
-is_wildcard ReceiveTag field = bytes_eq field (codes "any")
+is_wildcard Source field = is_any field
+is_wildcard ReceiveTag field = is_any field
 is_wildcard form field = false
 
 -- the field is a number in the range of its form
@@ -58,9 +64,9 @@ fault_by_forms None fields = Some FieldCount
 fault_by_forms (Some forms) fields =
     if some_wildcard forms fields then Some Wildcard else (if all_in_form forms fields then None else Some FieldForm)
 
-abbrev pub fault_by_shape : Option Shape → List (List ℕ) → Option LineFault
-fault_by_shape None fields = Some UnknownWord
-fault_by_shape (Some shape) fields = fault_by_forms (forms_of shape (length fields)) fields
+abbrev pub fault_by_word : Option Word → List (List ℕ) → Option LineFault
+fault_by_word None fields = Some UnknownWord
+fault_by_word (Some word) fields = fault_by_forms (forms_of (shape_of word) (length fields)) fields
 
 -- the field has no bytes
 abbrev pub is_blank : List ℕ → Bool
@@ -70,7 +76,7 @@ is_blank field = length field == 0
 unfoldable pub fault_of_fields : List (List ℕ) → Option LineFault
 fault_of_fields [] = Some EmptyField
 fault_of_fields (word ∷ fields) =
-    if list_any is_blank (word ∷ fields) then Some EmptyField else fault_by_shape (shape_of word) fields
+    if list_any is_blank (word ∷ fields) then Some EmptyField else fault_by_word (word_of word) fields
 
 -- the most bytes of a line, its line feed counted
 abbrev pub most_bytes : ℕ
