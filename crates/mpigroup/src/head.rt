@@ -1,6 +1,6 @@
 //! The head of a run: its ranks, and the group of each of its communicators.
 
-ghost use Rattle.std.specs.Prelude.{◌≡◌, ◌≤◌, ◌↔◌, length, IsTrue, IsSome, IfSome};
+ghost use Rattle.std.specs.Prelude.{take, ◌≡◌, ◌≤◌, ◌↔◌, length, IsTrue, IsSome, IfSome};
 ghost use Rattle.mpigroup.specs.Groups.{ranks_of, size_of, world_rank_of, group_rank_of};
 ghost use Rattle.mpigroup.specs.HeadText.{read_head};
 
@@ -24,6 +24,17 @@ impl Model for Head {
     ghost view = { λ h. range_with_len 0 h.ranks ∷ [] };
 
     ghost invariant = { λ h. (1 ≤ h.ranks) × (h.ranks ≤ 64) };
+}
+
+/// So many bytes of a text decide what it says, or all where it has fewer: 256 lines of 1,024 bytes
+/// each, and one byte that shows whether there is a further one.
+pub const DECIDING_BYTES: usize = 262_145;
+
+/// The law that a text says what its first [`DECIDING_BYTES`] bytes say.
+pub fn front_decides(text: &[u8])
+    ensures { read_head (take DECIDING_BYTES text.now) ≡ read_head text.now }
+{
+    let _text = text;
 }
 
 impl Head {
