@@ -1,0 +1,3 @@
+pub mod World
+pub mod LineLemmas
+pub mod FrontLemmas
