@@ -1,6 +1,5 @@
 //! The recorded calls of a rank: one variant a shape of MPI call, one record a call.
 
-
 /// The other end of a point-to-point call, as a rank of the communicator's group.
 #[derive(Clone, Copy, Debug, PartialEq, Eq)]
 pub enum Peer {

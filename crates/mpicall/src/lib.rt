@@ -1,4 +1,5 @@
 #![tactic(auto)]
 
 pub mod call;
+pub mod number;
 pub mod record;

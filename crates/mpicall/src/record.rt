@@ -47,9 +47,12 @@ fn is_in_ranges(call: &Call) -> bool
     ensures { result ≡ in_ranges call.now }
 {
     match *call {
-        Call::Send { comm, dest, tag, .. } => {
-            comm <= GREATEST_COMM && is_peer_in_range(dest) && tag <= GREATEST_TAG
-        }
+        Call::Send {
+            comm,
+            dest,
+            tag,
+            ..
+        } => { comm <= GREATEST_COMM && is_peer_in_range(dest) && tag <= GREATEST_TAG }
         Call::Recv { comm, source, tag } => {
             comm <= GREATEST_COMM && is_peer_in_range(source) && tag <= GREATEST_TAG
         }

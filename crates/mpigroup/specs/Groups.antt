@@ -1,7 +1,7 @@
 -- Groups and communicators (MPI 4.0, section 7.2). A run's communicators are numbered from 0, the
 -- world; the head of a run gives each one's group, an ordered list of world ranks. The place of a
 -- rank in that list, from 0, is its rank in the group.
-use Rattle.std.specs.Prelude.{ℕ, ◌==◌, Option, Some, None, option_and_then, option_map, unwrap_or, List, [], ◌∷◌, length, position, slice_get}
+use Rattle.std.specs.Prelude.{ℕ, ◌==◌, Option, option_map, unwrap_or, List, [], length, position, slice_get}
 
 -- the groups of all communicators, by their numbers
 abbrev pub Groups : Type 0

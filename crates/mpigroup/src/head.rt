@@ -55,13 +55,21 @@ impl Head {
     pub fn group_rank(&self, comm: u16, world: u16) -> Option<u16>
         ensures { result ≡ group_rank_of self.now comm world }
     {
-        if comm == 0 && world < self.ranks { Some(world) } else { None }
+        if comm == 0 && world < self.ranks {
+            Some(world)
+        } else {
+            None
+        }
     }
 
     /// The world rank of a member of the communicator's group; None where there is no such member.
     pub fn world_rank(&self, comm: u16, g: u16) -> Option<u16>
         ensures { result ≡ world_rank_of self.now comm g }
     {
-        if comm == 0 && g < self.ranks { Some(g) } else { None }
+        if comm == 0 && g < self.ranks {
+            Some(g)
+        } else {
+            None
+        }
     }
 }
