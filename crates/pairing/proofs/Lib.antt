@@ -1,2 +1,3 @@
 pub mod PlaceLemmas
 pub mod PartnerLemmas
+pub mod FaultLemmas

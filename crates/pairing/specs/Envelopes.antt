@@ -1,11 +1,11 @@
 -- Envelopes (MPI 4.0, section 3.2.3): a message carries its communicator, its source and destination,
 -- which are ranks of the communicator's group, and its tag. A call may have a half that sends a message
 -- and a half that receives one.
-use Rattle.std.specs.Prelude.{ℕ, ◌==◌, Bool, true, false, ◌&&◌, Option, Some, None, option_map, List}
+use Rattle.std.specs.Prelude.{ℕ, ◌==◌, Bool, false, ◌&&◌, Option, None, option_map}
 use Rattle.std.specs.Option.{option_map_or}
 use Rattle.mpicall.specs.declared.call.Peer.TheVariants.{Rank}
 use Rattle.mpicall.specs.declared.call.Call.{Call}
-use Rattle.mpicall.specs.declared.call.Call.TheVariants.{Send, Recv, Finalize}
+use Rattle.mpicall.specs.declared.call.Call.TheVariants.{Send, Recv}
 use Rattle.mpigroup.specs.Groups.{Groups, world_rank_of, group_rank_of}
 use Rattle.pairing.specs.declared.envelope.Envelope.{Envelope}
 use Rattle.pairing.specs.declared.envelope.Half.{Half}
@@ -23,9 +23,9 @@ same_envelope e f = e.comm == f.comm && e.source == f.source && e.dest == f.dest
 -- no such half, and where the rank is not in the communicator's group.
 abbrev pub envelope_of : Groups → ℕ → Half → Call → Option Envelope
 envelope_of groups rank SendHalf (Send mode comm (Rank dest) tag) =
-  option_map (λ source. record { comm = comm; source = source; dest = dest; tag = tag }) (group_rank_of groups comm rank)
+    option_map (λ source. record { comm = comm; source = source; dest = dest; tag = tag }) (group_rank_of groups comm rank)
 envelope_of groups rank RecvHalf (Recv comm (Rank source) tag) =
-  option_map (λ dest. record { comm = comm; source = source; dest = dest; tag = tag }) (group_rank_of groups comm rank)
+    option_map (λ dest. record { comm = comm; source = source; dest = dest; tag = tag }) (group_rank_of groups comm rank)
 envelope_of groups rank _ _ = None
 
 -- the rank of the world whose calls have that half of the envelope's messages, if there is one

@@ -2,7 +2,7 @@
 -- another rank. MPI 4.0 calls such programs erroneous: no call after MPI_Finalize (section 11.2.2), a
 -- communicator that exists and a rank of its group as peer (sections 3.2.3 and 3.2.4). The most calls of a
 -- rank are this project's limit.
-use Rattle.std.specs.Prelude.{◌≡◌, ℕ, Bool, true, false, not, ◌&&◌, nat_lt, nat_le, is_some, Option, Some, None, List, [], ◌∷◌, ◌++◌, length, take, slice_get, ◌<◌, if◌then◌else◌}
+use Rattle.std.specs.Prelude.{◌≡◌, ℕ, Bool, true, false, not, nat_lt, is_some, Option, Some, None, List, [], ◌∷◌, length, take, slice_get, ◌<◌, if◌then◌else◌}
 use Rattle.std.specs.Option.{option_map_or}
 use Rattle.mpicall.specs.declared.call.Peer.TheVariants.{Rank}
 use Rattle.mpicall.specs.declared.call.Call.{Call}
@@ -53,7 +53,7 @@ fault_of groups rank calls call = first_fault groups (has_finalize calls) (lengt
 -- a rank's list is lawful if no call of it has a fault after those before it
 abbrev pub IsLawfulList : Groups → ℕ → List Call → Type 0
 IsLawfulList groups rank calls =
-  (place : ℕ) (call : Call) → slice_get calls place ≡ Some call → fault_of groups rank (take place calls) call ≡ None
+    (place : ℕ) (call : Call) → slice_get calls place ≡ Some call → fault_of groups rank (take place calls) call ≡ None
 
 -- a trace is lawful if each rank's list is
 abbrev pub IsLawful : Groups → Lists → Type 0

@@ -4,4 +4,3 @@ pub mod Faults
 pub mod Places
 pub mod Envelopes
 pub mod Partners
-

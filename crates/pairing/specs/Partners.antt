@@ -1,8 +1,7 @@
 -- Partners. Messages of one envelope are received in the order in which they are sent (MPI 4.0, section
 -- 3.5, non-overtaking), so its k-th send and its k-th receive belong together, each counted in the order
 -- of its rank's list.
-use Rattle.std.specs.Prelude.{◌≡◌, ℕ, ◌<◌, Option, Some, None, option_map, option_and_then, List, slice_get}
-use Rattle.mpicall.specs.declared.call.Call.{Call}
+use Rattle.std.specs.Prelude.{◌≡◌, ℕ, Option, Some, option_map, option_and_then, List, slice_get}
 use Rattle.mpigroup.specs.Groups.{Groups}
 use Rattle.pairing.specs.declared.envelope.Envelope.{Envelope}
 use Rattle.pairing.specs.declared.envelope.Half.{Half}
@@ -25,28 +24,28 @@ number_of groups trace rank half e place = count_before (has_envelope groups ran
 -- the rank and place of the envelope's send, or receive, with that number, counted from 0
 abbrev pub numbered : Groups → Lists → Half → Envelope → ℕ → Option (ℕ × ℕ)
 numbered groups trace half e number =
-  option_and_then (λ rank. option_map (λ place. (rank, place)) (slice_get (places_of groups trace rank half e) number))
+    option_and_then (λ rank. option_map (λ place. (rank, place)) (slice_get (places_of groups trace rank half e) number))
     (rank_of_half groups half e)
 
 -- the partner of a half of a call: the other half of the same envelope with the same number
 abbrev pub partner_of : Groups → Lists → ℕ → ℕ → Half → Option (ℕ × ℕ)
 partner_of groups trace rank place half =
-  option_and_then (λ e. numbered groups trace (other_half half) e (number_of groups trace rank half e place))
+    option_and_then (λ e. numbered groups trace (other_half half) e (number_of groups trace rank half e place))
     (envelope_at groups trace rank place half)
 
 -- Law: partners are mutual. If a half of a call has a partner, that partner's half has the call as its
 -- partner.
 abbrev pub PartnersAreMutual : Type 0
 PartnersAreMutual =
-  (groups : Groups) (trace : Lists) (rank place : ℕ) (half : Half) (other place_there : ℕ) →
-  partner_of groups trace rank place half ≡ Some (other, place_there) →
-  partner_of groups trace other place_there (other_half half) ≡ Some (rank, place)
+    (groups : Groups) (trace : Lists) (rank place : ℕ) (half : Half) (other place_there : ℕ) →
+    partner_of groups trace rank place half ≡ Some (other, place_there) →
+    partner_of groups trace other place_there (other_half half) ≡ Some (rank, place)
 
 -- Law: two sends never have the same receive as partner, nor two receives the same send. If the halves
 -- of two calls have one partner, they are one call.
 abbrev pub PartnersAreNotShared : Type 0
 PartnersAreNotShared =
-  (groups : Groups) (trace : Lists) (rank place rank' place' : ℕ) (half : Half) (partner : ℕ × ℕ) →
-  partner_of groups trace rank place half ≡ Some partner →
-  partner_of groups trace rank' place' half ≡ Some partner →
-  (rank ≡ rank') × (place ≡ place')
+    (groups : Groups) (trace : Lists) (rank place rank' place' : ℕ) (half : Half) (partner : ℕ × ℕ) →
+    partner_of groups trace rank place half ≡ Some partner →
+    partner_of groups trace rank' place' half ≡ Some partner →
+    (rank ≡ rank') × (place ≡ place')

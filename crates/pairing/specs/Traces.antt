@@ -1,7 +1,8 @@
 -- Traces. A trace gives each rank of the world the list of its recorded calls. A call's place is its
 -- index in its rank's list, from 0.
-use Rattle.std.specs.Prelude.{◌≡◌, ℕ, ◌<◌, Bool, true, false, unwrap_or, List, [], ◌∷◌, ◌++◌, length, slice_get, slice_set}
+use Rattle.std.specs.Prelude.{◌≡◌, ℕ, ◌<◌, ◌-◌, Bool, true, false, unwrap_or, List, [], ◌∷◌, ◌++◌, length, slice_get, slice_set}
 use Rattle.std.specs.List.{list_any}
+use Rattle.std.specs.Option.{option_map_or}
 use Rattle.mpicall.specs.declared.call.Call.{Call}
 use Rattle.mpicall.specs.declared.call.Call.TheVariants.{Finalize}
 
@@ -25,6 +26,10 @@ is_finalize _ = false
 -- some call of the list is Finalize
 abbrev pub has_finalize : List Call → Bool
 has_finalize calls = list_any is_finalize calls
+
+-- the last call of the list is Finalize
+abbrev pub ends_with_finalize : List Call → Bool
+ends_with_finalize calls = option_map_or is_finalize (slice_get calls (length calls - 1)) false
 
 -- a rank's list is closed if it ends with Finalize and has no other
 pub record IsClosedList (calls : List Call) : Type 0 where

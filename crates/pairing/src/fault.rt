@@ -2,7 +2,7 @@
 
 ghost use Rattle.std.specs.Prelude.{◌≡◌, ◌<◌, ◌∷◌, [], ◌++◌, length, IfNone};
 ghost use Rattle.pairing.specs.Limits.{most_calls};
-ghost use Rattle.pairing.specs.Traces.{is_finalize, has_finalize};
+ghost use Rattle.pairing.specs.Traces.{is_finalize, has_finalize, ends_with_finalize};
 ghost use Rattle.pairing.specs.Faults.{fault_of, first_fault, is_comm, is_group_rank, comms_exist, peers_exist, IsLawfulList};
 
 use crate::trace::MOST_CALLS;
@@ -89,11 +89,31 @@ fn first_fault(head: &Head, is_ended: bool, accepted: usize, call: &Record) -> O
     }
 }
 
+fn ends_with_finalize(calls: &[Record]) -> bool
+    ensures { result ≡ ends_with_finalize calls.now }
+{
+    match calls.last() {
+        Some(last) => is_finalize(last),
+        None => false,
+    }
+}
+
 /// The first fault of a call that the rank makes after the calls, in the order of the variants of
 /// `CallFault`; None where it has no fault. It looks at every call before.
 pub fn fault(head: &Head, rank: u16, calls: &[Record], call: &Record) -> Option<CallFault>
     ensures { result ≡ fault_of head.now rank calls.now call.now }
 {
-    let _rank = rank;
     first_fault(head, has_finalize(calls), calls.len(), call)
+}
+
+/// The first fault of a call after calls that have none: what `fault` answers, by a look at the last
+/// call before alone. Where there is none, there is room for the call in a trace, and the calls are
+/// lawful with it too.
+pub fn next_fault(head: &Head, rank: u16, calls: &[Record], call: &Record) -> Option<CallFault>
+    requires { IsLawfulList head.now rank calls.now }
+    ensures value { result ≡ fault_of head.now rank calls.now call.now }
+    ensures room { IfNone result (length calls.now < most_calls) }
+    ensures lawful { IfNone result (IsLawfulList head.now rank (calls.now ++ call.now ∷ [])) }
+{
+    first_fault(head, ends_with_finalize(calls), calls.len(), call)
 }

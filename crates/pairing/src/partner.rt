@@ -26,7 +26,14 @@ fn count(head: &Head, rank: u16, half: Half, wanted: &Envelope, calls: &[Record]
 }
 
 // The place of the half of the envelope with that number, counted from 0.
-fn place_of(head: &Head, rank: u16, half: Half, wanted: &Envelope, calls: &[Record], number: usize) -> Option<u32>
+fn place_of(
+    head: &Head,
+    rank: u16,
+    half: Half,
+    wanted: &Envelope,
+    calls: &[Record],
+    number: usize,
+) -> Option<u32>
     requires { length calls.now ≤ most_calls }
     ensures { result ≡ slice_get (places (has_envelope head.now rank half wanted.now) calls.now) number }
 {
@@ -52,7 +59,14 @@ pub fn partner(head: &Head, trace: &Trace, rank: u16, place: u32, half: Half) ->
     let wanted = envelope_of(head, rank, half, call)?;
     let number = count(head, rank, half, &wanted, &calls[..place as usize]);
     let other = rank_of_half(head, half.other(), &wanted)?;
-    let there = place_of(head, other, half.other(), &wanted, trace.of_rank(other), number)?;
+    let there = place_of(
+        head,
+        other,
+        half.other(),
+        &wanted,
+        trace.of_rank(other),
+        number,
+    )?;
     Some((other, there))
 }
 
@@ -60,12 +74,10 @@ pub fn partner(head: &Head, trace: &Trace, rank: u16, place: u32, half: Half) ->
 /// partner.
 pub fn partners_are_mutual()
     ensures { PartnersAreMutual }
-{
-}
+{}
 
 /// Two sends never have the same receive as partner, nor two receives the same send: if the halves of
 /// two calls have one partner, they are one call.
 pub fn partners_are_not_shared()
     ensures { PartnersAreNotShared }
-{
-}
+{}

@@ -7,5 +7,5 @@ use Rattle.pairing.proofs.partner.place_of.Given as goal
 -- the wanted one is that many on among those left
 abbrev pub invariant-loop-i : goal.invariant-loop-i
 invariant-loop-i l =
-  slice_get (places_from l.i (has_envelope l.head l.rank l.half l.wanted) (drop l.i l.calls)) l.before
+    slice_get (places_from l.i (has_envelope l.head l.rank l.half l.wanted) (drop l.i l.calls)) l.before
     ≡ slice_get (places (has_envelope l.head l.rank l.half l.wanted) l.calls) l.number
