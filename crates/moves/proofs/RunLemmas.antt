@@ -181,7 +181,7 @@ lowest_steps_end can calls (suc most) s bounded below all =
   ends_on can calls most s (lowest can s) bounded below all refl
     (λ t t_below t_all. lowest_steps_end can calls most t bounded t_below t_all)
 
-pub lowest_run_is_maximal : (can : Rule) (calls : List ℕ) → IsBounded can calls → IsMaximal can (length calls) (lowest_run can calls)
+pub lowest_run_is_maximal : (can : Rule) (calls : List ℕ) → IsBounded can calls → IsMaximal can (length calls) (lowest_run can (length calls) (total calls))
 lowest_run_is_maximal can calls bounded = record {
     is_run = lowest_steps_are_steps can (total calls) (start (length calls));
     is_stuck = lowest_steps_end can calls (total calls) (start (length calls)) bounded (start_below (length calls) calls refl) (omega arith) }
@@ -190,6 +190,6 @@ pub maximal_runs_end_alike : MaximalRunsEndAlike
 maximal_runs_end_alike can calls persistent bounded =
   let maximal = lowest_run_is_maximal can calls bounded in
   (maximal,
-    any_end_is_the_end can (length calls) (end_of (length calls) (lowest_run can calls)) persistent
-      (record { states = lowest_run can calls; is_run = maximal.is_run; ends_there = refl })
+    any_end_is_the_end can (length calls) (end_of (length calls) (lowest_run can (length calls) (total calls))) persistent
+      (record { states = lowest_run can (length calls) (total calls); is_run = maximal.is_run; ends_there = refl })
       maximal.is_stuck)

@@ -95,9 +95,9 @@ abbrev pub total : List ℕ → ℕ
 total [] = 0
 total (n ∷ ns) = n + total ns
 
--- the run that always moves the lowest rank that can, as long as there are calls
-abbrev pub lowest_run : Rule → List ℕ → List State
-lowest_run can calls = lowest_steps can (total calls) (start (length calls))
+-- the run that always moves the lowest rank that can, of that many steps at most
+abbrev pub lowest_run : Rule → ℕ → ℕ → List State
+lowest_run can ranks most = lowest_steps can most (start ranks)
 
 -- Law: under a persistent rule, a state that some run reaches and in which no rank can move is the
 -- end of every maximal run.
@@ -106,10 +106,10 @@ AnyEndIsTheEnd =
   (can : Rule) (ranks : ℕ) (s : State) → IsPersistent can → IsReached can ranks s → IsStuck can s →
   IsTheEnd can ranks s
 
--- Law: under a rule that is persistent and bounded, there is a maximal run, the one that always
--- moves the lowest rank, and every maximal run ends where that one ends.
+-- Law: under a rule that is persistent and bounded, the run that always moves the lowest rank is
+-- maximal, and every maximal run ends where that one ends.
 abbrev pub MaximalRunsEndAlike : Type 0
 MaximalRunsEndAlike =
   (can : Rule) (calls : List ℕ) → IsPersistent can → IsBounded can calls →
-  IsMaximal can (length calls) (lowest_run can calls)
-    × IsTheEnd can (length calls) (end_of (length calls) (lowest_run can calls))
+  IsMaximal can (length calls) (lowest_run can (length calls) (total calls))
+    × IsTheEnd can (length calls) (end_of (length calls) (lowest_run can (length calls) (total calls)))

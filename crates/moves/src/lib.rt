@@ -1,4 +1,6 @@
 //! When ranks move on, and where every run of them ends.
 #![tactic(auto)]
 
+pub mod need;
 pub mod run;
+pub mod verdict;

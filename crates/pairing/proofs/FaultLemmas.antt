@@ -32,12 +32,6 @@ any_at test (y ∷ ys) (suc i) x h passes =
     (λ (later : test y ≡ false). rw later (any_at test ys i x h passes))
     (cases_Bool (test y))
 
--- a call of a list that goes on
-slice_get-front : {A : Type 0} (xs ys : List A) (i : ℕ) → i < length xs → slice_get (xs ++ ys) i ≡ slice_get xs i
-slice_get-front [] ys i h = absurd (omega arith)
-slice_get-front (x ∷ xs) ys zero h = refl
-slice_get-front (x ∷ xs) ys (suc i) h = slice_get-front xs ys i (omega arith)
-
 slice_get-push : {A : Type 0} (xs : List A) (y : A) (i : ℕ) (x : A) → slice_get (xs ++ y ∷ []) i ≡ Some x → ((i < length xs) × (slice_get xs i ≡ Some x)) ⊎ ((i ≡ length xs) × (y ≡ x))
 slice_get-push [] y zero x h = inr (refl, same_Some y x h)
 slice_get-push [] y (suc i) x h = absurd (none-some x h)

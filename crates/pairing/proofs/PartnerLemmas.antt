@@ -1,9 +1,10 @@
 -- Partners are mutual, and no partner is shared.
-use Rattle.std.proofs.Common.{◌≡◌, ℕ, Bool, true, false, ◌&&◌, eqb, Option, Some, None, refl, sym, ap, subst, ◌∙◌, arith}
+use Rattle.std.proofs.Common.{◌≡◌, ℕ, ◌<◌, ◌≤◌, Bool, true, false, ◌&&◌, eqb, Option, Some, None, length, refl, sym, ap, subst, ◌∙◌, arith}
 use Rattle.std.specs.List.{slice_get}
 use Rattle.std.specs.Option.{option_map, option_map_or, option_and_then}
 use Rattle.std.proofs.lemmas.List.Quantifiers.{position-Some}
-use Rattle.std.proofs.lemmas.Option.{none-some, same_Some, some_pair_parts, slice_get-get_or}
+use Rattle.std.proofs.lemmas.List.{take-append-le}
+use Rattle.std.proofs.lemmas.Option.{slice_get_within, none-some, same_Some, some_pair_parts, slice_get-get_or}
 use Rattle.std.proofs.lemmas.Bool.{eqb-true, eq-eqb}
 use Rattle.mpicall.specs.declared.call.Peer.TheVariants.{Rank}
 use Rattle.mpicall.specs.declared.call.Call.{Call}
@@ -12,10 +13,10 @@ use Rattle.mpigroup.specs.Groups.{Groups, group_of, world_rank_of, group_rank_of
 use Rattle.pairing.specs.declared.envelope.Envelope.{Envelope}
 use Rattle.pairing.specs.declared.envelope.Half.{Half}
 use Rattle.pairing.specs.declared.envelope.Half.TheVariants.{Send as SendHalf, Recv as RecvHalf}
-use Rattle.pairing.specs.Traces.{Lists, calls_of}
+use Rattle.pairing.specs.Traces.{Lists, calls_of, GoesOn}
 use Rattle.pairing.specs.Envelopes.{other_half, same_envelope, envelope_of, rank_of_half, has_envelope}
-use Rattle.pairing.specs.Partners.{envelope_at, places_of, number_of, numbered, partner_of, PartnersAreMutual, PartnersAreNotShared}
-use Rattle.pairing.proofs.PlaceLemmas.{nth_place, place_nth}
+use Rattle.pairing.specs.Partners.{envelope_at, places_of, number_of, numbered, partner_of, PartnersAreMutual, PartnersAreNotShared, PartnersStay}
+use Rattle.pairing.proofs.PlaceLemmas.{nth_place, place_nth, places-append, slice_get-front}
 
 pub and_then_parts : {A B : Type 0} (f : A → Option B) (o : Option A) (y : B) → option_and_then f o ≡ Some y → (x : A) × (o ≡ Some x) × (f x ≡ Some y)
 and_then_parts f None y h = absurd (none-some y h)
@@ -158,3 +159,32 @@ partners_are_not_shared groups trace rank place rank' place' half partner h h' =
     let back = partners_are_mutual groups trace rank place half partner.0 partner.1 h in
     let back' = partners_are_mutual groups trace rank' place' half partner.0 partner.1 h' in
     some_pair_parts rank rank' place place' (sym back ∙ back')
+
+half_stays : (groups : Groups) (trace longer : Lists) (rank place : ℕ) (half : Half) (e : Envelope) → GoesOn trace longer → HasHalf groups trace rank place half e → HasHalf groups longer rank place half e
+half_stays groups trace longer rank place half e goes_on own =
+  let within : place < length (calls_of trace rank) = slice_get_within (calls_of trace rank) place own.call own.stands_there in
+  record {
+    call = own.call;
+    stands_there = rw (goes_on.goes_on rank) (slice_get-front (calls_of trace rank) (goes_on.more rank) place within ∙ own.stands_there);
+    envelope = own.envelope }
+
+number_stays : (groups : Groups) (trace longer : Lists) (rank place : ℕ) (half : Half) (e : Envelope) → GoesOn trace longer → place ≤ length (calls_of trace rank) → number_of groups longer rank half e place ≡ number_of groups trace rank half e place
+number_stays groups trace longer rank place half e goes_on within =
+  rw (goes_on.goes_on rank, take-append-le place (calls_of trace rank) (goes_on.more rank) within) refl
+
+place_stays : (groups : Groups) (trace longer : Lists) (rank : ℕ) (half : Half) (e : Envelope) (number there : ℕ) → GoesOn trace longer → slice_get (places_of groups trace rank half e) number ≡ Some there → slice_get (places_of groups longer rank half e) number ≡ Some there
+place_stays groups trace longer rank half e number there goes_on h =
+  rw (goes_on.goes_on rank) (places-append 0 (has_envelope groups rank half e) (calls_of trace rank) (goes_on.more rank) number there h)
+
+pub partners_stay : PartnersStay
+partners_stay groups trace longer rank place half other there goes_on h =
+  let parts = partner_parts groups trace rank place half other there h in
+  let within = slice_get_within (calls_of trace rank) place parts.own.call parts.own.stands_there in
+  partner_from groups longer rank place half other there
+    (record {
+      e = parts.e;
+      own = half_stays groups trace longer rank place half parts.e goes_on parts.own;
+      rank_there = parts.rank_there;
+      place_there =
+        rw (number_stays groups trace longer rank place half parts.e goes_on (omega (arith, within)))
+          (place_stays groups trace longer other (other_half half) parts.e (number_of groups trace rank half parts.e place) there goes_on parts.place_there) })

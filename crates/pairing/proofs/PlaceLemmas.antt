@@ -84,3 +84,9 @@ places-append n test (x ∷ xs) ys k p h =
     append_first : {A : Type 0} (n : ℕ) (test : A → Bool) (xs ys : List A) (k p : ℕ) → ((k : ℕ) → slice_get (places_from (n + 1) test xs) k ≡ Some p → slice_get (places_from (n + 1) test (xs ++ ys)) k ≡ Some p) → slice_get (n ∷ places_from (n + 1) test xs) k ≡ Some p → slice_get (n ∷ places_from (n + 1) test (xs ++ ys)) k ≡ Some p
     append_first n test xs ys zero p rest h = h
     append_first n test xs ys (suc k) p rest h = rest k h
+
+-- an element of a list that goes on
+pub slice_get-front : {A : Type 0} (xs ys : List A) (i : ℕ) → i < length xs → slice_get (xs ++ ys) i ≡ slice_get xs i
+slice_get-front [] ys i h = absurd (omega arith)
+slice_get-front (x ∷ xs) ys zero h = refl
+slice_get-front (x ∷ xs) ys (suc i) h = slice_get-front xs ys i (omega arith)

@@ -5,7 +5,7 @@ use Rattle.std.specs.Prelude.{◌≡◌, ℕ, Option, Some, option_map, option_a
 use Rattle.mpigroup.specs.Groups.{Groups}
 use Rattle.pairing.specs.declared.envelope.Envelope.{Envelope}
 use Rattle.pairing.specs.declared.envelope.Half.{Half}
-use Rattle.pairing.specs.Traces.{Lists, calls_of}
+use Rattle.pairing.specs.Traces.{Lists, calls_of, GoesOn}
 use Rattle.pairing.specs.Places.{places, count_before}
 use Rattle.pairing.specs.Envelopes.{envelope_of, has_envelope, other_half, rank_of_half}
 
@@ -49,3 +49,10 @@ PartnersAreNotShared =
     partner_of groups trace rank place half ≡ Some partner →
     partner_of groups trace rank' place' half ≡ Some partner →
     (rank ≡ rank') × (place ≡ place')
+
+-- Law: partners stay. A partner over a trace is the partner over each longer trace.
+abbrev pub PartnersStay : Type 0
+PartnersStay =
+  (groups : Groups) (trace longer : Lists) (rank place : ℕ) (half : Half) (other there : ℕ) → GoesOn trace longer →
+  partner_of groups trace rank place half ≡ Some (other, there) →
+  partner_of groups longer rank place half ≡ Some (other, there)

@@ -4,7 +4,7 @@ ghost use Rattle.std.specs.Prelude.{◌≡◌, ◌≤◌, length, slice_get};
 ghost use Rattle.pairing.specs.Limits.{most_calls};
 ghost use Rattle.pairing.specs.Places.{places};
 ghost use Rattle.pairing.specs.Envelopes.{has_envelope};
-ghost use Rattle.pairing.specs.Partners.{partner_of, PartnersAreMutual, PartnersAreNotShared};
+ghost use Rattle.pairing.specs.Partners.{partner_of, PartnersAreMutual, PartnersAreNotShared, PartnersStay};
 
 use crate::envelope::{Envelope, Half, envelope_of, has_envelope, rank_of_half};
 use crate::trace::Trace;
@@ -81,3 +81,9 @@ pub fn partners_are_mutual()
 pub fn partners_are_not_shared()
     ensures { PartnersAreNotShared }
 {}
+
+/// Partners stay: a partner over a trace is the partner over each longer trace, whose lists go on.
+pub fn partners_stay()
+    ensures { PartnersStay }
+{
+}
