@@ -1,1 +1,3 @@
 pub mod RunLemmas
+pub mod NeedLemmas
+pub mod StandLemmas

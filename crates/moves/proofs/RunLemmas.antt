@@ -28,7 +28,7 @@ below_both s t st ts =
   same_numbers s t st.ranks (λ rank. omega (arith, st.stands rank, ts.stands rank))
 
 -- a rank past the last stands at 0
-get_start : (n k : ℕ) → ◌≡◌ {A = ℕ} (get_or (replicate n 0) k 0) 0
+pub get_start : (n k : ℕ) → ◌≡◌ {A = ℕ} (get_or (replicate n 0) k 0) 0
 get_start zero k = refl
 get_start (suc n) zero = refl
 get_start (suc n) (suc k) = get_start n k

@@ -1,5 +1,5 @@
 -- Arrivals: records of many ranks as they are read, in any mix. Those are kept that have no fault.
-use Rattle.std.specs.Prelude.{ℕ, ◌==◌, is_none, List, [], ◌∷◌, replicate, if◌then◌else◌}
+use Rattle.std.specs.Prelude.{ℕ, is_none, List, [], ◌∷◌, replicate, if◌then◌else◌}
 use Rattle.mpicall.specs.declared.call.Call.{Call}
 use Rattle.mpigroup.specs.Groups.{Groups, ranks_of}
 use Rattle.pairing.specs.Traces.{Lists, calls_of, appended}

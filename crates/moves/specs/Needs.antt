@@ -2,7 +2,7 @@
 -- reached, also in standard mode, which MPI 4.0 (section 3.4) allows to complete before; a receive is
 -- done once its send is reached (section 3.2.4). MPI_Finalize is a rank's last call (section 11.2.2): it
 -- needs nothing, and no rank moves past it.
-use Rattle.std.specs.Prelude.{ℕ, Bool, true, false, not, ◌&&◌, nat_le, Option, Some, None, unwrap_or, List, [], ◌∷◌, slice_get, slice_index}
+use Rattle.std.specs.Prelude.{ℕ, Bool, false, not, ◌&&◌, nat_le, Option, Some, None, unwrap_or, List, [], ◌∷◌, slice_get, slice_index}
 use Rattle.std.specs.List.{list_all}
 use Rattle.std.specs.Option.{option_map_or}
 use Rattle.mpicall.specs.declared.call.Peer.TheVariants.{Rank}

@@ -4,7 +4,7 @@ use Rattle.std.specs.Option.{option_map_or}
 use Rattle.mpicall.specs.declared.call.Call.TheVariants.{Finalize}
 use Rattle.mpigroup.specs.Groups.{Groups}
 use Rattle.pairing.specs.Traces.{Lists, calls_of, is_finalize, GoesOn}
-use Rattle.moves.specs.Runs.{State, IsRun, end_of, IsStuck, IsMaximal, IsTheEnd, IsBelow, total, lowest_run}
+use Rattle.moves.specs.Runs.{State, IsRun, end_of, IsMaximal, IsTheEnd, IsBelow, total, lowest_run}
 use Rattle.moves.specs.Needs.{can_move}
 
 -- how many calls the trace has

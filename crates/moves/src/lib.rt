@@ -3,4 +3,5 @@
 
 pub mod need;
 pub mod run;
+pub mod stand;
 pub mod verdict;

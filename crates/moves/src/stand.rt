@@ -1,0 +1,36 @@
+//! Where ranks come to stand by the strict reading, and what that tells of every run.
+
+ghost use Rattle.std.specs.Prelude.{◌≡◌};
+ghost use Rattle.moves.specs.Stands.{EveryMaximalRunEndsAtTheStands, NoRunBringsAStuckRankToFinalize, EveryMaximalRunBringsTheOthers, LongerTracesLowerNoStand, NoCallAfterFinalizeIsReached};
+
+/// Over every trace, the run that always moves the lowest rank is maximal, and every maximal run ends
+/// at the stands. It has no premise: the trace need be neither closed nor lawful.
+pub fn every_maximal_run_ends_at_the_stands()
+    ensures { EveryMaximalRunEndsAtTheStands }
+{
+}
+
+/// A rank that is not at its Finalize at the stands is brought there by no run, maximal or not.
+pub fn no_run_brings_a_stuck_rank_to_finalize()
+    ensures { NoRunBringsAStuckRankToFinalize }
+{
+}
+
+/// A rank that is at its Finalize at the stands is brought there by every maximal run.
+pub fn every_maximal_run_brings_the_others()
+    ensures { EveryMaximalRunBringsTheOthers }
+{
+}
+
+/// A trace whose lists go on from those of another has no lower stand than that one. Its premise is
+/// that both have the same ranks.
+pub fn longer_traces_lower_no_stand()
+    ensures { LongerTracesLowerNoStand }
+{
+}
+
+/// No run moves a rank past its Finalize, so a call after it is never reached.
+pub fn no_call_after_finalize_is_reached()
+    ensures { NoCallAfterFinalizeIsReached }
+{
+}
