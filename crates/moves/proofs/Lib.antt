@@ -1,3 +1,4 @@
 pub mod RunLemmas
 pub mod NeedLemmas
 pub mod StandLemmas
+pub mod VerdictLemmas

@@ -12,9 +12,9 @@ Arrival = ℕ × Call
 -- the trace once the call has arrived: with the call where it has no fault after its rank's calls so far
 abbrev pub kept_one : Groups → Lists → Arrival → Lists
 kept_one groups trace arrival =
-  if is_none (fault_of groups arrival.0 (calls_of trace arrival.0) arrival.1)
-  then appended trace arrival.0 arrival.1
-  else trace
+    if is_none (fault_of groups arrival.0 (calls_of trace arrival.0) arrival.1)
+    then appended trace arrival.0 arrival.1
+    else trace
 
 -- the trace once all have arrived, in their order
 abbrev pub kept_from : Groups → Lists → List Arrival → Lists

@@ -26,7 +26,7 @@ world_of groups comm peer = unwrap_or (world_rank_of groups comm peer) peer
 -- what a half of a call needs: that its partner is reached; where it has none, it lacks one of the peer
 abbrev pub half_need : Groups → Lists → ℕ → ℕ → Half → ℕ → ℕ → Need
 half_need groups trace rank place half comm peer =
-  option_map_or (λ partner. At partner.0 partner.1) (partner_of groups trace rank place half) (Lacking (world_of groups comm peer))
+    option_map_or (λ partner. At partner.0 partner.1) (partner_of groups trace rank place half) (Lacking (world_of groups comm peer))
 
 -- what the call at the place of the rank needs, one line for each shape of call
 abbrev pub needs_of_call : Groups → Lists → ℕ → ℕ → Call → List Need
@@ -51,5 +51,5 @@ may_pass (Some call) = not (is_finalize call)
 -- A rank can move if its present call is not Finalize and each of that call's needs is met.
 abbrev pub can_move : Groups → Lists → Rule
 can_move groups trace stands rank =
-  may_pass (slice_get (calls_of trace rank) (slice_index stands rank))
+    may_pass (slice_get (calls_of trace rank) (slice_index stands rank))
     && list_all (is_met stands) (needs_of groups trace rank (slice_index stands rank))

@@ -83,8 +83,8 @@ pub record IsBelow (s t : State) : Type 0 where
 -- A rule is persistent if a rank that can move can still move once other ranks have moved on.
 abbrev pub IsPersistent : Rule → Type 0
 IsPersistent can =
-  (s t : State) (rank : ℕ) → IsBelow s t → slice_index s rank ≡ slice_index t rank →
-  can s rank ≡ true → can t rank ≡ true
+    (s t : State) (rank : ℕ) → IsBelow s t → slice_index s rank ≡ slice_index t rank →
+    can s rank ≡ true → can t rank ≡ true
 
 -- A rule is bounded by a number of calls for each rank if no rank moves on from its last.
 abbrev pub IsBounded : Rule → List ℕ → Type 0
@@ -103,13 +103,13 @@ lowest_run can ranks most = lowest_steps can most (start ranks)
 -- end of every maximal run.
 abbrev pub AnyEndIsTheEnd : Type 0
 AnyEndIsTheEnd =
-  (can : Rule) (ranks : ℕ) (s : State) → IsPersistent can → IsReached can ranks s → IsStuck can s →
-  IsTheEnd can ranks s
+    (can : Rule) (ranks : ℕ) (s : State) → IsPersistent can → IsReached can ranks s → IsStuck can s →
+    IsTheEnd can ranks s
 
 -- Law: under a rule that is persistent and bounded, the run that always moves the lowest rank is
 -- maximal, and every maximal run ends where that one ends.
 abbrev pub MaximalRunsEndAlike : Type 0
 MaximalRunsEndAlike =
-  (can : Rule) (calls : List ℕ) → IsPersistent can → IsBounded can calls →
-  IsMaximal can (length calls) (lowest_run can (length calls) (total calls))
+    (can : Rule) (calls : List ℕ) → IsPersistent can → IsBounded can calls →
+    IsMaximal can (length calls) (lowest_run can (length calls) (total calls))
     × IsTheEnd can (length calls) (end_of (length calls) (lowest_run can (length calls) (total calls)))

@@ -35,34 +35,34 @@ is_at_finalize trace stands rank = option_map_or is_finalize (slice_get (calls_o
 -- ends at the stands.
 abbrev pub EveryMaximalRunEndsAtTheStands : Type 0
 EveryMaximalRunEndsAtTheStands =
-  (groups : Groups) (trace : Lists) →
-  IsMaximal (can_move groups trace) (length trace) (lowest_run_over groups trace)
+    (groups : Groups) (trace : Lists) →
+    IsMaximal (can_move groups trace) (length trace) (lowest_run_over groups trace)
     × IsTheEnd (can_move groups trace) (length trace) (stands_of groups trace)
 
 -- Law: a rank that is not at its Finalize at the stands is brought there by no run, maximal or not.
 abbrev pub NoRunBringsAStuckRankToFinalize : Type 0
 NoRunBringsAStuckRankToFinalize =
-  (groups : Groups) (trace : Lists) (rank : ℕ) (states : List State) → IsRunOver groups trace states →
-  is_at_finalize trace (stands_of groups trace) rank ≡ false →
-  is_at_finalize trace (end_over trace states) rank ≡ false
+    (groups : Groups) (trace : Lists) (rank : ℕ) (states : List State) → IsRunOver groups trace states →
+    is_at_finalize trace (stands_of groups trace) rank ≡ false →
+    is_at_finalize trace (end_over trace states) rank ≡ false
 
 -- Law: a rank that is at its Finalize at the stands is brought there by every maximal run.
 abbrev pub EveryMaximalRunBringsTheOthers : Type 0
 EveryMaximalRunBringsTheOthers =
-  (groups : Groups) (trace : Lists) (rank : ℕ) (states : List State) →
-  IsMaximal (can_move groups trace) (length trace) states →
-  is_at_finalize trace (stands_of groups trace) rank ≡ true →
-  is_at_finalize trace (end_over trace states) rank ≡ true
+    (groups : Groups) (trace : Lists) (rank : ℕ) (states : List State) →
+    IsMaximal (can_move groups trace) (length trace) states →
+    is_at_finalize trace (stands_of groups trace) rank ≡ true →
+    is_at_finalize trace (end_over trace states) rank ≡ true
 
 -- Law: a longer trace lowers no stand.
 abbrev pub LongerTracesLowerNoStand : Type 0
 LongerTracesLowerNoStand =
-  (groups : Groups) (trace longer : Lists) → GoesOn trace longer →
-  IsBelow (stands_of groups trace) (stands_of groups longer)
+    (groups : Groups) (trace longer : Lists) → GoesOn trace longer →
+    IsBelow (stands_of groups trace) (stands_of groups longer)
 
 -- Law: no run moves a rank past its Finalize, so a call after it is never reached.
 abbrev pub NoCallAfterFinalizeIsReached : Type 0
 NoCallAfterFinalizeIsReached =
-  (groups : Groups) (trace : Lists) (rank place : ℕ) (states : List State) → IsRunOver groups trace states →
-  slice_get (calls_of trace rank) place ≡ Some Finalize →
-  slice_index (end_over trace states) rank ≤ place
+    (groups : Groups) (trace : Lists) (rank place : ℕ) (states : List State) → IsRunOver groups trace states →
+    slice_get (calls_of trace rank) place ≡ Some Finalize →
+    slice_index (end_over trace states) rank ≤ place

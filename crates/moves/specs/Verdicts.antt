@@ -10,7 +10,7 @@ use Rattle.moves.specs.declared.verdict.Verdict.TheVariants.{Free, Hang}
 -- free if each rank stands at its Finalize, else hang
 abbrev pub verdict_of : Groups → Lists → Verdict
 verdict_of groups trace =
-  if list_all (is_at_finalize trace (stands_of groups trace)) (range_with_len 0 (length trace)) then Free else Hang
+    if list_all (is_at_finalize trace (stands_of groups trace)) (range_with_len 0 (length trace)) then Free else Hang
 
 -- some rank does not stand at its Finalize
 pub record SomeRankIsStuck (groups : Groups) (trace : Lists) : Type 0 where

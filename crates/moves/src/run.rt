@@ -7,12 +7,10 @@ ghost use Rattle.moves.specs.Runs.{AnyEndIsTheEnd, MaximalRunsEndAlike};
 /// every maximal run.
 pub fn any_end_is_the_end()
     ensures { AnyEndIsTheEnd }
-{
-}
+{}
 
 /// Under a rule that is persistent and lets no rank move on from its last call, there is a maximal
 /// run, the one that always moves the lowest rank that can, and every maximal run ends where it ends.
 pub fn maximal_runs_end_alike()
     ensures { MaximalRunsEndAlike }
-{
-}
+{}

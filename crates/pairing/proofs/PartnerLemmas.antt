@@ -162,29 +162,31 @@ partners_are_not_shared groups trace rank place rank' place' half partner h h' =
 
 half_stays : (groups : Groups) (trace longer : Lists) (rank place : ℕ) (half : Half) (e : Envelope) → GoesOn trace longer → HasHalf groups trace rank place half e → HasHalf groups longer rank place half e
 half_stays groups trace longer rank place half e goes_on own =
-  let within : place < length (calls_of trace rank) = slice_get_within (calls_of trace rank) place own.call own.stands_there in
-  record {
-    call = own.call;
-    stands_there = rw (goes_on.goes_on rank) (slice_get-front (calls_of trace rank) (goes_on.more rank) place within ∙ own.stands_there);
-    envelope = own.envelope }
+    let within : place < length (calls_of trace rank) = slice_get_within (calls_of trace rank) place own.call own.stands_there in
+    record {
+      call = own.call;
+      stands_there = rw (goes_on.goes_on rank) (slice_get-front (calls_of trace rank) (goes_on.more rank) place within ∙ own.stands_there);
+      envelope = own.envelope;
+    }
 
 number_stays : (groups : Groups) (trace longer : Lists) (rank place : ℕ) (half : Half) (e : Envelope) → GoesOn trace longer → place ≤ length (calls_of trace rank) → number_of groups longer rank half e place ≡ number_of groups trace rank half e place
 number_stays groups trace longer rank place half e goes_on within =
-  rw (goes_on.goes_on rank, take-append-le place (calls_of trace rank) (goes_on.more rank) within) refl
+    rw (goes_on.goes_on rank, take-append-le place (calls_of trace rank) (goes_on.more rank) within) refl
 
 place_stays : (groups : Groups) (trace longer : Lists) (rank : ℕ) (half : Half) (e : Envelope) (number there : ℕ) → GoesOn trace longer → slice_get (places_of groups trace rank half e) number ≡ Some there → slice_get (places_of groups longer rank half e) number ≡ Some there
 place_stays groups trace longer rank half e number there goes_on h =
-  rw (goes_on.goes_on rank) (places-append 0 (has_envelope groups rank half e) (calls_of trace rank) (goes_on.more rank) number there h)
+    rw (goes_on.goes_on rank) (places-append 0 (has_envelope groups rank half e) (calls_of trace rank) (goes_on.more rank) number there h)
 
 pub partners_stay : PartnersStay
 partners_stay groups trace longer rank place half other there goes_on h =
-  let parts = partner_parts groups trace rank place half other there h in
-  let within = slice_get_within (calls_of trace rank) place parts.own.call parts.own.stands_there in
-  partner_from groups longer rank place half other there
+    let parts = partner_parts groups trace rank place half other there h in
+    let within = slice_get_within (calls_of trace rank) place parts.own.call parts.own.stands_there in
+    partner_from groups longer rank place half other there
     (record {
       e = parts.e;
       own = half_stays groups trace longer rank place half parts.e goes_on parts.own;
       rank_there = parts.rank_there;
       place_there =
-        rw (number_stays groups trace longer rank place half parts.e goes_on (omega (arith, within)))
-          (place_stays groups trace longer other (other_half half) parts.e (number_of groups trace rank half parts.e place) there goes_on parts.place_there) })
+          rw (number_stays groups trace longer rank place half parts.e goes_on (omega (arith, within)))
+          (place_stays groups trace longer other (other_half half) parts.e (number_of groups trace rank half parts.e place) there goes_on parts.place_there);
+    })

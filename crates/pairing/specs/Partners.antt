@@ -53,6 +53,6 @@ PartnersAreNotShared =
 -- Law: partners stay. A partner over a trace is the partner over each longer trace.
 abbrev pub PartnersStay : Type 0
 PartnersStay =
-  (groups : Groups) (trace longer : Lists) (rank place : ℕ) (half : Half) (other there : ℕ) → GoesOn trace longer →
-  partner_of groups trace rank place half ≡ Some (other, there) →
-  partner_of groups longer rank place half ≡ Some (other, there)
+    (groups : Groups) (trace longer : Lists) (rank place : ℕ) (half : Half) (other there : ℕ) → GoesOn trace longer →
+    partner_of groups trace rank place half ≡ Some (other, there) →
+    partner_of groups longer rank place half ≡ Some (other, there)

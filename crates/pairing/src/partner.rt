@@ -85,5 +85,4 @@ pub fn partners_are_not_shared()
 /// Partners stay: a partner over a trace is the partner over each longer trace, whose lists go on.
 pub fn partners_stay()
     ensures { PartnersStay }
-{
-}
+{}
