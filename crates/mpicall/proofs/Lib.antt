@@ -1,1 +1,4 @@
 pub mod NumberLemmas
+pub mod FieldLemmas
+pub mod DecimalLemmas
+pub mod ReadingLemmas

@@ -1,6 +1,6 @@
 //! Canonical numbers: `0`, or decimal digits the first of which isn't `0`.
 
-ghost use Rattle.std.specs.Prelude.{◌≡◌, ◌&&◌, nat_le, Some, None, if◌then◌else◌};
+ghost use Rattle.std.specs.Prelude.{◌≡◌, ◌&&◌, ◌≤◌, nat_le, Some, None, IfSome, if◌then◌else◌};
 ghost use Rattle.std.specs.Str.{all_ascii_digits};
 ghost use Rattle.mpicall.specs.Number.{has_leading_zero, is_canonical, number_up_to, value_of};
 
@@ -34,7 +34,10 @@ pub fn is_canonical(field: &[u8]) -> bool
 /// The number that digits write, if it is at most `limit`.
 #[tactic(auto, using(crate::proofs::NumberLemmas::number_steps))]
 fn read_digits(limit: u32, field: &[u8]) -> Option<u32>
-    ensures { result ≡ (if all_ascii_digits field.now && nat_le (value_of field.now) limit then Some (value_of field.now) else None) }
+    ensures value { result
+        ≡ (if all_ascii_digits field.now && nat_le (value_of field.now) limit
+        then Some (value_of field.now) else None) }
+    ensures within { IfSome result (λ number. number ≤ limit) }
 {
     let mut value = 0;
     for byte in field {
@@ -53,7 +56,8 @@ fn read_digits(limit: u32, field: &[u8]) -> Option<u32>
 /// The number that a field spells, if it is a canonical one of at most `limit`.
 #[tactic(auto, unfolding(crate::specs::Number::is_canonical, crate::specs::Number::number_up_to))]
 pub fn read_number(limit: u32, field: &[u8]) -> Option<u32>
-    ensures { result ≡ number_up_to limit field.now }
+    ensures value { result ≡ number_up_to limit field.now }
+    ensures within { IfSome result (λ number. number ≤ limit) }
 {
     if field.is_empty() || has_leading_zero(field) {
         return None;

@@ -73,6 +73,14 @@ impl Record {
         }
     }
 
+    /// The record of a call that was read, or made, in its ranges.
+    pub(crate) fn of_ranged(call: Call) -> Record
+        requires { IsTrue (in_ranges call) }
+        ensures { result ≡ call }
+    {
+        Record { call }
+    }
+
     /// The call, with its fields in their ranges.
     pub fn call(&self) -> Call
         ensures value { result ≡ self.now }

@@ -1,1 +1,3 @@
 pub mod Groups
+pub mod HeadFaults
+pub mod HeadText

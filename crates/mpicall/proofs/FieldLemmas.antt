@@ -1,0 +1,31 @@
+-- How the first space cuts a body into its first field and the rest.
+use Rattle.std.proofs.Common.{◌≡◌, ℕ, ◌+◌, ◌-◌, ◌<◌, ◌≤◌, Bool, true, false, List, [], ◌∷◌, length, get_or, take, drop, add-one, sym, ap, ◌∙◌, refl, arith, rules, Option, Some, None, cond, ltb, length-drop}
+use Rattle.std.specs.List.{slice_split, position, position_or_len, before_first, after_first}
+use Rattle.std.proofs.lemmas.List.{take_all}
+use Rattle.std.proofs.lemmas.List.Quantifiers.{position-Some}
+use Rattle.std.proofs.lemmas.List.Sums.{position_or_len_is, fails_before_first}
+use Rattle.std.proofs.lemmas.Bool.Decides.{nat_tests}
+use Rattle.std.proofs.lemmas.List.Elements.{All-from_get_or}
+use Rattle.std.proofs.lemmas.List.Splits.{slice_split_first, slice_split_none}
+
+pub split_at_first_space : (p : ℕ → Bool) (xs : List ℕ) (at : ℕ) → position p xs ≡ Some at → slice_split p xs ≡ take at xs ∷ slice_split p (take (length xs - (at + 1)) (drop (at + 1) xs))
+split_at_first_space p xs at is =
+    let found = position-Some p xs at 0 is in
+    let place : position_or_len p xs ≡ at = position_or_len_is p xs at 0 (omega (arith, found.0)) found.2 (λ _. found.1) in
+    let within : position_or_len p xs < length xs = rw place found.0 in
+    let rest : take (length xs - (at + 1)) (drop (at + 1) xs) ≡ drop (at + 1) xs =
+    take_all (length xs - (at + 1)) (drop (at + 1) xs) (omega (arith, length-drop (at + 1) xs)) in
+    let cut : slice_split p xs ≡ take (position_or_len p xs) xs ∷ slice_split p (drop (position_or_len p xs + 1) xs) =
+    slice_split_first p xs 0 within in
+    rw rest (rw place at cut)
+
+none_passes : (b : Bool) (i n : ℕ) → b ≡ ltb i n → cond b (Some i) None ≡ None → n ≤ i
+none_passes true i n e is = cc
+none_passes false i n e is = search (rules, nat_tests)
+
+pub split_without_space : (p : ℕ → Bool) (xs : List ℕ) → position p xs ≡ None → slice_split p xs ≡ xs ∷ []
+split_without_space p xs is =
+    let none : length xs ≤ position_or_len p xs = none_passes (ltb (position_or_len p xs) (length xs)) (position_or_len p xs) (length xs) refl is in
+    slice_split_none p xs (All-from_get_or (λ x. p x ≡ false) xs 0 (λ k h. fails_before_first p xs k 0 (omega arith)))
+
+pub ruleset field_steps = (split_at_first_space, split_without_space)
