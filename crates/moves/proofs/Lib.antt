@@ -2,3 +2,4 @@ pub mod RunLemmas
 pub mod NeedLemmas
 pub mod StandLemmas
 pub mod VerdictLemmas
+pub mod ArrivalLemmas

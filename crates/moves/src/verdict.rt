@@ -49,3 +49,61 @@ pub fn verdict_of(alloc: Global, head: &Head, trace: &Trace) -> Result<Verdict, 
         Ok(Verdict::Hang)
     }
 }
+
+#[cfg(test)]
+mod tests {
+    use super::*;
+    use mpicall::line::read_line;
+    use mpicall::record::Record;
+    use pairing::fault::fault;
+    use std::test::Fail;
+
+    // The trace of the ranks' files.
+    fn trace_of(rt: &HostRuntime, head: &Head, files: &[&str]) -> Result<Trace, Fail> {
+        let mut trace = Trace::new(rt.alloc(), head.ranks())?;
+        for (rank, file) in files.iter().enumerate() {
+            for line in file.split_inclusive('\n') {
+                let call = read_line(line.as_bytes())?;
+                add(&mut trace, head, rank as u16, &call)?;
+            }
+        }
+        Ok(trace)
+    }
+
+    fn add(trace: &mut Trace, head: &Head, rank: u16, call: &Record) -> Result<(), Fail> {
+        if rank >= trace.ranks() {
+            return Err("more files than ranks".into());
+        }
+        match fault(head, rank, trace.of_rank(rank), call) {
+            Some(fault) => Err(fault.into()),
+            None => Ok(trace.push(rank, call)?),
+        }
+    }
+
+    #[test]
+    fn tells_stands_and_verdicts(rt: HostRuntime) -> Result<(), Fail> {
+        let rows: [(&[&str], &[u32], Verdict); 8] = [
+            (&["finalize\n"], &[0], Verdict::Free),
+            (&["send 0 1 0\nfinalize\n", "recv 0 0 0\nfinalize\n"], &[1, 1], Verdict::Free),
+            (&["send 0 1 0\nrecv 0 1 0\nfinalize\n", "send 0 0 0\nrecv 0 0 0\nfinalize\n"], &[0, 0], Verdict::Hang),
+            (&["send 0 0 0\nrecv 0 0 0\nfinalize\n"], &[0], Verdict::Hang),
+            (&["send 0 1 1\nsend 0 1 2\nfinalize\n", "recv 0 0 2\nrecv 0 0 1\nfinalize\n"], &[0, 0], Verdict::Hang),
+            (&["recv 0 1 0\nfinalize\n", "finalize\n"], &[0, 0], Verdict::Hang),
+            (&["send 0 1 0\nrecv 0 2 0\nfinalize\n", "recv 0 0 0\nsend 0 2 0\nfinalize\n", "recv 0 1 0\nsend 0 0 0\nfinalize\n"], &[2, 2, 2], Verdict::Free),
+            (&["send 0 1 0\nsend 0 1 0\nfinalize\n", "recv 0 0 0\nfinalize\n"], &[1, 1], Verdict::Hang),
+        ];
+        for (files, places, told) in rows {
+            let text = match files.len() {
+                1 => "ranks 1\n",
+                2 => "ranks 2\n",
+                _ => "ranks 3\n",
+            };
+            let head = Head::read(text.as_bytes())?;
+            let trace = trace_of(&rt, &head, files)?;
+            let stands = stands(rt.alloc(), &head, &trace)?;
+            assert_eq!(rt; stands.as_slice(), places, "of {files:?}");
+            assert_eq!(rt; verdict_of(rt.alloc(), &head, &trace)?, told, "of {files:?}");
+        }
+        Ok(())
+    }
+}

@@ -99,9 +99,11 @@ fn ends_with_finalize(calls: &[Record]) -> bool
 }
 
 /// The first fault of a call that the rank makes after the calls, in the order of the variants of
-/// `CallFault`; None where it has no fault. It looks at every call before.
+/// `CallFault`; None where it has no fault, and then there is room for it in a trace. It looks at every
+/// call before.
 pub fn fault(head: &Head, rank: u16, calls: &[Record], call: &Record) -> Option<CallFault>
-    ensures { result ≡ fault_of head.now rank calls.now call.now }
+    ensures value { result ≡ fault_of head.now rank calls.now call.now }
+    ensures room { IfNone result (length calls.now < most_calls) }
 {
     first_fault(head, has_finalize(calls), calls.len(), call)
 }
