@@ -38,5 +38,5 @@ KeptIsLawful = (groups : Groups) (arrivals : List Arrival) → IsLawful groups (
 -- same order in both, the two mixes give one trace.
 abbrev pub MixesAreKeptAlike : Type 0
 MixesAreKeptAlike =
-  (groups : Groups) (a b : List Arrival) → ((rank : ℕ) → calls_by rank a ≡ calls_by rank b) →
-  kept groups a ≡ kept groups b
+    (groups : Groups) (a b : List Arrival) → ((rank : ℕ) → calls_by rank a ≡ calls_by rank b) →
+    kept groups a ≡ kept groups b

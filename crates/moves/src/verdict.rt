@@ -64,7 +64,7 @@ mod tests {
         for (rank, file) in files.iter().enumerate() {
             for line in file.split_inclusive('\n') {
                 let call = read_line(line.as_bytes())?;
-                add(&mut trace, head, rank as u16, &call)?;
+                add(&mut trace, head, u16::try_from(rank)?, &call)?;
             }
         }
         Ok(trace)
@@ -84,13 +84,50 @@ mod tests {
     fn tells_stands_and_verdicts(rt: HostRuntime) -> Result<(), Fail> {
         let rows: [(&[&str], &[u32], Verdict); 8] = [
             (&["finalize\n"], &[0], Verdict::Free),
-            (&["send 0 1 0\nfinalize\n", "recv 0 0 0\nfinalize\n"], &[1, 1], Verdict::Free),
-            (&["send 0 1 0\nrecv 0 1 0\nfinalize\n", "send 0 0 0\nrecv 0 0 0\nfinalize\n"], &[0, 0], Verdict::Hang),
+            (
+                &["send 0 1 0\nfinalize\n", "recv 0 0 0\nfinalize\n"],
+                &[1, 1],
+                Verdict::Free,
+            ),
+            (
+                &[
+                    "send 0 1 0\nrecv 0 1 0\nfinalize\n",
+                    "send 0 0 0\nrecv 0 0 0\nfinalize\n",
+                ],
+                &[0, 0],
+                Verdict::Hang,
+            ),
             (&["send 0 0 0\nrecv 0 0 0\nfinalize\n"], &[0], Verdict::Hang),
-            (&["send 0 1 1\nsend 0 1 2\nfinalize\n", "recv 0 0 2\nrecv 0 0 1\nfinalize\n"], &[0, 0], Verdict::Hang),
-            (&["recv 0 1 0\nfinalize\n", "finalize\n"], &[0, 0], Verdict::Hang),
-            (&["send 0 1 0\nrecv 0 2 0\nfinalize\n", "recv 0 0 0\nsend 0 2 0\nfinalize\n", "recv 0 1 0\nsend 0 0 0\nfinalize\n"], &[2, 2, 2], Verdict::Free),
-            (&["send 0 1 0\nsend 0 1 0\nfinalize\n", "recv 0 0 0\nfinalize\n"], &[1, 1], Verdict::Hang),
+            (
+                &[
+                    "send 0 1 1\nsend 0 1 2\nfinalize\n",
+                    "recv 0 0 2\nrecv 0 0 1\nfinalize\n",
+                ],
+                &[0, 0],
+                Verdict::Hang,
+            ),
+            (
+                &["recv 0 1 0\nfinalize\n", "finalize\n"],
+                &[0, 0],
+                Verdict::Hang,
+            ),
+            (
+                &[
+                    "send 0 1 0\nrecv 0 2 0\nfinalize\n",
+                    "recv 0 0 0\nsend 0 2 0\nfinalize\n",
+                    "recv 0 1 0\nsend 0 0 0\nfinalize\n",
+                ],
+                &[2, 2, 2],
+                Verdict::Free,
+            ),
+            (
+                &[
+                    "send 0 1 0\nsend 0 1 0\nfinalize\n",
+                    "recv 0 0 0\nfinalize\n",
+                ],
+                &[1, 1],
+                Verdict::Hang,
+            ),
         ];
         for (files, places, told) in rows {
             let text = match files.len() {
@@ -102,7 +139,11 @@ mod tests {
             let trace = trace_of(&rt, &head, files)?;
             let stands = stands(rt.alloc(), &head, &trace)?;
             assert_eq!(rt; stands.as_slice(), places, "of {files:?}");
-            assert_eq!(rt; verdict_of(rt.alloc(), &head, &trace)?, told, "of {files:?}");
+            assert_eq!(rt;
+                verdict_of(rt.alloc(), &head, &trace)?,
+                told,
+                "of {files:?}"
+            );
         }
         Ok(())
     }
