@@ -4,14 +4,15 @@ use Rattle.std.specs.List.{slice_get, list_any}
 use Rattle.std.specs.Option.{option_map_or}
 use Rattle.std.proofs.lemmas.List.{take-append-le}
 use Rattle.std.proofs.lemmas.Option.{none-some, same_Some}
-use Rattle.std.proofs.lemmas.Bool.{cases_Bool, ltb-true}
+use Rattle.std.proofs.lemmas.Bool.{false≢true, cases_Bool, ltb-true}
 use Rattle.mpicall.specs.declared.call.Call.{Call}
+use Rattle.mpicall.specs.declared.call.Call.TheVariants.{Send, Recv, Finalize}
 use Rattle.mpigroup.specs.Groups.{Groups}
 use Rattle.std.specs.Prelude.{IfNone}
 use Rattle.pairing.specs.declared.fault.CallFault.{CallFault}
 use Rattle.pairing.specs.Limits.{most_calls}
-use Rattle.pairing.specs.Traces.{is_finalize, has_finalize, ends_with_finalize}
-use Rattle.pairing.specs.Faults.{first_fault, fault_of, IsLawfulList}
+use Rattle.pairing.specs.Traces.{IsClosedList, is_finalize, has_finalize, ends_with_finalize}
+use Rattle.pairing.specs.Faults.{AnEndedLawfulListIsClosed, first_fault, fault_of, IsLawfulList}
 
 -- what it means that a call has no fault
 pub fault_none : (groups : Groups) (is_ended : Bool) (accepted : ℕ) (call : Call) → first_fault groups is_ended accepted call ≡ None → (is_ended ≡ false) × (accepted < most_calls)
@@ -79,3 +80,29 @@ lawful_end groups rank calls lawful =
 pub no_fault : (groups : Groups) (rank : ℕ) (calls : List Call) (call : Call) (result : Option CallFault) → IsLawfulList groups rank calls → result ≡ fault_of groups rank calls call → IfNone result (IsLawfulList groups rank (calls ++ call ∷ []))
 no_fault groups rank calls call None lawful h = lawful_push groups rank calls call lawful (sym h)
 no_fault groups rank calls call (Some fault) lawful h = tt
+
+is_the_finalize : (call : Call) → is_finalize call ≡ true → call ≡ Finalize
+is_the_finalize Finalize h = refl
+is_the_finalize (Send mode comm dest tag) h = absurd (false≢true h)
+is_the_finalize (Recv comm source tag) h = absurd (false≢true h)
+
+closed_more : (x : Call) (calls : List Call) → is_finalize x ≡ false → IsClosedList calls → IsClosedList (x ∷ calls)
+closed_more x calls fails closed = record {
+  before = x ∷ closed.before;
+  ends_with_finalize = ap (λ (others : List Call). x ∷ others) closed.ends_with_finalize;
+  has_no_other = rw fails closed.has_no_other;
+}
+
+closed_from : (calls : List Call) → ((place : ℕ) (call : Call) → slice_get calls place ≡ Some call → list_any is_finalize (take place calls) ≡ false) → ends_with_finalize calls ≡ true → IsClosedList calls
+closed_from [] alone ended = absurd (false≢true ended)
+closed_from (x ∷ []) alone ended =
+    record { before = []; ends_with_finalize = ap (λ (call : Call). call ∷ []) (is_the_finalize x ended); has_no_other = refl }
+closed_from (x ∷ y ∷ ys) alone ended =
+    let fails : is_finalize x ≡ false = sym (any_one is_finalize x) ∙ alone 1 y refl in
+    let end : suc (suc (length ys)) - 1 ≡ suc (suc (length ys) - 1) = omega arith in
+    let rest = closed_from (y ∷ ys) (λ place call h. rw fails at (alone (suc place) call h)) (rw end at ended) in
+    closed_more x (y ∷ ys) fails rest
+
+pub an_ended_lawful_list_is_closed : AnEndedLawfulListIsClosed
+an_ended_lawful_list_is_closed groups rank calls lawful ended =
+    closed_from calls (λ place call h. (fault_none groups (has_finalize (take place calls)) (length (take place calls)) call (lawful place call h)).0) ended

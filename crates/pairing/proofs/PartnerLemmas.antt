@@ -15,8 +15,8 @@ use Rattle.pairing.specs.declared.envelope.Half.{Half}
 use Rattle.pairing.specs.declared.envelope.Half.TheVariants.{Send as SendHalf, Recv as RecvHalf}
 use Rattle.pairing.specs.Traces.{Lists, calls_of, GoesOn}
 use Rattle.pairing.specs.Envelopes.{other_half, same_envelope, envelope_of, rank_of_half, has_envelope}
-use Rattle.pairing.specs.Partners.{envelope_at, places_of, number_of, numbered, partner_of, PartnersAreMutual, PartnersAreNotShared, PartnersStay}
-use Rattle.pairing.proofs.PlaceLemmas.{nth_place, place_nth, places-append, slice_get-front}
+use Rattle.pairing.specs.Partners.{envelope_at, places_of, number_of, numbered, partner_of, PartnersAreMutual, PartnersAreNotShared, PartnersStay, MessagesDoNotOvertake}
+use Rattle.pairing.proofs.PlaceLemmas.{nth_place, place_nth, places-append, slice_get-front, places_rise, before_less}
 
 pub and_then_parts : {A B : Type 0} (f : A → Option B) (o : Option A) (y : B) → option_and_then f o ≡ Some y → (x : A) × (o ≡ Some x) × (f x ≡ Some y)
 and_then_parts f None y h = absurd (none-some y h)
@@ -190,3 +190,24 @@ partners_stay groups trace longer rank place half other there goes_on h =
           rw (number_stays groups trace longer rank place half parts.e goes_on (omega (arith, within)))
           (place_stays groups trace longer other (other_half half) parts.e (number_of groups trace rank half parts.e place) there goes_on parts.place_there);
     })
+
+-- the partner of a half whose envelope is known
+partner_at : (groups : Groups) (trace : Lists) (rank place : ℕ) (half : Half) (e : Envelope) (other there : ℕ) → envelope_at groups trace rank place half ≡ Some e → partner_of groups trace rank place half ≡ Some (other, there) → (rank_of_half groups (other_half half) e ≡ Some other) × (slice_get (places_of groups trace other (other_half half) e) (number_of groups trace rank half e place) ≡ Some there)
+partner_at groups trace rank place half e other there he h =
+    numbered_parts groups trace (other_half half) e (number_of groups trace rank half e place) other there
+    (ap (λ (o : Option Envelope). option_and_then (λ f. numbered groups trace (other_half half) f (number_of groups trace rank half f place)) o) (sym he) ∙ h)
+
+pub messages_do_not_overtake : MessagesDoNotOvertake
+messages_do_not_overtake groups trace rank place place' half e other there other' there' less he he' h h' =
+    let first = partner_at groups trace rank place half e other there he h in
+    let second = partner_at groups trace rank place' half e other' there' he' h' in
+    let own = envelope_at_parts groups trace rank place half e he in
+    let same : other ≡ other' = same_Some other other' (sym first.0 ∙ second.0) in
+    let there_too : slice_get (places_of groups trace other (other_half half) e) (number_of groups trace rank half e place') ≡ Some there' =
+    subst (λ (r : ℕ). slice_get (places_of groups trace r (other_half half) e) (number_of groups trace rank half e place') ≡ Some there') (sym same) second.1 in (
+      same,
+      places_rise 0 (has_envelope groups other (other_half half) e) (calls_of trace other)
+          (number_of groups trace rank half e place) (number_of groups trace rank half e place') there there'
+          (before_less 0 (has_envelope groups rank half e) (calls_of trace rank) place place' own.call less own.stands_there (it_has e (envelope_of groups rank half own.call) own.envelope))
+          first.1 there_too,
+    )

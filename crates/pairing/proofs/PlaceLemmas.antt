@@ -90,3 +90,33 @@ pub slice_get-front : {A : Type 0} (xs ys : List A) (i : ℕ) → i < length xs 
 slice_get-front [] ys i h = absurd (omega arith)
 slice_get-front (x ∷ xs) ys zero h = refl
 slice_get-front (x ∷ xs) ys (suc i) h = slice_get-front xs ys i (omega arith)
+
+-- places rise with their numbers
+pub places_rise : {A : Type 0} (n : ℕ) (test : A → Bool) (xs : List A) (k k' p p' : ℕ) → k < k' → slice_get (places_from n test xs) k ≡ Some p → slice_get (places_from n test xs) k' ≡ Some p' → p < p'
+places_rise n test [] k k' p p' less h h' = absurd (none-some p h)
+places_rise n test (x ∷ xs) k k' p p' less h h' =
+    ⊎_elim
+    (λ (here : test x ≡ true). rise_first n test xs k k' p p' less (λ j j'. places_rise (n + 1) test xs j j' p p') (rw here at h) (rw here at h'))
+    (λ (fails : test x ≡ false). places_rise (n + 1) test xs k k' p p' less (rw fails at h) (rw fails at h'))
+    (cases_Bool (test x))
+  where
+    rise_first : {A : Type 0} (n : ℕ) (test : A → Bool) (xs : List A) (k k' p p' : ℕ) → k < k' → ((j j' : ℕ) → j < j' → slice_get (places_from (n + 1) test xs) j ≡ Some p → slice_get (places_from (n + 1) test xs) j' ≡ Some p' → p < p') → slice_get (n ∷ places_from (n + 1) test xs) k ≡ Some p → slice_get (n ∷ places_from (n + 1) test xs) k' ≡ Some p' → p < p'
+    rise_first n test xs k zero p p' less rest h h' = absurd (omega arith)
+    rise_first n test xs zero (suc k') p p' less rest h h' =
+        let later = nth_place (n + 1) test xs k' p' h' in
+        omega (arith, later.place, same_Some n p h)
+    rise_first n test xs (suc k) (suc k') p p' less rest h h' = rest k k' (omega arith) h h'
+
+-- a place that passes is counted among those before a later one
+pub before_less : {A : Type 0} (n : ℕ) (test : A → Bool) (xs : List A) (i j : ℕ) (x : A) → i < j → slice_get xs i ≡ Some x → test x ≡ true → length (places_from n test (take i xs)) < length (places_from n test (take j xs))
+before_less n test [] i j x less h passes = absurd (none-some x h)
+before_less n test (y ∷ ys) i zero x less h passes = absurd (omega arith)
+before_less n test (y ∷ ys) zero (suc j) x less h passes =
+    let here : test y ≡ true = rw (same_Some y x h) passes in
+    rw here (omega arith)
+before_less n test (y ∷ ys) (suc i) (suc j) x less h passes =
+    let rest = before_less (n + 1) test ys i j x (omega arith) h passes in
+    ⊎_elim
+    (λ (here : test y ≡ true). rw here (omega (arith, rest)))
+    (λ (fails : test y ≡ false). rw fails rest)
+    (cases_Bool (test y))

@@ -9,7 +9,7 @@ use Rattle.mpicall.specs.declared.call.Call.{Call}
 use Rattle.mpicall.specs.declared.call.Call.TheVariants.{Send, Recv, Finalize}
 use Rattle.mpigroup.specs.Groups.{Groups, size_of}
 use Rattle.pairing.specs.Limits.{most_calls}
-use Rattle.pairing.specs.Traces.{Lists, calls_of, has_finalize}
+use Rattle.pairing.specs.Traces.{Lists, calls_of, has_finalize, ends_with_finalize, IsClosedList}
 use Rattle.pairing.specs.declared.fault.CallFault.{CallFault}
 use Rattle.pairing.specs.declared.fault.CallFault.TheVariants.{CallAfterFinalize, TooManyCalls, UnknownCommunicator, PeerOutOfGroup}
 
@@ -58,3 +58,9 @@ IsLawfulList groups rank calls =
 -- a trace is lawful if each rank's list is
 abbrev pub IsLawful : Groups → Lists → Type 0
 IsLawful groups trace = (rank : ℕ) → rank < length trace → IsLawfulList groups rank (calls_of trace rank)
+
+-- Law: a lawful list whose last call is Finalize is closed.
+abbrev pub AnEndedLawfulListIsClosed : Type 0
+AnEndedLawfulListIsClosed =
+    (groups : Groups) (rank : ℕ) (calls : List Call) → IsLawfulList groups rank calls →
+    ends_with_finalize calls ≡ true → IsClosedList calls

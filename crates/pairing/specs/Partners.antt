@@ -1,7 +1,7 @@
 -- Partners. Messages of one envelope are received in the order in which they are sent (MPI 4.0, section
 -- 3.5, non-overtaking), so its k-th send and its k-th receive belong together, each counted in the order
 -- of its rank's list.
-use Rattle.std.specs.Prelude.{◌≡◌, ℕ, Option, Some, option_map, option_and_then, List, slice_get}
+use Rattle.std.specs.Prelude.{◌≡◌, ℕ, ◌<◌, Option, Some, option_map, option_and_then, List, slice_get}
 use Rattle.mpigroup.specs.Groups.{Groups}
 use Rattle.pairing.specs.declared.envelope.Envelope.{Envelope}
 use Rattle.pairing.specs.declared.envelope.Half.{Half}
@@ -56,3 +56,15 @@ PartnersStay =
     (groups : Groups) (trace longer : Lists) (rank place : ℕ) (half : Half) (other there : ℕ) → GoesOn trace longer →
     partner_of groups trace rank place half ≡ Some (other, there) →
     partner_of groups longer rank place half ≡ Some (other, there)
+
+-- Law: messages do not overtake. Of two sends of one envelope, the earlier one's receive is the earlier;
+-- the same with sends and receives exchanged.
+abbrev pub MessagesDoNotOvertake : Type 0
+MessagesDoNotOvertake =
+    (groups : Groups) (trace : Lists) (rank place place' : ℕ) (half : Half) (e : Envelope) (other there other' there' : ℕ) →
+    place < place' →
+    envelope_at groups trace rank place half ≡ Some e →
+    envelope_at groups trace rank place' half ≡ Some e →
+    partner_of groups trace rank place half ≡ Some (other, there) →
+    partner_of groups trace rank place' half ≡ Some (other', there') →
+    (other ≡ other') × (there < there')

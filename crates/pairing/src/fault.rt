@@ -3,7 +3,7 @@
 ghost use Rattle.std.specs.Prelude.{◌≡◌, ◌<◌, ◌∷◌, [], ◌++◌, length, IfNone};
 ghost use Rattle.pairing.specs.Limits.{most_calls};
 ghost use Rattle.pairing.specs.Traces.{is_finalize, has_finalize, ends_with_finalize};
-ghost use Rattle.pairing.specs.Faults.{fault_of, first_fault, is_comm, is_group_rank, comms_exist, peers_exist, IsLawfulList};
+ghost use Rattle.pairing.specs.Faults.{fault_of, first_fault, is_comm, is_group_rank, comms_exist, peers_exist, IsLawfulList, AnEndedLawfulListIsClosed};
 
 use crate::trace::MOST_CALLS;
 use mpicall::call::{Call, Peer};
@@ -119,3 +119,8 @@ pub fn next_fault(head: &Head, rank: u16, calls: &[Record], call: &Record) -> Op
 {
     first_fault(head, ends_with_finalize(calls), calls.len(), call)
 }
+
+/// A lawful list whose last call is Finalize is closed: it has no other Finalize.
+pub fn an_ended_lawful_list_is_closed()
+    ensures { AnEndedLawfulListIsClosed }
+{}

@@ -4,7 +4,7 @@ ghost use Rattle.std.specs.Prelude.{◌≡◌, ◌≤◌, length, slice_get};
 ghost use Rattle.pairing.specs.Limits.{most_calls};
 ghost use Rattle.pairing.specs.Places.{places};
 ghost use Rattle.pairing.specs.Envelopes.{has_envelope};
-ghost use Rattle.pairing.specs.Partners.{partner_of, PartnersAreMutual, PartnersAreNotShared, PartnersStay};
+ghost use Rattle.pairing.specs.Partners.{partner_of, PartnersAreMutual, PartnersAreNotShared, PartnersStay, MessagesDoNotOvertake};
 
 use crate::envelope::{Envelope, Half, envelope_of, has_envelope, rank_of_half};
 use crate::trace::Trace;
@@ -85,4 +85,10 @@ pub fn partners_are_not_shared()
 /// Partners stay: a partner over a trace is the partner over each longer trace, whose lists go on.
 pub fn partners_stay()
     ensures { PartnersStay }
+{}
+
+/// Messages do not overtake: of two sends of one envelope, the earlier one's receive is the earlier, and
+/// the same with sends and receives exchanged.
+pub fn messages_do_not_overtake()
+    ensures { MessagesDoNotOvertake }
 {}

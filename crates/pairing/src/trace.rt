@@ -61,7 +61,7 @@ impl Calls {
 /// The recorded calls of all ranks. Contracts see each rank's list of calls, rank 0 first.
 #[derive(Drop)]
 pub struct Trace {
-    ranks: Vec<Calls>,
+    lists: Vec<Calls>,
 }
 
 impl Model for Trace {
@@ -70,9 +70,9 @@ impl Model for Trace {
 
     ghost Value = { List (List Call) };
 
-    ghost view = { λ t. t.ranks.items };
+    ghost view = { λ t. t.lists.items };
 
-    ghost invariant = { λ t. length t.ranks.items < 2 ^ 16 };
+    ghost invariant = { λ t. length t.lists.items < 2 ^ 16 };
 }
 
 impl Trace {
@@ -84,14 +84,14 @@ impl Trace {
         for _rank in 0..ranks {
             lists.push(Calls::new(alloc))?;
         }
-        Ok(Trace { ranks: lists })
+        Ok(Trace { lists })
     }
 
     /// How many ranks the trace has.
     pub fn ranks(&self) -> u16
         ensures { result ≡ length self.now }
     {
-        self.ranks.len() as u16
+        self.lists.len() as u16
     }
 
     /// The calls of a rank; none where there is no such rank.
@@ -99,7 +99,7 @@ impl Trace {
         ensures value { result.now ≡ calls_of self.now rank }
         ensures most { length result.now ≤ most_calls }
     {
-        match self.ranks.get(usize::from(rank)) {
+        match self.lists.get(usize::from(rank)) {
             Some(calls) => calls.records(),
             None => &[],
         }
@@ -112,7 +112,7 @@ impl Trace {
         ensures ok { OnOk result (self.new ≡ appended self.old rank call.now) }
         ensures err { OnErr result (self.new ≡ self.old) }
     {
-        let calls = &mut self.ranks[usize::from(rank)];
+        let calls = &mut self.lists[usize::from(rank)];
         calls.push(call)
     }
 }
