@@ -1,0 +1,135 @@
+-- What is kept of arrivals.
+use Rattle.std.proofs.Common.{◌≡◌, ◌≢◌, ℕ, zero, suc, ◌<◌, true, false, cond, is_none, Option, Some, None, List, [], ◌∷◌, ◌++◌, length, replicate, refl, sym, ap, subst, ◌∙◌, ⊎_elim, arith, get_or-set_same, get_or-set_other}
+use Rattle.std.proofs.lemmas.List.{length-set}
+use Rattle.std.proofs.lemmas.Option.{unwrap_or-slice_get, none-some}
+use Rattle.std.proofs.lemmas.Bool.{cases_eq, cases_Bool, false≢true, eq-eqb, ne_eqb}
+use Rattle.mpicall.specs.declared.call.Call.{Call}
+use Rattle.mpigroup.specs.Groups.{Groups, ranks_of}
+use Rattle.pairing.specs.declared.fault.CallFault.{CallFault}
+use Rattle.pairing.specs.Traces.{Lists, calls_of, appended}
+use Rattle.pairing.specs.Faults.{fault_of, IsLawfulList, IsLawful}
+use Rattle.pairing.proofs.FaultLemmas.{lawful_push}
+use Rattle.moves.specs.Arrivals.{Arrival, kept_one, kept_from, kept, calls_by, KeptIsLawful, MixesAreKeptAlike}
+
+-- the calls of a rank once a call is appended
+pub calls_of-appended : (trace : Lists) (rank : ℕ) (call : Call) → rank < length trace → calls_of (appended trace rank call) rank ≡ calls_of trace rank ++ call ∷ []
+calls_of-appended trace rank call is_rank =
+    unwrap_or-slice_get (appended trace rank call) rank [] ∙ get_or-set_same trace rank (calls_of trace rank ++ call ∷ []) [] is_rank
+
+pub calls_of-appended_other : (trace : Lists) (rank other : ℕ) (call : Call) → other ≢ rank → calls_of (appended trace rank call) other ≡ calls_of trace other
+calls_of-appended_other trace rank other call differs =
+    unwrap_or-slice_get (appended trace rank call) other []
+    ∙ get_or-set_other trace rank other (calls_of trace rank ++ call ∷ []) [] differs
+    ∙ sym (unwrap_or-slice_get trace other [])
+
+length-kept_one : (groups : Groups) (trace : Lists) (arrival : Arrival) → length (kept_one groups trace arrival) ≡ length trace
+length-kept_one groups trace arrival =
+    ⊎_elim
+    (λ (fine : is_none (fault_of groups arrival.0 (calls_of trace arrival.0) arrival.1) ≡ true).
+    rw fine (length-set trace arrival.0 (calls_of trace arrival.0 ++ arrival.1 ∷ [])))
+    (λ (fault : is_none (fault_of groups arrival.0 (calls_of trace arrival.0) arrival.1) ≡ false). rw fault refl)
+    (cases_Bool (is_none (fault_of groups arrival.0 (calls_of trace arrival.0) arrival.1)))
+
+length-kept_from : (groups : Groups) (trace : Lists) (arrivals : List Arrival) → length (kept_from groups trace arrivals) ≡ length trace
+length-kept_from groups trace [] = refl
+length-kept_from groups trace (arrival ∷ rest) =
+    length-kept_from groups (kept_one groups trace arrival) rest ∙ length-kept_one groups trace arrival
+
+none_is : (fault : Option CallFault) → is_none fault ≡ true → fault ≡ None
+none_is None h = refl
+none_is (Some fault) h = absurd (false≢true h)
+
+lawful_one : (groups : Groups) (trace : Lists) (arrival : Arrival) → IsLawful groups trace → IsLawful groups (kept_one groups trace arrival)
+lawful_one groups trace arrival lawful =
+    ⊎_elim
+    (λ (fine : is_none (fault_of groups arrival.0 (calls_of trace arrival.0) arrival.1) ≡ true).
+    rw fine (lawful_appended groups trace arrival.0 arrival.1 lawful (none_is (fault_of groups arrival.0 (calls_of trace arrival.0) arrival.1) fine)))
+    (λ (fault : is_none (fault_of groups arrival.0 (calls_of trace arrival.0) arrival.1) ≡ false). rw fault lawful)
+    (cases_Bool (is_none (fault_of groups arrival.0 (calls_of trace arrival.0) arrival.1)))
+  where
+    lawful_appended : (groups : Groups) (trace : Lists) (rank : ℕ) (call : Call) → IsLawful groups trace → fault_of groups rank (calls_of trace rank) call ≡ None → IsLawful groups (appended trace rank call)
+    lawful_appended groups trace rank call lawful none other is_rank =
+        let there : other < length trace = omega (arith, is_rank, length-set trace rank (calls_of trace rank ++ call ∷ [])) in
+        ⊎_elim
+        (λ (same : other ≡ rank).
+        let at_rank : rank < length trace = omega (arith, there, same) in
+        rw same (subst (λ (calls : List Call). IsLawfulList groups rank calls) (sym (calls_of-appended trace rank call at_rank))
+        (lawful_push groups rank (calls_of trace rank) call (lawful rank at_rank) none)))
+        (λ (differs : other ≢ rank).
+        subst (λ (calls : List Call). IsLawfulList groups other calls) (sym (calls_of-appended_other trace rank other call differs)) (lawful other there))
+        (cases_eq other rank)
+
+lawful_from : (groups : Groups) (trace : Lists) (arrivals : List Arrival) → IsLawful groups trace → IsLawful groups (kept_from groups trace arrivals)
+lawful_from groups trace [] lawful = lawful
+lawful_from groups trace (arrival ∷ rest) lawful = lawful_from groups (kept_one groups trace arrival) rest (lawful_one groups trace arrival lawful)
+
+no_calls : (n rank : ℕ) → calls_of (replicate n []) rank ≡ []
+no_calls zero rank = refl
+no_calls (suc n) zero = refl
+no_calls (suc n) (suc rank) = no_calls n rank
+
+pub kept_is_lawful : KeptIsLawful
+kept_is_lawful groups arrivals =
+    lawful_from groups (replicate (ranks_of groups) []) arrivals
+    (λ rank is_rank place call h. absurd (none-some call (rw (no_calls (ranks_of groups) rank) at h)))
+
+-- what is kept of one rank's calls, one after another
+kept_call : Groups → ℕ → List Call → Call → List Call
+kept_call groups rank calls call = cond (is_none (fault_of groups rank calls call)) (calls ++ call ∷ []) calls
+
+kept_calls : Groups → ℕ → List Call → List Call → List Call
+kept_calls groups rank calls [] = calls
+kept_calls groups rank calls (call ∷ rest) = kept_calls groups rank (kept_call groups rank calls call) rest
+
+one_of_rank : (groups : Groups) (trace : Lists) (arrival : Arrival) → arrival.0 < length trace → calls_of (kept_one groups trace arrival) arrival.0 ≡ kept_call groups arrival.0 (calls_of trace arrival.0) arrival.1
+unfolding kept_call
+one_of_rank groups trace arrival is_rank =
+    ⊎_elim
+    (λ (fine : is_none (fault_of groups arrival.0 (calls_of trace arrival.0) arrival.1) ≡ true).
+    rw fine (calls_of-appended trace arrival.0 arrival.1 is_rank))
+    (λ (fault : is_none (fault_of groups arrival.0 (calls_of trace arrival.0) arrival.1) ≡ false). rw fault refl)
+    (cases_Bool (is_none (fault_of groups arrival.0 (calls_of trace arrival.0) arrival.1)))
+
+one_of_other : (groups : Groups) (trace : Lists) (arrival : Arrival) (rank : ℕ) → rank ≢ arrival.0 → calls_of (kept_one groups trace arrival) rank ≡ calls_of trace rank
+one_of_other groups trace arrival rank differs =
+    ⊎_elim
+    (λ (fine : is_none (fault_of groups arrival.0 (calls_of trace arrival.0) arrival.1) ≡ true).
+    rw fine (calls_of-appended_other trace arrival.0 rank arrival.1 differs))
+    (λ (fault : is_none (fault_of groups arrival.0 (calls_of trace arrival.0) arrival.1) ≡ false). rw fault refl)
+    (cases_Bool (is_none (fault_of groups arrival.0 (calls_of trace arrival.0) arrival.1)))
+
+kept_of_rank : (groups : Groups) (trace : Lists) (arrivals : List Arrival) (rank : ℕ) → rank < length trace → calls_of (kept_from groups trace arrivals) rank ≡ kept_calls groups rank (calls_of trace rank) (calls_by rank arrivals)
+unfolding kept_calls
+kept_of_rank groups trace [] rank is_rank = refl
+kept_of_rank groups trace (arrival ∷ rest) rank is_rank =
+    let still : rank < length (kept_one groups trace arrival) = rw (length-kept_one groups trace arrival) is_rank in
+    let later = kept_of_rank groups (kept_one groups trace arrival) rest rank still in
+    ⊎_elim
+    (λ (same : arrival.0 ≡ rank).
+    let own : calls_of (kept_one groups trace arrival) rank ≡ kept_call groups rank (calls_of trace rank) arrival.1 =
+    subst (λ (r : ℕ). calls_of (kept_one groups trace arrival) r ≡ kept_call groups r (calls_of trace r) arrival.1) same
+    (one_of_rank groups trace arrival (omega (arith, is_rank, same))) in
+    rw (eq-eqb arrival.0 rank same) (later ∙ ap (λ (calls : List Call). kept_calls groups rank calls (calls_by rank rest)) own))
+    (λ (differs : arrival.0 ≢ rank).
+    rw (ne_eqb arrival.0 rank differs)
+    (later ∙ ap (λ (calls : List Call). kept_calls groups rank calls (calls_by rank rest)) (one_of_other groups trace arrival rank (λ e. differs (sym e)))))
+    (cases_eq arrival.0 rank)
+
+same_traces : (a b : Lists) → length a ≡ length b → ((rank : ℕ) → rank < length a → calls_of a rank ≡ calls_of b rank) → a ≡ b
+same_traces [] [] l h = refl
+same_traces [] (y ∷ ys) l h = absurd (omega arith)
+same_traces (x ∷ xs) [] l h = absurd (omega arith)
+same_traces (x ∷ xs) (y ∷ ys) l h =
+    let first : x ≡ y = h 0 (omega arith) in
+    let rest : xs ≡ ys = same_traces xs ys (omega arith) (λ rank is_rank. h (suc rank) (omega arith)) in
+    cc
+
+pub mixes_are_kept_alike : MixesAreKeptAlike
+mixes_are_kept_alike groups a b same =
+    same_traces (kept groups a) (kept groups b)
+    (length-kept_from groups (replicate (ranks_of groups) []) a ∙ sym (length-kept_from groups (replicate (ranks_of groups) []) b))
+    (λ rank is_rank.
+    let at : rank < length (replicate (ranks_of groups) []) = rw (← length-kept_from groups (replicate (ranks_of groups) []) a) is_rank in
+    kept_of_rank groups (replicate (ranks_of groups) []) a rank at
+    ∙ ap (λ (calls : List Call). kept_calls groups rank (calls_of (replicate (ranks_of groups) []) rank) calls) (same rank)
+    ∙ sym (kept_of_rank groups (replicate (ranks_of groups) []) b rank at))

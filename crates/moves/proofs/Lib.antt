@@ -1,0 +1,5 @@
+pub mod RunLemmas
+pub mod NeedLemmas
+pub mod StandLemmas
+pub mod VerdictLemmas
+pub mod ArrivalLemmas

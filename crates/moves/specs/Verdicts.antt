@@ -1,0 +1,19 @@
+-- The verdict over a run: it can hang exactly if some rank does not come to stand at its Finalize.
+use Rattle.std.specs.Prelude.{◌≡◌, ℕ, ◌<◌, false, length, if◌then◌else◌}
+use Rattle.std.specs.List.{list_all, range_with_len}
+use Rattle.mpigroup.specs.Groups.{Groups}
+use Rattle.pairing.specs.Traces.{Lists}
+use Rattle.moves.specs.Stands.{stands_of, is_at_finalize}
+use Rattle.moves.specs.declared.verdict.Verdict.{Verdict}
+use Rattle.moves.specs.declared.verdict.Verdict.TheVariants.{Free, Hang}
+
+-- free if each rank stands at its Finalize, else hang
+abbrev pub verdict_of : Groups → Lists → Verdict
+verdict_of groups trace =
+    if list_all (is_at_finalize trace (stands_of groups trace)) (range_with_len 0 (length trace)) then Free else Hang
+
+-- some rank does not stand at its Finalize
+pub record SomeRankIsStuck (groups : Groups) (trace : Lists) : Type 0 where
+  pub rank : ℕ
+  pub is_rank : rank < length trace
+  pub is_stuck : is_at_finalize trace (stands_of groups trace) rank ≡ false

@@ -1,0 +1,14 @@
+//! Arrivals: records of many ranks as they are read, in any mix.
+
+ghost use Rattle.moves.specs.Arrivals.{KeptIsLawful, MixesAreKeptAlike};
+
+/// What is kept of arrivals is lawful: no call that is kept has a fault after those kept before it.
+pub fn kept_is_lawful()
+    ensures { KeptIsLawful }
+{}
+
+/// However the ranks' records are mixed, the same trace is kept. Its premise is that each rank's
+/// records arrive in the same order.
+pub fn mixes_are_kept_alike()
+    ensures { MixesAreKeptAlike }
+{}

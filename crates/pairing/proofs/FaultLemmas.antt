@@ -1,0 +1,108 @@
+-- Lists in which no call has a fault after those before it.
+use Rattle.std.proofs.Common.{inl, inr, ◌≡◌, ℕ, zero, suc, ◌-◌, ◌<◌, ◌⊎◌, Bool, true, false, ltb, Option, Some, None, List, [], ◌∷◌, ◌++◌, length, take, refl, sym, ap, ◌∙◌, ⊎_elim, arith}
+use Rattle.std.specs.List.{slice_get, list_any}
+use Rattle.std.specs.Option.{option_map_or}
+use Rattle.std.proofs.lemmas.List.{take-append-le}
+use Rattle.std.proofs.lemmas.Option.{none-some, same_Some}
+use Rattle.std.proofs.lemmas.Bool.{false≢true, cases_Bool, ltb-true}
+use Rattle.mpicall.specs.declared.call.Call.{Call}
+use Rattle.mpicall.specs.declared.call.Call.TheVariants.{Send, Recv, Finalize}
+use Rattle.mpigroup.specs.Groups.{Groups}
+use Rattle.std.specs.Prelude.{IfNone}
+use Rattle.pairing.specs.declared.fault.CallFault.{CallFault}
+use Rattle.pairing.specs.Limits.{most_calls}
+use Rattle.pairing.specs.Traces.{IsClosedList, is_finalize, has_finalize, ends_with_finalize}
+use Rattle.pairing.specs.Faults.{AnEndedLawfulListIsClosed, first_fault, fault_of, IsLawfulList}
+
+-- what it means that a call has no fault
+pub fault_none : (groups : Groups) (is_ended : Bool) (accepted : ℕ) (call : Call) → first_fault groups is_ended accepted call ≡ None → (is_ended ≡ false) × (accepted < most_calls)
+fault_none groups true accepted call h = absurd (none-some _ (sym h))
+fault_none groups false accepted call h =
+    ⊎_elim
+    (λ (room : ltb accepted most_calls ≡ true). (refl, ltb-true accepted most_calls room))
+    (λ (full : ltb accepted most_calls ≡ false). absurd (none-some _ (sym (rw full at h))))
+    (cases_Bool (ltb accepted most_calls))
+
+-- one element that passes settles it
+any_at : {A : Type 0} (test : A → Bool) (xs : List A) (i : ℕ) (x : A) → slice_get xs i ≡ Some x → test x ≡ true → list_any test xs ≡ true
+any_at test [] i x h passes = absurd (none-some x h)
+any_at test (y ∷ ys) zero x h passes = rw (ap test (same_Some y x h)) (rw passes refl)
+any_at test (y ∷ ys) (suc i) x h passes =
+    ⊎_elim
+    (λ (first : test y ≡ true). rw first refl)
+    (λ (later : test y ≡ false). rw later (any_at test ys i x h passes))
+    (cases_Bool (test y))
+
+slice_get-push : {A : Type 0} (xs : List A) (y : A) (i : ℕ) (x : A) → slice_get (xs ++ y ∷ []) i ≡ Some x → ((i < length xs) × (slice_get xs i ≡ Some x)) ⊎ ((i ≡ length xs) × (y ≡ x))
+slice_get-push [] y zero x h = inr (refl, same_Some y x h)
+slice_get-push [] y (suc i) x h = absurd (none-some x h)
+slice_get-push (z ∷ zs) y zero x h = inl (omega arith, h)
+slice_get-push (z ∷ zs) y (suc i) x h =
+    ⊎_elim
+    (λ before. inl (omega (arith, before.0), before.1))
+    (λ last. inr (omega (arith, last.0), last.1))
+    (slice_get-push zs y i x h)
+
+take_whole : {A : Type 0} (xs ys : List A) → take (length xs) (xs ++ ys) ≡ xs
+take_whole [] ys = refl
+take_whole (x ∷ xs) ys = ap (λ zs. x ∷ zs) (take_whole xs ys)
+
+-- a call without a fault goes on from a lawful list
+pub lawful_push : (groups : Groups) (rank : ℕ) (calls : List Call) (call : Call) → IsLawfulList groups rank calls → fault_of groups rank calls call ≡ None → IsLawfulList groups rank (calls ++ call ∷ [])
+lawful_push groups rank calls call lawful none place other h =
+    ⊎_elim
+    (λ before.
+    let front : take place (calls ++ call ∷ []) ≡ take place calls = take-append-le place calls (call ∷ []) (omega (arith, before.0)) in
+    rw front (lawful place other before.1))
+    (λ last.
+    let front : take place (calls ++ call ∷ []) ≡ calls = rw last.0 (take_whole calls (call ∷ [])) in
+    rw (front, ← last.1) none)
+    (slice_get-push calls call place other h)
+
+any_one : (test : Call → Bool) (x : Call) → list_any test (x ∷ []) ≡ test x
+any_one test x = ⊎_elim (λ (e : test x ≡ true). rw e refl) (λ (e : test x ≡ false). rw e refl) (cases_Bool (test x))
+
+-- where no element but the last passes, the last tells whether one passes
+last_tells : (test : Call → Bool) (calls : List Call) → ((place : ℕ) (call : Call) → slice_get calls place ≡ Some call → list_any test (take place calls) ≡ false) → list_any test calls ≡ option_map_or test (slice_get calls (length calls - 1)) false
+last_tells test [] alone = refl
+last_tells test (x ∷ []) alone = any_one test x
+last_tells test (x ∷ y ∷ ys) alone =
+    let fails : test x ≡ false = sym (any_one test x) ∙ alone 1 y refl in
+    let rest = last_tells test (y ∷ ys) (λ place call h. rw fails at (alone (suc place) call h)) in
+    let end : suc (suc (length ys)) - 1 ≡ suc (suc (length ys) - 1) = omega arith in
+    rw (fails, end) rest
+
+-- in a lawful list nothing follows Finalize, so the last call tells whether it has one
+pub lawful_end : (groups : Groups) (rank : ℕ) (calls : List Call) → IsLawfulList groups rank calls → ends_with_finalize calls ≡ has_finalize calls
+lawful_end groups rank calls lawful =
+    sym (last_tells is_finalize calls (λ place call h. (fault_none groups (has_finalize (take place calls)) (length (take place calls)) call (lawful place call h)).0))
+
+pub no_fault : (groups : Groups) (rank : ℕ) (calls : List Call) (call : Call) (result : Option CallFault) → IsLawfulList groups rank calls → result ≡ fault_of groups rank calls call → IfNone result (IsLawfulList groups rank (calls ++ call ∷ []))
+no_fault groups rank calls call None lawful h = lawful_push groups rank calls call lawful (sym h)
+no_fault groups rank calls call (Some fault) lawful h = tt
+
+is_the_finalize : (call : Call) → is_finalize call ≡ true → call ≡ Finalize
+is_the_finalize Finalize h = refl
+is_the_finalize (Send mode comm dest tag) h = absurd (false≢true h)
+is_the_finalize (Recv comm source tag) h = absurd (false≢true h)
+
+closed_more : (x : Call) (calls : List Call) → is_finalize x ≡ false → IsClosedList calls → IsClosedList (x ∷ calls)
+closed_more x calls fails closed = record {
+  before = x ∷ closed.before;
+  ends_with_finalize = ap (λ (others : List Call). x ∷ others) closed.ends_with_finalize;
+  has_no_other = rw fails closed.has_no_other;
+}
+
+closed_from : (calls : List Call) → ((place : ℕ) (call : Call) → slice_get calls place ≡ Some call → list_any is_finalize (take place calls) ≡ false) → ends_with_finalize calls ≡ true → IsClosedList calls
+closed_from [] alone ended = absurd (false≢true ended)
+closed_from (x ∷ []) alone ended =
+    record { before = []; ends_with_finalize = ap (λ (call : Call). call ∷ []) (is_the_finalize x ended); has_no_other = refl }
+closed_from (x ∷ y ∷ ys) alone ended =
+    let fails : is_finalize x ≡ false = sym (any_one is_finalize x) ∙ alone 1 y refl in
+    let end : suc (suc (length ys)) - 1 ≡ suc (suc (length ys) - 1) = omega arith in
+    let rest = closed_from (y ∷ ys) (λ place call h. rw fails at (alone (suc place) call h)) (rw end at ended) in
+    closed_more x (y ∷ ys) fails rest
+
+pub an_ended_lawful_list_is_closed : AnEndedLawfulListIsClosed
+an_ended_lawful_list_is_closed groups rank calls lawful ended =
+    closed_from calls (λ place call h. (fault_none groups (has_finalize (take place calls)) (length (take place calls)) call (lawful place call h)).0) ended

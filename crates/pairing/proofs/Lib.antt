@@ -1,0 +1,3 @@
+pub mod PlaceLemmas
+pub mod PartnerLemmas
+pub mod FaultLemmas

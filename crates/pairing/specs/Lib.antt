@@ -1,0 +1,6 @@
+pub mod Limits
+pub mod Traces
+pub mod Faults
+pub mod Places
+pub mod Envelopes
+pub mod Partners

@@ -1,0 +1,6 @@
+-- The limits of a trace.
+use Rattle.std.specs.Prelude.{ℕ}
+
+-- the most calls of a rank, its Finalize counted
+abbrev pub most_calls : ℕ
+most_calls = 1000000
