@@ -87,6 +87,25 @@ impl Trace {
         Ok(Trace { lists })
     }
 
+    /// A trace of no ranks yet.
+    pub fn without_ranks(alloc: Global) -> Trace
+        ensures { result ≡ [] }
+    {
+        Trace {
+            lists: Vec::new(alloc),
+        }
+    }
+
+    /// Adds the next rank with its calls.
+    pub fn add_rank(&mut self, calls: Calls) -> Result<(), AllocError>
+        requires { length self.old < 65535 }
+        ensures ok { OnOk result (self.new ≡ self.old ++ calls ∷ []) }
+        ensures err { OnErr result (self.new ≡ self.old) }
+    {
+        self.lists.push(calls)?;
+        Ok(())
+    }
+
     /// How many ranks the trace has.
     pub fn ranks(&self) -> u16
         ensures { result ≡ length self.now }

@@ -1,0 +1,5 @@
+#![tactic(auto)]
+
+pub mod fault;
+pub mod rank;
+pub mod run;
