@@ -1,7 +1,7 @@
 -- How the trace of a source goes on behind the calls that were read of it.
-use Rattle.std.proofs.Common.{◌≡◌, ◌≢◌, ℕ, ◌+◌, Bool, true, false, List, [], ◌∷◌, ◌++◌, length, sym, ap, ◌∙◌, refl, Option, Some, None, Result, Ok, Err, IfSome, append_assoc, append-nil, slice_get, zero, suc}
+use Rattle.std.proofs.Common.{◌≡◌, ℕ, false, List, [], ◌∷◌, ◌++◌, length, sym, ap, ◌∙◌, refl, Option, Some, None, Ok, Err, append_assoc, append-nil, slice_get, zero, suc}
 use Rattle.std.specs.Prelude.{⊤}
-use Rattle.mpicall.specs.Trace.{Trace, End, Sealed, Torn, put_first, ends_here}
+use Rattle.mpicall.specs.Trace.{Trace, Sealed, Torn, put_first, ends_here}
 use Rattle.mpicall.specs.Source.{Gives}
 use Rattle.mpicall.specs.declared.call.Call.{Call}
 use Rattle.mpicall.specs.declared.fault.SourceFault.{SourceFault}
@@ -9,11 +9,10 @@ use Rattle.mpicall.specs.declared.fault.SourceFault.TheVariants.{Line, TextAfter
 use Rattle.mpigroup.specs.Groups.{Groups}
 use Rattle.pairing.specs.Faults.{fault_of, IsLawfulList}
 use Rattle.pairing.specs.declared.fault.CallFault.{CallFault}
-use Rattle.gather.specs.Answers.{fault_of_rank, fault_behind, fault_of_end, or_behind}
-use Rattle.gather.specs.Told.{AcceptsRank, RefusesRank, IsRefusalOf, is_read_failure}
-use Rattle.gather.specs.declared.fault.RankFault.{RankFault}
+use Rattle.gather.specs.Answers.{fault_of_rank, fault_behind, or_behind}
+use Rattle.gather.specs.Told.{AcceptsRank, RefusesRank, is_read_failure}
 use Rattle.gather.specs.declared.fault.RankFault.TheVariants.{OfCall, OfSource}
-use Rattle.gather.specs.declared.fault.RunFault.TheVariants.{Memory, Refused, Write}
+use Rattle.gather.specs.declared.fault.RunFault.TheVariants.{Refused}
 
 -- the whole trace is the calls and then the rest, and its first fault is that of the rest behind the calls
 pub record IsBehind (groups : Groups) (rank : ℕ) (whole : Trace) (calls : List Call) (rest : Trace) : Type 0 where

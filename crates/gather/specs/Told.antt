@@ -1,16 +1,19 @@
 -- What an answer says of traces, where the sources' inputs tell them.
-use Rattle.std.specs.Prelude.{◌≡◌, ℕ, ◌<◌, Bool, true, false, ⊤, Option, Some, None, option_map, option_and_then, Result, Err, IfSome, if◌then◌else◌, List, length, map, slice_get, All}
+use Rattle.std.specs.Prelude.{◌≡◌, ◌↔◌, ℕ, ◌<◌, Bool, true, false, ⊤, Option, Some, None, option_map, option_and_then, Result, Err, IfSome, if◌then◌else◌, List, length, map, slice_get, All}
 use Rattle.mpicall.specs.Source.{coming, ended, input_of}
 use Rattle.mpicall.specs.declared.source.Source.{Source}
 use Rattle.mpicall.specs.Trace.{Trace}
-use Rattle.mpicall.specs.Device.{one_more}
+use Rattle.mpicall.specs.Device.{one_more, AppendsBeginning}
 use Rattle.mpicall.specs.declared.call.Call.{Call}
 use Rattle.mpicall.specs.declared.fault.SourceFault.TheVariants.{ReadFailed}
 use Rattle.mpigroup.specs.Groups.{Groups, ranks_of}
 use Rattle.pairing.specs.Traces.{Lists, calls_of}
-use Rattle.gather.specs.Answers.{fault_of_rank}
+use Rattle.gather.specs.Answers.{fault_of_rank, refusal_of, lists_of, report_of, SomeRankCannotEnd}
+use Rattle.moves.specs.Verdicts.{verdict_of}
+use Rattle.moves.specs.declared.verdict.Verdict.{Verdict}
+use Rattle.moves.specs.declared.verdict.Verdict.TheVariants.{Hang}
 use Rattle.gather.specs.declared.fault.RankFault.{RankFault}
-use Rattle.gather.specs.declared.fault.RankFault.TheVariants.{OfCall, OfSource}
+use Rattle.gather.specs.declared.fault.RankFault.TheVariants.{OfSource}
 use Rattle.gather.specs.declared.fault.Refusal.{Refusal}
 use Rattle.gather.specs.declared.fault.RunFault.{RunFault}
 use Rattle.gather.specs.declared.fault.RunFault.TheVariants.{Memory, Refused, Write}
@@ -83,3 +86,30 @@ ReadFailedAt failures old new (Refused refusal) =
     option_map (λ source. failures (input_of source)) (slice_get new refusal.rank)
     ≡ option_map (λ source. one_more (failures (input_of source))) (slice_get old refusal.rank)
 ReadFailedAt failures old new fault = ⊤
+
+-- the refusal is that of the lowest rank that has a fault over these traces; where it tells a read that
+-- failed, no lower rank has one
+pub record IsRefusalOver (groups : Groups) (traces : List Trace) (refusal : Refusal) : Type 0 where
+  pub is_rank : refusal.rank < length traces
+  pub lowest : (rank : ℕ) (trace : Trace) → rank < refusal.rank → slice_get traces rank ≡ Some trace → fault_of_rank groups rank trace ≡ None
+  pub its_own : is_read_failure refusal.fault ≡ false → refusal_of groups traces ≡ Some refusal
+
+abbrev pub RefusesOver : Groups → List Trace → RunFault → Type 0
+RefusesOver groups traces Memory = ⊤
+RefusesOver groups traces (Refused refusal) = IsRefusalOver groups traces refusal
+RefusesOver groups traces Write = ⊤
+
+-- no rank has a fault over these traces, and the verdict is theirs
+pub record IsVerdictOver (groups : Groups) (traces : List Trace) (verdict : Verdict) : Type 0 where
+  pub no_refusal : refusal_of groups traces ≡ None
+  pub value : verdict ≡ verdict_of groups (lists_of traces)
+  pub hang : (verdict ≡ Hang) ↔ SomeRankCannotEnd groups (lists_of traces)
+
+-- where memory was wanted or a rank refused, the output is as it was; a failed write leaves a beginning of a
+-- report, and adds one to the count of failures
+abbrev pub LeavesOutput : {O : Type 0} → (O → Option (List ℕ)) → (O → ℕ) → O → O → RunFault → Type 0
+LeavesOutput written failures old new Memory = new ≡ old
+LeavesOutput written failures old new (Refused refusal) = new ≡ old
+LeavesOutput written failures old new Write =
+    ((verdict : Verdict) × AppendsBeginning (written old) (written new) (report_of verdict))
+    × (failures new ≡ one_more (failures old))

@@ -1,12 +1,16 @@
 //! The verdict of a run over the sources of its ranks.
 
-ghost use Rattle.std.specs.Prelude.{◌≡◌, ℕ, List, length, IfOk, IfErr};
+ghost use Rattle.std.specs.Prelude.{◌≡◌, ℕ, List, length, IfOk, IfErr, OnOk};
+ghost use Rattle.std.specs.Io.KnownBytes.{Appends};
+ghost use Rattle.mpicall.specs.Trace.{Trace as TraceValue};
+ghost use Rattle.gather.specs.Answers.{report_of};
 ghost use Rattle.mpigroup.specs.Groups.{ranks_of};
-ghost use Rattle.gather.specs.Told.{AreFresh, told_by, AcceptsAll, RefusesRun, ReadFailedAt};
+ghost use Rattle.gather.specs.Told.{AreFresh, told_by, AcceptsAll, RefusesRun, ReadFailedAt, Tells, IsVerdictOver, RefusesOver, LeavesOutput};
 
 use crate::fault::RunFault;
 use crate::rank::read_rank;
-use mpicall::device::Input;
+use moves::verdict::{Verdict, verdict_of};
+use mpicall::device::{Input, Output, write_all};
 use mpicall::source::Source;
 use mpigroup::head::Head;
 use pairing::trace::Trace;
@@ -35,4 +39,54 @@ fn read_ranks<I: Input>(
         }
     }
     Ok(trace)
+}
+
+/// The report of a verdict: one line.
+fn report_of(verdict: Verdict) -> &'static [u8]
+    ensures { result.now ≡ report_of verdict }
+{
+    match verdict {
+        Verdict::Free => b"verdict free\n",
+        Verdict::Hang => b"verdict hang\n",
+    }
+}
+
+/// Reads the sources of all ranks, each to its end, and writes the report of the run: whether some rank
+/// can't reach its Finalize, whatever way the run goes. The first fault of the lowest rank that has one
+/// is told instead, and then nothing is written.
+///
+/// The sources are read in rank order, one source a rank; none of them may have been asked before.
+pub fn run<I: Input, O: Output>(
+    alloc: Global,
+    head: &Head,
+    sources: &mut [Source<I>],
+    out: &mut O,
+) -> Result<Verdict, RunFault>
+    requires one_a_rank { length sources.old ≡ ranks_of head.now }
+    requires fresh { AreFresh sources.old }
+
+    // The answer is that of the traces which the sources' bytes hold, where the inputs tell them.
+    ensures verdict { IfOk result (λ verdict. (traces : List TraceValue) →
+        Tells I.left sources.old traces → IsVerdictOver head.now traces verdict) }
+    ensures refused { IfErr result (λ fault. (traces : List TraceValue) →
+        Tells I.left sources.old traces → RefusesOver head.now traces fault) }
+
+    // A read that failed and a write that failed are told only where the device's count rose.
+    ensures read_failed { IfErr result (ReadFailedAt I.failures sources.old sources.new) }
+    ensures written { IfOk result (λ verdict.
+        Appends (O.written out.old) (O.written out.new) (report_of verdict)) }
+    ensures no_write_failed { OnOk result (O.failures out.new ≡ O.failures out.old) }
+    ensures output { IfErr result (LeavesOutput O.written O.failures out.old out.new) }
+{
+    let trace = match read_ranks(alloc, head, sources) {
+        Ok(trace) => trace,
+        Err(fault) => return Err(fault),
+    };
+    let Ok(verdict) = verdict_of(alloc, head, &trace) else {
+        return Err(RunFault::Memory);
+    };
+    match write_all(out, report_of(verdict)) {
+        Ok(()) => Ok(verdict),
+        Err(_) => Err(RunFault::Write),
+    }
 }

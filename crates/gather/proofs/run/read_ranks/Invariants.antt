@@ -1,6 +1,5 @@
 -- The ranks so far are accepted, and the sources of the others were not asked.
 use Rattle.std.proofs.Common.{◌≡◌, ◌<◌, ◌≤◌, ℕ, length, slice_get}
-use Rattle.mpicall.specs.declared.source.Source.{Source}
 use Rattle.pairing.specs.Traces.{calls_of}
 use Rattle.gather.specs.Told.{told_by, AcceptsRank}
 use Rattle.gather.proofs.run.read_ranks.Given as goal
