@@ -1,7 +1,13 @@
 //! The words of the command line.
 
-ghost use Rattle.std.specs.Prelude.{IfOk};
-ghost use Rattle.mpiwait.specs.Asked.{HasTrace};
+ghost use Rattle.std.specs.Prelude.{◌≡◌, false, IfOk, map, option_and_then, option_map};
+ghost use Rattle.clap.specs.Matches.{found_of};
+ghost use Rattle.clap.specs.Simple.{app_of, subcommand_rows_of};
+ghost use Rattle.clap.specs.Values.{kind_of};
+ghost use Rattle.clap.specs.Walk.{rows_of, rule_of};
+ghost use Rattle.clap.specs.declared.builder.command.Command.TheViews.{out-Command as fields_of};
+ghost use Rattle.clap.specs.declared.error.kind.ErrorKind.TheVariants.{OutOfMemory};
+ghost use Rattle.mpiwait.specs.Asked.{Answers, Names, Says, SaysSome, check, head_rule, program, run_of, run_of_rows, traces_rule};
 
 use clap::error::ErrorKind;
 use clap::{Arg, ArgMatches, Command, Error};
@@ -39,39 +45,59 @@ Exit status:
 
 const USAGE: &str = "usage: mpiwait check HEAD FILE..\n";
 
-/// What clap is told of `check`.
-fn check_command<'a>(alloc: Global) -> Result<Command<'a>, AllocError> {
-    let head = Arg::new(alloc, "HEAD")
+/// What clap is told of the head.
+fn head_argument<'a>(alloc: Global) -> Arg<'a>
+    ensures rule { rule_of result ≡ head_rule }
+    ensures local { result.global ≡ false }
+{
+    Arg::new(alloc, "HEAD")
         .required(true)
-        .help("The head of the run: how many ranks it has");
-    let files = Arg::new(alloc, "FILE")
+        .help("The head of the run: how many ranks it has")
+}
+
+/// What clap is told of the traces.
+fn traces_argument<'a>(alloc: Global) -> Arg<'a>
+    ensures rule { rule_of result ≡ traces_rule }
+    ensures local { result.global ≡ false }
+{
+    Arg::new(alloc, "FILE")
         .required(true)
         .num_args(1..)
-        .help("The traces of the ranks, one file a rank, in rank order");
+        .help("The traces of the ranks, one file a rank, in rank order")
+}
+
+/// What clap is told of `check`.
+fn check_command<'a>(alloc: Global) -> Result<Command<'a>, AllocError>
+    ensures app { IfOk result (λ command. app_of command ≡ check) }
+    ensures local { IfOk result (λ command. (fields_of command).has_globals ≡ false) }
+{
     Command::new(alloc, "check")
         .about(CHECK_ABOUT)
         .after_help(AFTER)
         .version(VERSION)
-        .arg(head)?
-        .arg(files)
+        .arg(head_argument(alloc))?
+        .arg(traces_argument(alloc))
 }
 
 /// What clap is told of the program.
-fn program_command<'a>(alloc: Global) -> Result<Command<'a>, AllocError> {
+fn program_command<'a>(alloc: Global) -> Result<Command<'a>, AllocError>
+    ensures { IfOk result (λ command. app_of command ≡ program) }
+{
+    let check = check_command(alloc)?;
     Command::new(alloc, "mpiwait")
-        .no_binary_name(true)
-        .bin_name("mpiwait")?
         .about(ABOUT)
         .after_help(AFTER)
         .version(VERSION)
+        .no_binary_name(true)
         .subcommand_required(true)
         .disable_help_subcommand(true)
-        .subcommand(check_command(alloc)?)
+        .bin_name("mpiwait")?
+        .subcommand(check)
 }
 
 /// A text as the answer; without memory for it, that.
 fn say<'a>(alloc: Global, text: &str, is_error: bool) -> Words<'a>
-    ensures { HasTrace result }
+    ensures { Says text.now is_error result }
 {
     match String::from_str(alloc, text) {
         Ok(text) => Words::Said { text, is_error },
@@ -81,7 +107,8 @@ fn say<'a>(alloc: Global, text: &str, is_error: bool) -> Words<'a>
 
 /// What clap says instead of an answer.
 fn say_error<'a>(alloc: Global, error: Error) -> Words<'a>
-    ensures { HasTrace result }
+    ensures some { SaysSome result }
+    ensures memory { kind_of error ≡ OutOfMemory → result ≡ Words.NoMemory }
 {
     if error.kind() == ErrorKind::OutOfMemory {
         return Words::NoMemory;
@@ -95,39 +122,53 @@ fn say_error<'a>(alloc: Global, error: Error) -> Words<'a>
     }
 }
 
-/// The run that the words after `check` name.
-fn check_of<'a>(alloc: Global, matches: &ArgMatches<'a>) -> Result<Words<'a>, Error>
-    ensures { IfOk result HasTrace }
+/// The run that these paths name.
+#[tactic(auto, using(crate::proofs::AskedLemmas::asked_steps))]
+fn run_named<'a>(alloc: Global, head: Option<&'a str>, files: Option<&[&'a str]>) -> Words<'a>
+    ensures { Names (run_of (option_map (λ path. path.now) head.entry) (option_map (λ paths. map (λ path. path.now) paths.now) files.entry)) result }
 {
-    let (Some(head), Some(files)) = (matches.get_str("HEAD"), matches.get_strs("FILE")) else {
-        return Ok(say(alloc, USAGE, true));
+    let Some(head) = head else {
+        return say(alloc, USAGE, true);
+    };
+    let Some(files) = files else {
+        return say(alloc, USAGE, true);
     };
     if files.is_empty() {
-        return Ok(say(alloc, USAGE, true));
+        return say(alloc, USAGE, true);
     }
-    Ok(Words::Check {
-        head,
-        files: Vec::from_slice(alloc, files)?,
-    })
+    match Vec::from_slice(alloc, files) {
+        Ok(files) => Words::Check { head, files },
+        Err(_) => Words::NoMemory,
+    }
 }
 
-/// Reads the words with clap.
-fn read<'a>(alloc: Global, words: &'a [&'a str]) -> Result<Words<'a>, Error>
-    ensures { IfOk result HasTrace }
+/// The run that the words after `check` name.
+fn check_of<'a>(alloc: Global, matches: &ArgMatches<'a>) -> Words<'a>
+    ensures { Names (run_of_rows (rows_of (found_of matches.now))) result }
 {
-    let matches = program_command(alloc)?.try_get_matches_from(words)?;
-    match matches.subcommand_matches("check") {
-        Some(check) => check_of(alloc, check),
-        None => Ok(say(alloc, USAGE, true)),
+    run_named(alloc, matches.get_str("HEAD"), matches.get_strs("FILE"))
+}
+
+/// What the words that clap takes ask for.
+#[tactic(auto, using(crate::proofs::AskedLemmas::asked_steps))]
+fn asked<'a>(alloc: Global, matches: &ArgMatches<'a>) -> Words<'a>
+    ensures { Names (option_and_then (λ found. run_of_rows found.1) (subcommand_rows_of matches.now)) result }
+{
+    match matches.subcommand() {
+        Some((_, check)) => check_of(alloc, check),
+        None => say(alloc, USAGE, true),
     }
 }
 
 /// What the words after the program's name ask for.
 pub fn parse<'a>(alloc: Global, words: &'a [&'a str]) -> Words<'a>
-    ensures { HasTrace result }
+    ensures { Answers (map (λ word. word.now) words.now) result }
 {
-    match read(alloc, words) {
-        Ok(asked) => asked,
+    let Ok(command) = program_command(alloc) else {
+        return Words::NoMemory;
+    };
+    match command.try_get_matches_from(words) {
+        Ok(matches) => asked(alloc, &matches),
         Err(error) => say_error(alloc, error),
     }
 }
