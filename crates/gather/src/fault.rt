@@ -1,5 +1,7 @@
 //! Why a run has no verdict.
 
+ghost use Rattle.std.specs.Prelude.{◌≡◌};
+
 use mpicall::fault::SourceFault;
 use pairing::fault::CallFault;
 use thiserror::Error;
@@ -13,8 +15,23 @@ pub enum RankFault {
     OfSource(SourceFault),
 }
 
+impl RankFault {
+    ghost use Rattle.gather.specs.Codes.{code_of};
+
+    /// The code under which the program reports the fault.
+    pub fn code(self) -> &'static str
+        ensures { result.now ≡ code_of self }
+    {
+        match self {
+            RankFault::OfCall(fault) => fault.code(),
+            RankFault::OfSource(fault) => fault.code(),
+        }
+    }
+}
+
 /// The refusal of a run: the first fault of a rank, at the number of the rank's records before it.
-#[derive(Clone, Copy, Debug, PartialEq, Eq)]
+#[derive(Clone, Copy, Debug, PartialEq, Eq, Error)]
+#[error("rank {rank} call {call} {} {fault}", .fault.code())]
 pub struct Refusal {
     pub rank: u16,
     pub call: u32,
@@ -26,7 +43,7 @@ pub struct Refusal {
 pub enum RunFault {
     #[error("memory")]
     Memory,
-    #[error("rank {} call {} {}", .0.rank, .0.call, .0.fault)]
+    #[error("{0}")]
     Refused(Refusal),
     #[error("write")]
     Write,

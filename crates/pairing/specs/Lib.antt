@@ -4,3 +4,4 @@ pub mod Faults
 pub mod Places
 pub mod Envelopes
 pub mod Partners
+pub mod Codes

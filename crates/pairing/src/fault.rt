@@ -3,6 +3,7 @@
 ghost use Rattle.std.specs.Prelude.{◌≡◌, ◌<◌, ◌∷◌, [], ◌++◌, length, IfNone};
 ghost use Rattle.pairing.specs.Limits.{most_calls};
 ghost use Rattle.pairing.specs.Traces.{is_finalize, has_finalize, ends_with_finalize};
+ghost use Rattle.pairing.specs.Codes.{code_of};
 ghost use Rattle.pairing.specs.Faults.{fault_of, first_fault, is_comm, is_group_rank, comms_exist, peers_exist, IsLawfulList, AnEndedLawfulListIsClosed};
 
 use crate::trace::MOST_CALLS;
@@ -22,6 +23,20 @@ pub enum CallFault {
     UnknownCommunicator,
     #[error("peer or root out of group")]
     PeerOutOfGroup,
+}
+
+impl CallFault {
+    /// The code under which the program reports the fault.
+    pub fn code(self) -> &'static str
+        ensures { result.now ≡ code_of self }
+    {
+        match self {
+            CallFault::CallAfterFinalize => "C9",
+            CallFault::TooManyCalls => "C8",
+            CallFault::UnknownCommunicator => "C1",
+            CallFault::PeerOutOfGroup => "C3",
+        }
+    }
 }
 
 fn is_finalize(call: &Record) -> bool
