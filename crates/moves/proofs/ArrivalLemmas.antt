@@ -1,7 +1,7 @@
 -- What is kept of arrivals.
-use Rattle.std.proofs.Common.{◌≡◌, ◌≢◌, ℕ, zero, suc, ◌<◌, true, false, cond, is_none, Option, Some, None, List, [], ◌∷◌, ◌++◌, length, replicate, refl, sym, ap, subst, ◌∙◌, ⊎_elim, arith, get_or-set_same, get_or-set_other}
+use Rattle.std.proofs.Common.{◌≡◌, ◌≢◌, ℕ, zero, suc, ◌<◌, true, false, cond, is_none, Option, Some, None, List, [], ◌∷◌, ◌++◌, length, replicate, refl, sym, ap, subst, ◌∙◌, ⊎_elim, arith}
 use Rattle.std.proofs.lemmas.List.{length-set}
-use Rattle.std.proofs.lemmas.Option.{unwrap_or-slice_get, none-some}
+use Rattle.std.proofs.lemmas.Option.{none-some}
 use Rattle.std.proofs.lemmas.Bool.{cases_eq, cases_Bool, false≢true, eq-eqb, ne_eqb}
 use Rattle.mpicall.specs.declared.call.Call.{Call}
 use Rattle.mpigroup.specs.Groups.{Groups, ranks_of}
@@ -9,18 +9,8 @@ use Rattle.pairing.specs.declared.fault.CallFault.{CallFault}
 use Rattle.pairing.specs.Traces.{Lists, calls_of, appended}
 use Rattle.pairing.specs.Faults.{fault_of, IsLawfulList, IsLawful}
 use Rattle.pairing.proofs.FaultLemmas.{lawful_push}
+use Rattle.pairing.proofs.TraceLemmas.{calls_of-appended, calls_of-appended_other}
 use Rattle.moves.specs.Arrivals.{Arrival, kept_one, kept_from, kept, calls_by, KeptIsLawful, MixesAreKeptAlike}
-
--- the calls of a rank once a call is appended
-pub calls_of-appended : (trace : Lists) (rank : ℕ) (call : Call) → rank < length trace → calls_of (appended trace rank call) rank ≡ calls_of trace rank ++ call ∷ []
-calls_of-appended trace rank call is_rank =
-    unwrap_or-slice_get (appended trace rank call) rank [] ∙ get_or-set_same trace rank (calls_of trace rank ++ call ∷ []) [] is_rank
-
-pub calls_of-appended_other : (trace : Lists) (rank other : ℕ) (call : Call) → other ≢ rank → calls_of (appended trace rank call) other ≡ calls_of trace other
-calls_of-appended_other trace rank other call differs =
-    unwrap_or-slice_get (appended trace rank call) other []
-    ∙ get_or-set_other trace rank other (calls_of trace rank ++ call ∷ []) [] differs
-    ∙ sym (unwrap_or-slice_get trace other [])
 
 length-kept_one : (groups : Groups) (trace : Lists) (arrival : Arrival) → length (kept_one groups trace arrival) ≡ length trace
 length-kept_one groups trace arrival =

@@ -1,4 +1,5 @@
--- Arrivals: records of many ranks as they are read, in any mix. Those are kept that have no fault.
+-- Arrivals: records of many ranks as they are read, in any mix. Those are kept that have no fault. How
+-- records are read is this project's own; MPI says nothing of it.
 use Rattle.std.specs.Prelude.{◌≡◌, ℕ, ◌==◌, is_none, List, [], ◌∷◌, replicate, if◌then◌else◌}
 use Rattle.mpicall.specs.declared.call.Call.{Call}
 use Rattle.mpigroup.specs.Groups.{Groups, ranks_of}

@@ -1,4 +1,5 @@
--- Where the ranks of a run come to stand by the strict reading, and what that tells of every run.
+-- Where the ranks of a run come to stand by this project's strict reading of MPI, and what that tells of
+-- every run.
 use Rattle.std.specs.Prelude.{◌≡◌, ℕ, ◌≤◌, Bool, true, false, Some, List, length, map, slice_get, slice_index}
 use Rattle.std.specs.Option.{option_map_or}
 use Rattle.mpicall.specs.declared.call.Call.TheVariants.{Finalize}

@@ -1,4 +1,5 @@
--- The verdict over a run: it can hang exactly if some rank does not come to stand at its Finalize.
+-- The verdict over a run, by this project's strict reading: it can hang exactly if some rank does not come
+-- to stand at its Finalize (MPI 4.0, section 11.2.2: each process must call it).
 use Rattle.std.specs.Prelude.{◌≡◌, ℕ, ◌<◌, false, length, if◌then◌else◌}
 use Rattle.std.specs.List.{list_all, range_with_len}
 use Rattle.mpigroup.specs.Groups.{Groups}

@@ -12,16 +12,19 @@ use Rattle.std.specs.Prelude.{IfNone}
 use Rattle.pairing.specs.declared.fault.CallFault.{CallFault}
 use Rattle.pairing.specs.Limits.{most_calls}
 use Rattle.pairing.specs.Traces.{IsClosedList, is_finalize, has_finalize, ends_with_finalize}
-use Rattle.pairing.specs.Faults.{AnEndedLawfulListIsClosed, first_fault, fault_of, IsLawfulList}
+use Rattle.pairing.specs.Faults.{AnEndedLawfulListIsClosed, fault_of, IsLawfulList}
 
 -- what it means that a call has no fault
-pub fault_none : (groups : Groups) (is_ended : Bool) (accepted : ℕ) (call : Call) → first_fault groups is_ended accepted call ≡ None → (is_ended ≡ false) × (accepted < most_calls)
-fault_none groups true accepted call h = absurd (none-some _ (sym h))
-fault_none groups false accepted call h =
+pub fault_none : (groups : Groups) (rank : ℕ) (calls : List Call) (call : Call) → fault_of groups rank calls call ≡ None → (has_finalize calls ≡ false) × (length calls < most_calls)
+fault_none groups rank calls call h =
     ⊎_elim
-    (λ (room : ltb accepted most_calls ≡ true). (refl, ltb-true accepted most_calls room))
-    (λ (full : ltb accepted most_calls ≡ false). absurd (none-some _ (sym (rw full at h))))
-    (cases_Bool (ltb accepted most_calls))
+    (λ (ended : has_finalize calls ≡ true). absurd (none-some _ (sym (rw ended at h))))
+    (λ (open_still : has_finalize calls ≡ false).
+    ⊎_elim
+    (λ (room : ltb (length calls) most_calls ≡ true). (open_still, ltb-true (length calls) most_calls room))
+    (λ (full : ltb (length calls) most_calls ≡ false). absurd (none-some _ (sym (rw (open_still, full) at h))))
+    (cases_Bool (ltb (length calls) most_calls)))
+    (cases_Bool (has_finalize calls))
 
 -- one element that passes settles it
 any_at : {A : Type 0} (test : A → Bool) (xs : List A) (i : ℕ) (x : A) → slice_get xs i ≡ Some x → test x ≡ true → list_any test xs ≡ true
@@ -75,7 +78,7 @@ last_tells test (x ∷ y ∷ ys) alone =
 -- in a lawful list nothing follows Finalize, so the last call tells whether it has one
 pub lawful_end : (groups : Groups) (rank : ℕ) (calls : List Call) → IsLawfulList groups rank calls → ends_with_finalize calls ≡ has_finalize calls
 lawful_end groups rank calls lawful =
-    sym (last_tells is_finalize calls (λ place call h. (fault_none groups (has_finalize (take place calls)) (length (take place calls)) call (lawful place call h)).0))
+    sym (last_tells is_finalize calls (λ place call h. (fault_none groups rank (take place calls) call (lawful place call h)).0))
 
 pub no_fault : (groups : Groups) (rank : ℕ) (calls : List Call) (call : Call) (result : Option CallFault) → IsLawfulList groups rank calls → result ≡ fault_of groups rank calls call → IfNone result (IsLawfulList groups rank (calls ++ call ∷ []))
 no_fault groups rank calls call None lawful h = lawful_push groups rank calls call lawful (sym h)
@@ -105,4 +108,4 @@ closed_from (x ∷ y ∷ ys) alone ended =
 
 pub an_ended_lawful_list_is_closed : AnEndedLawfulListIsClosed
 an_ended_lawful_list_is_closed groups rank calls lawful ended =
-    closed_from calls (λ place call h. (fault_none groups (has_finalize (take place calls)) (length (take place calls)) call (lawful place call h)).0) ended
+    closed_from calls (λ place call h. (fault_none groups rank (take place calls) call (lawful place call h)).0) ended

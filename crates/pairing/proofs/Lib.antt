@@ -1,3 +1,4 @@
 pub mod PlaceLemmas
 pub mod PartnerLemmas
 pub mod FaultLemmas
+pub mod TraceLemmas

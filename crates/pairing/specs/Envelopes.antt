@@ -1,6 +1,6 @@
 -- Envelopes (MPI 4.0, section 3.2.3): a message carries its communicator, its source and destination,
 -- which are ranks of the communicator's group, and its tag. A call may have a half that sends a message
--- and a half that receives one.
+-- (section 3.2.1) and a half that receives one (section 3.2.4).
 use Rattle.std.specs.Prelude.{ℕ, ◌==◌, Bool, false, ◌&&◌, Option, None, option_map}
 use Rattle.std.specs.Option.{option_map_or}
 use Rattle.mpicall.specs.declared.call.Peer.TheVariants.{Rank}

@@ -38,17 +38,14 @@ abbrev pub first_failed : List (CallFault × Bool) → Option CallFault
 first_failed [] = None
 first_failed ((fault, holds) ∷ rest) = if holds then first_failed rest else Some fault
 
--- the first fault of a call, where Finalize was accepted before or not, and so many calls were
-abbrev pub first_fault : Groups → Bool → ℕ → Call → Option CallFault
-first_fault groups is_ended accepted call = first_failed (
-    (CallAfterFinalize, not is_ended) ∷
-    ((TooManyCalls, nat_lt accepted most_calls) ∷
+-- The first fault of a call that the rank makes after the calls: the tests in their order, each with the
+-- fault of a call that fails it.
+abbrev pub fault_of : Groups → ℕ → List Call → Call → Option CallFault
+fault_of groups rank calls call = first_failed (
+    (CallAfterFinalize, not (has_finalize calls)) ∷
+    ((TooManyCalls, nat_lt (length calls) most_calls) ∷
     ((UnknownCommunicator, comms_exist groups call) ∷
     ((PeerOutOfGroup, peers_exist groups call) ∷ []))))
-
--- the first fault of a call that the rank makes after the calls
-abbrev pub fault_of : Groups → ℕ → List Call → Call → Option CallFault
-fault_of groups rank calls call = first_fault groups (has_finalize calls) (length calls) call
 
 -- a rank's list is lawful if no call of it has a fault after those before it
 abbrev pub IsLawfulList : Groups → ℕ → List Call → Type 0

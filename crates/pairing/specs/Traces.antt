@@ -31,7 +31,8 @@ has_finalize calls = list_any is_finalize calls
 abbrev pub ends_with_finalize : List Call → Bool
 ends_with_finalize calls = option_map_or is_finalize (slice_get calls (length calls - 1)) false
 
--- a rank's list is closed if it ends with Finalize and has no other
+-- a rank's list is closed if it ends with Finalize and has no other (MPI 4.0, section 11.2.2: each
+-- process calls it once, as its last call)
 pub record IsClosedList (calls : List Call) : Type 0 where
   pub before : List Call
   pub ends_with_finalize : calls ≡ before ++ Finalize ∷ []

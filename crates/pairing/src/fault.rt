@@ -4,7 +4,7 @@ ghost use Rattle.std.specs.Prelude.{◌≡◌, ◌<◌, ◌∷◌, [], ◌++◌,
 ghost use Rattle.pairing.specs.Limits.{most_calls};
 ghost use Rattle.pairing.specs.Traces.{is_finalize, has_finalize, ends_with_finalize};
 ghost use Rattle.pairing.specs.Codes.{code_of};
-ghost use Rattle.pairing.specs.Faults.{fault_of, first_fault, is_comm, is_group_rank, comms_exist, peers_exist, IsLawfulList, AnEndedLawfulListIsClosed};
+ghost use Rattle.pairing.specs.Faults.{fault_of, is_comm, is_group_rank, comms_exist, peers_exist, IsLawfulList, AnEndedLawfulListIsClosed};
 
 use crate::trace::MOST_CALLS;
 use mpicall::call::{Call, Peer};
@@ -88,12 +88,20 @@ fn peers_exist(head: &Head, call: &Record) -> bool
     }
 }
 
-fn first_fault(head: &Head, is_ended: bool, accepted: usize, call: &Record) -> Option<CallFault>
-    ensures { result ≡ first_fault head.now is_ended accepted call.now }
+// What `fault` answers, where it is known whether Finalize was among the calls.
+fn first_fault(
+    head: &Head,
+    rank: u16,
+    is_ended: bool,
+    calls: &[Record],
+    call: &Record,
+) -> Option<CallFault>
+    requires { is_ended ≡ has_finalize calls.now }
+    ensures { result ≡ fault_of head.now rank calls.now call.now }
 {
     if is_ended {
         Some(CallFault::CallAfterFinalize)
-    } else if accepted >= MOST_CALLS {
+    } else if calls.len() >= MOST_CALLS {
         Some(CallFault::TooManyCalls)
     } else if !comms_exist(head, call) {
         Some(CallFault::UnknownCommunicator)
@@ -120,7 +128,7 @@ pub fn fault(head: &Head, rank: u16, calls: &[Record], call: &Record) -> Option<
     ensures value { result ≡ fault_of head.now rank calls.now call.now }
     ensures room { IfNone result (length calls.now < most_calls) }
 {
-    first_fault(head, has_finalize(calls), calls.len(), call)
+    first_fault(head, rank, has_finalize(calls), calls, call)
 }
 
 /// The first fault of a call after calls that have none: what `fault` answers, by a look at the last
@@ -132,7 +140,7 @@ pub fn next_fault(head: &Head, rank: u16, calls: &[Record], call: &Record) -> Op
     ensures room { IfNone result (length calls.now < most_calls) }
     ensures lawful { IfNone result (IsLawfulList head.now rank (calls.now ++ call.now ∷ [])) }
 {
-    first_fault(head, ends_with_finalize(calls), calls.len(), call)
+    first_fault(head, rank, ends_with_finalize(calls), calls, call)
 }
 
 /// A lawful list whose last call is Finalize is closed: it has no other Finalize.

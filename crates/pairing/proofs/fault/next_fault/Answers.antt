@@ -1,13 +1,10 @@
-use Rattle.std.proofs.Common.{◌∙◌, ap, length}
-use Rattle.pairing.specs.Faults.{first_fault}
+use Rattle.std.proofs.Common.{◌∙◌}
 use Rattle.pairing.proofs.FaultLemmas.{lawful_end, no_fault}
 use Rattle.pairing.proofs.fault.next_fault.Goals as goal
 
-pub returns-clause-value : goal.returns-clause-value
-returns-clause-value c =
-    c.first_fault.ensures
-    ∙ ap (λ ended. first_fault c.args.head.now ended (length c.args.calls.now) c.args.call.now)
-    (c.ends_with_finalize.ensures ∙ lawful_end c.args.head.now c.args.rank c.args.calls.now c.requires)
+pub first_fault-requires : goal.first_fault-requires
+first_fault-requires c = c.ends_with_finalize.ensures ∙ lawful_end c.args.head.now c.args.rank c.args.calls.now c.requires
 
 pub returns-clause-lawful : goal.returns-clause-lawful
-returns-clause-lawful c = no_fault c.args.head.now c.args.rank c.args.calls.now c.args.call.now c.first_fault.result c.requires (returns-clause-value c)
+returns-clause-lawful c =
+    no_fault c.args.head.now c.args.rank c.args.calls.now c.args.call.now c.first_fault.result c.requires c.first_fault.ensures
