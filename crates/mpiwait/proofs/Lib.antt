@@ -1,1 +1,2 @@
 pub mod AskedLemmas
+pub mod FrontLemmas

@@ -3,14 +3,21 @@
 
 ghost use Rattle.std.specs.Prelude.{◌≡◌, IfOk, map, string_bytes};
 
+mod check;
+mod opener;
+mod program;
+mod status;
 mod words;
 
+use mpicall::counted::Counted;
+use opener::Disk;
+use program::program;
+use status::Status;
 use std::alloc::{AllocError, Global};
 use std::env::Env;
 use std::process::ExitCode;
 use std::{env, io};
 use thiserror::Error;
-use words::Words;
 
 /// Why the words of the command line can't be read.
 #[derive(Debug, Drop, Error)]
@@ -22,10 +29,10 @@ enum WordsFault {
 }
 
 impl WordsFault {
-    fn status(&self) -> u8 {
+    fn status(&self) -> Status {
         match self {
-            WordsFault::NoText => 3,
-            WordsFault::NoMemory => 4,
+            WordsFault::NoText => Status::Usage,
+            WordsFault::NoMemory => Status::Fault,
         }
     }
 }
@@ -51,7 +58,7 @@ fn words_given(rt: &(impl Env + AllocGlobal)) -> Result<Vec<String>, WordsFault>
     Ok(words)
 }
 
-/// The same words, as `parse` takes them.
+/// The same words, as the program takes them.
 fn as_texts<'a>(alloc: Global, words: &'a [String]) -> Result<Vec<&'a str>, AllocError>
     ensures { IfOk result (λ texts. map (λ text. text.now) texts.items ≡ map string_bytes words.now) }
 {
@@ -62,34 +69,13 @@ fn as_texts<'a>(alloc: Global, words: &'a [String]) -> Result<Vec<&'a str>, Allo
     Ok(texts)
 }
 
-/// Shows what the words ask for, and gives the exit status.
-fn answer(rt: &(impl Print + Eprint + AllocGlobal), words: &[&str]) -> u8 {
-    match words::parse(rt.alloc(), words) {
-        // The check itself comes with the program's next part.
-        Words::Check { head: _, files: _ } => 4,
-        Words::Said {
-            text,
-            is_error: false,
-        } => if rt.print(text).is_ok() { 0 } else { 4 },
-        Words::Said {
-            text,
-            is_error: true,
-        } => {
-            let _ = rt.eprint(text);
-            3
-        }
-        Words::NoMemory => {
-            let _ = rt.eprintln(WordsFault::NoMemory);
-            4
-        }
-    }
-}
-
-/// Reads the words of the command line and answers them.
+/// Runs the program on the words of the command line.
 fn run(rt: &HostRuntime) -> Result<u8, WordsFault> {
     let words = words_given(rt)?;
     let texts = as_texts(rt.alloc(), words.as_slice())?;
-    Ok(answer(rt, texts.as_slice()))
+    let mut out = Counted::new(rt.stdout());
+    let mut err = Counted::new(rt.stderr());
+    Ok(program(rt.alloc(), texts.as_slice(), &Disk(rt), &mut out, &mut err))
 }
 
 fn main(rt: HostRuntime) -> ExitCode {
@@ -98,7 +84,7 @@ fn main(rt: HostRuntime) -> ExitCode {
         Err(fault) => {
             let status = fault.status();
             let _ = rt.eprintln(fault);
-            ExitCode::from(status)
+            ExitCode::from(status as u8)
         }
     }
 }

@@ -14,6 +14,7 @@ pub trait Opener {
 }
 
 /// The files of the machine.
+#[derive(Drop)]
 pub struct Disk<'a, R>(pub &'a R);
 
 impl<R: Files> Opener for Disk<'_, R> {
