@@ -1,8 +1,8 @@
 -- How the front of a head grows, and when it is whole.
-use Rattle.std.proofs.Common.{◌≡◌, ℕ, ◌+◌, ◌-◌, ◌≤◌, List, [], ◌++◌, length, take, drop, sym, ap, ◌∙◌, refl, arith, Option, Some, None, append_assoc, append-nil, IfSome}
+use Rattle.std.proofs.Common.{◌≡◌, ℕ, ◌≤◌, List, ◌++◌, length, take, sym, ap, ◌∙◌, arith, Option, Some, None, append_assoc, append-nil}
 use Rattle.std.specs.Io.KnownBytes.{Keeps, prepend_known, Consumes, IsAtEnd}
 use Rattle.std.proofs.Math.Seq.{take-append_seam}
-use Rattle.std.proofs.lemmas.List.{take-take, take_all, length-take}
+use Rattle.std.proofs.lemmas.List.{take-take, take_all}
 use Rattle.std.proofs.lemmas.Slice.{take-put_mid}
 use borrow.Rule.Slice.PartMut.{put_mid}
 use Rattle.mpiwait.specs.Front.{IsFrontOf, deciding_bytes}
@@ -32,3 +32,8 @@ whole_when_full None now front k full = tt
 whole_when_full (Some start) None front k full = absurd k
 whole_when_full (Some start) (Some now) front k full =
     sym (take-append_seam front now) ∙ ap (λ (n : ℕ). take n (front ++ now)) full ∙ ap (λ (bytes : List ℕ). take deciding_bytes bytes) k
+
+-- a read that gave nothing, though there was room, shows that no bytes are left
+pub whole_after : (start old new : Option (List ℕ)) (front into : List ℕ) (count : ℕ) → Keeps start (prepend_known front old) → count ≡ 0 → Consumes old new (take count into) → length front ≤ deciding_bytes → IsAtEnd new → IsFrontOf start front
+whole_after start old new front into count k none c within end =
+    whole_at_end start new front (grows start old new front front (take count into) k c (rw none (sym (append-nil front)))) within end

@@ -1,5 +1,5 @@
 -- What was read and what is left are the input's bytes.
-use Rattle.std.proofs.Common.{◌≡◌, ◌≤◌, ◌-◌, vec_len, length}
+use Rattle.std.proofs.Common.{◌≤◌, ◌-◌, vec_len}
 use Rattle.std.specs.Io.KnownBytes.{Keeps, prepend_known}
 use Rattle.mpiwait.specs.Front.{deciding_bytes}
 use Rattle.mpiwait.proofs.check.read_front.Given as goal
