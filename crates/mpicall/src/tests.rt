@@ -94,6 +94,7 @@ fn gives<I: Input>(
 #[test]
 fn pieces_of_any_size_give_the_same_records(rt: HostRuntime) {
     for most in [1, 2, 7, 1000] {
+        assert!(rt; most > 0);
         let mut whole = Source::new(MemoryInput::in_pieces(TRACE, most));
         gives(&rt, &mut whole, &calls(), Ok(None));
         let mut more = Source::new(MemoryInput::in_pieces(b"finalize\nsend 0 1 5\n", most));
@@ -143,7 +144,7 @@ fn a_failed_read_comes_behind_the_whole_lines(rt: HostRuntime) {
         let input = FailsAt::new(MemoryInput::in_pieces(TRACE, 1), at);
         let mut source = Source::new(input);
         let all = calls();
-        let before = &all[..whole_calls(at)];
+        let before = &all[..whole_calls(at).min(all.len())];
         gives(&rt, &mut source, before, Err(SourceFault::ReadFailed));
     }
     let mut unmet = Source::new(FailsAt::new(MemoryInput::in_pieces(TRACE, 1), 44));
@@ -166,15 +167,15 @@ fn a_failed_write_leaves_a_beginning(rt: HostRuntime) -> Result<(), Fail> {
     let ends = [0, 11, 34, 43];
     for at in 0..4 {
         let mut output = FailsAt::new(MemoryOutput::new(rt.alloc()), at);
-        let mut failed = 0;
+        let mut failed = false;
         for call in calls() {
             let entry = Record::new(call).ok_or("out of range")?;
             if write_line(&entry, &mut output).is_err() {
-                failed += 1;
+                failed = true;
                 break;
             }
         }
-        assert_eq!(rt; failed, u64::from(at < 3), "at {at}");
+        assert_eq!(rt; failed, at < 3, "at {at}");
         assert_eq!(rt;
             output.device().bytes(),
             &TRACE[..ends[at as usize]],
