@@ -1,12 +1,9 @@
 pub mod NumberLemmas
 pub mod FieldLemmas
 pub mod DecimalLemmas
-pub mod ReadingLemmas
 pub mod DeviceLemmas
 pub mod SpellingLemmas
-pub mod BeginningLemmas
 pub mod WindowLemmas
 pub mod FeedLemmas
 pub mod SourceLemmas
 pub mod TraceLemmas
-pub mod GivesLemmas

@@ -108,3 +108,18 @@ pub enum Call {
     },
     Finalize,
 }
+
+impl Call {
+    ghost use Rattle.std.specs.Prelude.{◌≡◌};
+    ghost use Rattle.mpicall.specs.Ending.{ends_list};
+
+    /// Whether no call of the rank comes behind this one.
+    pub fn ends_list(&self) -> bool
+        ensures { result ≡ ends_list self.now }
+    {
+        match *self {
+            Call::Finalize => true,
+            _ => false,
+        }
+    }
+}

@@ -37,8 +37,15 @@ impl<'a> Fields<'a> {
         Fields { rest: Some(body) }
     }
 
-    #[tactic(auto, using(crate::proofs::FieldLemmas::field_steps))]
+    /// The same fields once more.
+    pub(crate) fn again(&self) -> Fields<'a>
+        ensures { result ≡ self.now }
+    {
+        Fields { rest: self.rest }
+    }
+
     /// The next field, which may have no bytes; None once all have come.
+    #[tactic(auto, using(crate::proofs::FieldLemmas::field_steps))]
     pub fn next_field(&mut self) -> Option<&'a [u8]>
         ensures { MatchOption result ((self.old ≡ []) × (self.new ≡ [])) (λ field. self.old ≡ field.now ∷ self.new) }
     {

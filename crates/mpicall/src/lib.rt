@@ -25,12 +25,15 @@
 //! ```
 #![tactic(auto)]
 
+mod body;
 pub mod call;
 pub mod counted;
 pub mod device;
+mod draft;
 pub mod fails_at;
 pub mod fault;
 pub mod fields;
+mod first_fault;
 pub mod limits;
 pub mod line;
 pub mod memory;

@@ -15,6 +15,9 @@ pub const GREATEST_REQUEST: u32 = 2_147_483_647;
 /// The greatest colour of a split.
 pub const GREATEST_COLOUR: u32 = 2_147_483_647;
 
+/// The greatest key of a split; the least is one below its negative.
+pub const GREATEST_KEY: u32 = 2_147_483_647;
+
 /// The most requests that one wait names.
 pub const MOST_REQUESTS: usize = 64;
 

@@ -1,6 +1,6 @@
 //! The requests that one wait names, held in place.
 
-ghost use Rattle.std.specs.Prelude.{◌≡◌, ◌≤◌, ◌↔◌, length, IsSome, IfSome};
+ghost use Rattle.std.specs.Prelude.{◌≡◌, ◌≤◌, ◌<◌, ◌↔◌, [], ◌∷◌, ◌++◌, length, IsTrue, IsSome, IfSome};
 
 use crate::limits::MOST_REQUESTS;
 use std::marker::Model;
@@ -47,6 +47,38 @@ impl Reqs {
             cells,
             len: numbers.len() as u8,
         })
+    }
+
+    /// The list of one number.
+    pub(crate) fn of_one(number: u32) -> Reqs
+        ensures { result ≡ number ∷ [] }
+    {
+        let mut cells = [0; MOST_REQUESTS];
+        cells[0] = number;
+        Reqs { cells, len: 1 }
+    }
+
+    /// Whether as many numbers are held as may be.
+    pub(crate) fn is_full(&self) -> bool
+        ensures { IsTrue result ↔ (length self.now ≡ MOST_REQUESTS) }
+    {
+        usize::from(self.len) == MOST_REQUESTS
+    }
+
+    /// Adds a number behind the others.
+    pub(crate) fn push(&mut self, number: u32)
+        requires { length self.old < MOST_REQUESTS }
+        ensures { self.new ≡ self.old ++ number ∷ [] }
+    {
+        self.cells[usize::from(self.len)] = number;
+        self.len += 1;
+    }
+
+    /// How many numbers there are.
+    pub(crate) fn count(&self) -> usize
+        ensures { result ≡ length self.now }
+    {
+        usize::from(self.len)
     }
 
     /// The numbers, in order.

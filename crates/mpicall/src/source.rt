@@ -155,8 +155,9 @@ impl<I: Input> Source<I> {
 fn stage_behind(call: &Call) -> Stage
     ensures { result ≡ stage_behind call.now }
 {
-    match *call {
-        Call::Finalize => Stage::Finalized,
-        _ => Stage::Reading,
+    if call.ends_list() {
+        Stage::Finalized
+    } else {
+        Stage::Reading
     }
 }
