@@ -7,3 +7,13 @@ pub mod WindowLemmas
 pub mod FeedLemmas
 pub mod SourceLemmas
 pub mod TraceLemmas
+pub mod ArgumentLemmas
+pub mod WildcardLemmas
+pub mod RequestLemmas
+pub mod CellLemmas
+pub mod WordLemmas
+pub mod RowLemmas
+pub mod BodyLemmas
+pub mod CallLemmas
+pub mod LineLemmas
+pub mod BeginningLemmas

@@ -4,7 +4,7 @@
 use Rattle.std.specs.Prelude.{◌≡◌, ◌<◌, ◌++◌, ℕ, ℤ, pos, Bool, true, false, ◌&&◌, nat_le, MatchBool, Option, Some, None, option_map, Result, Ok, Err, MatchResult, MatchOption, List, [], ◌∷◌, length, map, get_or, drop}
 use Rattle.std.specs.List.{list_all}
 use Rattle.mpicall.specs.declared.limits.TheConstants.{MOST_REQUESTS}
-use Rattle.mpicall.specs.Limits.{in_ranges}
+use Rattle.mpicall.specs.Limits.{in_ranges, few_enough}
 use Rattle.mpicall.specs.Argument.{is_in_range, spell, Argument, Number, PeerOf, Colour, Key, New, Form, request_form, request_argument, index_argument, read_argument}
 use Rattle.mpicall.specs.Number.{value_of}
 use Rattle.mpicall.specs.Word.{word_of}
@@ -25,22 +25,30 @@ use Rattle.mpicall.specs.declared.word.Word.{Word}
 use Rattle.mpicall.specs.declared.word.Word.TheVariants.{Blocking, Started, Sendrecv as SendrecvWord, Wait as WaitWord, Waitall as WaitallWord, Waitany as WaitanyWord, Dup as DupWord, Split as SplitWord, Finalize as FinalizeWord}
 use Rattle.mpicall.specs.declared.fault.LineFault.{LineFault}
 
-infixl 10 ◌>>=◌
--- the next reading, of what the first one gives
-abbrev pub ◌>>=◌ : {A B : Type 0} → Option A → (A → Option B) → Option B
-Some value >>= next = next value
-None >>= next = None
+-- an argument that was read, and the fields behind it
+abbrev pub with_behind : List (List ℕ) → Option Argument → Option (Argument × List (List ℕ))
+with_behind fields None = None
+with_behind fields (Some argument) = Some (argument, fields)
 
 -- the argument of the first of some fields, and the fields behind it
 abbrev pub next_argument : Form → List (List ℕ) → Option (Argument × List (List ℕ))
 next_argument form [] = None
-next_argument form (field ∷ fields) = option_map (λ argument. (argument, fields)) (read_argument form field)
+next_argument form (field ∷ fields) = with_behind fields (read_argument form field)
+
+-- an argument before others that were taken
+abbrev pub put_before : Argument → Option (List Argument × List (List ℕ)) → Option (List Argument × List (List ℕ))
+put_before argument None = None
+put_before argument (Some others) = Some (argument ∷ others.0, others.1)
+
+-- the first argument, and what is taken of the fields behind it
+abbrev pub take_behind : Option (Argument × List (List ℕ)) → (List (List ℕ) → Option (List Argument × List (List ℕ))) → Option (List Argument × List (List ℕ))
+take_behind None others = None
+take_behind (Some first) others = put_before first.0 (others first.1)
 
 -- the arguments of the first fields, and the fields behind them
 abbrev pub take_arguments : List Form → List (List ℕ) → Option (List Argument × List (List ℕ))
 take_arguments [] fields = Some ([], fields)
-take_arguments (form ∷ forms) fields =
-    next_argument form fields >>= λ first. take_arguments forms first.1 >>= λ others. Some (first.0 ∷ others.0, others.1)
+take_arguments (form ∷ forms) fields = take_behind (next_argument form fields) (λ behind. take_arguments forms behind)
 
 -- what a reader answers, the call that it leaves and the fields behind are those of a word and its forms
 abbrev pub ReadsCall : Word → List Form → List (List ℕ) → Option (Unit {0}) → Call → List (List ℕ) → Type 0
@@ -153,6 +161,7 @@ requests_fit fields = nat_le 1 (length fields) && nat_le (length fields) MOST_RE
 pub record SpellsRequests (fields : List (List ℕ)) (reqs : List ℕ) : Type 0 where
   pub fields_are : fields ≡ map spell (map request_argument reqs)
   pub in_range : list_all is_in_range (map request_argument reqs) ≡ true
+  pub enough : few_enough reqs ≡ true
 
 -- the line is a call's spelling, and the call's fields are in their ranges
 pub record Spells (line : List ℕ) (call : Call) : Type 0 where

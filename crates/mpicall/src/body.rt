@@ -48,16 +48,17 @@ fn read_waitany(mut fields: Fields<'_>, into: &mut Call) -> bool
     let Some(chosen) = next_number(MOST_REQUESTS as u32 - 1, &mut fields) else {
         return false;
     };
-    match read_requests(fields) {
-        Some(reqs) if (chosen as usize) < reqs.count() => {
-            *into = Call::Waitany {
-                chosen: chosen as u8,
-                reqs,
-            };
-            true
-        }
-        _ => false,
+    let Some(reqs) = read_requests(fields) else {
+        return false;
+    };
+    if chosen as usize >= reqs.count() {
+        return false;
     }
+    *into = Call::Waitany {
+        chosen: chosen as u8,
+        reqs,
+    };
+    true
 }
 
 /// Whether a call was read, and its fields were all.

@@ -127,6 +127,7 @@ impl Draft {
         self.push_number(tag);
     }
 
+    #[tactic(auto, using(crate::proofs::RequestLemmas::request_steps))]
     fn push_requests(&mut self, reqs: &[u32])
         requires { length self.old + 12 * length reqs.now ≤ MOST_LINE_BYTES }
         ensures value { self.new ≡ line_with self.old (map request_argument reqs.now) }

@@ -93,14 +93,20 @@ fn next_is_any(fields: &mut Fields<'_>) -> bool
     }
 }
 
-/// Whether one of the next two fields is a wildcard, behind `place` others.
+/// Leaves the next field out, if there is one.
+fn skip(fields: &mut Fields<'_>)
+    ensures { fields.new ≡ drop 1 fields.old }
+{
+    let _ = fields.next_field();
+}
+
+/// Whether one of two fields is a wildcard, behind `place` others.
+#[tactic(auto, using(crate::proofs::WildcardLemmas::wildcard_steps))]
 fn has_wildcard(place: usize, mut fields: Fields<'_>) -> bool
     ensures { result ≡ wildcard_at (Some place) fields.entry }
 {
     for _ in 0..place {
-        if fields.next_field().is_none() {
-            return false;
-        }
+        skip(&mut fields);
     }
     next_is_any(&mut fields) || next_is_any(&mut fields)
 }

@@ -17,6 +17,7 @@ use crate::limits::MOST_LINE_BYTES;
 use crate::record::Record;
 
 /// The body of a line: its bytes without the last line feed.
+#[tactic(auto, unfolding(crate::specs::Line::fault_of_line))]
 fn body_of(line: &[u8]) -> Result<&[u8], LineFault>
     ensures { MatchResult result
         (λ body. IsBody line.now body.now)
@@ -25,10 +26,13 @@ fn body_of(line: &[u8]) -> Result<&[u8], LineFault>
     if line.len() > MOST_LINE_BYTES {
         return Err(LineFault::TooLong);
     }
-    match line.split_last() {
-        Some((b'\n', body)) => Ok(body),
-        _ => Err(LineFault::NoLineFeed),
+    let Some((last, body)) = line.split_last() else {
+        return Err(LineFault::NoLineFeed);
+    };
+    if *last != b'\n' {
+        return Err(LineFault::NoLineFeed);
     }
+    Ok(body)
 }
 
 /// Reads the call of a line into one place, which keeps any call where the line has a fault.

@@ -2,7 +2,7 @@
 
 ghost use Rattle.std.specs.Prelude.{◌≡◌, ◌↔◌, [], ◌∷◌, map, IsTrue, IsSome, IfSome};
 ghost use Rattle.std.specs.List.{list_all};
-ghost use Rattle.mpicall.specs.Argument.{PeerOf, comm_argument, tag_argument, request_argument, is_in_range, peer_in_range, none_or_up_to};
+ghost use Rattle.mpicall.specs.Argument.{PeerOf, comm_argument, tag_argument, request_argument, is_in_range, peer_in_range, key_in_range, none_or_up_to};
 ghost use Rattle.mpicall.specs.Ending.{ends_list};
 ghost use Rattle.mpicall.specs.Limits.{in_ranges};
 ghost use Rattle.mpicall.specs.Spelling.{root_of, root_arguments};
@@ -57,6 +57,7 @@ fn is_kind_in_range(kind: Kind) -> bool
     }
 }
 
+#[tactic(auto, using(crate::proofs::RequestLemmas::request_steps))]
 fn are_requests_in_range(reqs: &[u32]) -> bool
     ensures { result ≡ list_all is_in_range (map request_argument reqs.now) }
 {
@@ -76,6 +77,13 @@ fn is_none_or_up_to(greatest: u32, number: Option<u32>) -> bool
         Some(number) => number <= greatest,
         None => true,
     }
+}
+
+/// Each key of 32 bits is in range.
+fn is_key_in_range(key: i32) -> bool
+    ensures { result ≡ key_in_range key }
+{
+    -2_147_483_648 <= key && key <= 2_147_483_647
 }
 
 fn is_in_ranges(call: &Call) -> bool
@@ -105,10 +113,11 @@ fn is_in_ranges(call: &Call) -> bool
             req <= GREATEST_REQUEST && comm <= GREATEST_COMM && is_kind_in_range(kind)
         }
         Call::Dup { comm, new } => comm <= GREATEST_COMM && new <= GREATEST_COMM,
-        Call::Split { comm, colour, new, .. } => {
+        Call::Split { comm, colour, key, new } => {
             comm <= GREATEST_COMM
                 && is_none_or_up_to(GREATEST_COLOUR, colour)
-                && new.is_none_or(|new| new <= GREATEST_COMM)
+                && is_key_in_range(key)
+                && is_none_or_up_to(u32::from(GREATEST_COMM), new.map(u32::from))
         }
         Call::Finalize => true,
     }

@@ -41,12 +41,11 @@ impl Reqs {
         if numbers.is_empty() || numbers.len() > MOST_REQUESTS {
             return None;
         }
-        let mut cells = [0; MOST_REQUESTS];
-        cells[..numbers.len()].copy_from_slice(numbers);
-        Some(Reqs {
-            cells,
-            len: numbers.len() as u8,
-        })
+        let mut reqs = Reqs::of_one(numbers[0]);
+        for at in 1..numbers.len() {
+            reqs.push(numbers[at]);
+        }
+        Some(reqs)
     }
 
     /// The list of one number.
@@ -66,6 +65,7 @@ impl Reqs {
     }
 
     /// Adds a number behind the others.
+    #[tactic(auto, using(crate::proofs::CellLemmas::cell_steps))]
     pub(crate) fn push(&mut self, number: u32)
         requires { length self.old < MOST_REQUESTS }
         ensures { self.new ≡ self.old ++ number ∷ [] }
