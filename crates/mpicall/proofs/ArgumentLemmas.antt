@@ -157,9 +157,9 @@ key_is_field (negsuc n) h =
       some = omega arith;
       short = omega (arith, length-decimal-le 10 (suc n) (omega arith) (omega arith) (omega arith));
       not_any = false_unless _ (λ same.
-      let is = (bytes_eq-Decides (45 ∷ decimal (suc n)) (codes "any")).0 same in
-      let first : 45 ≡ 97 = ap (λ (xs : List ℕ). get_or xs 0 0) is in
-      omega arith);
+          let is = (bytes_eq-Decides (45 ∷ decimal (suc n)) (codes "any")).0 same in
+          let first : 45 ≡ 97 = ap (λ (xs : List ℕ). get_or xs 0 0) is in
+          omega arith);
     }
 
 pub argument_field : (a : Argument) → is_small a ≡ true → is_in_range a ≡ true → IsField (spell a)

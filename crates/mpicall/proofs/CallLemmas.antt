@@ -57,7 +57,7 @@ fixed : (x : Call) → shape_of (word_of_call x) ≡ Fixed (map form_of (argumen
 fixed x shape call small few h = record {
   fits_word = rw (shape, same_lengths (arguments_of x)) (row_in_form (arguments_of x) small (in_range_of x h));
   call_is = ap (λ s. call_of (word_of_call x) (arguments_in s (map spell (arguments_of x)))) shape
-  ∙ ap (λ read. call_of (word_of_call x) (taken read)) (row_back (arguments_of x) small (in_range_of x h)) ∙ call;
+      ∙ ap (λ read. call_of (word_of_call x) (taken read)) (row_back (arguments_of x) small (in_range_of x h)) ∙ call;
   small = small;
   few = few;
 }
@@ -102,7 +102,7 @@ waitall_known reqs enough h =
     let same = as_many reqs in
     record {
       fits_word = three (nat_le 1 (length (map spell (map request_argument reqs)))) (nat_le (length (map spell (map request_argument reqs))) 64) (all_requests (map spell (map request_argument reqs)))
-      (le_to 1 _ (omega (arith, f.least))) (le_to _ 64 (omega (arith, f.most))) (requests_in_form reqs h);
+          (le_to 1 _ (omega (arith, f.least))) (le_to _ 64 (omega (arith, f.most))) (requests_in_form reqs h);
       call_is = ap Waitall (requests_back reqs h);
       small = requests_small reqs;
       few = omega (arith, f.most, length-map reqs request_argument);
@@ -127,9 +127,9 @@ waitany_known chosen reqs enough h =
     let value = value_decimal chosen (omega (arith, f.most)) in
     record {
       fits_word = four (nat_le 2 (suc (length (map spell (map request_argument reqs))))) (nat_le (suc (length (map spell (map request_argument reqs)))) 65)
-      (is_in_form (form_of (index_argument (length (map spell (map request_argument reqs))) chosen)) (decimal chosen)) (all_requests (map spell (map request_argument reqs)))
-      (le_to 2 _ (omega (arith, f.least))) (le_to _ 65 (omega (arith, f.most)))
-      (index_in_form (length (map spell (map request_argument reqs))) chosen (length reqs) same small parts.0) (requests_in_form reqs parts.1);
+          (is_in_form (form_of (index_argument (length (map spell (map request_argument reqs))) chosen)) (decimal chosen)) (all_requests (map spell (map request_argument reqs)))
+          (le_to 2 _ (omega (arith, f.least))) (le_to _ 65 (omega (arith, f.most)))
+          (index_in_form (length (map spell (map request_argument reqs))) chosen (length reqs) same small parts.0) (requests_in_form reqs parts.1);
       call_is = rw (value, requests_back reqs parts.1) refl;
       small = rw small (requests_small reqs);
       few = omega (arith, f.most, length-map reqs request_argument);

@@ -17,3 +17,4 @@ pub mod BodyLemmas
 pub mod CallLemmas
 pub mod LineLemmas
 pub mod BeginningLemmas
+pub mod GivesLemmas

@@ -163,6 +163,9 @@ pub few_fields : (line body : List ℕ) → IsBody line body → length (split_f
 few_fields line body is =
     omega (arith, is.short, length-slice_split (λ (byte : ℕ). byte == space) body, count_by-le-length (λ (byte : ℕ). byte == space) body)
 
+pub spells_same : (line : List ℕ) (r : Result Call LineFault) (call x : Call) → r ≡ Ok call → Spells line call → r ≡ Ok x → Spells line x
+spells_same line r call x read s e = let is : call ≡ x = cc in rw is at s
+
 -- The two laws of a line.
 
 pub record_exactly : (line : List ℕ) (r : Result Call LineFault) (x : Call) → record_of_line line ≡ r → ((call : Call) → r ≡ Ok call → Spells line call) → r ≡ Ok x ↔ (in_ranges x ≡ true) × (line ≡ spelling x)

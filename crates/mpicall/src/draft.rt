@@ -177,17 +177,39 @@ impl Draft {
         ensures short { length self.new < MOST_LINE_BYTES }
     {
         match *call {
-            Call::Send { comm, dest, tag, .. } => self.push_message(comm, dest, tag),
+            Call::Send {
+                comm,
+                dest,
+                tag,
+                ..
+            } => self.push_message(comm, dest, tag),
             Call::Recv { comm, source, tag } => self.push_message(comm, source, tag),
-            Call::Isend { req, comm, dest, tag, .. } => {
+            Call::Isend {
+                req,
+                comm,
+                dest,
+                tag,
+                ..
+            } => {
                 self.push_number(req);
                 self.push_message(comm, dest, tag);
             }
-            Call::Irecv { req, comm, source, tag } => {
+            Call::Irecv {
+                req,
+                comm,
+                source,
+                tag,
+            } => {
                 self.push_number(req);
                 self.push_message(comm, source, tag);
             }
-            Call::Sendrecv { comm, dest, send_tag, source, recv_tag } => {
+            Call::Sendrecv {
+                comm,
+                dest,
+                send_tag,
+                source,
+                recv_tag,
+            } => {
                 self.push_message(comm, dest, send_tag);
                 self.push_peer(source);
                 self.push_number(recv_tag);
@@ -211,7 +233,12 @@ impl Draft {
                 self.push_number(u32::from(comm));
                 self.push_number(u32::from(new));
             }
-            Call::Split { comm, colour, key, new } => {
+            Call::Split {
+                comm,
+                colour,
+                key,
+                new,
+            } => {
                 self.push_number(u32::from(comm));
                 self.push_number_or(b"undefined", colour);
                 self.push_key(key);

@@ -40,7 +40,10 @@ pub(crate) fn read_into(line: &[u8], into: &mut Call) -> Result<(), LineFault>
     ensures reading { ReadsInto result into.new (record_of_line line.now) }
     ensures ok { IfOk result (λ _. Spells line.now into.new) }
 {
-    let body = body_of(line)?;
+    let body = match body_of(line) {
+        Ok(body) => body,
+        Err(fault) => return Err(fault),
+    };
     if read_fields(Fields::of(body), into) {
         Ok(())
     } else {

@@ -10,7 +10,9 @@ ghost use Rattle.mpicall.specs.declared.word.Word.TheVariants.{Blocking, Started
 
 use crate::call::{Call, Kind, Peer};
 use crate::fields::Fields;
-use crate::limits::{GREATEST_COLOUR, GREATEST_COMM, GREATEST_RANK, GREATEST_REQUEST, GREATEST_TAG};
+use crate::limits::{
+    GREATEST_COLOUR, GREATEST_COMM, GREATEST_RANK, GREATEST_REQUEST, GREATEST_TAG,
+};
 use crate::number::{read_number, read_signed};
 use crate::word::{Collective, Operation};
 
@@ -111,7 +113,7 @@ fn next_message(fields: &mut Fields<'_>) -> Option<(u16, Peer, u32)>
     ensures { MatchOption result
         (take_arguments (comm_form ∷ PeerForm ∷ tag_form ∷ []) fields.old ≡ None)
         (λ m. take_arguments (comm_form ∷ PeerForm ∷ tag_form ∷ []) fields.old
-            ≡ Some (comm_argument m.0 ∷ PeerOf m.1 ∷ tag_argument m.2 ∷ [], fields.new)) }
+        ≡ Some (comm_argument m.0 ∷ PeerOf m.1 ∷ tag_argument m.2 ∷ [], fields.new)) }
 {
     let comm = next_comm(fields)?;
     let peer = next_peer(fields)?;
@@ -142,13 +144,22 @@ fn next_kind(collective: Collective, fields: &mut Fields<'_>) -> Option<Kind>
 }
 
 /// Reads a call that does an operation at once.
-pub(crate) fn read_blocking(operation: Operation, fields: &mut Fields<'_>, into: &mut Call) -> Option<()>
+pub(crate) fn read_blocking(
+    operation: Operation,
+    fields: &mut Fields<'_>,
+    into: &mut Call,
+) -> Option<()>
     ensures { ReadsCall (Blocking operation) (operation_forms operation) fields.old result into.new fields.new }
 {
     match operation {
         Operation::Send(mode) => {
             let (comm, dest, tag) = next_message(fields)?;
-            *into = Call::Send { mode, comm, dest, tag };
+            *into = Call::Send {
+                mode,
+                comm,
+                dest,
+                tag,
+            };
         }
         Operation::Recv => {
             let (comm, source, tag) = next_message(fields)?;
@@ -164,18 +175,33 @@ pub(crate) fn read_blocking(operation: Operation, fields: &mut Fields<'_>, into:
 }
 
 /// Reads a call that starts an operation.
-pub(crate) fn read_started(operation: Operation, fields: &mut Fields<'_>, into: &mut Call) -> Option<()>
+pub(crate) fn read_started(
+    operation: Operation,
+    fields: &mut Fields<'_>,
+    into: &mut Call,
+) -> Option<()>
     ensures { ReadsCall (Started operation) (request_form ∷ operation_forms operation) fields.old result into.new fields.new }
 {
     let req = next_request(fields)?;
     match operation {
         Operation::Send(mode) => {
             let (comm, dest, tag) = next_message(fields)?;
-            *into = Call::Isend { req, mode, comm, dest, tag };
+            *into = Call::Isend {
+                req,
+                mode,
+                comm,
+                dest,
+                tag,
+            };
         }
         Operation::Recv => {
             let (comm, source, tag) = next_message(fields)?;
-            *into = Call::Irecv { req, comm, source, tag };
+            *into = Call::Irecv {
+                req,
+                comm,
+                source,
+                tag,
+            };
         }
         Operation::Coll(collective) => {
             let comm = next_comm(fields)?;
@@ -192,7 +218,13 @@ pub(crate) fn read_sendrecv(fields: &mut Fields<'_>, into: &mut Call) -> Option<
     let (comm, dest, send_tag) = next_message(fields)?;
     let source = next_peer(fields)?;
     let recv_tag = next_tag(fields)?;
-    *into = Call::Sendrecv { comm, dest, send_tag, source, recv_tag };
+    *into = Call::Sendrecv {
+        comm,
+        dest,
+        send_tag,
+        source,
+        recv_tag,
+    };
     Some(())
 }
 
@@ -220,6 +252,11 @@ pub(crate) fn read_split(fields: &mut Fields<'_>, into: &mut Call) -> Option<()>
     let colour = next_colour(fields)?;
     let key = next_key(fields)?;
     let new = next_new(fields)?;
-    *into = Call::Split { comm, colour, key, new };
+    *into = Call::Split {
+        comm,
+        colour,
+        key,
+        new,
+    };
     Some(())
 }

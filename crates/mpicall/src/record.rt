@@ -8,7 +8,9 @@ ghost use Rattle.mpicall.specs.Limits.{in_ranges};
 ghost use Rattle.mpicall.specs.Spelling.{root_of, root_arguments};
 
 use crate::call::{Call, Kind, Peer};
-use crate::limits::{GREATEST_COLOUR, GREATEST_COMM, GREATEST_RANK, GREATEST_REQUEST, GREATEST_TAG};
+use crate::limits::{
+    GREATEST_COLOUR, GREATEST_COMM, GREATEST_RANK, GREATEST_REQUEST, GREATEST_TAG,
+};
 use crate::word::root_of;
 use std::marker::Model;
 
@@ -90,15 +92,33 @@ fn is_in_ranges(call: &Call) -> bool
     ensures { result ≡ in_ranges call.now }
 {
     match *call {
-        Call::Send { comm, dest, tag, .. } => is_message_in_ranges(comm, dest, tag),
+        Call::Send {
+            comm,
+            dest,
+            tag,
+            ..
+        } => is_message_in_ranges(comm, dest, tag),
         Call::Recv { comm, source, tag } => is_message_in_ranges(comm, source, tag),
-        Call::Isend { req, comm, dest, tag, .. } => {
-            req <= GREATEST_REQUEST && is_message_in_ranges(comm, dest, tag)
-        }
-        Call::Irecv { req, comm, source, tag } => {
-            req <= GREATEST_REQUEST && is_message_in_ranges(comm, source, tag)
-        }
-        Call::Sendrecv { comm, dest, send_tag, source, recv_tag } => {
+        Call::Isend {
+            req,
+            comm,
+            dest,
+            tag,
+            ..
+        } => { req <= GREATEST_REQUEST && is_message_in_ranges(comm, dest, tag) }
+        Call::Irecv {
+            req,
+            comm,
+            source,
+            tag,
+        } => { req <= GREATEST_REQUEST && is_message_in_ranges(comm, source, tag) }
+        Call::Sendrecv {
+            comm,
+            dest,
+            send_tag,
+            source,
+            recv_tag,
+        } => {
             is_message_in_ranges(comm, dest, send_tag)
                 && is_peer_in_range(source)
                 && recv_tag <= GREATEST_TAG
@@ -113,7 +133,12 @@ fn is_in_ranges(call: &Call) -> bool
             req <= GREATEST_REQUEST && comm <= GREATEST_COMM && is_kind_in_range(kind)
         }
         Call::Dup { comm, new } => comm <= GREATEST_COMM && new <= GREATEST_COMM,
-        Call::Split { comm, colour, key, new } => {
+        Call::Split {
+            comm,
+            colour,
+            key,
+            new,
+        } => {
             comm <= GREATEST_COMM
                 && is_none_or_up_to(GREATEST_COLOUR, colour)
                 && is_key_in_range(key)

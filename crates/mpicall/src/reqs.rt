@@ -1,6 +1,6 @@
 //! The requests that one wait names, held in place.
 
-ghost use Rattle.std.specs.Prelude.{◌≡◌, ◌≤◌, ◌<◌, ◌↔◌, [], ◌∷◌, ◌++◌, length, IsTrue, IsSome, IfSome};
+ghost use Rattle.std.specs.Prelude.{◌≡◌, ◌≤◌, ◌<◌, ◌↔◌, [], ◌∷◌, ◌++◌, ◌==◌, length, IsSome, IfSome};
 
 use crate::limits::MOST_REQUESTS;
 use std::marker::Model;
@@ -59,7 +59,7 @@ impl Reqs {
 
     /// Whether as many numbers are held as may be.
     pub(crate) fn is_full(&self) -> bool
-        ensures { IsTrue result ↔ (length self.now ≡ MOST_REQUESTS) }
+        ensures { result ≡ (length self.now == MOST_REQUESTS) }
     {
         usize::from(self.len) == MOST_REQUESTS
     }
