@@ -1,55 +1,41 @@
 -- A spelling has one line feed, at its end, so that no spelling begins another one.
-use Rattle.std.proofs.Common.{◌≡◌, ℕ, ◌<◌, ◌^◌, Bool, true, false, not, List, [], ◌∷◌, ◌++◌, sym, ap, ◌∙◌, refl, arith, nat_le, ◌&&◌, ◌==◌, codes, append_assoc}
-use Rattle.std.specs.Fmt.{decimal}
-use Rattle.std.specs.Int.{IsInRange}
+use Rattle.std.proofs.Common.{◌≡◌, ℕ, ◌<◌, Bool, true, false, not, List, [], ◌∷◌, ◌++◌, sym, ap, ◌∙◌, refl, arith, ◌&&◌, ◌==◌, append_assoc, map, nat_lt}
 use Rattle.std.specs.List.{join_with_byte, list_all}
-use Rattle.std.proofs.lemmas.Fmt.{decimal_is_IsNumeral}
-use Rattle.std.proofs.lemmas.Str.Parse.{digit_at}
 use Rattle.std.proofs.lemmas.Bool.Decides.{nat_tests}
-use Rattle.std.proofs.lemmas.List.Elements.{All-from_get_or}
-use Rattle.std.proofs.lemmas.List.Sums.{list_all-from_AllPass}
 use Rattle.std.proofs.lemmas.List.Folds.{list_all-append}
-use Rattle.mpicall.proofs.ReadingLemmas.{spelling_read}
-use Rattle.mpicall.specs.Limits.{in_ranges, greatest_comm, greatest_rank, greatest_tag}
+use Rattle.mpicall.proofs.ArgumentLemmas.{above_space, and_true, IsField}
+use Rattle.mpicall.proofs.CallLemmas.{AllFields, call_fields}
+use Rattle.mpicall.proofs.LineLemmas.{spelling_read}
+use Rattle.mpicall.proofs.WordLemmas.{text_is, IsText}
+use Rattle.mpicall.specs.Argument.{spell}
+use Rattle.mpicall.specs.Limits.{in_ranges}
 use Rattle.mpicall.specs.Reading.{record_of_line}
-use Rattle.mpicall.specs.Spelling.{space, line_feed, fields_of, spelling}
-use Rattle.mpicall.specs.declared.call.Mode.TheVariants.{Standard}
-use Rattle.mpicall.specs.declared.call.Peer.TheVariants.{Rank}
+use Rattle.mpicall.specs.Spelling.{space, line_feed, word_of_call, arguments_of, fields_of, spelling}
+use Rattle.mpicall.specs.Word.{text_of}
 use Rattle.mpicall.specs.declared.call.Call.{Call}
-use Rattle.mpicall.specs.declared.call.Call.TheVariants.{Send, Recv, Finalize}
 
 -- no byte is a line feed
 abbrev WithoutFeed : List ℕ → Type 0
 WithoutFeed bytes = list_all (λ byte. not (byte == line_feed)) bytes ≡ true
 
-and_true : (a b : Bool) → (a && b) ≡ true → (a ≡ true) × (b ≡ true)
-and_true true true e = (refl, refl)
-and_true true false e = cc
-and_true false b e = cc
+no_feed : (byte : ℕ) → above_space byte ≡ true → not (byte == line_feed) ≡ true
+no_feed byte h = grind (arith, nat_tests)
 
-digit_no_feed : (byte : ℕ) → IsInRange 48 57 byte → not (byte == line_feed) ≡ true
-digit_no_feed byte h = grind (arith, nat_tests)
+clean_without_feed : (bytes : List ℕ) → list_all above_space bytes ≡ true → WithoutFeed bytes
+clean_without_feed [] h = refl
+clean_without_feed (byte ∷ bytes) h =
+    let parts = and_true (above_space byte) (list_all above_space bytes) h in
+    rw (no_feed byte parts.0, clean_without_feed bytes parts.1) refl
 
-decimal_without_feed : (n limit : ℕ) → nat_le n limit ≡ true → limit < 2 ^ 64 → WithoutFeed (decimal n)
-decimal_without_feed n limit h small =
-    let fits : n < 2 ^ 64 = grind (arith, nat_tests) in
-    let digits = decimal_is_IsNumeral n fits in
-    list_all-from_AllPass (λ byte. not (byte == line_feed)) (decimal n)
-    (All-from_get_or (λ byte. not (byte == line_feed) ≡ true) (decimal n) 0 (λ k below. digit_no_feed _ (digit_at (decimal n) k digits.0.1 below)))
-
-four_without_feed : (a b c d : List ℕ) → WithoutFeed a → WithoutFeed b → WithoutFeed c → WithoutFeed d → WithoutFeed (join_with_byte space (a ∷ b ∷ c ∷ d ∷ []))
-four_without_feed a b c d ha hb hc hd = simp (list_all-append, ha, hb, hc, hd) refl
+join_without_feed : (word : List ℕ) (fields : List (List ℕ)) → list_all above_space word ≡ true → AllFields fields → WithoutFeed (join_with_byte space (word ∷ fields))
+unfolding AllFields
+join_without_feed word [] clean all = clean_without_feed word clean
+join_without_feed word (next ∷ fields) clean all =
+    rw (list_all-append (λ byte. not (byte == line_feed)) word (space ∷ join_with_byte space (next ∷ fields)), clean_without_feed word clean)
+    (join_without_feed next fields all.0.clean all.1)
 
 body_without_feed : (x : Call) → in_ranges x ≡ true → WithoutFeed (join_with_byte space (fields_of x))
-body_without_feed (Send Standard comm (Rank peer) tag) h =
-    let outer = and_true (nat_le comm greatest_comm && nat_le peer greatest_rank) (nat_le tag greatest_tag) h in
-    let inner = and_true (nat_le comm greatest_comm) (nat_le peer greatest_rank) outer.0 in
-    four_without_feed (codes "send") (decimal comm) (decimal peer) (decimal tag) refl (decimal_without_feed comm _ inner.0 (omega arith)) (decimal_without_feed peer _ inner.1 (omega arith)) (decimal_without_feed tag _ outer.1 (omega arith))
-body_without_feed (Recv comm (Rank peer) tag) h =
-    let outer = and_true (nat_le comm greatest_comm && nat_le peer greatest_rank) (nat_le tag greatest_tag) h in
-    let inner = and_true (nat_le comm greatest_comm) (nat_le peer greatest_rank) outer.0 in
-    four_without_feed (codes "recv") (decimal comm) (decimal peer) (decimal tag) refl (decimal_without_feed comm _ inner.0 (omega arith)) (decimal_without_feed peer _ inner.1 (omega arith)) (decimal_without_feed tag _ outer.1 (omega arith))
-body_without_feed Finalize h = refl
+body_without_feed x h = join_without_feed (text_of (word_of_call x)) (map spell (arguments_of x)) (text_is (word_of_call x)).clean (call_fields x h)
 
 no_feed_here : (byte : ℕ) (bytes : List ℕ) → WithoutFeed (byte ∷ bytes) → byte ≡ line_feed → ⊥
 no_feed_here byte bytes h is =

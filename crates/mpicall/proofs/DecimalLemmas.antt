@@ -63,3 +63,7 @@ number-of-decimal limit n small within =
     let some : nat_lt 0 (length (decimal n)) ≡ true = grind (arith, nat_tests, decimal_nonempty n h) in
     let le : nat_le n limit ≡ true = grind (arith, nat_tests) in
     simp (digits, value, some, le, no_leading_zero n h) refl
+
+-- the digits of a number write it
+pub value_decimal : (n : ℕ) → n < 2 ^ 64 → value_of (decimal n) ≡ n
+value_decimal n h = digits_value-decimal own n h

@@ -5,22 +5,23 @@ use Rattle.std.specs.List.{onto_first}
 use Rattle.std.proofs.lemmas.Bool.Decides.{nat_tests}
 use Rattle.std.proofs.lemmas.List.{take_all, length-append}
 use Rattle.mpicall.specs.Spelling.{line_feed}
-use Rattle.mpicall.specs.Line.{most_bytes, has_line_feed}
+use Rattle.mpicall.specs.Lines.{most_bytes, has_line_feed}
 use Rattle.mpicall.specs.Reading.{record_of_line}
 use Rattle.mpicall.specs.Window.{NoFeedBelow, HasNoFeed, EndsLine}
-use Rattle.mpicall.specs.Trace.{Trace, Sealed, Torn, lines_of, trace_of, trace_of_lines, trace_with, ends_here, end_after_finalize}
+use Rattle.mpicall.specs.Trace.{Trace, Sealed, Torn, trace_of, trace_of_lines, trace_with, ends_here, put_first, end_after_finalize}
+use Rattle.mpicall.specs.Lines.{lines_of}
 use Rattle.mpicall.specs.Stage.{stage_behind, is_own}
 use Rattle.mpicall.specs.Source.{Gives, trace_at, IsOwnFault}
-use Rattle.mpicall.proofs.ReadingLemmas.{read_has_feed, too_long}
+use Rattle.mpicall.proofs.LineLemmas.{read_has_feed, too_long}
 use Rattle.mpicall.proofs.TraceLemmas.{line_at_feed, line_without_feed, onto_line}
 use Rattle.mpicall.specs.declared.call.Call.{Call}
-use Rattle.mpicall.specs.declared.call.Call.TheVariants.{Send, Recv, Finalize}
+use Rattle.mpicall.specs.Ending.{ends_list}
 use Rattle.mpicall.specs.declared.fault.LineFault.{LineFault}
 use Rattle.mpicall.specs.declared.fault.LineFault.TheVariants.{TooLong}
 use Rattle.mpicall.specs.declared.fault.SourceFault.{SourceFault}
 use Rattle.mpicall.specs.declared.fault.SourceFault.TheVariants.{Line, TextAfterFinalize, NoFinalize, ReadFailed, GateStopped, ThreadNotStarted}
 use Rattle.mpicall.specs.declared.source.Stage.{Stage}
-use Rattle.mpicall.specs.declared.source.Stage.TheVariants.{Done, Failed}
+use Rattle.mpicall.specs.declared.source.Stage.TheVariants.{Reading, Finalized, Done, Failed}
 
 -- Answers that change nothing.
 
@@ -71,10 +72,12 @@ gives_no_finalize (Some known) (Some left) held keeps ends =
 
 -- A record was read.
 
+behind_cases : (ends : Bool) (call : Call) (known rest : List ℕ) → trace_of known ≡ put_first call (cond ends (ends_here (end_after_finalize (lines_of rest))) (trace_of rest)) → Gives (Some (trace_of known)) (trace_at (cond ends Finalized Reading) (Some rest)) (Ok (Some call))
+behind_cases true call known rest e = (ends_here (end_after_finalize (lines_of rest)), e, refl)
+behind_cases false call known rest e = (trace_of rest, e, refl)
+
 behind_record : (call : Call) (known rest : List ℕ) → trace_of known ≡ trace_with (Ok call) (lines_of rest) (trace_of rest) → Gives (Some (trace_of known)) (trace_at (stage_behind call) (Some rest)) (Ok (Some call))
-behind_record (Send mode comm dest tag) known rest e = (trace_of rest, e, refl)
-behind_record (Recv comm source tag) known rest e = (trace_of rest, e, refl)
-behind_record Finalize known rest e = (ends_here (end_after_finalize (lines_of rest)), e, refl)
+behind_record call known rest e = behind_cases (ends_list call) call known rest e
 
 two_true : (a b : Bool) → (a && b) ≡ true → (a ≡ true) × (b ≡ true)
 two_true true true e = (refl, refl)

@@ -1,25 +1,22 @@
 -- The ranges of a call's fields. A record is a call all of whose fields lie in them.
-use Rattle.std.specs.Prelude.{ℕ, Bool, true, ◌&&◌, nat_le}
-use Rattle.mpicall.specs.declared.call.Peer.{Peer}
-use Rattle.mpicall.specs.declared.call.Peer.TheVariants.{Rank}
+use Rattle.std.specs.Prelude.{ℕ, Bool, true, ◌&&◌, nat_le, List, length}
+use Rattle.std.specs.List.{list_all}
+use Rattle.mpicall.specs.Argument.{is_in_range}
+use Rattle.mpicall.specs.Spelling.{arguments_of}
+use Rattle.mpicall.specs.declared.limits.TheConstants.{MOST_REQUESTS}
 use Rattle.mpicall.specs.declared.call.Call.{Call}
-use Rattle.mpicall.specs.declared.call.Call.TheVariants.{Send, Recv, Finalize}
+use Rattle.mpicall.specs.declared.call.Call.TheVariants.{Waitall, Waitany}
 
--- the greatest communicator, rank and tag
-abbrev pub greatest_comm : ℕ
-greatest_comm = 255
+-- one wait names so many requests
+abbrev pub few_enough : List ℕ → Bool
+few_enough reqs = nat_le 1 (length reqs) && nat_le (length reqs) MOST_REQUESTS
 
-abbrev pub greatest_rank : ℕ
-greatest_rank = 63
+-- a wait for several requests names some, and not too many
+abbrev pub names_enough : Call → Bool
+names_enough (Waitall reqs) = few_enough reqs
+names_enough (Waitany chosen reqs) = few_enough reqs
+names_enough _ = true
 
-abbrev pub greatest_tag : ℕ
-greatest_tag = 2147483647
-
-abbrev pub peer_in_range : Peer → Bool
-peer_in_range (Rank rank) = nat_le rank greatest_rank
-
--- each field of the call lies in its range
+-- each argument of the call lies in its range, and its list of requests has a length that is allowed
 abbrev pub in_ranges : Call → Bool
-in_ranges (Send mode comm dest tag) = nat_le comm greatest_comm && peer_in_range dest && nat_le tag greatest_tag
-in_ranges (Recv comm source tag) = nat_le comm greatest_comm && peer_in_range source && nat_le tag greatest_tag
-in_ranges Finalize = true
+in_ranges call = list_all is_in_range (arguments_of call) && names_enough call

@@ -1,76 +1,100 @@
 -- The first fault of a line. A line's body is its bytes without the last line feed; its fields are
--- what lies between single spaces. A word has a shape, and a shape gives each further field a form.
-use Rattle.std.specs.Prelude.{ℕ, ◌-◌, Bool, true, false, ◌||◌, ◌&&◌, ◌==◌, nat_lt, Option, Some, None, is_some, if◌then◌else◌, List, [], ◌∷◌, length, slice_index, take, codes}
-use Rattle.std.specs.List.{slice_split, list_any}
+-- what lies between single spaces. A word has a shape, which says what fields it takes.
+use Rattle.std.specs.Prelude.{ℕ, ◌+◌, ◌-◌, Bool, true, false, ◌&&◌, ◌==◌, nat_le, nat_lt, Option, Some, None, if◌then◌else◌, List, [], ◌∷◌, length, take, drop, codes}
+use Rattle.std.specs.List.{list_any, list_all}
 use Rattle.std.specs.Str.{bytes_eq}
-use Rattle.std.specs.Borrow.{Bor}
-use Rattle.mpicall.specs.Limits.{greatest_comm, greatest_rank, greatest_tag}
-use Rattle.mpicall.specs.Number.{number_up_to}
+use Rattle.mpicall.specs.Argument.{Form, PeerForm, ColourForm, KeyForm, NewForm, comm_form, tag_form, request_form, root_form, index_form, is_in_form}
 use Rattle.mpicall.specs.Word.{word_of}
+use Rattle.mpicall.specs.Lines.{is_blank, most_bytes, has_line_feed, split_fields, body_of}
+use Rattle.mpicall.specs.declared.limits.TheConstants.{MOST_REQUESTS}
+use Rattle.mpicall.specs.declared.word.Collective.{Collective}
+use Rattle.mpicall.specs.declared.word.Collective.TheVariants.{Barrier, Bcast, Gather, Scatter, Reduce, Allgather, Alltoall, Allreduce, Scan, Exscan}
+use Rattle.mpicall.specs.declared.word.Operation.{Operation}
+use Rattle.mpicall.specs.declared.word.Operation.TheVariants.{Send, Recv, Coll}
 use Rattle.mpicall.specs.declared.word.Word.{Word}
-use Rattle.mpicall.specs.declared.word.Word.TheVariants.{Send, Recv, Finalize}
-use Rattle.mpicall.specs.Spelling.{space, line_feed}
+use Rattle.mpicall.specs.declared.word.Word.TheVariants.{Blocking, Started, Sendrecv, Wait, Waitall, Waitany, Dup, Split, Finalize}
 use Rattle.mpicall.specs.declared.fault.LineFault.{LineFault}
 use Rattle.mpicall.specs.declared.fault.LineFault.TheVariants.{EmptyField, UnknownWord, FieldCount, FieldForm, Wildcard, TooLong, NoLineFeed}
 
--- the forms of fields; sources and receive tags are told apart, since a wildcard may stand there in MPI
-pub data Form : Type 0 where
-  Comm Destination Source SendTag ReceiveTag : Form
-
--- the shapes of lines: for now each word has a fixed row of forms
+-- a fixed row of forms, or requests, or an index and requests
 pub data Shape : Type 0 where
   Fixed : List Form → Shape
+  Requests : Shape
+  Chosen : Shape
 
--- the shape of a word
+-- the root of a collective that has one
+abbrev pub root_forms : Collective → List Form
+root_forms Bcast = root_form ∷ []
+root_forms Gather = root_form ∷ []
+root_forms Scatter = root_form ∷ []
+root_forms Reduce = root_form ∷ []
+root_forms _ = []
+
+-- the forms of the fields of an operation
+abbrev pub operation_forms : Operation → List Form
+operation_forms (Send mode) = comm_form ∷ PeerForm ∷ tag_form ∷ []
+operation_forms Recv = comm_form ∷ PeerForm ∷ tag_form ∷ []
+operation_forms (Coll collective) = comm_form ∷ root_forms collective
+
+-- the shape of a word; what starts an operation has its request in front
 abbrev pub shape_of : Word → Shape
-shape_of (Send mode) = Fixed (Comm ∷ Destination ∷ SendTag ∷ [])
-shape_of Recv = Fixed (Comm ∷ Source ∷ ReceiveTag ∷ [])
+shape_of (Blocking operation) = Fixed (operation_forms operation)
+shape_of (Started operation) = Fixed (request_form ∷ operation_forms operation)
+shape_of Sendrecv = Fixed (comm_form ∷ PeerForm ∷ tag_form ∷ PeerForm ∷ tag_form ∷ [])
+shape_of Wait = Fixed (request_form ∷ [])
+shape_of Waitall = Requests
+shape_of Waitany = Chosen
+shape_of Dup = Fixed (comm_form ∷ comm_form ∷ [])
+shape_of Split = Fixed (comm_form ∷ ColourForm ∷ KeyForm ∷ NewForm ∷ [])
 shape_of Finalize = Fixed []
 
--- the forms of `count` fields under a shape, if it takes so many
-abbrev pub forms_of : Shape → ℕ → Option (List Form)
-forms_of (Fixed forms) count = if length forms == count then Some forms else None
+-- a line of this shape may have so many fields behind its word
+abbrev pub takes_count : Shape → ℕ → Bool
+takes_count (Fixed forms) count = length forms == count
+takes_count Requests count = nat_le 1 count && nat_le count MOST_REQUESTS
+takes_count Chosen count = nat_le 2 count && nat_le count (MOST_REQUESTS + 1)
+
+-- each field is in its form and range
+abbrev pub each_in_form : List Form → List (List ℕ) → Bool
+each_in_form (form ∷ forms) (field ∷ fields) = is_in_form form field && each_in_form forms fields
+each_in_form _ _ = true
+
+abbrev pub all_requests : List (List ℕ) → Bool
+all_requests fields = list_all (is_in_form request_form) fields
+
+abbrev pub all_in_form : Shape → List (List ℕ) → Bool
+all_in_form (Fixed forms) fields = each_in_form forms fields
+all_in_form Requests fields = all_requests fields
+all_in_form Chosen [] = true
+all_in_form Chosen (index ∷ requests) = is_in_form (index_form (length requests)) index && all_requests requests
 
 -- the field is a wildcard
 abbrev pub is_any : List ℕ → Bool
 is_any field = bytes_eq field (codes "any")
 
--- the field is a wildcard at a place where MPI allows one
-abbrev pub is_wildcard : Form → List ℕ → Bool
-is_wildcard Source field = is_any field
-is_wildcard ReceiveTag field = is_any field
-is_wildcard form field = false
+-- how many fields stand before the source of a receive, behind which its tag stands
+abbrev pub source_place : Word → Option ℕ
+source_place (Blocking Recv) = Some 1
+source_place (Started Recv) = Some 2
+source_place Sendrecv = Some 3
+source_place _ = None
 
--- the field is a number in the range of its form
-abbrev pub is_in_form : Form → List ℕ → Bool
-is_in_form Comm field = is_some (number_up_to greatest_comm field)
-is_in_form Destination field = is_some (number_up_to greatest_rank field)
-is_in_form Source field = is_some (number_up_to greatest_rank field)
-is_in_form SendTag field = is_some (number_up_to greatest_tag field)
-is_in_form ReceiveTag field = is_some (number_up_to greatest_tag field)
+-- a wildcard stands as the source or the tag of a receive
+abbrev pub wildcard_at : Option ℕ → List (List ℕ) → Bool
+wildcard_at None fields = false
+wildcard_at (Some place) fields = list_any is_any (take 2 (drop place fields))
 
--- some field is a wildcard; each field is in its form
-abbrev pub some_wildcard : List Form → List (List ℕ) → Bool
-some_wildcard (form ∷ forms) (field ∷ fields) = is_wildcard form field || some_wildcard forms fields
-some_wildcard _ _ = false
-
-abbrev pub all_in_form : List Form → List (List ℕ) → Bool
-all_in_form (form ∷ forms) (field ∷ fields) = is_in_form form field && all_in_form forms fields
-all_in_form _ _ = true
-
--- the first fault of the fields behind a word, by the forms that they should have
-abbrev pub fault_by_forms : Option (List Form) → List (List ℕ) → Option LineFault
-fault_by_forms None fields = Some FieldCount
-fault_by_forms (Some forms) fields =
-    if some_wildcard forms fields then Some Wildcard else (if all_in_form forms fields then None else Some FieldForm)
+-- the first fault of the fields behind a word
+abbrev pub fault_behind : Word → List (List ℕ) → Option LineFault
+fault_behind word fields =
+    if takes_count (shape_of word) (length fields)
+    then (if wildcard_at (source_place word) fields then Some Wildcard
+    else (if all_in_form (shape_of word) fields then None else Some FieldForm))
+    else Some FieldCount
 
 abbrev pub fault_by_word : Option Word → List (List ℕ) → Option LineFault
 fault_by_word None fields = Some UnknownWord
-fault_by_word (Some word) fields = fault_by_forms (forms_of (shape_of word) (length fields)) fields
-
--- the field has no bytes
-abbrev pub is_blank : List ℕ → Bool
-is_blank field = length field == 0
+fault_by_word (Some word) fields = fault_behind word fields
 
 -- the first fault of the fields of a line, its word first
 unfoldable pub fault_of_fields : List (List ℕ) → Option LineFault
@@ -78,29 +102,21 @@ fault_of_fields [] = Some EmptyField
 fault_of_fields (word ∷ fields) =
     if list_any is_blank (word ∷ fields) then Some EmptyField else fault_by_word (word_of word) fields
 
--- the most bytes of a line, its line feed counted
-abbrev pub most_bytes : ℕ
-most_bytes = 1024
-
--- the line ends with a line feed
-abbrev pub has_line_feed : List ℕ → Bool
-has_line_feed line = nat_lt 0 (length line) && slice_index line (length line - 1) == line_feed
-
--- the fields of a body, which are what lies between its spaces
-abbrev pub split_fields : List ℕ → List (List ℕ)
-split_fields body = slice_split (λ byte. byte == space) body
-
--- the fields of what is left of a body, if anything is
-abbrev pub split_some : Option (Bor (List ℕ)) → List (List ℕ)
-split_some None = []
-split_some (Some rest) = split_fields rest.now
-
--- the bytes of a line without its line feed
-abbrev pub body_of : List ℕ → List ℕ
-body_of line = take (length line - 1) line
-
 -- the first fault of a line; none for a spelling
 unfoldable pub fault_of_line : List ℕ → Option LineFault
 fault_of_line line =
     if nat_lt most_bytes (length line) then Some TooLong
     else (if has_line_feed line then fault_of_fields (split_fields (body_of line)) else Some NoLineFeed)
+
+-- the fields behind a word are as many as it takes, each in its form and range
+abbrev pub fits : Word → List (List ℕ) → Bool
+fits word fields = takes_count (shape_of word) (length fields) && all_in_form (shape_of word) fields
+
+abbrev pub fits_word : Option Word → List (List ℕ) → Bool
+fits_word None fields = false
+fits_word (Some word) fields = fits word fields
+
+-- the fields of a line are a word and what it takes
+unfoldable pub fits_line : List (List ℕ) → Bool
+fits_line [] = false
+fits_line (word ∷ fields) = fits_word (word_of word) fields

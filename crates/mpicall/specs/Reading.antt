@@ -1,89 +1,174 @@
--- The record that a line spells, or the line's first fault, as reading it field by field gives it.
--- That it is just that is what `read_line` promises, by `spelling` and `fault_of_line`.
-use Rattle.std.specs.Prelude.{◌≡◌, ℕ, Bool, ◌||◌, nat_lt, Option, Some, None, option_map, Result, Ok, Err, MatchResult, if◌then◌else◌, List, [], ◌∷◌, length}
-use Rattle.std.specs.Option.{ok_or}
-use Rattle.std.specs.List.{list_any}
-use Rattle.mpicall.specs.Limits.{greatest_comm, greatest_rank, greatest_tag}
-use Rattle.mpicall.specs.Number.{number_up_to}
+-- How the fields of a line are read, and the record that a line without a fault spells. Nobody has to
+-- believe this: `read_line` promises that `record_of_line` gives a record exactly where the line is its
+-- spelling, and else the line's first fault.
+use Rattle.std.specs.Prelude.{◌≡◌, ◌<◌, ◌++◌, ℕ, ℤ, pos, Bool, true, false, ◌&&◌, nat_le, MatchBool, Option, Some, None, option_map, Result, Ok, Err, MatchResult, MatchOption, List, [], ◌∷◌, length, map, get_or, drop}
+use Rattle.std.specs.List.{list_all}
+use Rattle.mpicall.specs.declared.limits.TheConstants.{MOST_REQUESTS}
+use Rattle.mpicall.specs.Limits.{in_ranges, few_enough}
+use Rattle.mpicall.specs.Argument.{is_in_range, spell, Argument, Number, PeerOf, Colour, Key, New, Form, request_form, request_argument, index_argument, read_argument}
+use Rattle.mpicall.specs.Number.{value_of}
 use Rattle.mpicall.specs.Word.{word_of}
-use Rattle.mpicall.specs.Line.{is_any, is_blank, most_bytes, has_line_feed, body_of, split_fields}
-use Rattle.mpicall.specs.declared.call.Mode.{Mode}
+use Rattle.mpicall.specs.Spelling.{arguments_of, word_of_call, fields_of, spelling, line_feed}
+use Rattle.mpicall.specs.Line.{Shape, Fixed, Requests, Chosen, shape_of, fault_of_line, fits, fits_line, all_requests}
+use Rattle.mpicall.specs.Lines.{body_of, split_fields, most_bytes}
 use Rattle.mpicall.specs.declared.call.Peer.{Peer}
-use Rattle.mpicall.specs.declared.call.Peer.TheVariants.{Rank}
+use Rattle.mpicall.specs.declared.call.Peer.TheVariants.{Null}
+use Rattle.mpicall.specs.declared.call.Kind.{Kind}
+use Rattle.mpicall.specs.declared.call.Kind.TheVariants.{Barrier, Bcast, Gather, Scatter, Reduce, Allgather, Alltoall, Allreduce, Scan, Exscan}
 use Rattle.mpicall.specs.declared.call.Call.{Call}
-use Rattle.mpicall.specs.declared.call.Call.TheVariants.{Send, Recv, Finalize}
+use Rattle.mpicall.specs.declared.call.Call.TheVariants.{Send, Recv, Isend, Irecv, Sendrecv, Wait, Waitall, Waitany, Coll, Icoll, Dup, Split, Finalize}
+use Rattle.mpicall.specs.declared.word.Collective.{Collective}
+use Rattle.mpicall.specs.declared.word.Collective.TheVariants.{Barrier as BarrierName, Bcast as BcastName, Gather as GatherName, Scatter as ScatterName, Reduce as ReduceName, Allgather as AllgatherName, Alltoall as AlltoallName, Allreduce as AllreduceName, Scan as ScanName, Exscan as ExscanName}
+use Rattle.mpicall.specs.declared.word.Operation.{Operation}
+use Rattle.mpicall.specs.declared.word.Operation.TheVariants.{Send as SendOperation, Recv as RecvOperation, Coll as CollOperation}
 use Rattle.mpicall.specs.declared.word.Word.{Word}
-use Rattle.mpicall.specs.declared.word.Word.TheVariants.{Send as SendWord, Recv as RecvWord, Finalize as FinalizeWord}
+use Rattle.mpicall.specs.declared.word.Word.TheVariants.{Blocking, Started, Sendrecv as SendrecvWord, Wait as WaitWord, Waitall as WaitallWord, Waitany as WaitanyWord, Dup as DupWord, Split as SplitWord, Finalize as FinalizeWord}
 use Rattle.mpicall.specs.declared.fault.LineFault.{LineFault}
-use Rattle.mpicall.specs.declared.fault.LineFault.TheVariants.{EmptyField, UnknownWord, FieldCount, FieldForm, Wildcard, TooLong, NoLineFeed}
 
-infixl 10 ◌>>=◌
--- the next reading, of what the first one gives
-abbrev pub ◌>>=◌ : {A B : Type 0} → Result A LineFault → (A → Result B LineFault) → Result B LineFault
-Ok value >>= next = next value
-Err fault >>= next = Err fault
+-- an argument that was read, and the fields behind it
+abbrev pub with_behind : List (List ℕ) → Option Argument → Option (Argument × List (List ℕ))
+with_behind fields None = None
+with_behind fields (Some argument) = Some (argument, fields)
 
--- a communicator, a peer and a tag, of their fields
-abbrev pub comm_of : List ℕ → Result ℕ LineFault
-comm_of field = ok_or (number_up_to greatest_comm field) FieldForm
+-- the argument of the first of some fields, and the fields behind it
+abbrev pub next_argument : Form → List (List ℕ) → Option (Argument × List (List ℕ))
+next_argument form [] = None
+next_argument form (field ∷ fields) = with_behind fields (read_argument form field)
 
-abbrev pub peer_of : List ℕ → Result Peer LineFault
-peer_of field = ok_or (option_map Rank (number_up_to greatest_rank field)) FieldForm
+-- an argument before others that were taken
+abbrev pub put_before : Argument → Option (List Argument × List (List ℕ)) → Option (List Argument × List (List ℕ))
+put_before argument None = None
+put_before argument (Some others) = Some (argument ∷ others.0, others.1)
 
-abbrev pub tag_of : List ℕ → Result ℕ LineFault
-tag_of field = ok_or (number_up_to greatest_tag field) FieldForm
+-- the first argument, and what is taken of the fields behind it
+abbrev pub take_behind : Option (Argument × List (List ℕ)) → (List (List ℕ) → Option (List Argument × List (List ℕ))) → Option (List Argument × List (List ℕ))
+take_behind None others = None
+take_behind (Some first) others = put_before first.0 (others first.1)
 
--- three fields, where there are just three
-abbrev pub three_of : List (List ℕ) → Result (List ℕ × List ℕ × List ℕ) LineFault
-three_of [] = Err FieldCount
-three_of (_ ∷ []) = Err FieldCount
-three_of (_ ∷ _ ∷ []) = Err FieldCount
-three_of (first ∷ second ∷ third ∷ []) = Ok (first, second, third)
-three_of (_ ∷ _ ∷ _ ∷ _ ∷ _) = Err FieldCount
+-- the arguments of the first fields, and the fields behind them
+abbrev pub take_arguments : List Form → List (List ℕ) → Option (List Argument × List (List ℕ))
+take_arguments [] fields = Some ([], fields)
+take_arguments (form ∷ forms) fields = take_behind (next_argument form fields) (λ behind. take_arguments forms behind)
 
--- the call of three fields of a send, and of a receive that has no wildcard
-abbrev pub make_send : Mode → Result ℕ LineFault → Result Peer LineFault → Result ℕ LineFault → Result Call LineFault
-make_send mode comm dest tag = comm >>= λ c. dest >>= λ d. tag >>= λ t. Ok (Send mode c d t)
+-- what a reader answers, the call that it leaves and the fields behind are those of a word and its forms
+abbrev pub ReadsCall : Word → List Form → List (List ℕ) → Option (Unit {0}) → Call → List (List ℕ) → Type 0
+ReadsCall word forms fields answer call behind =
+    MatchOption answer (take_arguments forms fields ≡ None)
+    (λ _. (take_arguments forms fields ≡ Some (arguments_of call, behind)) × (word_of_call call ≡ word))
 
-abbrev pub make_recv : Result ℕ LineFault → Result Peer LineFault → Result ℕ LineFault → Result Call LineFault
-make_recv comm source tag = comm >>= λ c. source >>= λ s. tag >>= λ t. Ok (Recv c s t)
+-- the number, the peer and so on of an argument that is one
+abbrev pub number_in : Argument → ℕ
+number_in (Number greatest n) = n
+number_in _ = 0
 
-unfoldable pub read_send : Mode → List (List ℕ) → Result Call LineFault
-read_send mode fields = three_of fields >>= λ f. make_send mode (comm_of f.0) (peer_of f.1) (tag_of f.2)
+abbrev pub peer_in : Argument → Peer
+peer_in (PeerOf peer) = peer
+peer_in _ = Null
 
-unfoldable pub read_recv : List (List ℕ) → Result Call LineFault
-read_recv fields = three_of fields >>= λ f.
-    if is_any f.1 || is_any f.2 then Err Wildcard else make_recv (comm_of f.0) (peer_of f.1) (tag_of f.2)
+abbrev pub colour_in : Argument → Option ℕ
+colour_in (Colour colour) = colour
+colour_in _ = None
 
-unfoldable pub read_finalize : List (List ℕ) → Result Call LineFault
-read_finalize [] = Ok Finalize
-read_finalize (_ ∷ _) = Err FieldCount
+abbrev pub key_in : Argument → ℤ
+key_in (Key key) = key
+key_in _ = pos 0
 
--- the call of a word and the fields behind it
-abbrev pub read_shape : Option Word → List (List ℕ) → Result Call LineFault
-read_shape None fields = Err UnknownWord
-read_shape (Some (SendWord mode)) fields = read_send mode fields
-read_shape (Some RecvWord) fields = read_recv fields
-read_shape (Some FinalizeWord) fields = read_finalize fields
+abbrev pub new_in : Argument → Option ℕ
+new_in (New new) = new
+new_in _ = None
 
--- the call of all the fields of a line, blank ones aside
-unfoldable pub read_fields : List (List ℕ) → Result Call LineFault
-read_fields [] = Err EmptyField
-read_fields (word ∷ fields) = read_shape (word_of word) fields
+-- one of some arguments
+abbrev pub at : List Argument → ℕ → Argument
+at arguments place = get_or arguments place (Number 0 0)
 
--- a blank field comes before every other fault of the fields
-abbrev pub blank_first : Bool → Result Call LineFault → Result Call LineFault
-blank_first some_blank (Ok call) = Ok call
-blank_first some_blank (Err fault) = Err (if some_blank then EmptyField else fault)
+abbrev pub kind_of : Collective → Argument → Kind
+kind_of BarrierName root = Barrier
+kind_of BcastName root = Bcast (number_in root)
+kind_of GatherName root = Gather (number_in root)
+kind_of ScatterName root = Scatter (number_in root)
+kind_of ReduceName root = Reduce (number_in root)
+kind_of AllgatherName root = Allgather
+kind_of AlltoallName root = Alltoall
+kind_of AllreduceName root = Allreduce
+kind_of ScanName root = Scan
+kind_of ExscanName root = Exscan
 
-abbrev pub call_of_fields : List (List ℕ) → Result Call LineFault
-call_of_fields fields = blank_first (list_any is_blank fields) (read_fields fields)
+-- the call of a word and its arguments
+abbrev pub call_of : Word → List Argument → Call
+call_of (Blocking (SendOperation mode)) a = Send mode (number_in (at a 0)) (peer_in (at a 1)) (number_in (at a 2))
+call_of (Blocking RecvOperation) a = Recv (number_in (at a 0)) (peer_in (at a 1)) (number_in (at a 2))
+call_of (Blocking (CollOperation name)) a = Coll (number_in (at a 0)) (kind_of name (at a 1))
+call_of (Started (SendOperation mode)) a = Isend (number_in (at a 0)) mode (number_in (at a 1)) (peer_in (at a 2)) (number_in (at a 3))
+call_of (Started RecvOperation) a = Irecv (number_in (at a 0)) (number_in (at a 1)) (peer_in (at a 2)) (number_in (at a 3))
+call_of (Started (CollOperation name)) a = Icoll (number_in (at a 0)) (number_in (at a 1)) (kind_of name (at a 2))
+call_of SendrecvWord a = Sendrecv (number_in (at a 0)) (peer_in (at a 1)) (number_in (at a 2)) (peer_in (at a 3)) (number_in (at a 4))
+call_of WaitWord a = Wait (number_in (at a 0))
+call_of WaitallWord a = Waitall (map number_in a)
+call_of WaitanyWord a = Waitany (number_in (at a 0)) (map number_in (drop 1 a))
+call_of DupWord a = Dup (number_in (at a 0)) (number_in (at a 1))
+call_of SplitWord a = Split (number_in (at a 0)) (colour_in (at a 1)) (key_in (at a 2)) (new_in (at a 3))
+call_of FinalizeWord a = Finalize
 
+-- the arguments that fields of a shape spell
+abbrev pub taken : Option (List Argument × List (List ℕ)) → List Argument
+taken None = []
+taken (Some (arguments, behind)) = arguments
+
+abbrev pub request_in : List ℕ → Argument
+request_in field = request_argument (value_of field)
+
+abbrev pub arguments_in : Shape → List (List ℕ) → List Argument
+arguments_in (Fixed forms) fields = taken (take_arguments forms fields)
+arguments_in Requests fields = map request_in fields
+arguments_in Chosen [] = []
+arguments_in Chosen (index ∷ fields) = index_argument (length fields) (value_of index) ∷ map request_in fields
+
+abbrev pub call_by_word : Option Word → List (List ℕ) → Call
+call_by_word None fields = Finalize
+call_by_word (Some word) fields = call_of word (arguments_in (shape_of word) fields)
+
+unfoldable pub call_of_fields : List (List ℕ) → Call
+call_of_fields [] = Finalize
+call_of_fields (word ∷ fields) = call_by_word (word_of word) fields
+
+abbrev pub call_unless : Option LineFault → Call → Result Call LineFault
+call_unless None call = Ok call
+call_unless (Some fault) call = Err fault
+
+-- the record that a line spells, or its first fault
 unfoldable pub record_of_line : List ℕ → Result Call LineFault
-record_of_line line =
-    if nat_lt most_bytes (length line) then Err TooLong
-    else (if has_line_feed line then call_of_fields (split_fields (body_of line)) else Err NoLineFeed)
+record_of_line line = call_unless (fault_of_line line) (call_of_fields (split_fields (body_of line)))
 
 -- what a reader answers, and the call that it leaves at Ok, are those of a reading
 abbrev pub ReadsInto : Result (Unit {0}) LineFault → Call → Result Call LineFault → Type 0
 ReadsInto answer call reading = MatchResult answer (λ _. reading ≡ Ok call) (λ fault. reading ≡ Err fault)
+
+-- a reader of the fields behind a word leaves the call that they spell, or they don't fit the word
+abbrev pub ReadsBehind : Word → List (List ℕ) → Bool → Call → Type 0
+ReadsBehind word fields answer call =
+    MatchBool answer ((fields ≡ map spell (arguments_of call)) × (word_of_call call ≡ word) × (in_ranges call ≡ true)) (fits word fields ≡ false)
+
+-- the same of all the fields of a line
+abbrev pub ReadsFields : List (List ℕ) → Bool → Call → Type 0
+ReadsFields fields answer call =
+    MatchBool answer ((fields ≡ fields_of call) × (in_ranges call ≡ true)) (fits_line fields ≡ false)
+
+-- fields that are requests, as many as one wait may name
+abbrev pub requests_fit : List (List ℕ) → Bool
+requests_fit fields = nat_le 1 (length fields) && nat_le (length fields) MOST_REQUESTS && all_requests fields
+
+-- the fields spell these requests
+pub record SpellsRequests (fields : List (List ℕ)) (reqs : List ℕ) : Type 0 where
+  pub fields_are : fields ≡ map spell (map request_argument reqs)
+  pub in_range : list_all is_in_range (map request_argument reqs) ≡ true
+  pub enough : few_enough reqs ≡ true
+
+-- the line is a call's spelling, and the call's fields are in their ranges
+pub record Spells (line : List ℕ) (call : Call) : Type 0 where
+  pub line_is : line ≡ spelling call
+  pub in_ranges_is : in_ranges call ≡ true
+
+-- the line isn't too long and has its line feed; this is its body
+pub record IsBody (line body : List ℕ) : Type 0 where
+  pub line_is : line ≡ body ++ line_feed ∷ []
+  pub short : length body < most_bytes

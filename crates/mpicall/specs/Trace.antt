@@ -1,18 +1,13 @@
 -- The trace that the bytes of a source hold: a list of records, and an end.
 use Rattle.std.specs.Prelude.{ℕ, ◌==◌, if◌then◌else◌, Result, Ok, Err, List, [], ◌∷◌}
 use Rattle.std.specs.List.{onto_first}
-use Rattle.mpicall.specs.Spelling.{line_feed}
+use Rattle.mpicall.specs.Lines.{lines_of}
 use Rattle.mpicall.specs.Reading.{record_of_line}
 use Rattle.mpicall.specs.declared.call.Call.{Call}
-use Rattle.mpicall.specs.declared.call.Call.TheVariants.{Finalize}
+use Rattle.mpicall.specs.Ending.{ends_list}
 use Rattle.mpicall.specs.declared.fault.LineFault.{LineFault}
 use Rattle.mpicall.specs.declared.fault.SourceFault.{SourceFault}
 use Rattle.mpicall.specs.declared.fault.SourceFault.TheVariants.{Line, TextAfterFinalize, NoFinalize}
-
--- the lines of a text, each through its line feed or through the end of the text
-abbrev pub lines_of : List ℕ → List (List ℕ)
-lines_of [] = []
-lines_of (byte ∷ bytes) = if byte == line_feed then (byte ∷ []) ∷ lines_of bytes else onto_first byte (lines_of bytes)
 
 -- how a source ends: with its `finalize` and nothing behind it, or with a fault
 pub data End : Type 0 where
@@ -39,8 +34,7 @@ ends_here end = record { records = []; end = end }
 
 -- the trace of the next line's reading, the lines behind it, and the trace of these
 abbrev pub trace_with : Result Call LineFault → List (List ℕ) → Trace → Trace
-trace_with (Ok Finalize) behind trace = put_first Finalize (ends_here (end_after_finalize behind))
-trace_with (Ok call) behind trace = put_first call trace
+trace_with (Ok call) behind trace = put_first call (if ends_list call then ends_here (end_after_finalize behind) else trace)
 trace_with (Err fault) behind trace = ends_here (Torn (Line fault))
 
 -- the trace of some lines: their records up to and with the first `finalize`, as long as they are

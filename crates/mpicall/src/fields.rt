@@ -3,7 +3,7 @@
 ghost use Rattle.std.specs.Prelude.{◌≡◌, [], ◌∷◌, ◌==◌, position, MatchOption};
 ghost use Rattle.std.specs.List.{list_any};
 ghost use Rattle.mpicall.specs.Spelling.{space};
-ghost use Rattle.mpicall.specs.Line.{split_fields, is_blank};
+ghost use Rattle.mpicall.specs.Lines.{split_fields, is_blank};
 
 use std::marker::Model;
 
@@ -15,7 +15,7 @@ pub struct Fields<'a> {
 
 impl<'a> Model for Fields<'a> {
     ghost use Rattle.std.specs.Prelude.{List, ℕ};
-    ghost use Rattle.mpicall.specs.Line.{split_some};
+    ghost use Rattle.mpicall.specs.Lines.{split_some};
 
     ghost Value = { List (List ℕ) };
 
@@ -37,8 +37,15 @@ impl<'a> Fields<'a> {
         Fields { rest: Some(body) }
     }
 
-    #[tactic(auto, using(crate::proofs::FieldLemmas::field_steps))]
+    /// The same fields once more.
+    pub(crate) fn again(&self) -> Fields<'a>
+        ensures { result ≡ self.now }
+    {
+        Fields { rest: self.rest }
+    }
+
     /// The next field, which may have no bytes; None once all have come.
+    #[tactic(auto, using(crate::proofs::FieldLemmas::field_steps))]
     pub fn next_field(&mut self) -> Option<&'a [u8]>
         ensures { MatchOption result ((self.old ≡ []) × (self.new ≡ [])) (λ field. self.old ≡ field.now ∷ self.new) }
     {

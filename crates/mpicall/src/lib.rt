@@ -25,17 +25,22 @@
 //! ```
 #![tactic(auto)]
 
+mod body;
 pub mod call;
 pub mod counted;
 pub mod device;
+mod draft;
 pub mod fails_at;
 pub mod fault;
 pub mod fields;
+mod first_fault;
+pub mod limits;
 pub mod line;
 pub mod memory;
 pub mod number;
 mod reading;
 pub mod record;
+pub mod reqs;
 pub mod source;
 pub mod spelling;
 #[cfg(test)]

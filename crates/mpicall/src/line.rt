@@ -1,27 +1,29 @@
 //! Lines of a trace: each record has one spelling, and each other line its first fault.
 
-ghost use Rattle.std.specs.Prelude.{◌≡◌, Ok, Some, IsTrue, IfOk, IfErr};
+ghost use Rattle.std.specs.Prelude.{◌≡◌, ◌↔◌, Ok, Err, Some, IsTrue, IfOk, MatchResult};
 ghost use Rattle.mpicall.specs.declared.call.Call.{Call as CallValue};
 ghost use Rattle.mpicall.specs.Limits.{in_ranges};
 ghost use Rattle.mpicall.specs.Spelling.{spelling};
 ghost use Rattle.mpicall.specs.Line.{fault_of_line};
-ghost use Rattle.mpicall.specs.Reading.{record_of_line, ReadsInto};
+ghost use Rattle.mpicall.specs.Reading.{IsBody, Spells, record_of_line, ReadsInto};
+ghost use Rattle.mpicall.specs.declared.fault.LineFault.{LineFault as FaultValue};
 
+use crate::body::read_fields;
 use crate::call::Call;
 use crate::fault::LineFault;
 use crate::fields::Fields;
-use crate::reading::{has_blank, read_fields};
+use crate::first_fault::fault_of_fields;
+use crate::limits::MOST_LINE_BYTES;
 use crate::record::Record;
 
-/// The most bytes of a line, its line feed counted.
-pub const MOST_BYTES: usize = 1024;
-
-/// Reads the call of a line into one place, which keeps any call where the line has a fault.
-#[tactic(auto, unfolding(crate::specs::Reading::record_of_line))]
-pub(crate) fn read_into(line: &[u8], into: &mut Call) -> Result<(), LineFault>
-    ensures { ReadsInto result into.new (record_of_line line.now) }
+/// The body of a line: its bytes without the last line feed.
+#[tactic(auto, unfolding(crate::specs::Line::fault_of_line))]
+fn body_of(line: &[u8]) -> Result<&[u8], LineFault>
+    ensures { MatchResult result
+        (λ body. IsBody line.now body.now)
+        (λ fault. fault_of_line line.now ≡ Some fault) }
 {
-    if line.len() > MOST_BYTES {
+    if line.len() > MOST_LINE_BYTES {
         return Err(LineFault::TooLong);
     }
     let Some((last, body)) = line.split_last() else {
@@ -30,18 +32,29 @@ pub(crate) fn read_into(line: &[u8], into: &mut Call) -> Result<(), LineFault>
     if *last != b'\n' {
         return Err(LineFault::NoLineFeed);
     }
-    match read_fields(Fields::of(body), into) {
-        Ok(()) => Ok(()),
-        Err(_) if has_blank(Fields::of(body)) => Err(LineFault::EmptyField),
-        Err(fault) => Err(fault),
+    Ok(body)
+}
+
+/// Reads the call of a line into one place, which keeps any call where the line has a fault.
+pub(crate) fn read_into(line: &[u8], into: &mut Call) -> Result<(), LineFault>
+    ensures reading { ReadsInto result into.new (record_of_line line.now) }
+    ensures ok { IfOk result (λ _. Spells line.now into.new) }
+{
+    let body = match body_of(line) {
+        Ok(body) => body,
+        Err(fault) => return Err(fault),
+    };
+    if read_fields(Fields::of(body), into) {
+        Ok(())
+    } else {
+        Err(fault_of_fields(Fields::of(body)))
     }
 }
 
 /// Reads one line, with its line feed: the record that it spells, or its first fault.
 pub fn read_line(line: &[u8]) -> Result<Record, LineFault>
-    ensures ok { IfOk result (λ x. line.now ≡ spelling x) }
-    ensures only { (x : CallValue) → IsTrue (in_ranges x) → line.now ≡ spelling x → result ≡ Ok x }
-    ensures fault { IfErr result (λ fault. fault_of_line line.now ≡ Some fault) }
+    ensures ok { (x : CallValue) → (result ≡ Ok x) ↔ (IsTrue (in_ranges x) × (line.now ≡ spelling x)) }
+    ensures fault { (fault : FaultValue) → (result ≡ Err fault) ↔ (fault_of_line line.now ≡ Some fault) }
     ensures value { result ≡ record_of_line line.now }
 {
     let mut call = Call::Finalize;

@@ -1,8 +1,10 @@
-//! Canonical numbers: `0`, or decimal digits the first of which isn't `0`.
+//! Canonical numbers: `0`, or decimal digits the first of which isn't `0`; and signed ones.
 
 ghost use Rattle.std.specs.Prelude.{◌≡◌, ◌&&◌, ◌≤◌, nat_le, Some, None, IfSome, if◌then◌else◌};
 ghost use Rattle.std.specs.Str.{all_ascii_digits};
-ghost use Rattle.mpicall.specs.Number.{has_leading_zero, is_canonical, number_up_to, value_of};
+ghost use Rattle.mpicall.specs.Number.{has_leading_zero, is_canonical, number_up_to, value_of, negative, signed_of};
+
+use crate::limits::GREATEST_KEY;
 
 /// Whether a field has a `0` before further bytes.
 fn has_leading_zero(field: &[u8]) -> bool
@@ -63,4 +65,27 @@ pub fn read_number(limit: u32, field: &[u8]) -> Option<u32>
         return None;
     }
     read_digits(limit, field)
+}
+
+/// The negative of a number other than 0.
+fn negative(number: u32) -> Option<i32>
+    requires { number ≤ 2147483648 }
+    ensures { result ≡ negative number }
+{
+    if number == 0 {
+        return None;
+    }
+    Some((-i64::from(number)) as i32)
+}
+
+/// The signed number of 32 bits that a field spells, if it does.
+#[tactic(auto, unfolding(crate::specs::Number::signed_of))]
+pub(crate) fn read_signed(field: &[u8]) -> Option<i32>
+    ensures { result ≡ signed_of field.now }
+{
+    let (first, digits) = field.split_first()?;
+    if *first == b'-' {
+        return negative(read_number(GREATEST_KEY + 1, digits)?);
+    }
+    Some(read_number(GREATEST_KEY, field)? as i32)
 }

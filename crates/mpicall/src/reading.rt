@@ -1,130 +1,262 @@
-//! The parts of a line, read one by one: a small function for each form of field and each shape of
-//! line. A call is read into one place.
+//! The fields of a line, read one by one: a small function for each form of field. A call is read into
+//! one place; a line that has a fault is looked at again, by `fault_of_fields`.
 
-ghost use Rattle.std.specs.Prelude.{◌≡◌, Ok, Err, MatchResult};
-ghost use Rattle.std.specs.List.{list_any};
-ghost use Rattle.mpicall.specs.Line.{is_any, is_blank};
-ghost use Rattle.mpicall.specs.Reading.{comm_of, peer_of, tag_of, three_of, read_send, read_recv, read_finalize, read_fields, ReadsInto};
+ghost use Rattle.std.specs.Prelude.{◌≡◌, ◌≤◌, [], ◌∷◌, Some, None, IfSome, MatchOption};
+ghost use Rattle.mpicall.specs.Argument.{NumberUpTo, PeerForm, ColourForm, KeyForm, NewForm, Number, PeerOf, Colour, Key, New, comm_form, tag_form, request_form, root_form, comm_argument, tag_argument, request_argument, root_argument};
+ghost use Rattle.mpicall.specs.Spelling.{name_of, root_of, root_arguments};
+ghost use Rattle.mpicall.specs.Line.{root_forms, operation_forms};
+ghost use Rattle.mpicall.specs.Reading.{next_argument, take_arguments, ReadsCall};
+ghost use Rattle.mpicall.specs.declared.word.Word.TheVariants.{Blocking, Started, Sendrecv, Wait, Dup, Split};
 
-use crate::call::{Call, Mode, Peer};
-use crate::fault::LineFault;
+use crate::call::{Call, Kind, Peer};
 use crate::fields::Fields;
-use crate::number::read_number;
-use crate::record::{GREATEST_COMM, GREATEST_RANK, GREATEST_TAG};
-use crate::word::{Word, word_of};
+use crate::limits::{
+    GREATEST_COLOUR, GREATEST_COMM, GREATEST_RANK, GREATEST_REQUEST, GREATEST_TAG,
+};
+use crate::number::{read_number, read_signed};
+use crate::word::{Collective, Operation};
 
-fn read_comm(field: &[u8]) -> Result<u16, LineFault>
-    ensures { result ≡ comm_of field.now }
+/// The next field, where it is a number up to `greatest`.
+pub(crate) fn next_number(greatest: u32, fields: &mut Fields<'_>) -> Option<u32>
+    ensures value { MatchOption result
+        (next_argument (NumberUpTo greatest) fields.old ≡ None)
+        (λ n. next_argument (NumberUpTo greatest) fields.old ≡ Some (Number greatest n, fields.new)) }
+    ensures within { IfSome result (λ n. n ≤ greatest) }
 {
-    match read_number(u32::from(GREATEST_COMM), field) {
-        Some(comm) => Ok(comm as u16),
-        None => Err(LineFault::FieldForm),
+    let field = fields.next_field()?;
+    read_number(greatest, field)
+}
+
+fn next_comm(fields: &mut Fields<'_>) -> Option<u16>
+    ensures { MatchOption result
+        (next_argument comm_form fields.old ≡ None)
+        (λ comm. next_argument comm_form fields.old ≡ Some (comm_argument comm, fields.new)) }
+{
+    Some(next_number(u32::from(GREATEST_COMM), fields)? as u16)
+}
+
+fn next_tag(fields: &mut Fields<'_>) -> Option<u32>
+    ensures { MatchOption result
+        (next_argument tag_form fields.old ≡ None)
+        (λ tag. next_argument tag_form fields.old ≡ Some (tag_argument tag, fields.new)) }
+{
+    next_number(GREATEST_TAG, fields)
+}
+
+pub(crate) fn next_request(fields: &mut Fields<'_>) -> Option<u32>
+    ensures { MatchOption result
+        (next_argument request_form fields.old ≡ None)
+        (λ req. next_argument request_form fields.old ≡ Some (request_argument req, fields.new)) }
+{
+    next_number(GREATEST_REQUEST, fields)
+}
+
+fn next_root(fields: &mut Fields<'_>) -> Option<u16>
+    ensures { MatchOption result
+        (next_argument root_form fields.old ≡ None)
+        (λ root. next_argument root_form fields.old ≡ Some (root_argument root, fields.new)) }
+{
+    Some(next_number(u32::from(GREATEST_RANK), fields)? as u16)
+}
+
+fn next_peer(fields: &mut Fields<'_>) -> Option<Peer>
+    ensures { MatchOption result
+        (next_argument PeerForm fields.old ≡ None)
+        (λ peer. next_argument PeerForm fields.old ≡ Some (PeerOf peer, fields.new)) }
+{
+    let field = fields.next_field()?;
+    if field == b"null".as_slice() {
+        return Some(Peer::Null);
     }
+    let rank = read_number(u32::from(GREATEST_RANK), field)?;
+    Some(Peer::Rank(rank as u16))
 }
 
-fn read_peer(field: &[u8]) -> Result<Peer, LineFault>
-    ensures { result ≡ peer_of field.now }
+fn next_colour(fields: &mut Fields<'_>) -> Option<Option<u32>>
+    ensures { MatchOption result
+        (next_argument ColourForm fields.old ≡ None)
+        (λ colour. next_argument ColourForm fields.old ≡ Some (Colour colour, fields.new)) }
 {
-    match read_number(u32::from(GREATEST_RANK), field) {
-        Some(rank) => Ok(Peer::Rank(rank as u16)),
-        None => Err(LineFault::FieldForm),
+    let field = fields.next_field()?;
+    if field == b"undefined".as_slice() {
+        return Some(None);
     }
+    let colour = read_number(GREATEST_COLOUR, field)?;
+    Some(Some(colour))
 }
 
-fn read_tag(field: &[u8]) -> Result<u32, LineFault>
-    ensures { result ≡ tag_of field.now }
+fn next_key(fields: &mut Fields<'_>) -> Option<i32>
+    ensures { MatchOption result
+        (next_argument KeyForm fields.old ≡ None)
+        (λ key. next_argument KeyForm fields.old ≡ Some (Key key, fields.new)) }
 {
-    read_number(GREATEST_TAG, field).ok_or(LineFault::FieldForm)
+    let field = fields.next_field()?;
+    read_signed(field)
 }
 
-fn is_any(field: &[u8]) -> bool
-    ensures { result ≡ is_any field.now }
+/// The next field, where it is a new communicator, or `none`.
+fn next_new(fields: &mut Fields<'_>) -> Option<Option<u16>>
+    ensures { MatchOption result
+        (next_argument NewForm fields.old ≡ None)
+        (λ new. next_argument NewForm fields.old ≡ Some (New new, fields.new)) }
 {
-    field == b"any".as_slice()
-}
-
-/// Three fields, where there are just three.
-fn three<'a>(mut fields: Fields<'a>) -> Result<(&'a [u8], &'a [u8], &'a [u8]), LineFault>
-    ensures { MatchResult result
-        (λ f. three_of fields.entry ≡ Ok (f.0.now, f.1.now, f.2.now))
-        (λ fault. three_of fields.entry ≡ Err fault) }
-{
-    let first = fields.next_field().ok_or(LineFault::FieldCount)?;
-    let second = fields.next_field().ok_or(LineFault::FieldCount)?;
-    let third = fields.next_field().ok_or(LineFault::FieldCount)?;
-    match fields.next_field() {
-        None => Ok((first, second, third)),
-        Some(_) => Err(LineFault::FieldCount),
+    let field = fields.next_field()?;
+    if field == b"none".as_slice() {
+        return Some(None);
     }
+    let comm = read_number(u32::from(GREATEST_COMM), field)?;
+    Some(Some(comm as u16))
 }
 
-#[tactic(auto, unfolding(crate::specs::Reading::read_send))]
-fn read_send(mode: Mode, fields: Fields<'_>, into: &mut Call) -> Result<(), LineFault>
-    ensures { ReadsInto result into.new (read_send mode fields.entry) }
+/// A communicator, a peer and a tag, as each message has them.
+fn next_message(fields: &mut Fields<'_>) -> Option<(u16, Peer, u32)>
+    ensures { MatchOption result
+        (take_arguments (comm_form ∷ PeerForm ∷ tag_form ∷ []) fields.old ≡ None)
+        (λ m. take_arguments (comm_form ∷ PeerForm ∷ tag_form ∷ []) fields.old
+        ≡ Some (comm_argument m.0 ∷ PeerOf m.1 ∷ tag_argument m.2 ∷ [], fields.new)) }
 {
-    let (comm, dest, tag) = three(fields)?;
-    let comm = read_comm(comm)?;
-    let dest = read_peer(dest)?;
-    let tag = read_tag(tag)?;
-    *into = Call::Send {
-        mode,
-        comm,
-        dest,
-        tag,
+    let comm = next_comm(fields)?;
+    let peer = next_peer(fields)?;
+    let tag = next_tag(fields)?;
+    Some((comm, peer, tag))
+}
+
+/// The kind of a collective, whose root is the next field if it has one.
+fn next_kind(collective: Collective, fields: &mut Fields<'_>) -> Option<Kind>
+    ensures value { MatchOption result
+        (take_arguments (root_forms collective) fields.old ≡ None)
+        (λ kind. take_arguments (root_forms collective) fields.old ≡ Some (root_arguments (root_of kind), fields.new)) }
+    ensures name { IfSome result (λ kind. name_of kind ≡ collective) }
+{
+    let kind = match collective {
+        Collective::Barrier => Kind::Barrier,
+        Collective::Bcast => Kind::Bcast(next_root(fields)?),
+        Collective::Gather => Kind::Gather(next_root(fields)?),
+        Collective::Scatter => Kind::Scatter(next_root(fields)?),
+        Collective::Reduce => Kind::Reduce(next_root(fields)?),
+        Collective::Allgather => Kind::Allgather,
+        Collective::Alltoall => Kind::Alltoall,
+        Collective::Allreduce => Kind::Allreduce,
+        Collective::Scan => Kind::Scan,
+        Collective::Exscan => Kind::Exscan,
     };
-    Ok(())
+    Some(kind)
 }
 
-#[tactic(auto, unfolding(crate::specs::Reading::read_recv))]
-fn read_recv(fields: Fields<'_>, into: &mut Call) -> Result<(), LineFault>
-    ensures { ReadsInto result into.new (read_recv fields.entry) }
+/// Reads a call that does an operation at once.
+pub(crate) fn read_blocking(
+    operation: Operation,
+    fields: &mut Fields<'_>,
+    into: &mut Call,
+) -> Option<()>
+    ensures { ReadsCall (Blocking operation) (operation_forms operation) fields.old result into.new fields.new }
 {
-    let (comm, source, tag) = three(fields)?;
-    if is_any(source) || is_any(tag) {
-        return Err(LineFault::Wildcard);
-    }
-    let comm = read_comm(comm)?;
-    let source = read_peer(source)?;
-    let tag = read_tag(tag)?;
-    *into = Call::Recv { comm, source, tag };
-    Ok(())
-}
-
-#[tactic(auto, unfolding(crate::specs::Reading::read_finalize))]
-fn read_finalize(mut fields: Fields<'_>, into: &mut Call) -> Result<(), LineFault>
-    ensures { ReadsInto result into.new (read_finalize fields.entry) }
-{
-    if fields.next_field().is_some() {
-        return Err(LineFault::FieldCount);
-    }
-    *into = Call::Finalize;
-    Ok(())
-}
-
-/// The call of the fields of a line, its word first.
-#[tactic(auto, unfolding(crate::specs::Reading::read_fields))]
-pub(crate) fn read_fields(mut fields: Fields<'_>, into: &mut Call) -> Result<(), LineFault>
-    ensures { ReadsInto result into.new (read_fields fields.entry) }
-{
-    let Some(word) = fields.next_field() else {
-        return Err(LineFault::EmptyField);
-    };
-    match word_of(word) {
-        Some(Word::Send(mode)) => read_send(mode, fields, into),
-        Some(Word::Recv) => read_recv(fields, into),
-        Some(Word::Finalize) => read_finalize(fields, into),
-        None => Err(LineFault::UnknownWord),
-    }
-}
-
-/// Whether a field has no bytes.
-pub(crate) fn has_blank(mut fields: Fields<'_>) -> bool
-    ensures { result ≡ list_any is_blank fields.entry }
-{
-    while let Some(field) = fields.next_field() {
-        if field.is_empty() {
-            return true;
+    match operation {
+        Operation::Send(mode) => {
+            let (comm, dest, tag) = next_message(fields)?;
+            *into = Call::Send {
+                mode,
+                comm,
+                dest,
+                tag,
+            };
+        }
+        Operation::Recv => {
+            let (comm, source, tag) = next_message(fields)?;
+            *into = Call::Recv { comm, source, tag };
+        }
+        Operation::Coll(collective) => {
+            let comm = next_comm(fields)?;
+            let kind = next_kind(collective, fields)?;
+            *into = Call::Coll { comm, kind };
         }
     }
-    false
+    Some(())
+}
+
+/// Reads a call that starts an operation.
+pub(crate) fn read_started(
+    operation: Operation,
+    fields: &mut Fields<'_>,
+    into: &mut Call,
+) -> Option<()>
+    ensures { ReadsCall (Started operation) (request_form ∷ operation_forms operation) fields.old result into.new fields.new }
+{
+    let req = next_request(fields)?;
+    match operation {
+        Operation::Send(mode) => {
+            let (comm, dest, tag) = next_message(fields)?;
+            *into = Call::Isend {
+                req,
+                mode,
+                comm,
+                dest,
+                tag,
+            };
+        }
+        Operation::Recv => {
+            let (comm, source, tag) = next_message(fields)?;
+            *into = Call::Irecv {
+                req,
+                comm,
+                source,
+                tag,
+            };
+        }
+        Operation::Coll(collective) => {
+            let comm = next_comm(fields)?;
+            let kind = next_kind(collective, fields)?;
+            *into = Call::Icoll { req, comm, kind };
+        }
+    }
+    Some(())
+}
+
+pub(crate) fn read_sendrecv(fields: &mut Fields<'_>, into: &mut Call) -> Option<()>
+    ensures { ReadsCall Sendrecv (comm_form ∷ PeerForm ∷ tag_form ∷ PeerForm ∷ tag_form ∷ []) fields.old result into.new fields.new }
+{
+    let (comm, dest, send_tag) = next_message(fields)?;
+    let source = next_peer(fields)?;
+    let recv_tag = next_tag(fields)?;
+    *into = Call::Sendrecv {
+        comm,
+        dest,
+        send_tag,
+        source,
+        recv_tag,
+    };
+    Some(())
+}
+
+pub(crate) fn read_wait(fields: &mut Fields<'_>, into: &mut Call) -> Option<()>
+    ensures { ReadsCall Wait (request_form ∷ []) fields.old result into.new fields.new }
+{
+    let req = next_request(fields)?;
+    *into = Call::Wait { req };
+    Some(())
+}
+
+pub(crate) fn read_dup(fields: &mut Fields<'_>, into: &mut Call) -> Option<()>
+    ensures { ReadsCall Dup (comm_form ∷ comm_form ∷ []) fields.old result into.new fields.new }
+{
+    let comm = next_comm(fields)?;
+    let new = next_comm(fields)?;
+    *into = Call::Dup { comm, new };
+    Some(())
+}
+
+pub(crate) fn read_split(fields: &mut Fields<'_>, into: &mut Call) -> Option<()>
+    ensures { ReadsCall Split (comm_form ∷ ColourForm ∷ KeyForm ∷ NewForm ∷ []) fields.old result into.new fields.new }
+{
+    let comm = next_comm(fields)?;
+    let colour = next_colour(fields)?;
+    let key = next_key(fields)?;
+    let new = next_new(fields)?;
+    *into = Call::Split {
+        comm,
+        colour,
+        key,
+        new,
+    };
+    Some(())
 }

@@ -1,19 +1,18 @@
 //! A record: a call whose fields all lie in the ranges of the trace format.
 
-ghost use Rattle.std.specs.Prelude.{◌≡◌, ◌↔◌, IsTrue, IsSome, IfSome};
-ghost use Rattle.mpicall.specs.Limits.{in_ranges, peer_in_range};
+ghost use Rattle.std.specs.Prelude.{◌≡◌, ◌↔◌, [], ◌∷◌, map, IsTrue, IsSome, IfSome};
+ghost use Rattle.std.specs.List.{list_all};
+ghost use Rattle.mpicall.specs.Argument.{PeerOf, comm_argument, tag_argument, request_argument, is_in_range, peer_in_range, key_in_range, none_or_up_to};
+ghost use Rattle.mpicall.specs.Ending.{ends_list};
+ghost use Rattle.mpicall.specs.Limits.{in_ranges};
+ghost use Rattle.mpicall.specs.Spelling.{root_of, root_arguments};
 
-use crate::call::{Call, Peer};
+use crate::call::{Call, Kind, Peer};
+use crate::limits::{
+    GREATEST_COLOUR, GREATEST_COMM, GREATEST_RANK, GREATEST_REQUEST, GREATEST_TAG,
+};
+use crate::word::root_of;
 use std::marker::Model;
-
-/// The greatest communicator number; 0 is the world.
-pub const GREATEST_COMM: u16 = 255;
-
-/// The greatest rank of a run.
-pub const GREATEST_RANK: u16 = 63;
-
-/// The greatest tag of a message.
-pub const GREATEST_TAG: u32 = 2147483647;
 
 /// A call all of whose fields lie in their ranges, so that it has one spelling in a trace.
 #[derive(Clone, Copy, Debug, PartialEq, Eq)]
@@ -24,7 +23,7 @@ pub struct Record {
 impl Model for Record {
     ghost use Rattle.std.specs.Prelude.{IsTrue};
     ghost use Rattle.mpicall.specs.declared.call.Call.{Call};
-    ghost use Rattle.mpicall.specs.Limits.{in_ranges, peer_in_range};
+    ghost use Rattle.mpicall.specs.Limits.{in_ranges};
 
     ghost Value = { Call };
 
@@ -40,7 +39,53 @@ fn is_peer_in_range(peer: Peer) -> bool
 {
     match peer {
         Peer::Rank(rank) => rank <= GREATEST_RANK,
+        Peer::Null => true,
     }
+}
+
+/// Whether a communicator, a peer and a tag are in their ranges.
+fn is_message_in_ranges(comm: u16, peer: Peer, tag: u32) -> bool
+    ensures { result ≡ list_all is_in_range (comm_argument comm ∷ PeerOf peer ∷ tag_argument tag ∷ []) }
+{
+    comm <= GREATEST_COMM && is_peer_in_range(peer) && tag <= GREATEST_TAG
+}
+
+fn is_kind_in_range(kind: Kind) -> bool
+    ensures { result ≡ list_all is_in_range (root_arguments (root_of kind)) }
+{
+    match root_of(kind) {
+        Some(root) => root <= GREATEST_RANK,
+        None => true,
+    }
+}
+
+#[tactic(auto, using(crate::proofs::RequestLemmas::request_steps))]
+fn are_requests_in_range(reqs: &[u32]) -> bool
+    ensures { result ≡ list_all is_in_range (map request_argument reqs.now) }
+{
+    for req in reqs {
+        if *req > GREATEST_REQUEST {
+            return false;
+        }
+    }
+    true
+}
+
+/// Whether a colour, or a new communicator, is none or in its range.
+fn is_none_or_up_to(greatest: u32, number: Option<u32>) -> bool
+    ensures { result ≡ none_or_up_to greatest number }
+{
+    match number {
+        Some(number) => number <= greatest,
+        None => true,
+    }
+}
+
+/// Each key of 32 bits is in range.
+fn is_key_in_range(key: i32) -> bool
+    ensures { result ≡ key_in_range key }
+{
+    -2_147_483_648 <= key && key <= 2_147_483_647
 }
 
 fn is_in_ranges(call: &Call) -> bool
@@ -52,9 +97,52 @@ fn is_in_ranges(call: &Call) -> bool
             dest,
             tag,
             ..
-        } => { comm <= GREATEST_COMM && is_peer_in_range(dest) && tag <= GREATEST_TAG }
-        Call::Recv { comm, source, tag } => {
-            comm <= GREATEST_COMM && is_peer_in_range(source) && tag <= GREATEST_TAG
+        } => is_message_in_ranges(comm, dest, tag),
+        Call::Recv { comm, source, tag } => is_message_in_ranges(comm, source, tag),
+        Call::Isend {
+            req,
+            comm,
+            dest,
+            tag,
+            ..
+        } => { req <= GREATEST_REQUEST && is_message_in_ranges(comm, dest, tag) }
+        Call::Irecv {
+            req,
+            comm,
+            source,
+            tag,
+        } => { req <= GREATEST_REQUEST && is_message_in_ranges(comm, source, tag) }
+        Call::Sendrecv {
+            comm,
+            dest,
+            send_tag,
+            source,
+            recv_tag,
+        } => {
+            is_message_in_ranges(comm, dest, send_tag)
+                && is_peer_in_range(source)
+                && recv_tag <= GREATEST_TAG
+        }
+        Call::Wait { req } => req <= GREATEST_REQUEST,
+        Call::Waitall { ref reqs } => are_requests_in_range(reqs.as_slice()),
+        Call::Waitany { chosen, ref reqs } => {
+            usize::from(chosen) < reqs.count() && are_requests_in_range(reqs.as_slice())
+        }
+        Call::Coll { comm, kind } => comm <= GREATEST_COMM && is_kind_in_range(kind),
+        Call::Icoll { req, comm, kind } => {
+            req <= GREATEST_REQUEST && comm <= GREATEST_COMM && is_kind_in_range(kind)
+        }
+        Call::Dup { comm, new } => comm <= GREATEST_COMM && new <= GREATEST_COMM,
+        Call::Split {
+            comm,
+            colour,
+            key,
+            new,
+        } => {
+            comm <= GREATEST_COMM
+                && is_none_or_up_to(GREATEST_COLOUR, colour)
+                && is_key_in_range(key)
+                && is_none_or_up_to(u32::from(GREATEST_COMM), new.map(u32::from))
         }
         Call::Finalize => true,
     }
@@ -81,12 +169,19 @@ impl Record {
         Record { call }
     }
 
-    /// The call in its place, for those that only look at it.
-    pub(crate) fn as_call(&self) -> &Call
+    /// The call in its place, for those that only look at it: a record takes some 264 bytes.
+    pub fn as_call(&self) -> &Call
         ensures value { result.now ≡ self.now }
         ensures in_ranges { IsTrue (in_ranges result.now) }
     {
         &self.call
+    }
+
+    /// Whether no call of the rank comes behind this one.
+    pub fn ends_list(&self) -> bool
+        ensures { result ≡ ends_list self.now }
+    {
+        self.as_call().ends_list()
     }
 
     /// The call, with its fields in their ranges.

@@ -6,7 +6,8 @@ ghost use Rattle.std.specs.Prelude.{◌≡◌, ◌≢◌, ◌≤◌, ◌<◌, �
 use crate::call::Call;
 use crate::device::Input;
 use crate::fault::SourceFault;
-use crate::line::{MOST_BYTES, read_into};
+use crate::limits::MOST_LINE_BYTES;
+use crate::line::read_into;
 use crate::record::Record;
 use crate::window::{Window, has_more, line_end};
 
@@ -154,8 +155,9 @@ impl<I: Input> Source<I> {
 fn stage_behind(call: &Call) -> Stage
     ensures { result ≡ stage_behind call.now }
 {
-    match *call {
-        Call::Finalize => Stage::Finalized,
-        _ => Stage::Reading,
+    if call.ends_list() {
+        Stage::Finalized
+    } else {
+        Stage::Reading
     }
 }

@@ -3,7 +3,7 @@
 use Rattle.std.specs.Prelude.{ℕ, Bool, ◌&&◌, ◌==◌, nat_le, nat_lt, Option, Some, None, Result, Ok, Err, if◌then◌else◌, List, [], ◌∷◌, length, codes}
 use Rattle.std.specs.List.{onto_first, range_with_len}
 use Rattle.std.specs.Str.{bytes_eq}
-use Rattle.mpicall.specs.Line.{most_bytes, has_line_feed, split_fields, body_of}
+use Rattle.mpicall.specs.Lines.{most_bytes, has_line_feed, split_fields, body_of}
 use Rattle.mpicall.specs.Number.{is_canonical, number_up_to}
 use Rattle.mpicall.specs.Spelling.{line_feed}
 use Rattle.mpigroup.specs.Groups.{Groups}

@@ -1,22 +1,18 @@
--- The clauses on the line follow from what was read of it.
+-- The two laws of the line.
 use Rattle.std.proofs.Common.{sym, ◌∙◌, ap, Ok, Err}
-use Rattle.mpicall.specs.Spelling.{spelling}
-use Rattle.mpicall.proofs.ReadingLemmas.{spelled_only, fault_told, read_spells}
+use Rattle.mpicall.proofs.LineLemmas.{record_exactly, spells_same, fault_exactly}
 use Rattle.mpicall.proofs.line.read_line.Goals as goal
-
-pub of_ranged-requires : goal.of_ranged-requires
-of_ranged-requires c = (read_spells c.args.line.now c.read_into.new.into c.in-Ok.ensures).1
 
 pub returns-in-Ok-clause-ok : goal.returns-in-Ok-clause-ok
 returns-in-Ok-clause-ok c =
-    (read_spells c.args.line.now c.read_into.new.into c.in-Ok.ensures).0 ∙ ap spelling (sym c.of_ranged.ensures)
+    λ x. record_exactly c.args.line.now _ x (c.in-Ok.ensures.reading ∙ ap Ok (sym c.of_ranged.ensures))
+    (λ call is. spells_same c.args.line.now _ _ call (ap Ok c.of_ranged.ensures) c.in-Ok.ensures.ok is)
 
-pub returns-in-Ok-clause-only : goal.returns-in-Ok-clause-only
-returns-in-Ok-clause-only c =
-    λ x h is. spelled_only c.args.line.now (Ok c.of_ranged.result) x (c.in-Ok.ensures ∙ ap Ok (sym c.of_ranged.ensures)) h is
+pub returns-in-Ok-clause-fault : goal.returns-in-Ok-clause-fault
+returns-in-Ok-clause-fault c = λ fault. fault_exactly c.args.line.now _ fault (c.in-Ok.ensures.reading ∙ ap Ok (sym c.of_ranged.ensures))
 
-pub returns-in-Err-clause-only : goal.returns-in-Err-clause-only
-returns-in-Err-clause-only c = λ x h is. spelled_only c.args.line.now (Err c.in-Err.fault) x c.in-Err.ensures h is
+pub returns-in-Err-clause-ok : goal.returns-in-Err-clause-ok
+returns-in-Err-clause-ok c = λ x. record_exactly c.args.line.now _ x c.in-Err.ensures.reading (λ call is. cc)
 
 pub returns-in-Err-clause-fault : goal.returns-in-Err-clause-fault
-returns-in-Err-clause-fault c = fault_told c.args.line.now c.in-Err.fault c.in-Err.ensures
+returns-in-Err-clause-fault c = λ fault. fault_exactly c.args.line.now _ fault c.in-Err.ensures.reading

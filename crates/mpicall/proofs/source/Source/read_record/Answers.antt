@@ -2,7 +2,6 @@
 use Rattle.std.proofs.Common.{sym, ap, ◌∙◌, take, List, ℕ}
 use Rattle.mpicall.specs.Source.{coming}
 use Rattle.mpicall.specs.Reading.{record_of_line}
-use Rattle.mpicall.proofs.ReadingLemmas.{read_spells}
 use Rattle.mpicall.proofs.GivesLemmas.{gives_read_failed, gives_no_finalize, gives_record, gives_line_fault}
 use Rattle.mpicall.proofs.source.Source.read_record.Goals as goal
 
@@ -18,16 +17,13 @@ returns-then-len-eq0-clause-trace g c =
 pub returns-in-Ok-read_into-clause-trace : goal.returns-in-Ok-read_into-clause-trace
 unfolding coming
 returns-in-Ok-read_into-clause-trace g c =
-    let read = ap (λ (held : List ℕ). record_of_line (take c.in-Ok.len held)) (sym c.held.ensures) ∙ c.in-Ok-read_into.ensures in
+    let read = ap (λ (held : List ℕ). record_of_line (take c.in-Ok.len held)) (sym c.held.ensures) ∙ c.in-Ok-read_into.ensures.reading in
     rw (c.requires, c.stage_behind-self.ensures, c.drop_front.ensures)
     (gives_record _ _ c.line_end.new.window c.in-Ok.len c.read_into.new.into c.in-Ok.ensures.known c.in-Ok.ensures.ends read)
-
-pub returns-in-Ok-read_into-clause-in_ranges : goal.returns-in-Ok-read_into-clause-in_ranges
-returns-in-Ok-read_into-clause-in_ranges g c = λ yes. (read_spells _ _ c.in-Ok-read_into.ensures).1
 
 pub returns-in-Err-read_into-clause-trace : goal.returns-in-Err-read_into-clause-trace
 unfolding coming
 returns-in-Err-read_into-clause-trace g c =
-    let read = ap (λ (held : List ℕ). record_of_line (take c.in-Ok.len held)) (sym c.held.ensures) ∙ c.in-Err-read_into.ensures in
+    let read = ap (λ (held : List ℕ). record_of_line (take c.in-Ok.len held)) (sym c.held.ensures) ∙ c.in-Err-read_into.ensures.reading in
     rw c.requires
     (gives_line_fault _ _ c.line_end.new.window c.in-Ok.len c.in-Err-read_into.fault c.in-Ok.ensures.known c.in-Ok.ensures.ends c.if-len-eq0.false read)

@@ -1,0 +1,310 @@
+-- What the readers of the fields behind a word say of these fields.
+use Rattle.std.proofs.Common.{◌≡◌, ℕ, ◌+◌, ◌-◌, ◌<◌, ◌≤◌, Bool, true, false, List, [], ◌∷◌, ◌++◌, length, sym, ap, ◌∙◌, refl, arith, Option, Some, None, option_map, ◌&&◌, ◌==◌, map, is_some, nat_le, cond, MatchOption, MatchBool, length-append, append_assoc, suc}
+use Rattle.std.specs.Fmt.{decimal}
+use Rattle.std.specs.List.{list_all}
+use Rattle.std.proofs.lemmas.Bool.Decides.{nat_tests}
+use Rattle.std.proofs.lemmas.List.{length-map, map-append, append-nil}
+use Rattle.std.proofs.lemmas.List.Folds.{list_all-append}
+use Rattle.mpicall.specs.Argument.{Argument, Form, NumberUpTo, Number, spell, is_in_range, form_of, is_in_form, request_form, request_argument, index_form, index_argument, read_argument}
+use Rattle.mpicall.specs.Limits.{in_ranges, names_enough, few_enough}
+use Rattle.mpicall.specs.Line.{Shape, Fixed, Requests, Chosen, shape_of, root_forms, operation_forms, takes_count, each_in_form, all_requests, all_in_form, fits, fits_line}
+use Rattle.mpicall.specs.Lines.{is_empty}
+use Rattle.mpicall.specs.Number.{number_up_to, is_canonical, value_of}
+use Rattle.mpicall.specs.Reading.{with_behind, next_argument, take_arguments, ReadsCall, ReadsBehind, ReadsFields, requests_fit, SpellsRequests}
+use Rattle.mpicall.specs.Spelling.{word_of_call, arguments_of, fields_of}
+use Rattle.mpicall.specs.Word.{word_of, text_of}
+use Rattle.mpicall.proofs.WordLemmas.{word_has}
+use Rattle.mpicall.proofs.DecimalLemmas.{number-decimal}
+use Rattle.mpicall.proofs.ArgumentLemmas.{small_form, and_true, le_to, le_from, argument_spelled, false_unless}
+use Rattle.mpicall.proofs.RowLemmas.{row_spelled, row_length, row_none}
+use Rattle.mpicall.specs.declared.call.Call.{Call}
+use Rattle.mpicall.specs.declared.call.Call.TheVariants.{Send, Recv, Isend, Irecv, Sendrecv, Wait, Waitall, Waitany, Coll, Icoll, Dup, Split, Finalize}
+use Rattle.mpicall.specs.declared.word.Collective.TheVariants.{Barrier, Bcast, Gather, Scatter, Reduce, Allgather, Alltoall, Allreduce, Scan, Exscan}
+use Rattle.mpicall.specs.declared.word.Collective.{Collective}
+use Rattle.mpicall.specs.declared.word.Operation.TheVariants.{Send as SendOperation, Recv as RecvOperation, Coll as CollOperation}
+use Rattle.mpicall.specs.declared.word.Operation.{Operation}
+use Rattle.mpicall.specs.declared.word.Word.{Word}
+use Rattle.mpicall.specs.declared.word.Word.TheVariants.{Blocking, Started, Sendrecv as SendrecvWord, Wait as WaitWord, Waitall as WaitallWord, Waitany as WaitanyWord, Dup as DupWord, Split as SplitWord, Finalize as FinalizeWord}
+
+-- Words whose fields have fixed forms.
+
+root_small : (c : Collective) → list_all small_form (root_forms c) ≡ true
+root_small Barrier = refl
+root_small Bcast = refl
+root_small Gather = refl
+root_small Scatter = refl
+root_small Reduce = refl
+root_small Allgather = refl
+root_small Alltoall = refl
+root_small Allreduce = refl
+root_small Scan = refl
+root_small Exscan = refl
+
+operation_small : (o : Operation) → list_all small_form (operation_forms o) ≡ true
+operation_small (SendOperation mode) = refl
+operation_small RecvOperation = refl
+operation_small (CollOperation c) = root_small c
+
+abbrev shape_small : Shape → Bool
+shape_small (Fixed forms) = list_all small_form forms
+shape_small _ = true
+
+word_small : (w : Word) → shape_small (shape_of w) ≡ true
+word_small (Blocking o) = operation_small o
+word_small (Started o) = operation_small o
+word_small SendrecvWord = refl
+word_small WaitWord = refl
+word_small WaitallWord = refl
+word_small WaitanyWord = refl
+word_small DupWord = refl
+word_small SplitWord = refl
+word_small FinalizeWord = refl
+
+abbrev is_fixed : Shape → Bool
+is_fixed (Fixed forms) = true
+is_fixed _ = false
+
+-- a call whose word has fixed forms has no list of requests
+fixed_enough : (x : Call) → is_fixed (shape_of (word_of_call x)) ≡ true → names_enough x ≡ true
+fixed_enough (Send mode comm dest tag) h = refl
+fixed_enough (Recv comm source tag) h = refl
+fixed_enough (Isend req mode comm dest tag) h = refl
+fixed_enough (Irecv req comm source tag) h = refl
+fixed_enough (Sendrecv comm dest send_tag source recv_tag) h = refl
+fixed_enough (Wait req) h = refl
+fixed_enough (Waitall reqs) h = cc
+fixed_enough (Waitany chosen reqs) h = cc
+fixed_enough (Coll comm kind) h = refl
+fixed_enough (Icoll req comm kind) h = refl
+fixed_enough (Dup comm new) h = refl
+fixed_enough (Split comm colour key new) h = refl
+fixed_enough Finalize h = refl
+
+both : (a b : Bool) → a ≡ true → b ≡ true → (a && b) ≡ true
+both a b ha hb = rw (ha, hb) refl
+
+not_both : (a b : Bool) → (a ≡ true → b ≡ false) → (a && b) ≡ false
+not_both true b h = h refl
+not_both false b h = refl
+
+fixed_all : (w : Word) (forms : List Form) (fields : List (List ℕ)) (call : Call) → shape_of w ≡ Fixed forms → take_arguments forms fields ≡ Some (arguments_of call, []) → word_of_call call ≡ w → (fields ≡ map spell (arguments_of call)) × (word_of_call call ≡ w) × (in_ranges call ≡ true)
+fixed_all w forms fields call is taken word =
+    let small : list_all small_form forms ≡ true = ap shape_small (sym is) ∙ word_small w in
+    let spelled = row_spelled forms fields (arguments_of call) [] small taken in
+    let enough = fixed_enough call (ap (λ v. is_fixed (shape_of v)) word ∙ ap is_fixed is) in
+    (spelled.fields_are ∙ append-nil (map spell (arguments_of call)), word, both _ _ spelled.in_range enough)
+
+fixed_more : (w : Word) (forms : List Form) (fields : List (List ℕ)) (args : List Argument) (field : List ℕ) (behind : List (List ℕ)) → shape_of w ≡ Fixed forms → take_arguments forms fields ≡ Some (args, field ∷ behind) → fits w fields ≡ false
+fixed_more w forms fields args field behind is taken =
+    let count = row_length forms fields args (field ∷ behind) taken in
+    let no : (length forms == length fields) ≡ false = grind (arith, nat_tests, count) in
+    rw (is, no) refl
+
+fixed_none : (w : Word) (forms : List Form) (fields : List (List ℕ)) → shape_of w ≡ Fixed forms → take_arguments forms fields ≡ None → fits w fields ≡ false
+fixed_none w forms fields is taken =
+    rw is (not_both (length forms == length fields) (each_in_form forms fields)
+    (λ same. let e : length forms ≡ length fields = grind (arith, nat_tests, same) in row_none forms fields e taken))
+
+pub fixed_reads : (w : Word) (forms : List Form) (fields behind : List (List ℕ)) (answer : Option (Unit {0})) (call : Call) (read : Bool) → shape_of w ≡ Fixed forms → ReadsCall w forms fields answer call behind → read ≡ (is_some answer && is_empty behind) → ReadsBehind w fields read call
+fixed_reads w forms fields behind None call read is reads e = rw e (fixed_none w forms fields is reads)
+fixed_reads w forms fields [] (Some u) call read is reads e = rw e (fixed_all w forms fields call is reads.0 reads.1)
+fixed_reads w forms fields (field ∷ behind) (Some u) call read is reads e = rw e (fixed_more w forms fields (arguments_of call) field behind is reads.0)
+
+-- Lists of requests.
+
+-- the fields are those of some requests, and others that are left
+pub record SoFar (all : List (List ℕ)) (reqs : List ℕ) (left : List (List ℕ)) : Type 0 where
+  pub fields_are : all ≡ map spell (map request_argument reqs) ++ left
+  pub in_range : list_all is_in_range (map request_argument reqs) ≡ true
+  pub least : 1 ≤ length reqs
+  pub most : length reqs ≤ 64
+
+-- a field that is no request, behind some others
+unfit_behind : (reqs : List ℕ) (field : List ℕ) (left : List (List ℕ)) → is_in_form request_form field ≡ false → all_requests (map spell (map request_argument reqs) ++ field ∷ left) ≡ false
+unfit_behind [] field left no_form = rw no_form refl
+unfit_behind (req ∷ reqs) field left no_form = not_both _ _ (λ yes. unfit_behind reqs field left no_form)
+
+no_request : (field : List ℕ) → number_up_to 2147483647 field ≡ None → is_in_form request_form field ≡ false
+no_request field e = rw e refl
+
+not_all : (a b c : Bool) → c ≡ false → (a && b && c) ≡ false
+not_all true true c h = h
+not_all true false c h = refl
+not_all false b c h = refl
+
+pub requests_unfit : (all : List (List ℕ)) (reqs : List ℕ) (field : List ℕ) (left : List (List ℕ)) → SoFar all reqs (field ∷ left) → number_up_to 2147483647 field ≡ None → requests_fit all ≡ false
+requests_unfit all reqs field left s none =
+    let unfit = unfit_behind reqs field left (no_request field none) in
+    ap requests_fit s.fields_are
+    ∙ not_all (nat_le 1 (length (map spell (map request_argument reqs) ++ field ∷ left))) (nat_le (length (map spell (map request_argument reqs) ++ field ∷ left)) 64) _ unfit
+
+not_middle : (a b c : Bool) → b ≡ false → (a && b && c) ≡ false
+not_middle true b c h = rw h refl
+not_middle false b c h = refl
+
+pub requests_too_many : (all : List (List ℕ)) (reqs : List ℕ) (field : List ℕ) (left : List (List ℕ)) → SoFar all reqs (field ∷ left) → length reqs ≡ 64 → requests_fit all ≡ false
+requests_too_many all reqs field left s full =
+    let count : length all ≡ length (map spell (map request_argument reqs)) + length (field ∷ left) = ap length s.fields_are ∙ length-append (map spell (map request_argument reqs)) (field ∷ left) in
+    let same : length (map spell (map request_argument reqs)) ≡ length reqs = length-map (map request_argument reqs) spell ∙ length-map reqs request_argument in
+    let above : nat_le (length all) 64 ≡ false = grind (arith, nat_tests, count, same, full) in
+    not_middle _ _ _ above
+
+first_cases : (field : List ℕ) (o : Option Argument) (left : List (List ℕ)) → o ≡ read_argument request_form field → with_behind left o ≡ None → is_in_form request_form field ≡ false
+first_cases field None left is e = rw (sym is) refl
+first_cases field (Some a) left is e = cc
+
+pub requests_missing : (all : List (List ℕ)) → next_argument request_form all ≡ None → requests_fit all ≡ false
+requests_missing [] e = refl
+requests_missing (field ∷ left) e =
+    let unfit : all_requests (field ∷ left) ≡ false = rw (first_cases field (read_argument request_form field) left refl e) refl in
+    not_all (nat_le 1 (length (field ∷ left))) (nat_le (length (field ∷ left)) 64) (all_requests (field ∷ left)) unfit
+
+abbrev read_of : Option (Argument × List (List ℕ)) → Option Argument
+read_of None = None
+read_of (Some first) = Some first.0
+
+abbrev left_of : List (List ℕ) → Option (Argument × List (List ℕ)) → List (List ℕ)
+left_of left None = left
+left_of left (Some first) = first.1
+
+first_is : (field : List ℕ) (o : Option Argument) (left behind : List (List ℕ)) (a : Argument) → with_behind left o ≡ Some (a, behind) → (o ≡ Some a) × (left ≡ behind)
+first_is field None left behind a e = cc
+first_is field (Some b) left behind a e = (ap read_of e, ap (left_of left) e)
+
+pub requests_begin : (all : List (List ℕ)) (req : ℕ) (left : List (List ℕ)) → next_argument request_form all ≡ Some (request_argument req, left) → SoFar all (req ∷ []) left
+requests_begin [] req left e = cc
+requests_begin (field ∷ fields) req left e =
+    let first = first_is field (read_argument request_form field) fields left (request_argument req) e in
+    let spelled = argument_spelled request_form field (request_argument req) refl first.0 in
+    record { fields_are = rw (spelled.0, first.1) refl; in_range = rw spelled.1 refl; least = omega arith; most = omega arith }
+
+step_fields : (all : List (List ℕ)) (reqs : List ℕ) (field : List ℕ) (left : List (List ℕ)) (req : ℕ) → all ≡ map spell (map request_argument reqs) ++ field ∷ left → field ≡ decimal req → all ≡ map spell (map request_argument (reqs ++ req ∷ [])) ++ left
+step_fields all reqs field left req e f = rw (e, f) (simp (map-append, append_assoc) refl)
+
+step_in_range : (reqs : List ℕ) (req : ℕ) → list_all is_in_range (map request_argument reqs) ≡ true → is_in_range (request_argument req) ≡ true → list_all is_in_range (map request_argument (reqs ++ req ∷ [])) ≡ true
+step_in_range reqs req h here = simp (map-append, list_all-append, h, here) refl
+
+pub requests_step : (all : List (List ℕ)) (reqs : List ℕ) (field : List ℕ) (left : List (List ℕ)) (req : ℕ) → SoFar all reqs (field ∷ left) → length reqs < 64 → number_up_to 2147483647 field ≡ Some req → SoFar all (reqs ++ req ∷ []) left
+requests_step all reqs field left req s room e =
+    let spelled = argument_spelled request_form field (request_argument req) refl (ap (option_map (Number 2147483647)) e) in
+    record {
+      fields_are = step_fields all reqs field left req s.fields_are spelled.0;
+      in_range = step_in_range reqs req s.in_range spelled.1;
+      least = omega (arith, length-append reqs (req ∷ []), s.least);
+      most = omega (arith, length-append reqs (req ∷ []));
+    }
+
+pub requests_end : (all : List (List ℕ)) (reqs : List ℕ) → SoFar all reqs [] → SpellsRequests all reqs
+requests_end all reqs s = record {
+  fields_are = s.fields_are ∙ append-nil (map spell (map request_argument reqs));
+  in_range = s.in_range;
+  enough = both _ _ (le_to 1 (length reqs) s.least) (le_to (length reqs) 64 s.most);
+}
+
+-- A chosen request and the list in which it is.
+
+below_cases : (t : Bool) (v a b : ℕ) → a ≤ b → nat_le v b ≡ t → cond t (Some v) None ≡ None → cond (nat_le v a) (Some v) None ≡ None
+below_cases true v a b h is e = cc
+below_cases false v a b h is e = let no : nat_le v a ≡ false = grind (arith, nat_tests) in rw no refl
+
+above_cases : (t : Bool) (v a n : ℕ) → a < n → cond t (Some v) None ≡ Some n → cond (nat_le v a) (Some v) None ≡ None
+above_cases true v a n h e = let is : v ≡ n = cc in let no : nat_le v a ≡ false = grind (arith, nat_tests) in rw no refl
+above_cases false v a n h e = cc
+
+canonical_below : (c : Bool) (v a b : ℕ) → a ≤ b → cond (c && nat_le v b) (Some v) None ≡ None → cond (c && nat_le v a) (Some v) None ≡ None
+canonical_below true v a b h e = below_cases (nat_le v b) v a b h refl e
+canonical_below false v a b h e = refl
+
+smaller_none : (a b : ℕ) (field : List ℕ) → a ≤ b → number_up_to b field ≡ None → number_up_to a field ≡ None
+unfolding number_up_to
+smaller_none a b field h e = canonical_below (is_canonical field) (value_of field) a b h e
+
+canonical_above : (c : Bool) (v a b n : ℕ) → a < n → cond (c && nat_le v b) (Some v) None ≡ Some n → cond (c && nat_le v a) (Some v) None ≡ None
+canonical_above true v a b n h e = above_cases (nat_le v b) v a n h e
+canonical_above false v a b n h e = cc
+
+greater_none : (a b n : ℕ) (field : List ℕ) → a < n → number_up_to b field ≡ Some n → number_up_to a field ≡ None
+unfolding number_up_to
+greater_none a b n field h e = canonical_above (is_canonical field) (value_of field) a b n h e
+
+-- an index that is none below the number of requests
+chosen_unfit : (field : List ℕ) (left : List (List ℕ)) → (nat_le (length left) 64 ≡ true → number_up_to (length left - 1) field ≡ None) → fits WaitanyWord (field ∷ left) ≡ false
+chosen_unfit field left none =
+    not_both (takes_count Chosen (length (field ∷ left))) (all_in_form Chosen (field ∷ left)) (λ counts.
+    let parts = and_true (nat_le 2 (length (field ∷ left))) (nat_le (length (field ∷ left)) 65) counts in
+    let most = le_from (length (field ∷ left)) 65 parts.1 in
+    let no = none (le_to (length left) 64 (omega arith)) in
+    rw no refl)
+
+number_none : (greatest : ℕ) (o : Option ℕ) (left : List (List ℕ)) → with_behind left (option_map (Number greatest) o) ≡ None → o ≡ None
+number_none greatest None left e = refl
+number_none greatest (Some n) left e = cc
+
+pub index_missing : (all : List (List ℕ)) → next_argument (NumberUpTo 63) all ≡ None → fits WaitanyWord all ≡ false
+index_missing [] e = refl
+index_missing (field ∷ left) e =
+    chosen_unfit field left (λ few.
+    let most = le_from (length left) 64 few in
+    smaller_none (length left - 1) 63 field (omega arith) (number_none 63 (number_up_to 63 field) left e))
+
+pub record Index (all : List (List ℕ)) (chosen : ℕ) (left : List (List ℕ)) : Type 0 where
+  pub field : List ℕ
+  pub all_are : all ≡ field ∷ left
+  pub number_is : number_up_to 63 field ≡ Some chosen
+
+number_some : (greatest : ℕ) (o : Option ℕ) (n : ℕ) → option_map (Number greatest) o ≡ Some (Number greatest n) → o ≡ Some n
+number_some greatest None n e = cc
+number_some greatest (Some m) n e = cc
+
+pub index_read : (all : List (List ℕ)) (chosen : ℕ) (left : List (List ℕ)) → next_argument (NumberUpTo 63) all ≡ Some (Number 63 chosen, left) → Index all chosen left
+index_read [] chosen left e = cc
+index_read (field ∷ fields) chosen left e =
+    let first = first_is field (read_argument (NumberUpTo 63) field) fields left (Number 63 chosen) e in
+    record { field = field; all_are = ap (λ fs. field ∷ fs) first.1; number_is = number_some 63 (number_up_to 63 field) chosen first.0 }
+
+unfit_last : (a x c : Bool) → (a && c) ≡ false → (a && (x && c)) ≡ false
+unfit_last true true c e = e
+unfit_last true false c e = refl
+unfit_last false x c e = refl
+
+unfit_list : (n : ℕ) (x c : Bool) → (nat_le 1 n && nat_le n 64 && c) ≡ false → (nat_le 2 (suc n) && nat_le (suc n) 65 && (x && c)) ≡ false
+unfit_list n x c e =
+    let low : nat_le 2 (suc n) ≡ nat_le 1 n = grind (arith, nat_tests) in
+    let high : nat_le (suc n) 65 ≡ nat_le n 64 = grind (arith, nat_tests) in
+    rw (low, high) (unfit_last (nat_le 1 n && nat_le n 64) x c e)
+
+pub list_unfit : (all : List (List ℕ)) (chosen : ℕ) (left : List (List ℕ)) → Index all chosen left → requests_fit left ≡ false → fits WaitanyWord all ≡ false
+list_unfit all chosen left i e =
+    ap (fits WaitanyWord) i.all_are ∙ unfit_list (length left) (is_in_form (index_form (length left)) i.field) (all_requests left) e
+
+as_many : (reqs : List ℕ) → length (map spell (map request_argument reqs)) ≡ length reqs
+as_many reqs = length-map (map request_argument reqs) spell ∙ length-map reqs request_argument
+
+pub index_unfit : (all : List (List ℕ)) (chosen : ℕ) (left : List (List ℕ)) (reqs : List ℕ) → Index all chosen left → SpellsRequests left reqs → length reqs ≤ chosen → fits WaitanyWord all ≡ false
+index_unfit all chosen left reqs i s above =
+    let count = ap length s.fields_are ∙ as_many reqs in
+    let enough = and_true (nat_le 1 (length reqs)) (nat_le (length reqs) 64) s.enough in
+    let least = le_from 1 (length reqs) enough.0 in
+    ap (fits WaitanyWord) i.all_are
+    ∙ chosen_unfit i.field left (λ few. greater_none (length left - 1) 63 chosen i.field (omega arith) i.number_is)
+
+with_first : (field : List ℕ) (chosen : ℕ) (left : List (List ℕ)) (reqs : List ℕ) → field ≡ decimal chosen → left ≡ map spell (map request_argument reqs) → field ∷ left ≡ decimal chosen ∷ map spell (map request_argument reqs)
+with_first field chosen left reqs p q = rw (p, q) refl
+
+pub index_fits : (all : List (List ℕ)) (chosen : ℕ) (left : List (List ℕ)) (reqs : List ℕ) → Index all chosen left → SpellsRequests left reqs → chosen < length reqs → (all ≡ map spell (arguments_of (Waitany chosen reqs))) × (WaitanyWord ≡ WaitanyWord) × (in_ranges (Waitany chosen reqs) ≡ true)
+index_fits all chosen left reqs i s below =
+    let text = number-decimal 63 chosen i.field (omega arith) i.number_is in
+    let in_list : nat_le chosen (length reqs - 1) ≡ true = le_to chosen (length reqs - 1) (omega arith) in
+    let fields : i.field ∷ left ≡ decimal chosen ∷ map spell (map request_argument reqs) = with_first i.field chosen left reqs text.0 s.fields_are in
+    (i.all_are ∙ fields, refl, both _ _ (both _ _ in_list s.in_range) s.enough)
+
+-- The fields of a whole line.
+
+whole : (text : List ℕ) (fields : List (List ℕ)) (w : Word) (call : Call) → text ≡ text_of w → fields ≡ map spell (arguments_of call) → word_of_call call ≡ w → text ∷ fields ≡ fields_of call
+whole text fields w call p q r = rw (p, q, sym r) refl
+
+pub line_reads : (text : List ℕ) (fields all : List (List ℕ)) (w : Word) (answer : Bool) (call : Call) → all ≡ text ∷ fields → word_of text ≡ Some w → ReadsBehind w fields answer call → ReadsFields all answer call
+unfolding fits_line
+line_reads text fields all w true call is found reads =
+    (is ∙ whole text fields w call (word_has text w found) reads.0 reads.1, reads.2)
+line_reads text fields all w false call is found reads = rw (is, found) reads

@@ -1,0 +1,9 @@
+-- Which calls end the list of a rank's calls.
+use Rattle.std.specs.Prelude.{Bool, true, false}
+use Rattle.mpicall.specs.declared.call.Call.{Call}
+use Rattle.mpicall.specs.declared.call.Call.TheVariants.{Finalize}
+
+-- no call of the rank comes behind this one
+abbrev pub ends_list : Call → Bool
+ends_list Finalize = true
+ends_list _ = false

@@ -1,0 +1,137 @@
+//! The first fault of the fields of a line that no record is read from.
+
+ghost use Rattle.std.specs.Prelude.{◌≡◌, ◌≤◌, Some, false, length, take, drop};
+ghost use Rattle.std.specs.List.{list_any};
+ghost use Rattle.mpicall.specs.Line.{root_forms, operation_forms, shape_of, takes_count, is_any, source_place, wildcard_at, fault_of_fields, fits_line};
+ghost use Rattle.mpicall.specs.Lines.{is_blank};
+
+use crate::fault::LineFault;
+use crate::fields::Fields;
+use crate::limits::{MOST_LINE_BYTES, MOST_REQUESTS};
+use crate::word::{Collective, Operation, Word, word_of};
+
+/// Whether a field has no bytes.
+fn has_blank(mut fields: Fields<'_>) -> bool
+    ensures { result ≡ list_any is_blank fields.entry }
+{
+    while let Some(field) = fields.next_field() {
+        if field.is_empty() {
+            return true;
+        }
+    }
+    false
+}
+
+/// How many fields there are.
+fn count(mut fields: Fields<'_>) -> usize
+    requires { length fields ≤ MOST_LINE_BYTES }
+    ensures { result ≡ length fields.entry }
+{
+    let mut count = 0;
+    while fields.next_field().is_some() {
+        count += 1;
+    }
+    count
+}
+
+/// How many fields an operation takes.
+fn field_count(operation: Operation) -> usize
+    ensures { result ≡ length (operation_forms operation) }
+{
+    match operation {
+        Operation::Send(_) | Operation::Recv => 3,
+        Operation::Coll(
+            Collective::Bcast | Collective::Gather | Collective::Scatter | Collective::Reduce,
+        ) => 2,
+        Operation::Coll(_) => 1,
+    }
+}
+
+/// Whether a word takes so many fields.
+fn takes_count(word: Word, count: usize) -> bool
+    ensures { result ≡ takes_count (shape_of word) count }
+{
+    match word {
+        Word::Blocking(operation) => count == field_count(operation),
+        Word::Started(operation) => count == 1 + field_count(operation),
+        Word::Sendrecv => count == 5,
+        Word::Wait => count == 1,
+        Word::Waitall => 1 <= count && count <= MOST_REQUESTS,
+        Word::Waitany => 2 <= count && count <= MOST_REQUESTS + 1,
+        Word::Dup => count == 2,
+        Word::Split => count == 4,
+        Word::Finalize => count == 0,
+    }
+}
+
+fn is_any(field: &[u8]) -> bool
+    ensures { result ≡ is_any field.now }
+{
+    field == b"any".as_slice()
+}
+
+/// How many fields stand before the source of a receive.
+fn source_place(word: Word) -> Option<usize>
+    ensures { result ≡ source_place word }
+{
+    match word {
+        Word::Blocking(Operation::Recv) => Some(1),
+        Word::Started(Operation::Recv) => Some(2),
+        Word::Sendrecv => Some(3),
+        _ => None,
+    }
+}
+
+/// Whether there is a next field, and it is a wildcard.
+fn next_is_any(fields: &mut Fields<'_>) -> bool
+    ensures value { result ≡ list_any is_any (take 1 fields.old) }
+    ensures rest { fields.new ≡ drop 1 fields.old }
+{
+    match fields.next_field() {
+        Some(field) => is_any(field),
+        None => false,
+    }
+}
+
+/// Leaves the next field out, if there is one.
+fn skip(fields: &mut Fields<'_>)
+    ensures { fields.new ≡ drop 1 fields.old }
+{
+    let _ = fields.next_field();
+}
+
+/// Whether one of two fields is a wildcard, behind `place` others.
+#[tactic(auto, using(crate::proofs::WildcardLemmas::wildcard_steps))]
+fn has_wildcard(place: usize, mut fields: Fields<'_>) -> bool
+    ensures { result ≡ wildcard_at (Some place) fields.entry }
+{
+    for _ in 0..place {
+        skip(&mut fields);
+    }
+    next_is_any(&mut fields) || next_is_any(&mut fields)
+}
+
+/// The first fault of fields that don't fit.
+#[tactic(auto, unfolding(crate::specs::Line::fits_line, crate::specs::Line::fault_of_fields))]
+pub(crate) fn fault_of_fields(mut fields: Fields<'_>) -> LineFault
+    requires few { length fields ≤ MOST_LINE_BYTES }
+    requires unfit { fits_line fields ≡ false }
+    ensures { fault_of_fields fields.entry ≡ Some result }
+{
+    if has_blank(fields.again()) {
+        return LineFault::EmptyField;
+    }
+    let Some(field) = fields.next_field() else {
+        return LineFault::EmptyField;
+    };
+    let Some(word) = word_of(field) else {
+        return LineFault::UnknownWord;
+    };
+    if !takes_count(word, count(fields.again())) {
+        return LineFault::FieldCount;
+    }
+    match source_place(word) {
+        Some(place) if has_wildcard(place, fields) => LineFault::Wildcard,
+        _ => LineFault::FieldForm,
+    }
+}
