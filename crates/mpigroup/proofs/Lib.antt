@@ -1,3 +1,2 @@
-pub mod World
 pub mod LineLemmas
-pub mod FrontLemmas
+pub mod MemberLemmas

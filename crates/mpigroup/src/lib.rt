@@ -16,5 +16,5 @@
 #![tactic(auto)]
 
 pub mod fault;
-pub mod head;
+pub mod limits;
 mod line;
