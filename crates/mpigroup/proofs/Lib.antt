@@ -1,2 +1,5 @@
 pub mod LineLemmas
 pub mod MemberLemmas
+pub mod ReadingLemmas
+pub mod World
+pub mod FrontLemmas

@@ -1,3 +1,4 @@
 pub mod Groups
 pub mod HeadFaults
 pub mod HeadText
+pub mod Heads

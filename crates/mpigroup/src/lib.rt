@@ -16,5 +16,6 @@
 #![tactic(auto)]
 
 pub mod fault;
+pub mod head;
 pub mod limits;
 mod line;

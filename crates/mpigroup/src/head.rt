@@ -1,0 +1,150 @@
+//! The head of a run: its ranks, and the group of each of its communicators.
+
+ghost use Rattle.std.specs.Prelude.{take, ◌≡◌, ◌≤◌, ◌<◌, ◌==◌, Ok, length, position, slice_get, option_map, IfOk, IfErr, IfSome, map};
+ghost use Rattle.std.specs.Option.{option_copied};
+ghost use Rattle.mpigroup.specs.Groups.{ranks_of, size_of, world_rank_of, group_rank_of};
+ghost use Rattle.mpigroup.specs.Heads.{AreSound};
+ghost use Rattle.mpigroup.specs.HeadFaults.{IsFaultOf};
+ghost use Rattle.mpigroup.specs.HeadText.{lines_of, groups_of_lines, read_head};
+
+pub use crate::limits::DECIDING_BYTES;
+
+use crate::fault::{HeadFaultKind, ReadFault};
+use crate::limits::{MOST_COMMS, MOST_RANKS};
+use crate::line::{read_group, read_ranks, split_line};
+use std::alloc::Global;
+use std::marker::Model;
+
+/// The communicators of a run with their groups. Contracts see the list of the groups, the world's
+/// first, each an ordered list of world ranks.
+#[derive(Debug, Drop)]
+pub struct Head {
+    ranks: u16,
+    /// The groups of communicators 1, 2 and so on; the world's has the ranks in order.
+    further: Vec<Vec<u16>>,
+}
+
+impl Model for Head {
+    ghost use Rattle.std.specs.Prelude.{◌∷◌, ℕ, List, map};
+    ghost use Rattle.std.specs.List.{range_with_len};
+    ghost use Rattle.mpigroup.specs.Heads.{AreSound};
+
+    ghost Value = { List (List ℕ) };
+
+    ghost view = { λ h. range_with_len 0 h.ranks ∷ map (λ group. group.items) h.further.items };
+
+    ghost invariant = { λ h. AreSound h.ranks (map (λ group. group.items) h.further.items) };
+}
+
+/// The law that a text says what its first [`DECIDING_BYTES`] bytes say.
+pub fn front_decides(text: &[u8])
+    ensures { read_head (take DECIDING_BYTES text.now) ≡ read_head text.now }
+{
+    let _text = text;
+}
+
+/// The groups that the lines behind the first give.
+fn read_further(alloc: Global, ranks: u16, text: &[u8]) -> Result<Vec<Vec<u16>>, ReadFault>
+    requires least { 1 ≤ ranks }
+    requires most { ranks ≤ MOST_RANKS }
+    ensures ok { IfOk result (λ groups.
+        groups_of_lines ranks 2 (lines_of text.now) ≡ Ok (map (λ group. group.items) groups.items)) }
+    ensures sound { IfOk result (λ groups. AreSound ranks (map (λ group. group.items) groups.items)) }
+    ensures fault { IfErr result (IsFaultOf (groups_of_lines ranks 2 (lines_of text.now))) }
+{
+    let mut groups = Vec::new(alloc);
+    let mut number = 2;
+    let mut rest = text;
+    while let Some((line, behind)) = split_line(rest) {
+        groups.push(read_group(alloc, ranks, number, line)?)?;
+        number += 1;
+        rest = behind;
+    }
+    Ok(groups)
+}
+
+impl Head {
+    /// The head that a text gives, or the first fault of the text.
+    #[tactic(auto, unfolding(crate::specs::HeadText::read_head))]
+    pub fn read(alloc: Global, text: &[u8]) -> Result<Head, ReadFault>
+        ensures ok { IfOk result (λ head. read_head text.now ≡ Ok head) }
+        ensures fault { IfErr result (IsFaultOf (read_head text.now)) }
+    {
+        let (first, others) = split_line(text).ok_or(HeadFaultKind::FirstLine.at(1))?;
+        let ranks = read_ranks(first).map_err(|kind| kind.at(1))?;
+        let further = read_further(alloc, ranks, others)?;
+        Ok(Head { ranks, further })
+    }
+
+    /// How many ranks the run has, 1 to [`MOST_RANKS`].
+    pub fn ranks(&self) -> u16
+        ensures value { result ≡ ranks_of self.now }
+        ensures least { 1 ≤ result }
+        ensures most { result ≤ MOST_RANKS }
+    {
+        self.ranks
+    }
+
+    /// How many communicators the run has, the world counted.
+    pub fn comms(&self) -> u16
+        ensures value { result ≡ length self.now }
+        ensures most { result ≤ MOST_COMMS }
+    {
+        self.further.len() as u16 + 1
+    }
+
+    /// The group of a communicator that isn't the world, if the run has it.
+    fn further_group(&self, comm: u16) -> Option<&[u16]>
+        requires { 0 < comm }
+        ensures value { option_copied result ≡ slice_get self.now comm }
+        ensures few { IfSome result (λ group. length group.now ≤ MOST_RANKS) }
+    {
+        match self.further.get(usize::from(comm) - 1) {
+            Some(group) => Some(group.as_slice()),
+            None => None,
+        }
+    }
+
+    /// How many members a communicator has; None where there is no such communicator.
+    pub fn size(&self, comm: u16) -> Option<u16>
+        ensures { result ≡ size_of self.now comm }
+    {
+        if comm == 0 {
+            return Some(self.ranks);
+        }
+        match self.further_group(comm) {
+            Some(group) => Some(group.len() as u16),
+            None => None,
+        }
+    }
+
+    /// The rank in the communicator's group of a rank of the world; None where it is no member.
+    pub fn group_rank(&self, comm: u16, world: u16) -> Option<u16>
+        ensures { result ≡ group_rank_of self.now comm world }
+    {
+        if comm == 0 {
+            return if world < self.ranks { Some(world) } else { None };
+        }
+        match place_of(self.further_group(comm)?, world) {
+            Some(place) => Some(place as u16),
+            None => None,
+        }
+    }
+
+    /// The world rank of a member of the communicator's group; None where there is no such member.
+    pub fn world_rank(&self, comm: u16, g: u16) -> Option<u16>
+        ensures { result ≡ world_rank_of self.now comm g }
+    {
+        if comm == 0 {
+            return if g < self.ranks { Some(g) } else { None };
+        }
+        self.further_group(comm)?.get(usize::from(g)).copied()
+    }
+}
+
+/// Where a rank of the world stands in a group, if it does.
+fn place_of(group: &[u16], world: u16) -> Option<usize>
+    ensures { result ≡ position (λ member. member == world) group.now }
+{
+    group.iter().position(|member| *member == world)
+}
