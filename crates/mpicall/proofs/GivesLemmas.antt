@@ -5,10 +5,11 @@ use Rattle.std.specs.List.{onto_first}
 use Rattle.std.proofs.lemmas.Bool.Decides.{nat_tests}
 use Rattle.std.proofs.lemmas.List.{take_all, length-append}
 use Rattle.mpicall.specs.Spelling.{line_feed}
-use Rattle.mpicall.specs.Line.{most_bytes, has_line_feed}
+use Rattle.mpicall.specs.Lines.{most_bytes, has_line_feed}
 use Rattle.mpicall.specs.Reading.{record_of_line}
 use Rattle.mpicall.specs.Window.{NoFeedBelow, HasNoFeed, EndsLine}
-use Rattle.mpicall.specs.Trace.{Trace, Sealed, Torn, lines_of, trace_of, trace_of_lines, trace_with, ends_here, end_after_finalize}
+use Rattle.mpicall.specs.Trace.{Trace, Sealed, Torn, trace_of, trace_of_lines, trace_with, ends_here, end_after_finalize}
+use Rattle.mpicall.specs.Lines.{lines_of}
 use Rattle.mpicall.specs.Stage.{stage_behind, is_own}
 use Rattle.mpicall.specs.Source.{Gives, trace_at, IsOwnFault}
 use Rattle.mpicall.proofs.ReadingLemmas.{read_has_feed, too_long}

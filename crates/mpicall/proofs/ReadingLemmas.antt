@@ -18,7 +18,8 @@ use Rattle.mpicall.specs.Limits.{in_ranges, greatest_comm, greatest_rank, greate
 use Rattle.mpicall.specs.Number.{number_up_to}
 use Rattle.mpicall.specs.Word.{word_of, text_of}
 use Rattle.mpicall.specs.Spelling.{space, line_feed, fields_of, spelling}
-use Rattle.mpicall.specs.Line.{is_any, is_blank, most_bytes, has_line_feed, body_of, split_fields, fault_of_line, fault_of_fields, fault_by_word}
+use Rattle.mpicall.specs.Line.{is_any, fault_of_line, fault_of_fields, fault_by_word}
+use Rattle.mpicall.specs.Lines.{is_blank, most_bytes, has_line_feed, body_of, split_fields}
 use Rattle.mpicall.specs.Reading.{comm_of, peer_of, tag_of, make_send, make_recv, read_send, read_recv, read_finalize, read_shape, read_fields, blank_first, call_of_fields, record_of_line}
 use Rattle.mpicall.specs.declared.call.Mode.{Mode}
 use Rattle.mpicall.specs.declared.call.Mode.TheVariants.{Standard}

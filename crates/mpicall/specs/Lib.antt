@@ -1,7 +1,9 @@
 pub mod Limits
+pub mod Cells
 pub mod Number
 pub mod Word
 pub mod Spelling
+pub mod Lines
 pub mod Line
 pub mod Reading
 pub mod Device

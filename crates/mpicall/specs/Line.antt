@@ -9,7 +9,7 @@ use Rattle.mpicall.specs.Number.{number_up_to}
 use Rattle.mpicall.specs.Word.{word_of}
 use Rattle.mpicall.specs.declared.word.Word.{Word}
 use Rattle.mpicall.specs.declared.word.Word.TheVariants.{Send, Recv, Finalize}
-use Rattle.mpicall.specs.Spelling.{space, line_feed}
+use Rattle.mpicall.specs.Lines.{is_blank, most_bytes, has_line_feed, split_fields, body_of}
 use Rattle.mpicall.specs.declared.fault.LineFault.{LineFault}
 use Rattle.mpicall.specs.declared.fault.LineFault.TheVariants.{EmptyField, UnknownWord, FieldCount, FieldForm, Wildcard, TooLong, NoLineFeed}
 
@@ -68,36 +68,11 @@ abbrev pub fault_by_word : Option Word → List (List ℕ) → Option LineFault
 fault_by_word None fields = Some UnknownWord
 fault_by_word (Some word) fields = fault_by_forms (forms_of (shape_of word) (length fields)) fields
 
--- the field has no bytes
-abbrev pub is_blank : List ℕ → Bool
-is_blank field = length field == 0
-
 -- the first fault of the fields of a line, its word first
 unfoldable pub fault_of_fields : List (List ℕ) → Option LineFault
 fault_of_fields [] = Some EmptyField
 fault_of_fields (word ∷ fields) =
     if list_any is_blank (word ∷ fields) then Some EmptyField else fault_by_word (word_of word) fields
-
--- the most bytes of a line, its line feed counted
-abbrev pub most_bytes : ℕ
-most_bytes = 1024
-
--- the line ends with a line feed
-abbrev pub has_line_feed : List ℕ → Bool
-has_line_feed line = nat_lt 0 (length line) && slice_index line (length line - 1) == line_feed
-
--- the fields of a body, which are what lies between its spaces
-abbrev pub split_fields : List ℕ → List (List ℕ)
-split_fields body = slice_split (λ byte. byte == space) body
-
--- the fields of what is left of a body, if anything is
-abbrev pub split_some : Option (Bor (List ℕ)) → List (List ℕ)
-split_some None = []
-split_some (Some rest) = split_fields rest.now
-
--- the bytes of a line without its line feed
-abbrev pub body_of : List ℕ → List ℕ
-body_of line = take (length line - 1) line
 
 -- the first fault of a line; none for a spelling
 unfoldable pub fault_of_line : List ℕ → Option LineFault

@@ -6,7 +6,8 @@ use Rattle.std.specs.List.{list_any}
 use Rattle.mpicall.specs.Limits.{greatest_comm, greatest_rank, greatest_tag}
 use Rattle.mpicall.specs.Number.{number_up_to}
 use Rattle.mpicall.specs.Word.{word_of}
-use Rattle.mpicall.specs.Line.{is_any, is_blank, most_bytes, has_line_feed, body_of, split_fields}
+use Rattle.mpicall.specs.Line.{is_any}
+use Rattle.mpicall.specs.Lines.{is_blank, most_bytes, has_line_feed, body_of, split_fields}
 use Rattle.mpicall.specs.declared.call.Mode.{Mode}
 use Rattle.mpicall.specs.declared.call.Peer.{Peer}
 use Rattle.mpicall.specs.declared.call.Peer.TheVariants.{Rank}

@@ -2,7 +2,8 @@
 use Rattle.std.specs.Prelude.{◌≡◌, ◌≢◌, ℕ, Bool, true, false, ◌&&◌, if◌then◌else◌, Option, Some, None, is_none, option_map, Result, Ok, Err, List, ⊤}
 use Rattle.std.specs.Io.KnownBytes.{prepend_known}
 use Rattle.mpicall.specs.Device.{one_more}
-use Rattle.mpicall.specs.Trace.{Trace, End, Sealed, Torn, trace_of, lines_of, end_after_finalize, ends_here, put_first}
+use Rattle.mpicall.specs.Trace.{Trace, End, Sealed, Torn, trace_of, end_after_finalize, ends_here, put_first}
+use Rattle.mpicall.specs.Lines.{lines_of}
 use Rattle.mpicall.specs.declared.call.Call.{Call}
 use Rattle.mpicall.specs.declared.fault.SourceFault.{SourceFault}
 use Rattle.mpicall.specs.declared.fault.SourceFault.TheVariants.{ReadFailed, GateStopped, ThreadNotStarted}

@@ -1,18 +1,13 @@
 -- The trace that the bytes of a source hold: a list of records, and an end.
 use Rattle.std.specs.Prelude.{ℕ, ◌==◌, if◌then◌else◌, Result, Ok, Err, List, [], ◌∷◌}
 use Rattle.std.specs.List.{onto_first}
-use Rattle.mpicall.specs.Spelling.{line_feed}
+use Rattle.mpicall.specs.Lines.{lines_of}
 use Rattle.mpicall.specs.Reading.{record_of_line}
 use Rattle.mpicall.specs.declared.call.Call.{Call}
 use Rattle.mpicall.specs.declared.call.Call.TheVariants.{Finalize}
 use Rattle.mpicall.specs.declared.fault.LineFault.{LineFault}
 use Rattle.mpicall.specs.declared.fault.SourceFault.{SourceFault}
 use Rattle.mpicall.specs.declared.fault.SourceFault.TheVariants.{Line, TextAfterFinalize, NoFinalize}
-
--- the lines of a text, each through its line feed or through the end of the text
-abbrev pub lines_of : List ℕ → List (List ℕ)
-lines_of [] = []
-lines_of (byte ∷ bytes) = if byte == line_feed then (byte ∷ []) ∷ lines_of bytes else onto_first byte (lines_of bytes)
 
 -- how a source ends: with its `finalize` and nothing behind it, or with a fault
 pub data End : Type 0 where

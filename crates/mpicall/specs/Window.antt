@@ -2,7 +2,7 @@
 use Rattle.std.specs.Prelude.{◌≡◌, ◌≢◌, ℕ, ◌+◌, ◌-◌, ◌<◌, ◌⊎◌, Option, List, ◌++◌, length, take, drop, slice_index}
 use Rattle.std.specs.Io.KnownBytes.{IsAtEnd}
 use Rattle.mpicall.specs.Spelling.{line_feed}
-use Rattle.mpicall.specs.Line.{most_bytes}
+use Rattle.mpicall.specs.Lines.{most_bytes}
 
 -- `count` more bytes are held
 abbrev pub Fills : List ℕ → List ℕ → ℕ → Type 0

@@ -3,7 +3,7 @@
 ghost use Rattle.std.specs.Prelude.{◌≡◌, [], ◌∷◌, ◌==◌, position, MatchOption};
 ghost use Rattle.std.specs.List.{list_any};
 ghost use Rattle.mpicall.specs.Spelling.{space};
-ghost use Rattle.mpicall.specs.Line.{split_fields, is_blank};
+ghost use Rattle.mpicall.specs.Lines.{split_fields, is_blank};
 
 use std::marker::Model;
 
@@ -15,7 +15,7 @@ pub struct Fields<'a> {
 
 impl<'a> Model for Fields<'a> {
     ghost use Rattle.std.specs.Prelude.{List, ℕ};
-    ghost use Rattle.mpicall.specs.Line.{split_some};
+    ghost use Rattle.mpicall.specs.Lines.{split_some};
 
     ghost Value = { List (List ℕ) };
 

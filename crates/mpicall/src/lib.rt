@@ -31,11 +31,13 @@ pub mod device;
 pub mod fails_at;
 pub mod fault;
 pub mod fields;
+pub mod limits;
 pub mod line;
 pub mod memory;
 pub mod number;
 mod reading;
 pub mod record;
+pub mod reqs;
 pub mod source;
 pub mod spelling;
 #[cfg(test)]

@@ -10,18 +10,16 @@ ghost use Rattle.mpicall.specs.Reading.{record_of_line, ReadsInto};
 use crate::call::Call;
 use crate::fault::LineFault;
 use crate::fields::Fields;
+use crate::limits::MOST_LINE_BYTES;
 use crate::reading::{has_blank, read_fields};
 use crate::record::Record;
-
-/// The most bytes of a line, its line feed counted.
-pub const MOST_BYTES: usize = 1024;
 
 /// Reads the call of a line into one place, which keeps any call where the line has a fault.
 #[tactic(auto, unfolding(crate::specs::Reading::record_of_line))]
 pub(crate) fn read_into(line: &[u8], into: &mut Call) -> Result<(), LineFault>
     ensures { ReadsInto result into.new (record_of_line line.now) }
 {
-    if line.len() > MOST_BYTES {
+    if line.len() > MOST_LINE_BYTES {
         return Err(LineFault::TooLong);
     }
     let Some((last, body)) = line.split_last() else {

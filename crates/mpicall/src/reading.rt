@@ -3,14 +3,15 @@
 
 ghost use Rattle.std.specs.Prelude.{◌≡◌, Ok, Err, MatchResult};
 ghost use Rattle.std.specs.List.{list_any};
-ghost use Rattle.mpicall.specs.Line.{is_any, is_blank};
+ghost use Rattle.mpicall.specs.Line.{is_any};
+ghost use Rattle.mpicall.specs.Lines.{is_blank};
 ghost use Rattle.mpicall.specs.Reading.{comm_of, peer_of, tag_of, three_of, read_send, read_recv, read_finalize, read_fields, ReadsInto};
 
 use crate::call::{Call, Mode, Peer};
 use crate::fault::LineFault;
 use crate::fields::Fields;
 use crate::number::read_number;
-use crate::record::{GREATEST_COMM, GREATEST_RANK, GREATEST_TAG};
+use crate::limits::{GREATEST_COMM, GREATEST_RANK, GREATEST_TAG};
 use crate::word::{Word, word_of};
 
 fn read_comm(field: &[u8]) -> Result<u16, LineFault>

@@ -3,17 +3,9 @@
 ghost use Rattle.std.specs.Prelude.{◌≡◌, ◌↔◌, IsTrue, IsSome, IfSome};
 ghost use Rattle.mpicall.specs.Limits.{in_ranges, peer_in_range};
 
-use crate::call::{Call, Peer};
+use crate::call::{Call, Mode, Peer};
+use crate::limits::{GREATEST_COMM, GREATEST_RANK, GREATEST_TAG};
 use std::marker::Model;
-
-/// The greatest communicator number; 0 is the world.
-pub const GREATEST_COMM: u16 = 255;
-
-/// The greatest rank of a run.
-pub const GREATEST_RANK: u16 = 63;
-
-/// The greatest tag of a message.
-pub const GREATEST_TAG: u32 = 2147483647;
 
 /// A call all of whose fields lie in their ranges, so that it has one spelling in a trace.
 #[derive(Clone, Copy, Debug, PartialEq, Eq)]
@@ -40,6 +32,7 @@ fn is_peer_in_range(peer: Peer) -> bool
 {
     match peer {
         Peer::Rank(rank) => rank <= GREATEST_RANK,
+        Peer::Null => false,
     }
 }
 
@@ -48,15 +41,16 @@ fn is_in_ranges(call: &Call) -> bool
 {
     match *call {
         Call::Send {
+            mode: Mode::Standard,
             comm,
             dest,
             tag,
-            ..
         } => { comm <= GREATEST_COMM && is_peer_in_range(dest) && tag <= GREATEST_TAG }
         Call::Recv { comm, source, tag } => {
             comm <= GREATEST_COMM && is_peer_in_range(source) && tag <= GREATEST_TAG
         }
         Call::Finalize => true,
+        _ => false,
     }
 }
 

@@ -6,7 +6,8 @@ ghost use Rattle.std.specs.Prelude.{◌≡◌, ◌≢◌, ◌≤◌, ◌<◌, �
 use crate::call::Call;
 use crate::device::Input;
 use crate::fault::SourceFault;
-use crate::line::{MOST_BYTES, read_into};
+use crate::limits::MOST_LINE_BYTES;
+use crate::line::read_into;
 use crate::record::Record;
 use crate::window::{Window, has_more, line_end};
 

@@ -12,7 +12,7 @@ ghost use Rattle.mpicall.specs.Device.{CountsFailure, AppendsBeginning};
 
 use crate::call::{Call, Mode, Peer};
 use crate::device::{DeviceFault, Output, write_all};
-use crate::line::MOST_BYTES;
+use crate::limits::MOST_LINE_BYTES;
 use crate::record::Record;
 use crate::word::Word;
 use itoa::Buffer;
@@ -21,7 +21,7 @@ use std::marker::Model;
 /// A line that is being put together; contracts see its bytes so far.
 #[derive(Debug, Drop)]
 struct Draft {
-    bytes: [u8; MOST_BYTES],
+    bytes: [u8; MOST_LINE_BYTES],
     len: usize,
 }
 
@@ -40,7 +40,7 @@ impl Draft {
         ensures { result ≡ [] }
     {
         Draft {
-            bytes: [0; MOST_BYTES],
+            bytes: [0; MOST_LINE_BYTES],
             len: 0,
         }
     }
@@ -86,6 +86,10 @@ impl Draft {
     {
         match peer {
             Peer::Rank(rank) => self.push_number(u32::from(rank)),
+            Peer::Null => {
+                self.push(b' ');
+                self.push_all(b"null");
+            }
         }
     }
     /// Puts a call of a communicator, a peer and a tag together.
@@ -116,6 +120,7 @@ impl Draft {
             } => self.push_three(Word::Send(mode), comm, dest, tag),
             Call::Recv { comm, source, tag } => self.push_three(Word::Recv, comm, source, tag),
             Call::Finalize => self.push_all(text_of(Word::Finalize)),
+            _ => {}
         }
         self.push(b'\n');
     }
@@ -128,6 +133,8 @@ fn text_of(word: Word) -> &'static [u8]
 {
     match word {
         Word::Send(Mode::Standard) => b"send",
+        Word::Send(Mode::Synchronous) => b"ssend",
+        Word::Send(Mode::Buffered) => b"bsend",
         Word::Recv => b"recv",
         Word::Finalize => b"finalize",
     }

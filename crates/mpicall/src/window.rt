@@ -6,7 +6,7 @@ ghost use Rattle.mpicall.specs.Device.{CountsFailure};
 ghost use Rattle.mpicall.specs.Window.{Fills, held_between, NoFeedBelow, FirstFeed, EndsLine};
 
 use crate::device::{DeviceFault, Input};
-use crate::line::MOST_BYTES;
+use crate::limits::MOST_LINE_BYTES;
 use memchr::memchr;
 use std::marker::Model;
 
@@ -134,7 +134,7 @@ pub(crate) fn line_end<I: Input>(window: &mut Window, input: &mut I) -> Result<u
             return Ok(at + 1);
         }
         searched = window.held().len();
-        if searched > MOST_BYTES || window.fill(input)? == 0 {
+        if searched > MOST_LINE_BYTES || window.fill(input)? == 0 {
             return Ok(searched);
         }
     }

@@ -8,11 +8,12 @@ use Rattle.std.proofs.BufReadLemmas.{drop-take_min}
 use Rattle.std.proofs.lemmas.Bool.{cases_lt}
 use Rattle.std.proofs.lemmas.Bool.Decides.{nat_tests}
 use Rattle.mpigroup.specs.Groups.{Groups}
-use Rattle.mpigroup.specs.declared.limits.TheConstants.{MOST_COMMS, MOST_LINE_BYTES}
+use Rattle.mpigroup.specs.declared.limits.TheConstants.{MOST_COMMS, MOST_HEAD_LINE_BYTES}
 use Rattle.mpigroup.specs.declared.fault.HeadFault.{HeadFault}
 use Rattle.mpigroup.specs.declared.fault.HeadFaultKind.{HeadFaultKind}
 use Rattle.mpigroup.specs.declared.fault.HeadFaultKind.TheVariants.{LineForm, TooManyComms}
-use Rattle.mpigroup.specs.HeadText.{lines_of, is_whole, ranks_of_line, group_of_line, at_line, put_front, put_line, groups_of_lines, groups_behind, head_of_lines, read_head}
+use Rattle.mpicall.specs.Lines.{lines_of}
+use Rattle.mpigroup.specs.HeadText.{is_head_line, ranks_of_line, group_of_line, at_line, put_front, put_line, groups_of_lines, groups_behind, head_of_lines, read_head}
 use Rattle.mpigroup.proofs.LineLemmas.{lines_at_feed, lines_without_feed}
 
 abbrev is_feed : ℕ → Bool
@@ -49,13 +50,13 @@ lines_cut_at xs k some is =
     ]
 
 -- a line that is too long, and a line too many
-too_long : (line : List ℕ) → MOST_LINE_BYTES < length line → is_whole line ≡ false
-too_long line long = let test : leb (length line) MOST_LINE_BYTES ≡ false = grind (arith, nat_tests) in rw test refl
+too_long : (line : List ℕ) → MOST_HEAD_LINE_BYTES < length line → is_head_line line ≡ false
+too_long line long = let test : leb (length line) MOST_HEAD_LINE_BYTES ≡ false = grind (arith, nat_tests) in rw test refl
 
-ranks_of_line-long : (line : List ℕ) → MOST_LINE_BYTES < length line → ranks_of_line line ≡ Err LineForm
+ranks_of_line-long : (line : List ℕ) → MOST_HEAD_LINE_BYTES < length line → ranks_of_line line ≡ Err LineForm
 ranks_of_line-long line long = rw (too_long line long) refl
 
-group_of_line-long : (ranks number : ℕ) (line : List ℕ) → number ≤ MOST_COMMS → MOST_LINE_BYTES < length line → group_of_line ranks number line ≡ Err LineForm
+group_of_line-long : (ranks number : ℕ) (line : List ℕ) → number ≤ MOST_COMMS → MOST_HEAD_LINE_BYTES < length line → group_of_line ranks number line ≡ Err LineForm
 group_of_line-long ranks number line few long =
     let within : ltb MOST_COMMS number ≡ false = grind (arith, nat_tests) in
     rw (within, too_long line long) refl
@@ -101,11 +102,11 @@ past_cases xs n k ranks number past f = elim f.front [
 ]
 
 -- where the lines behind the first of a front say what they say in the text, so does the front
-further_cases : (xs : List ℕ) (n k ranks number : ℕ) → number ≤ MOST_COMMS → MOST_LINE_BYTES < n → IsFront n k xs → (k ≤ MOST_LINE_BYTES → k ≤ n → groups_of_lines ranks (number + 1) (lines_of (take (n - k) (drop k xs))) ≡ groups_of_lines ranks (number + 1) (lines_of (drop k xs))) → groups_of_lines ranks number (lines_of (take n xs)) ≡ groups_of_lines ranks number (lines_of xs)
+further_cases : (xs : List ℕ) (n k ranks number : ℕ) → number ≤ MOST_COMMS → MOST_HEAD_LINE_BYTES < n → IsFront n k xs → (k ≤ MOST_HEAD_LINE_BYTES → k ≤ n → groups_of_lines ranks (number + 1) (lines_of (take (n - k) (drop k xs))) ≡ groups_of_lines ranks (number + 1) (lines_of (drop k xs))) → groups_of_lines ranks number (lines_of (take n xs)) ≡ groups_of_lines ranks number (lines_of xs)
 further_cases xs n k ranks number few much f same = elim f.front [
   | inl h ↦
       let here : groups_of_lines ranks number (take k xs ∷ lines_of (take (n - k) (drop k xs))) ≡ groups_of_lines ranks number (take k xs ∷ lines_of (drop k xs)) =
-      elim (cases_lt MOST_LINE_BYTES k) [
+      elim (cases_lt MOST_HEAD_LINE_BYTES k) [
         | inl long ↦ let e : group_of_line ranks number (take k xs) ≡ Err LineForm = group_of_line-long ranks number (take k xs) few (omega (arith, f.first_len)) in same_fault ranks number (take k xs) (take k xs) (lines_of (take (n - k) (drop k xs))) (lines_of (drop k xs)) LineForm e e
         | inr short ↦ ap (put_line (at_line number (group_of_line ranks number (take k xs)))) (same short h.0)
       ] in
@@ -117,7 +118,7 @@ further_cases xs n k ranks number few much f same = elim f.front [
 ]
 
 -- so many bytes decide so many lines, of which the first has this number
-further_front : (left number ranks : ℕ) (xs : List ℕ) (n : ℕ) → number + left ≡ MOST_COMMS + 1 → left * MOST_LINE_BYTES < n → groups_of_lines ranks number (lines_of (take n xs)) ≡ groups_of_lines ranks number (lines_of xs)
+further_front : (left number ranks : ℕ) (xs : List ℕ) (n : ℕ) → number + left ≡ MOST_COMMS + 1 → left * MOST_HEAD_LINE_BYTES < n → groups_of_lines ranks number (lines_of (take n xs)) ≡ groups_of_lines ranks number (lines_of xs)
 further_front left number ranks [] n last much = rw (take_all {A = ℕ} n [] (omega arith)) refl
 further_front zero number ranks (x ∷ xs) n last much =
     past_cases (x ∷ xs) n (min (feed_at (x ∷ xs) + 1) (length (x ∷ xs))) ranks number (omega arith) (is_front (x ∷ xs) n _ (omega arith) (omega arith) refl)
@@ -134,24 +135,24 @@ behind_same (Err fault) some others same = refl
 behind_fault : (first second : Result ℕ HeadFaultKind) (some others : List (List ℕ)) → first ≡ Err LineForm → second ≡ Err LineForm → groups_behind (at_line 1 first) some ≡ groups_behind (at_line 1 second) others
 behind_fault first second some others e d = ap (λ r. groups_behind (at_line 1 r) some) e ∙ sym (ap (λ r. groups_behind (at_line 1 r) others) d)
 
-head_cases : (xs : List ℕ) (n k : ℕ) → MOST_COMMS * MOST_LINE_BYTES < n → IsFront n k xs → head_of_lines (lines_of (take n xs)) ≡ head_of_lines (lines_of xs)
+head_cases : (xs : List ℕ) (n k : ℕ) → MOST_COMMS * MOST_HEAD_LINE_BYTES < n → IsFront n k xs → head_of_lines (lines_of (take n xs)) ≡ head_of_lines (lines_of xs)
 head_cases xs n k much f = elim f.front [
   | inl h ↦
       let same : groups_behind (at_line 1 (ranks_of_line (take k xs))) (lines_of (take (n - k) (drop k xs))) ≡ groups_behind (at_line 1 (ranks_of_line (take k xs))) (lines_of (drop k xs)) =
-      elim (cases_lt MOST_LINE_BYTES k) [
+      elim (cases_lt MOST_HEAD_LINE_BYTES k) [
         | inl long ↦ let e : ranks_of_line (take k xs) ≡ Err LineForm = ranks_of_line-long (take k xs) (omega (arith, f.first_len)) in behind_fault (ranks_of_line (take k xs)) (ranks_of_line (take k xs)) (lines_of (take (n - k) (drop k xs))) (lines_of (drop k xs)) e e
         | inr short ↦ behind_same (at_line 1 (ranks_of_line (take k xs))) (lines_of (take (n - k) (drop k xs))) (lines_of (drop k xs)) (λ ranks. further_front (MOST_COMMS - 1) 2 ranks (drop k xs) (n - k) (omega arith) (omega arith))
       ] in
       ap head_of_lines h.1 ∙ same ∙ sym (ap head_of_lines f.whole_text)
   | inr h ↦
-      let long : MOST_LINE_BYTES < length (take n xs) = omega (arith, h.2) in
-      let longer : MOST_LINE_BYTES < length (take k xs) = omega (arith, f.first_len, h.0) in
+      let long : MOST_HEAD_LINE_BYTES < length (take n xs) = omega (arith, h.2) in
+      let longer : MOST_HEAD_LINE_BYTES < length (take k xs) = omega (arith, f.first_len, h.0) in
       let same : groups_behind (at_line 1 (ranks_of_line (take n xs))) (lines_of (drop n (take n xs))) ≡ groups_behind (at_line 1 (ranks_of_line (take k xs))) (lines_of (drop k xs)) =
       behind_fault (ranks_of_line (take n xs)) (ranks_of_line (take k xs)) (lines_of (drop n (take n xs))) (lines_of (drop k xs)) (ranks_of_line-long (take n xs) long) (ranks_of_line-long (take k xs) longer) in
       ap head_of_lines h.1 ∙ same ∙ sym (ap head_of_lines f.whole_text)
 ]
 
-pub read_head-front : (xs : List ℕ) (n : ℕ) → MOST_COMMS * MOST_LINE_BYTES < n → read_head (take n xs) ≡ read_head xs
+pub read_head-front : (xs : List ℕ) (n : ℕ) → MOST_COMMS * MOST_HEAD_LINE_BYTES < n → read_head (take n xs) ≡ read_head xs
 unfolding read_head
 read_head-front [] n much = rw (take_all {A = ℕ} n [] (omega arith)) refl
 read_head-front (x ∷ xs) n much =

@@ -5,7 +5,7 @@ use Rattle.std.proofs.lemmas.List.Quantifiers.{position-Some}
 use Rattle.std.proofs.lemmas.List.Sums.{fails_before_first}
 use Rattle.std.proofs.lemmas.List.{take_all, drop_all}
 use Rattle.std.proofs.lemmas.Bool.Decides.{nat_tests}
-use Rattle.mpigroup.specs.HeadText.{lines_of}
+use Rattle.mpicall.specs.Lines.{lines_of}
 
 -- by the place of the first line feed
 lines_cut : (xs : List ℕ) (at : ℕ) → at < length xs → eqb (get_or xs at 0) 10 ≡ true → ((k : ℕ) → k < at → eqb (get_or xs k 0) 10 ≡ false) → lines_of xs ≡ take (suc at) xs ∷ lines_of (drop (suc at) xs)

@@ -4,7 +4,7 @@ use Rattle.std.specs.List.{list_all}
 use Rattle.std.proofs.lemmas.List.{map-append}
 use Rattle.std.proofs.lemmas.List.Folds.{list_all-append}
 use Rattle.std.proofs.lemmas.Bool.{cases_Bool, and_from, ltb-false}
-use Rattle.mpicall.specs.Line.{split_fields, body_of}
+use Rattle.mpicall.specs.Lines.{split_fields, body_of}
 use Rattle.mpicall.specs.Number.{value_of}
 use Rattle.mpigroup.specs.Groups.{Groups}
 use Rattle.mpigroup.specs.declared.limits.TheConstants.{MOST_COMMS}
@@ -13,7 +13,7 @@ use Rattle.mpigroup.specs.declared.fault.HeadFaultKind.{HeadFaultKind}
 use Rattle.mpigroup.specs.declared.fault.ReadFault.{ReadFault}
 use Rattle.mpigroup.specs.declared.fault.ReadFault.TheVariants.{Text, Memory}
 use Rattle.mpigroup.specs.HeadFaults.{IsFaultOf}
-use Rattle.mpigroup.specs.HeadText.{is_group, is_whole, is_comm, checked_group, group_of_fields, group_of_line, at_line, put_front, put_line, groups_of_lines}
+use Rattle.mpigroup.specs.HeadText.{is_group, is_head_line, is_comm, checked_group, group_of_fields, group_of_line, at_line, put_front, put_line, groups_of_lines}
 
 -- the groups behind others, or the first fault there
 abbrev pub behind_groups : Groups → Result Groups HeadFault → Result Groups HeadFault
@@ -49,7 +49,7 @@ is_group-from_line ranks number line group is = elim (cases_Bool (ltb MOST_COMMS
   | inl past ↦ absurd (let e = rw past at is in cc)
   | inr within ↦
       let inside = rw within at is in
-      (ltb-false MOST_COMMS number within, elim (cases_Bool (is_whole line)) [
+      (ltb-false MOST_COMMS number within, elim (cases_Bool (is_head_line line)) [
         | inl whole ↦ is_group-from_fields ranks (split_fields (body_of line)) group (rw whole at inside)
         | inr cut ↦ absurd (let e = rw cut at inside in cc)
       ])

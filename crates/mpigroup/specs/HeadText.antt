@@ -3,25 +3,19 @@
 -- whose group is the ranks in order. The fault of a head is the first fault of its first line that has
 -- one.
 use Rattle.std.specs.Prelude.{ℕ, ◌+◌, Bool, true, false, ◌&&◌, ◌||◌, not, ◌==◌, nat_le, nat_lt, Result, Ok, Err, if◌then◌else◌, List, [], ◌∷◌, length, map, drop, codes}
-use Rattle.std.specs.List.{onto_first, list_all, list_any, range_with_len}
+use Rattle.std.specs.List.{list_all, list_any, range_with_len}
 use Rattle.std.specs.Str.{bytes_eq}
-use Rattle.mpicall.specs.Line.{has_line_feed, split_fields, body_of}
+use Rattle.mpicall.specs.Lines.{lines_of, has_line_feed, split_fields, body_of}
 use Rattle.mpicall.specs.Number.{is_canonical, value_of}
-use Rattle.mpicall.specs.Spelling.{line_feed}
 use Rattle.mpigroup.specs.Groups.{Groups}
-use Rattle.mpigroup.specs.declared.limits.TheConstants.{MOST_RANKS, MOST_COMMS, MOST_LINE_BYTES}
+use Rattle.mpigroup.specs.declared.limits.TheConstants.{MOST_RANKS, MOST_COMMS, MOST_HEAD_LINE_BYTES}
 use Rattle.mpigroup.specs.declared.fault.HeadFault.{HeadFault}
 use Rattle.mpigroup.specs.declared.fault.HeadFaultKind.{HeadFaultKind}
 use Rattle.mpigroup.specs.declared.fault.HeadFaultKind.TheVariants.{FirstLine, RankCount, CommLine, Group, TooManyComms, LineForm}
 
--- the lines of a text, each with its line feed; only the last one may have none
-abbrev pub lines_of : List ℕ → List (List ℕ)
-lines_of [] = []
-lines_of (byte ∷ bytes) = if byte == line_feed then (byte ∷ []) ∷ lines_of bytes else onto_first byte (lines_of bytes)
-
--- the line isn't too long, and ends with its line feed
-abbrev pub is_whole : List ℕ → Bool
-is_whole line = nat_le (length line) MOST_LINE_BYTES && has_line_feed line
+-- the line isn't too long for a head, and ends with its line feed
+abbrev pub is_head_line : List ℕ → Bool
+is_head_line line = nat_le (length line) MOST_HEAD_LINE_BYTES && has_line_feed line
 
 -- a number of ranks, if a run may have so many
 abbrev pub checked_ranks : ℕ → Result ℕ HeadFaultKind
@@ -35,7 +29,7 @@ ranks_of_fields _ = Err FirstLine
 
 -- the number of ranks that the first line gives
 abbrev pub ranks_of_line : List ℕ → Result ℕ HeadFaultKind
-ranks_of_line line = if is_whole line then ranks_of_fields (split_fields (body_of line)) else Err LineForm
+ranks_of_line line = if is_head_line line then ranks_of_fields (split_fields (body_of line)) else Err LineForm
 
 -- some number stands twice
 abbrev pub has_twice : List ℕ → Bool
@@ -64,7 +58,7 @@ group_of_fields ranks fields =
 abbrev pub group_of_line : ℕ → ℕ → List ℕ → Result (List ℕ) HeadFaultKind
 group_of_line ranks number line =
     if nat_lt MOST_COMMS number then Err TooManyComms
-    else (if is_whole line then group_of_fields ranks (split_fields (body_of line)) else Err LineForm)
+    else (if is_head_line line then group_of_fields ranks (split_fields (body_of line)) else Err LineForm)
 
 -- a fault at a line, by its number from 1
 abbrev pub fault_at : ℕ → HeadFaultKind → HeadFault

@@ -25,7 +25,7 @@ pub enum HeadFaultKind {
     /// There are more lines than [`MOST_COMMS`](crate::limits::MOST_COMMS).
     #[error("too many communicators")]
     TooManyComms,
-    /// The line has more than [`MOST_LINE_BYTES`](crate::limits::MOST_LINE_BYTES), or no line feed at
+    /// The line has more than [`MOST_HEAD_LINE_BYTES`](crate::limits::MOST_HEAD_LINE_BYTES), or no line feed at
     /// its end.
     #[error("line length or end")]
     LineForm,

@@ -5,10 +5,11 @@ ghost use Rattle.std.specs.List.{list_all};
 ghost use Rattle.mpicall.specs.Spelling.{line_feed};
 ghost use Rattle.mpicall.specs.Number.{is_canonical, value_of};
 ghost use Rattle.mpigroup.specs.HeadFaults.{IsFaultOf};
-ghost use Rattle.mpigroup.specs.HeadText.{lines_of, is_whole, is_comm, ranks_of_fields, ranks_of_line, checked_group, group_of_line, at_line};
+ghost use Rattle.mpicall.specs.Lines.{lines_of};
+ghost use Rattle.mpigroup.specs.HeadText.{is_head_line, is_comm, ranks_of_fields, ranks_of_line, checked_group, group_of_line, at_line};
 
 use crate::fault::{HeadFaultKind, ReadFault};
-use crate::limits::{MOST_COMMS, MOST_LINE_BYTES, MOST_RANKS};
+use crate::limits::{MOST_COMMS, MOST_HEAD_LINE_BYTES, MOST_RANKS};
 use mpicall::fields::Fields;
 use mpicall::number::{is_canonical, read_number};
 use std::alloc::Global;
@@ -38,10 +39,10 @@ pub(crate) fn split_line(text: &[u8]) -> Option<(&[u8], &[u8])>
 }
 
 /// Whether a line isn't too long, and ends with its line feed.
-fn is_whole(line: &[u8]) -> bool
-    ensures { result ≡ is_whole line.now }
+fn is_head_line(line: &[u8]) -> bool
+    ensures { result ≡ is_head_line line.now }
 {
-    line.len() <= MOST_LINE_BYTES && !line.is_empty() && line[line.len() - 1] == b'\n'
+    line.len() <= MOST_HEAD_LINE_BYTES && !line.is_empty() && line[line.len() - 1] == b'\n'
 }
 
 /// The number of ranks that the fields of the first line give.
@@ -67,7 +68,7 @@ pub(crate) fn read_ranks(line: &[u8]) -> Result<u16, HeadFaultKind>
     ensures value { result ≡ ranks_of_line line.now }
     ensures range { IfOk result (λ ranks. (1 ≤ ranks) × (ranks ≤ MOST_RANKS)) }
 {
-    if !is_whole(line) {
+    if !is_head_line(line) {
         return Err(HeadFaultKind::LineForm);
     }
     read_fields(Fields::of(&line[..line.len() - 1]))
@@ -147,7 +148,7 @@ pub(crate) fn read_group(
     if number > u32::from(MOST_COMMS) {
         return Err(HeadFaultKind::TooManyComms.at(number));
     }
-    if !is_whole(line) {
+    if !is_head_line(line) {
         return Err(HeadFaultKind::LineForm.at(number));
     }
     let body = &line[..line.len() - 1];

@@ -1,7 +1,7 @@
 -- The fields that are left have a blank one exactly where all the fields have.
 use Rattle.std.proofs.Common.{◌≡◌, length}
 use Rattle.std.specs.List.{list_any}
-use Rattle.mpicall.specs.Line.{is_blank}
+use Rattle.mpicall.specs.Lines.{is_blank}
 use Rattle.mpicall.proofs.reading.has_blank.Given as goal
 
 abbrev pub invariant-loop-field : goal.invariant-loop-field

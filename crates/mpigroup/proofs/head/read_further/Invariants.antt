@@ -1,5 +1,6 @@
 use Rattle.std.proofs.Common.{map, length}
-use Rattle.mpigroup.specs.HeadText.{lines_of, groups_of_lines}
+use Rattle.mpicall.specs.Lines.{lines_of}
+use Rattle.mpigroup.specs.HeadText.{groups_of_lines}
 use Rattle.mpigroup.proofs.ReadingLemmas.{AreRead}
 use Rattle.mpigroup.proofs.head.read_further.Given as goal
 

@@ -1,0 +1,22 @@
+//! The limits of a trace, each standing here once; definitions cite these constants.
+
+/// The greatest communicator number; 0 is the world.
+pub const GREATEST_COMM: u16 = 255;
+
+/// The greatest rank of a run.
+pub const GREATEST_RANK: u16 = 63;
+
+/// The greatest tag of a message.
+pub const GREATEST_TAG: u32 = 2_147_483_647;
+
+/// The greatest number of a request.
+pub const GREATEST_REQUEST: u32 = 2_147_483_647;
+
+/// The greatest colour of a split.
+pub const GREATEST_COLOUR: u32 = 2_147_483_647;
+
+/// The most requests that one wait names.
+pub const MOST_REQUESTS: usize = 64;
+
+/// The most bytes of a trace's line, its line feed counted.
+pub const MOST_LINE_BYTES: usize = 1024;
