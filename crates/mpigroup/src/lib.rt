@@ -19,3 +19,4 @@ pub mod fault;
 pub mod head;
 pub mod limits;
 mod line;
+pub mod split;
