@@ -7,7 +7,6 @@ use Rattle.std.proofs.lemmas.List.{length-take, get_or-take, take-take, take_all
 use Rattle.std.proofs.BufReadLemmas.{drop-take_min}
 use Rattle.std.proofs.lemmas.Bool.{cases_lt}
 use Rattle.std.proofs.lemmas.Bool.Decides.{nat_tests}
-use Rattle.mpigroup.specs.Groups.{Groups}
 use Rattle.mpigroup.specs.declared.limits.TheConstants.{MOST_COMMS, MOST_HEAD_LINE_BYTES}
 use Rattle.mpigroup.specs.declared.fault.HeadFault.{HeadFault}
 use Rattle.mpigroup.specs.declared.fault.HeadFaultKind.{HeadFaultKind}

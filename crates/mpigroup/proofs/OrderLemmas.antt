@@ -1,5 +1,5 @@
 -- Lists in strict order: a list of distinct elements has one order.
-use Rattle.std.proofs.Common.{◌≡◌, ℕ, Bool, true, false, cond, ◌||◌, List, [], ◌∷◌, sym, ap, ◌∙◌, refl, inl, inr}
+use Rattle.std.proofs.Common.{◌≡◌, Bool, true, false, ◌||◌, List, [], ◌∷◌, sym, ap, ◌∙◌, refl, inl, inr}
 use Rattle.std.specs.List.{list_any, AllByRecursion, IsDistinct, dedup_from, dedup}
 use Rattle.std.specs.List.Sorted.{IsStrictlySortedBy, IsSorted, IsPermutation}
 use Rattle.std.specs.Cmp.{IsTotalOrder}
@@ -7,8 +7,8 @@ use Rattle.std.specs.Ordering.{eq_by_cmp, is_lt, is_eq, ordering_reverse}
 use Rattle.std.specs.declared.cmp.Ordering.{Ordering}
 use Rattle.std.specs.declared.cmp.Ordering.TheVariants.{Less, Equal, Greater}
 use Rattle.std.proofs.lemmas.Cmp.{tied_itself, eq_by_cmp_equiv}
-use Rattle.std.proofs.lemmas.Bool.{cases_Bool, or_parts, or_left, or_right, or_cases, false_from_ne_true}
-use Rattle.std.proofs.lemmas.Map.Keys.{sorted_head, sorted_tail, IsDistinct-head, IsDistinct-tail, IsDistinct-IsPermutation}
+use Rattle.std.proofs.lemmas.Bool.{cases_Bool, or_parts, or_left}
+use Rattle.std.proofs.lemmas.Map.Keys.{IsDistinct-head, IsDistinct-tail, IsDistinct-IsPermutation}
 use Rattle.std.proofs.lemmas.List.Sorted.{list_any-IsPermutation}
 use Rattle.std.proofs.lemmas.List.Kept.{IsStrictlySortedBy-dedup}
 use Rattle.mpigroup.specs.Splits.{put_in, in_order}

@@ -1,5 +1,5 @@
 -- Lines behind the first that are read one by one.
-use Rattle.std.proofs.Common.{◌≡◌, ℕ, ◌+◌, ◌<◌, ◌≤◌, Bool, true, false, List, [], ◌∷◌, ◌++◌, length, sym, ap, ◌∙◌, refl, arith, Result, Ok, Err, append_assoc, length-append, map, drop, ltb, inl, inr}
+use Rattle.std.proofs.Common.{◌≡◌, ℕ, ◌+◌, ◌≤◌, true, List, [], ◌∷◌, ◌++◌, length, sym, ap, ◌∙◌, refl, arith, Result, Ok, Err, append_assoc, length-append, map, drop, ltb, inl, inr}
 use Rattle.std.specs.List.{list_all}
 use Rattle.std.proofs.lemmas.List.{map-append}
 use Rattle.std.proofs.lemmas.List.Folds.{list_all-append}
@@ -9,7 +9,6 @@ use Rattle.mpicall.specs.Number.{value_of}
 use Rattle.mpigroup.specs.Groups.{Groups}
 use Rattle.mpigroup.specs.declared.limits.TheConstants.{MOST_COMMS}
 use Rattle.mpigroup.specs.declared.fault.HeadFault.{HeadFault}
-use Rattle.mpigroup.specs.declared.fault.HeadFaultKind.{HeadFaultKind}
 use Rattle.mpigroup.specs.declared.fault.ReadFault.{ReadFault}
 use Rattle.mpigroup.specs.declared.fault.ReadFault.TheVariants.{Text, Memory}
 use Rattle.mpigroup.specs.HeadFaults.{IsFaultOf}
@@ -48,11 +47,13 @@ pub is_group-from_line : (ranks number : ℕ) (line group : List ℕ) → group_
 is_group-from_line ranks number line group is = elim (cases_Bool (ltb MOST_COMMS number)) [
   | inl past ↦ absurd (let e = rw past at is in cc)
   | inr within ↦
-      let inside = rw within at is in
-      (ltb-false MOST_COMMS number within, elim (cases_Bool (is_head_line line)) [
-        | inl whole ↦ is_group-from_fields ranks (split_fields (body_of line)) group (rw whole at inside)
-        | inr cut ↦ absurd (let e = rw cut at inside in cc)
-      ])
+      let inside = rw within at is in (
+        ltb-false MOST_COMMS number within,
+        elim (cases_Bool (is_head_line line)) [
+          | inl whole ↦ is_group-from_fields ranks (split_fields (body_of line)) group (rw whole at inside)
+          | inr cut ↦ absurd (let e = rw cut at inside in cc)
+        ],
+      )
 ]
 
 pub AreRead-push : (ranks number : ℕ) (all : Result Groups HeadFault) (groups : Groups) (line : List ℕ) (left : List (List ℕ)) (group : List ℕ) → AreRead ranks number all groups (line ∷ left) → group_of_line ranks number line ≡ Ok group → AreRead ranks (number + 1) all (groups ++ group ∷ []) left

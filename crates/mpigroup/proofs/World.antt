@@ -1,5 +1,5 @@
 -- What the look-ups answer of the world, whose group has the ranks in order, and of the other groups.
-use Rattle.std.proofs.Common.{◌≡◌, ℕ, ◌+◌, ◌-◌, ◌<◌, ◌≤◌, zero, suc, List, length, map, get_or, not, eqb, ltb, Bool, true, false, Some, None, [], ◌∷◌, sym, ◌∙◌, arith, refl, ap, inl, inr, option_map}
+use Rattle.std.proofs.Common.{◌≡◌, ℕ, ◌-◌, ◌<◌, ◌≤◌, zero, suc, List, length, map, get_or, not, eqb, ltb, true, false, Some, None, [], ◌∷◌, ◌∙◌, arith, refl, ap, inl, inr, option_map}
 use Rattle.std.specs.List.{range_with_len, position, position_or_len, slice_get, list_all, list_any, IsDistinct, AllByRecursion}
 use Rattle.std.proofs.lemmas.List.FromFn.{length-range_with_len, get_or-range_with_len}
 use Rattle.std.proofs.lemmas.List.Sums.{prefix_len_is}

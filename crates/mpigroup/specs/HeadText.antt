@@ -2,7 +2,7 @@
 -- the ordered group of communicator 1, 2 and so on, as ranks of the world. Communicator 0 is the world,
 -- whose group is the ranks in order. The fault of a head is the first fault of its first line that has
 -- one.
-use Rattle.std.specs.Prelude.{ℕ, ◌+◌, Bool, true, false, ◌&&◌, ◌||◌, not, ◌==◌, nat_le, nat_lt, Result, Ok, Err, if◌then◌else◌, List, [], ◌∷◌, length, map, drop, codes}
+use Rattle.std.specs.Prelude.{ℕ, ◌+◌, Bool, false, ◌&&◌, ◌||◌, not, ◌==◌, nat_le, nat_lt, Result, Ok, Err, if◌then◌else◌, List, [], ◌∷◌, length, map, drop, codes}
 use Rattle.std.specs.List.{list_all, list_any, range_with_len}
 use Rattle.std.specs.Str.{bytes_eq}
 use Rattle.mpicall.specs.Lines.{lines_of, has_line_feed, split_fields, body_of}

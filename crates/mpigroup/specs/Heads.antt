@@ -1,6 +1,6 @@
 -- What holds of the groups of every head.
-use Rattle.std.specs.Prelude.{ℕ, ◌≤◌, ◌<◌, IsTrue, List, ◌∷◌, length, map}
-use Rattle.std.specs.List.{list_all, range_with_len}
+use Rattle.std.specs.Prelude.{ℕ, ◌≤◌, ◌<◌, IsTrue, length}
+use Rattle.std.specs.List.{list_all}
 use Rattle.mpigroup.specs.declared.limits.TheConstants.{MOST_RANKS, MOST_COMMS}
 use Rattle.mpigroup.specs.Groups.{Groups}
 use Rattle.mpigroup.specs.HeadText.{is_group}

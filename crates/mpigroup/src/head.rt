@@ -8,9 +8,8 @@ ghost use Rattle.mpigroup.specs.HeadFaults.{IsFaultOf};
 ghost use Rattle.mpicall.specs.Lines.{lines_of};
 ghost use Rattle.mpigroup.specs.HeadText.{groups_of_lines, read_head};
 
-pub use crate::limits::DECIDING_BYTES;
-
 use crate::fault::{HeadFaultKind, ReadFault};
+pub use crate::limits::DECIDING_BYTES;
 use crate::limits::{MOST_COMMS, MOST_RANKS};
 use crate::line::{read_group, read_ranks, split_line};
 use std::alloc::Global;
@@ -124,7 +123,11 @@ impl Head {
         ensures { result ≡ group_rank_of self.now comm world }
     {
         if comm == 0 {
-            return if world < self.ranks { Some(world) } else { None };
+            return if world < self.ranks {
+                Some(world)
+            } else {
+                None
+            };
         }
         match place_of(self.further_group(comm)?, world) {
             Some(place) => Some(place as u16),

@@ -9,7 +9,7 @@ use std::alloc::{AllocError, Global};
 
 /// A member of the old group that gives a colour. Members stand in the order of these fields.
 #[derive(Clone, Copy, PartialEq, Eq, PartialOrd, Ord)]
-pub struct Member {
+struct Member {
     colour: u32,
     key: i32,
     rank: u16,

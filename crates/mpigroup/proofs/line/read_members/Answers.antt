@@ -1,4 +1,4 @@
-use Rattle.std.proofs.Common.{sym, ◌∙◌, refl, arith}
+use Rattle.std.proofs.Common.{sym, ◌∙◌, refl}
 use Rattle.std.proofs.lemmas.Option.{MatchOption-at_some}
 use Rattle.mpigroup.proofs.MemberLemmas.{AreMembers-push, checked_group-twice}
 use Rattle.mpigroup.proofs.line.read_members.Goals as goal

@@ -1,4 +1,4 @@
-use Rattle.std.proofs.Common.{refl, sym, ap, ◌∙◌}
+use Rattle.std.proofs.Common.{refl, sym}
 use Rattle.mpigroup.proofs.RunLemmas.{AreCut-more, rise-sorted, run_within}
 use Rattle.mpigroup.proofs.split.groups_of.Goals as goal
 
