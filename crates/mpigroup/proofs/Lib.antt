@@ -1,3 +1,8 @@
-pub mod World
 pub mod LineLemmas
+pub mod MemberLemmas
+pub mod ReadingLemmas
+pub mod World
 pub mod FrontLemmas
+pub mod OrderLemmas
+pub mod RunLemmas
+pub mod ChoiceLemmas

@@ -1,7 +1,10 @@
 -- How the faults of a head are told.
-use Rattle.std.specs.Prelude.{ℕ, List, codes}
+use Rattle.std.specs.Prelude.{◌≡◌, ℕ, Result, Err, List, codes, ⊤}
+use Rattle.mpigroup.specs.declared.fault.HeadFault.{HeadFault}
 use Rattle.mpigroup.specs.declared.fault.HeadFaultKind.{HeadFaultKind}
 use Rattle.mpigroup.specs.declared.fault.HeadFaultKind.TheVariants.{FirstLine, RankCount, CommLine, Group, TooManyComms, LineForm}
+use Rattle.mpigroup.specs.declared.fault.ReadFault.{ReadFault}
+use Rattle.mpigroup.specs.declared.fault.ReadFault.TheVariants.{Text, Memory}
 
 -- the code of a fault
 abbrev pub code_of : HeadFaultKind → List ℕ
@@ -11,3 +14,8 @@ code_of CommLine = codes "H3"
 code_of Group = codes "H4"
 code_of TooManyComms = codes "H5"
 code_of LineForm = codes "H6"
+
+-- a fault that is told of a text is the one that the text has; want of memory says nothing of it
+abbrev pub IsFaultOf : {T : Type 0} → Result T HeadFault → ReadFault → Type 0
+IsFaultOf reading (Text fault) = reading ≡ Err fault
+IsFaultOf reading Memory = ⊤

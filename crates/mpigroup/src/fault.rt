@@ -2,7 +2,9 @@
 
 ghost use Rattle.std.specs.Prelude.{◌≡◌};
 ghost use Rattle.mpigroup.specs.HeadFaults.{code_of};
+ghost use Rattle.mpigroup.specs.declared.fault.ReadFault.TheVariants.{Memory as MemoryFault};
 
+use std::alloc::{AllocError, AllocFailed};
 use thiserror::Error;
 
 /// What is wrong with one line of a head.
@@ -11,7 +13,7 @@ pub enum HeadFaultKind {
     /// The first line isn't the word `ranks` and a canonical number, or there is no line.
     #[error("first line")]
     FirstLine,
-    /// The number of ranks isn't 1 to 64.
+    /// The number of ranks isn't 1 to [`MOST_RANKS`](crate::limits::MOST_RANKS).
     #[error("number of ranks")]
     RankCount,
     /// A further line isn't the word `comm` and canonical numbers.
@@ -20,10 +22,11 @@ pub enum HeadFaultKind {
     /// A group is empty, has a rank that the run hasn't, or has a rank twice.
     #[error("group")]
     Group,
-    /// There is a 256th communicator beside the world.
+    /// There are more lines than [`MOST_COMMS`](crate::limits::MOST_COMMS).
     #[error("too many communicators")]
     TooManyComms,
-    /// The line has more than 1,024 bytes, its line feed counted, or no line feed at its end.
+    /// The line has more than [`MOST_HEAD_LINE_BYTES`](crate::limits::MOST_HEAD_LINE_BYTES), or no line feed at
+    /// its end.
     #[error("line length or end")]
     LineForm,
 }
@@ -34,6 +37,17 @@ pub enum HeadFaultKind {
 pub struct HeadFault {
     pub line: u32,
     pub kind: HeadFaultKind,
+}
+
+/// Why a text was not read as a head.
+#[derive(Clone, Copy, Debug, PartialEq, Eq, Error)]
+pub enum ReadFault {
+    /// The text is no head.
+    #[error("{0}")]
+    Text(HeadFault),
+    /// There was no memory for the groups.
+    #[error("memory")]
+    Memory,
 }
 
 impl HeadFaultKind {
@@ -52,9 +66,25 @@ impl HeadFaultKind {
     }
 
     /// This fault, at a line.
-    pub(crate) fn at(self, line: u32) -> HeadFault
-        ensures { result ≡ record { line = line; kind = self } }
+    pub(crate) fn at(self, line: u32) -> ReadFault
+        ensures { result ≡ ReadFault.Text (record { line = line; kind = self }) }
     {
-        HeadFault { line, kind: self }
+        ReadFault::Text(HeadFault { line, kind: self })
+    }
+}
+
+impl From<AllocError> for ReadFault {
+    ghost from_gives = { λ _ fault. fault ≡ MemoryFault };
+
+    fn from(_refused: AllocError) -> ReadFault {
+        ReadFault::Memory
+    }
+}
+
+impl<T: Drop> From<AllocFailed<T>> for ReadFault {
+    ghost from_gives = { λ _ fault. fault ≡ MemoryFault };
+
+    fn from(_refused: AllocFailed<T>) -> ReadFault {
+        ReadFault::Memory
     }
 }

@@ -1,11 +1,18 @@
 //! The head of a run: its ranks, and the group of each of its communicators.
 
-ghost use Rattle.std.specs.Prelude.{take, ◌≡◌, ◌≤◌, ◌↔◌, length, IsTrue, IsSome, IfSome};
+ghost use Rattle.std.specs.Prelude.{take, ◌≡◌, ◌≤◌, ◌<◌, ◌==◌, Ok, length, position, slice_get, option_map, IfOk, IfErr, IfSome, map};
+ghost use Rattle.std.specs.Option.{option_copied};
 ghost use Rattle.mpigroup.specs.Groups.{ranks_of, size_of, world_rank_of, group_rank_of};
-ghost use Rattle.mpigroup.specs.HeadText.{read_head};
+ghost use Rattle.mpigroup.specs.Heads.{AreSound};
+ghost use Rattle.mpigroup.specs.HeadFaults.{IsFaultOf};
+ghost use Rattle.mpicall.specs.Lines.{lines_of};
+ghost use Rattle.mpigroup.specs.HeadText.{groups_of_lines, read_head};
 
-use crate::fault::{HeadFault, HeadFaultKind};
-use crate::line::{further_fault, read_ranks, split_line};
+use crate::fault::{HeadFaultKind, ReadFault};
+pub use crate::limits::DECIDING_BYTES;
+use crate::limits::{MOST_COMMS, MOST_RANKS};
+use crate::line::{read_group, read_ranks, split_line};
+use std::alloc::Global;
 use std::marker::Model;
 
 /// The communicators of a run with their groups. Contracts see the list of the groups, the world's
@@ -13,22 +20,21 @@ use std::marker::Model;
 #[derive(Debug, Drop)]
 pub struct Head {
     ranks: u16,
+    /// The groups of communicators 1, 2 and so on; the world's has the ranks in order.
+    further: Vec<Vec<u16>>,
 }
 
 impl Model for Head {
-    ghost use Rattle.std.specs.Prelude.{◌≤◌, ◌∷◌, [], ℕ, List};
+    ghost use Rattle.std.specs.Prelude.{◌∷◌, ℕ, List, map};
     ghost use Rattle.std.specs.List.{range_with_len};
+    ghost use Rattle.mpigroup.specs.Heads.{AreSound};
 
     ghost Value = { List (List ℕ) };
 
-    ghost view = { λ h. range_with_len 0 h.ranks ∷ [] };
+    ghost view = { λ h. range_with_len 0 h.ranks ∷ map (λ group. group.items) h.further.items };
 
-    ghost invariant = { λ h. (1 ≤ h.ranks) × (h.ranks ≤ 64) };
+    ghost invariant = { λ h. AreSound h.ranks (map (λ group. group.items) h.further.items) };
 }
-
-/// So many bytes of a text decide what it says, or all where it has fewer: 256 lines of 1,024 bytes
-/// each, and one byte that shows whether there is a further one.
-pub const DECIDING_BYTES: usize = 262_145;
 
 /// The law that a text says what its first [`DECIDING_BYTES`] bytes say.
 pub fn front_decides(text: &[u8])
@@ -37,52 +43,95 @@ pub fn front_decides(text: &[u8])
     let _text = text;
 }
 
+/// The groups that the lines behind the first give.
+fn read_further(alloc: Global, ranks: u16, text: &[u8]) -> Result<Vec<Vec<u16>>, ReadFault>
+    requires least { 1 ≤ ranks }
+    requires most { ranks ≤ MOST_RANKS }
+    ensures ok { IfOk result (λ groups.
+        groups_of_lines ranks 2 (lines_of text.now) ≡ Ok (map (λ group. group.items) groups.items)) }
+    ensures sound { IfOk result (λ groups. AreSound ranks (map (λ group. group.items) groups.items)) }
+    ensures fault { IfErr result (IsFaultOf (groups_of_lines ranks 2 (lines_of text.now))) }
+{
+    let mut groups = Vec::new(alloc);
+    let mut number = 2;
+    let mut rest = text;
+    while let Some((line, behind)) = split_line(rest) {
+        groups.push(read_group(alloc, ranks, number, line)?)?;
+        number += 1;
+        rest = behind;
+    }
+    Ok(groups)
+}
+
 impl Head {
     /// The head that a text gives, or the first fault of the text.
     #[tactic(auto, unfolding(crate::specs::HeadText::read_head))]
-    pub fn read(text: &[u8]) -> Result<Head, HeadFault>
-        ensures { result ≡ read_head text.now }
+    pub fn read(alloc: Global, text: &[u8]) -> Result<Head, ReadFault>
+        ensures ok { IfOk result (λ head. read_head text.now ≡ Ok head) }
+        ensures fault { IfErr result (IsFaultOf (read_head text.now)) }
     {
         let (first, others) = split_line(text).ok_or(HeadFaultKind::FirstLine.at(1))?;
         let ranks = read_ranks(first).map_err(|kind| kind.at(1))?;
-        match split_line(others) {
-            None => Ok(Head { ranks }),
-            Some((second, _)) => Err(further_fault(second).at(2)),
-        }
+        let further = read_further(alloc, ranks, others)?;
+        Ok(Head { ranks, further })
     }
 
-    /// How many ranks the run has, 1 to 64.
+    /// How many ranks the run has, 1 to [`MOST_RANKS`].
     pub fn ranks(&self) -> u16
         ensures value { result ≡ ranks_of self.now }
         ensures least { 1 ≤ result }
-        ensures most { result ≤ 64 }
+        ensures most { result ≤ MOST_RANKS }
     {
         self.ranks
     }
 
     /// How many communicators the run has, the world counted.
     pub fn comms(&self) -> u16
-        ensures { result ≡ length self.now }
+        ensures value { result ≡ length self.now }
+        ensures most { result ≤ MOST_COMMS }
     {
-        let _ranks = self.ranks;
-        1
+        self.further.len() as u16 + 1
+    }
+
+    /// The group of a communicator that isn't the world, if the run has it.
+    fn further_group(&self, comm: u16) -> Option<&[u16]>
+        requires { 0 < comm }
+        ensures value { option_copied result ≡ slice_get self.now comm }
+        ensures few { IfSome result (λ group. length group.now ≤ MOST_RANKS) }
+    {
+        match self.further.get(usize::from(comm) - 1) {
+            Some(group) => Some(group.as_slice()),
+            None => None,
+        }
     }
 
     /// How many members a communicator has; None where there is no such communicator.
     pub fn size(&self, comm: u16) -> Option<u16>
         ensures { result ≡ size_of self.now comm }
     {
-        if comm == 0 { Some(self.ranks) } else { None }
+        if comm == 0 {
+            return Some(self.ranks);
+        }
+        match self.further_group(comm) {
+            Some(group) => Some(group.len() as u16),
+            None => None,
+        }
     }
 
     /// The rank in the communicator's group of a rank of the world; None where it is no member.
     pub fn group_rank(&self, comm: u16, world: u16) -> Option<u16>
         ensures { result ≡ group_rank_of self.now comm world }
     {
-        if comm == 0 && world < self.ranks {
-            Some(world)
-        } else {
-            None
+        if comm == 0 {
+            return if world < self.ranks {
+                Some(world)
+            } else {
+                None
+            };
+        }
+        match place_of(self.further_group(comm)?, world) {
+            Some(place) => Some(place as u16),
+            None => None,
         }
     }
 
@@ -90,78 +139,16 @@ impl Head {
     pub fn world_rank(&self, comm: u16, g: u16) -> Option<u16>
         ensures { result ≡ world_rank_of self.now comm g }
     {
-        if comm == 0 && g < self.ranks {
-            Some(g)
-        } else {
-            None
+        if comm == 0 {
+            return if g < self.ranks { Some(g) } else { None };
         }
+        self.further_group(comm)?.get(usize::from(g)).copied()
     }
 }
 
-#[cfg(test)]
-mod tests {
-    use super::*;
-    use std::test::Fail;
-
-    #[test]
-    fn tells_the_first_fault_of_a_head(rt: HostRuntime) -> Result<(), Fail> {
-        let rows: [(&str, &str); 14] = [
-            ("", "line 1 H1 first line"),
-            ("\n", "line 1 H1 first line"),
-            ("ranks 03\n", "line 1 H1 first line"),
-            ("ranks  3\n", "line 1 H1 first line"),
-            ("ranks 3 \n", "line 1 H1 first line"),
-            ("rank 3\n", "line 1 H1 first line"),
-            ("ranks 0\n", "line 1 H2 number of ranks"),
-            ("ranks 65\n", "line 1 H2 number of ranks"),
-            ("ranks 99999999999999999999\n", "line 1 H2 number of ranks"),
-            ("ranks 2", "line 1 H6 line length or end"),
-            ("ranks 2\ncomm 0 1\n", "line 2 H3 comm line"),
-            ("ranks 2\n\nx", "line 2 H3 comm line"),
-            ("ranks 2\ncomm 0 1", "line 2 H6 line length or end"),
-            ("ranks 0\ncomm 0 1", "line 1 H2 number of ranks"),
-        ];
-        for (text, told) in rows {
-            let fault = Head::read(text.as_bytes()).err().ok_or("no fault")?;
-            let words = format!(in rt.alloc(); "{fault}")?;
-            assert_eq!(rt; words.as_str(), told, "of {text:?}");
-        }
-        Ok(())
-    }
-
-    #[test]
-    fn refuses_a_line_of_1025_bytes(rt: HostRuntime) -> Result<(), Fail> {
-        for (digits, kind) in [
-            (1018, HeadFaultKind::LineForm),
-            (1017, HeadFaultKind::RankCount),
-        ] {
-            let mut text = b"ranks ".to_vec(rt.alloc())?;
-            for _ in 0..digits {
-                text.push(b'3')?;
-            }
-            text.push(b'\n')?;
-            let fault = Head::read(text.as_slice()).err().ok_or("no fault")?;
-            assert_eq!(rt; fault, HeadFault { line: 1, kind });
-        }
-        Ok(())
-    }
-
-    #[test]
-    fn looks_up_ranks_of_the_world(rt: HostRuntime) -> Result<(), Fail> {
-        for (text, ranks) in [("ranks 1\n", 1), ("ranks 64\n", 64)] {
-            let head = Head::read(text.as_bytes())?;
-            assert_eq!(rt; head.ranks(), ranks);
-            assert_eq!(rt; head.comms(), 1);
-            assert_eq!(rt; head.size(0), Some(ranks));
-            assert_eq!(rt; head.size(1), None);
-            for rank in 0..ranks {
-                assert_eq!(rt; head.group_rank(0, rank), Some(rank));
-                assert_eq!(rt; head.world_rank(0, rank), Some(rank));
-            }
-            assert_eq!(rt; head.group_rank(0, ranks), None);
-            assert_eq!(rt; head.world_rank(0, ranks), None);
-            assert_eq!(rt; head.world_rank(1, 0), None);
-        }
-        Ok(())
-    }
+/// Where a rank of the world stands in a group, if it does.
+fn place_of(group: &[u16], world: u16) -> Option<usize>
+    ensures { result ≡ position (λ member. member == world) group.now }
+{
+    group.iter().position(|member| *member == world)
 }

@@ -1,20 +1,30 @@
-//! The head of a run: how many ranks it has, and which of them belong to each communicator.
+//! The head of a run: how many ranks it has, and which of them belong to each communicator; and the
+//! groups that a split of a communicator makes.
 //!
-//! A head is a text whose first line is `ranks P`. For now the world is a run's only communicator,
-//! so a further line is a fault.
+//! A head is a text. Its first line is `ranks P`; each further line is `comm` and the ordered group of
+//! communicator 1, 2 and so on, as ranks of the world. Communicator 0 is the world itself.
 //!
-//! What the crate promises: [`head::Head::read`] answers the groups that the text gives by the
-//! definition `read_head` of `specs/HeadText.antt`, or the fault of the first line that has one; and
-//! the look-ups answer by these groups, as `specs/Groups.antt` defines them. Nothing here takes
-//! memory.
+//! What the crate promises:
+//!
+//! - [`head::Head::read`] answers the groups that the text gives by the definition `read_head` of
+//!   `specs/HeadText.antt`, or the fault of the first line that has one. It alone, of the calls on heads,
+//!   takes memory, and answers its want in place of either. So many bytes as [`limits::DECIDING_BYTES`]
+//!   decide what a text says.
+//! - The look-ups answer by these groups, as `specs/Groups.antt` defines them.
+//! - [`split::split_groups`] answers the groups of `specs/Splits.antt`, or want of memory.
 //!
 //! ```text
-//! let head = Head::read(b"ranks 3\n")?;
-//! head.world_rank(0, 2)    // Some(2): the world's group has the ranks 0, 1 and 2
-//! head.size(1)             // None: there is no communicator 1
+//! let head = Head::read(alloc, b"ranks 3\ncomm 2 0\n")?;
+//! head.world_rank(1, 0)    // Some(2): the first member of communicator 1
+//! head.group_rank(1, 1)    // None: rank 1 is no member
+//! head.size(2)             // None: there is no communicator 2
 //! ```
 #![tactic(auto)]
 
 pub mod fault;
 pub mod head;
+pub mod limits;
 mod line;
+pub mod split;
+#[cfg(test)]
+mod tests;

@@ -1,18 +1,18 @@
-//! The lines of a head: where one ends, and what the first one says.
+//! The lines of a head: where one ends, and what it says.
 
-ghost use Rattle.std.specs.Prelude.{◌≡◌, [], ◌∷◌, ◌==◌, ◌≤◌, position, MatchOption, IfOk};
+ghost use Rattle.std.specs.Prelude.{◌≡◌, [], ◌∷◌, ◌==◌, ◌≤◌, ◌<◌, map, IsTrue, position, MatchOption, IfOk, IfErr};
+ghost use Rattle.std.specs.List.{list_all};
 ghost use Rattle.mpicall.specs.Spelling.{line_feed};
-ghost use Rattle.mpigroup.specs.HeadText.{lines, is_whole, ranks_of_fields, ranks_of_line, fault_of_further};
+ghost use Rattle.mpicall.specs.Number.{is_canonical, value_of};
+ghost use Rattle.mpigroup.specs.HeadFaults.{IsFaultOf};
+ghost use Rattle.mpicall.specs.Lines.{lines_of};
+ghost use Rattle.mpigroup.specs.HeadText.{is_head_line, is_comm, ranks_of_fields, ranks_of_line, checked_group, group_of_line, at_line};
 
-use crate::fault::HeadFaultKind;
+use crate::fault::{HeadFaultKind, ReadFault};
+use crate::limits::{MOST_COMMS, MOST_HEAD_LINE_BYTES, MOST_RANKS};
 use mpicall::fields::Fields;
 use mpicall::number::{is_canonical, read_number};
-
-/// The most bytes of a line, its line feed counted.
-const MOST_BYTES: usize = 1024;
-
-/// The most ranks of a run.
-const MOST_RANKS: u32 = 64;
+use std::alloc::Global;
 
 /// Where the first line feed of a text stands, if it has one.
 fn line_feed_at(text: &[u8]) -> Option<usize>
@@ -25,7 +25,9 @@ fn line_feed_at(text: &[u8]) -> Option<usize>
 /// text without bytes.
 #[tactic(auto, using(crate::proofs::LineLemmas::line_steps))]
 pub(crate) fn split_line(text: &[u8]) -> Option<(&[u8], &[u8])>
-    ensures { MatchOption result (lines text.now ≡ []) (λ parts. lines text.now ≡ parts.0.now ∷ lines parts.1.now) }
+    ensures { MatchOption result
+        (lines_of text.now ≡ [])
+        (λ parts. lines_of text.now ≡ parts.0.now ∷ lines_of parts.1.now) }
 {
     if text.is_empty() {
         return None;
@@ -37,17 +39,17 @@ pub(crate) fn split_line(text: &[u8]) -> Option<(&[u8], &[u8])>
 }
 
 /// Whether a line isn't too long, and ends with its line feed.
-fn is_whole(line: &[u8]) -> bool
-    ensures { result ≡ is_whole line.now }
+fn is_head_line(line: &[u8]) -> bool
+    ensures { result ≡ is_head_line line.now }
 {
-    line.len() <= MOST_BYTES && !line.is_empty() && line[line.len() - 1] == b'\n'
+    line.len() <= MOST_HEAD_LINE_BYTES && !line.is_empty() && line[line.len() - 1] == b'\n'
 }
 
 /// The number of ranks that the fields of the first line give.
 #[tactic(auto, unfolding(crate::specs::HeadText::ranks_of_fields, mpicall::specs::Number::number_up_to))]
 fn read_fields(mut fields: Fields<'_>) -> Result<u16, HeadFaultKind>
     ensures value { result ≡ ranks_of_fields fields.entry }
-    ensures range { IfOk result (λ ranks. (1 ≤ ranks) × (ranks ≤ 64)) }
+    ensures range { IfOk result (λ ranks. (1 ≤ ranks) × (ranks ≤ MOST_RANKS)) }
 {
     let word = fields.next_field().ok_or(HeadFaultKind::FirstLine)?;
     let number = fields.next_field().ok_or(HeadFaultKind::FirstLine)?;
@@ -55,7 +57,7 @@ fn read_fields(mut fields: Fields<'_>) -> Result<u16, HeadFaultKind>
     if !is_end || word != b"ranks".as_slice() || !is_canonical(number) {
         return Err(HeadFaultKind::FirstLine);
     }
-    match read_number(MOST_RANKS, number) {
+    match read_number(u32::from(MOST_RANKS), number) {
         Some(ranks) if ranks > 0 => Ok(ranks as u16),
         _ => Err(HeadFaultKind::RankCount),
     }
@@ -64,21 +66,96 @@ fn read_fields(mut fields: Fields<'_>) -> Result<u16, HeadFaultKind>
 /// The number of ranks that the first line gives.
 pub(crate) fn read_ranks(line: &[u8]) -> Result<u16, HeadFaultKind>
     ensures value { result ≡ ranks_of_line line.now }
-    ensures range { IfOk result (λ ranks. (1 ≤ ranks) × (ranks ≤ 64)) }
+    ensures range { IfOk result (λ ranks. (1 ≤ ranks) × (ranks ≤ MOST_RANKS)) }
 {
-    if !is_whole(line) {
+    if !is_head_line(line) {
         return Err(HeadFaultKind::LineForm);
     }
     read_fields(Fields::of(&line[..line.len() - 1]))
 }
 
-/// What is wrong with a line behind the first.
-pub(crate) fn further_fault(line: &[u8]) -> HeadFaultKind
-    ensures { result ≡ fault_of_further line.now }
+/// Whether all of the fields are canonical numbers.
+fn are_canonical(mut fields: Fields<'_>) -> bool
+    ensures { result ≡ list_all is_canonical fields.entry }
 {
-    if is_whole(line) {
-        HeadFaultKind::CommLine
-    } else {
-        HeadFaultKind::LineForm
+    while let Some(field) = fields.next_field() {
+        if !is_canonical(field) {
+            return false;
+        }
     }
+    true
+}
+
+/// Whether the fields are the word of a further line and canonical numbers.
+fn is_comm(mut fields: Fields<'_>) -> bool
+    ensures { result ≡ is_comm fields.entry }
+{
+    match fields.next_field() {
+        Some(word) => word == b"comm".as_slice() && are_canonical(fields),
+        None => false,
+    }
+}
+
+/// The rank that a canonical number names, if the run has it.
+#[tactic(auto, unfolding(mpicall::specs::Number::number_up_to))]
+fn read_member(ranks: u16, number: &[u8]) -> Option<u16>
+    requires some { 1 ≤ ranks }
+    requires canonical { IsTrue (is_canonical number.now) }
+    ensures { MatchOption result
+        (ranks ≤ value_of number.now)
+        (λ member. (member ≡ value_of number.now) × (member < ranks)) }
+{
+    read_number(u32::from(ranks) - 1, number).map(|member| member as u16)
+}
+
+/// The group whose members are the numbers, each of which is canonical.
+fn read_members(
+    alloc: Global,
+    ranks: u16,
+    line: u32,
+    mut numbers: Fields<'_>,
+) -> Result<Vec<u16>, ReadFault>
+    requires some { 1 ≤ ranks }
+    requires canonical { IsTrue (list_all is_canonical numbers) }
+    ensures ok { IfOk result (λ group. checked_group ranks (map value_of numbers.entry) ≡ Ok group.items) }
+    ensures fault { IfErr result (IsFaultOf (at_line line (checked_group ranks (map value_of numbers.entry)))) }
+{
+    let mut group = Vec::new(alloc);
+    while let Some(number) = numbers.next_field() {
+        let member = read_member(ranks, number).ok_or(HeadFaultKind::Group.at(line))?;
+        if group.contains(&member) {
+            return Err(HeadFaultKind::Group.at(line));
+        }
+        group.push(member)?;
+    }
+    if group.is_empty() {
+        return Err(HeadFaultKind::Group.at(line));
+    }
+    Ok(group)
+}
+
+/// The group that a line behind the first gives, by the line's number.
+pub(crate) fn read_group(
+    alloc: Global,
+    ranks: u16,
+    number: u32,
+    line: &[u8],
+) -> Result<Vec<u16>, ReadFault>
+    requires some { 1 ≤ ranks }
+    ensures ok { IfOk result (λ group. group_of_line ranks number line.now ≡ Ok group.items) }
+    ensures fault { IfErr result (IsFaultOf (at_line number (group_of_line ranks number line.now))) }
+{
+    if number > u32::from(MOST_COMMS) {
+        return Err(HeadFaultKind::TooManyComms.at(number));
+    }
+    if !is_head_line(line) {
+        return Err(HeadFaultKind::LineForm.at(number));
+    }
+    let body = &line[..line.len() - 1];
+    if !is_comm(Fields::of(body)) {
+        return Err(HeadFaultKind::CommLine.at(number));
+    }
+    let mut numbers = Fields::of(body);
+    let _word = numbers.next_field();
+    read_members(alloc, ranks, number, numbers)
 }

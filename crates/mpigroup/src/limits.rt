@@ -1,0 +1,16 @@
+//! The limits of a head, each standing here once; definitions cite these constants.
+
+use mpicall::limits::{GREATEST_COMM, GREATEST_RANK};
+
+/// The most ranks of a run.
+pub const MOST_RANKS: u16 = GREATEST_RANK + 1;
+
+/// The most communicators of a run, the world counted. A head has a line for each.
+pub const MOST_COMMS: u16 = GREATEST_COMM + 1;
+
+/// The most bytes of a head's line, its line feed counted.
+pub const MOST_HEAD_LINE_BYTES: usize = 1024;
+
+/// So many bytes of a text decide what it says, or all where it has fewer: all lines that a head may
+/// have, at their greatest length, and one byte that shows whether there is a further one.
+pub const DECIDING_BYTES: usize = MOST_COMMS as usize * MOST_HEAD_LINE_BYTES + 1;
