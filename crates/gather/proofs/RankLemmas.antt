@@ -10,7 +10,8 @@ use Rattle.mpigroup.specs.Groups.{Groups}
 use Rattle.pairing.specs.Faults.{fault_of, IsLawfulList}
 use Rattle.pairing.specs.declared.fault.CallFault.{CallFault}
 use Rattle.gather.specs.Answers.{fault_of_rank, fault_behind, or_behind}
-use Rattle.gather.specs.Told.{AcceptsRank, RefusesRank, is_read_failure}
+use Rattle.gather.specs.Told.{is_read_failure}
+use Rattle.gather.specs.Ranks.{AcceptsRank, RefusesRank}
 use Rattle.gather.specs.declared.fault.RankFault.TheVariants.{OfCall, OfSource}
 use Rattle.gather.specs.declared.fault.RunFault.TheVariants.{Refused}
 

@@ -5,14 +5,15 @@ use Rattle.mpicall.specs.Source.{coming}
 use Rattle.mpicall.specs.declared.call.Call.{Call}
 use Rattle.mpicall.specs.declared.source.Source.{Source}
 use Rattle.mpigroup.specs.Groups.{Groups, ranks_of}
-use Rattle.pairing.specs.Traces.{Lists, calls_of}
+use Rattle.pairing.specs.Recordings.{Lists, calls_of}
 use Rattle.moves.specs.Stands.{lowest_run_over}
 use Rattle.moves.specs.Verdicts.{verdict_of, SomeRankIsStuck}
 use Rattle.moves.specs.declared.verdict.Verdict.{Verdict}
 use Rattle.moves.specs.declared.verdict.Verdict.TheVariants.{Hang}
 use Rattle.moves.proofs.StandLemmas.{no_run_brings_a_stuck_rank_to_finalize, every_maximal_run_ends_at_the_stands}
 use Rattle.gather.specs.Answers.{fault_of_rank, refusal_or, refusal_from, lists_of, SomeRankCannotEnd}
-use Rattle.gather.specs.Told.{Tells, told_by, AcceptsAll, AcceptsRank, IsVerdictOver, RefusesRun, RefusesOver, IsRefusalOf}
+use Rattle.gather.specs.Told.{Tells, IsVerdictOver, RefusesOver}
+use Rattle.gather.specs.Ranks.{told_by, AcceptsAll, AcceptsRank, RefusesRun, IsRefusalOf}
 use Rattle.gather.specs.declared.fault.Refusal.{Refusal}
 use Rattle.gather.specs.declared.fault.RunFault.{RunFault}
 use Rattle.gather.specs.declared.fault.RunFault.TheVariants.{Memory, Refused, Write}

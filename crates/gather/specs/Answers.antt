@@ -1,10 +1,10 @@
 -- The answer of a run over the sources of its ranks: the refusal of the lowest rank that has a fault, or
--- the trace of all their records with its verdict.
+-- the recording of all their records with its verdict.
 use Rattle.std.specs.Prelude.{◌≡◌, ℕ, ◌+◌, ◌<◌, false, Option, Some, None, List, [], ◌∷◌, ◌++◌, length, map, codes}
 use Rattle.mpicall.specs.Trace.{Trace, End, Sealed, Torn}
 use Rattle.mpicall.specs.declared.call.Call.{Call}
 use Rattle.mpigroup.specs.Groups.{Groups}
-use Rattle.pairing.specs.Traces.{Lists}
+use Rattle.pairing.specs.Recordings.{Lists}
 use Rattle.pairing.specs.Faults.{fault_of}
 use Rattle.pairing.specs.declared.fault.CallFault.{CallFault}
 use Rattle.moves.specs.Runs.{State}
@@ -50,7 +50,7 @@ refusal_from groups rank (trace ∷ traces) = refusal_or rank (fault_of_rank gro
 abbrev pub refusal_of : Groups → List Trace → Option Refusal
 refusal_of groups traces = refusal_from groups 0 traces
 
--- the calls of all ranks
+-- the recording that the traces of all ranks make
 abbrev pub lists_of : List Trace → Lists
 lists_of traces = map (λ trace. trace.records) traces
 
@@ -59,8 +59,8 @@ abbrev pub report_of : Verdict → List ℕ
 report_of Free = codes "verdict free\n"
 report_of Hang = codes "verdict hang\n"
 
--- some rank comes to its Finalize in no run over the trace
-pub record SomeRankCannotEnd (groups : Groups) (trace : Lists) : Type 0 where
+-- some rank comes to its Finalize in no run over the recording
+pub record SomeRankCannotEnd (groups : Groups) (recording : Lists) : Type 0 where
   pub rank : ℕ
-  pub is_rank : rank < length trace
-  pub in_no_run : (states : List State) → IsRunOver groups trace states → is_at_finalize trace (end_over trace states) rank ≡ false
+  pub is_rank : rank < length recording
+  pub in_no_run : (states : List State) → IsRunOver groups recording states → is_at_finalize recording (end_over recording states) rank ≡ false

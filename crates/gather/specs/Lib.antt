@@ -1,3 +1,4 @@
 pub mod Answers
 pub mod Told
+pub mod Ranks
 pub mod Codes

@@ -2,14 +2,14 @@
 
 ghost use Rattle.std.specs.Prelude.{◌≡◌, None, IfOk, IfErr, length};
 ghost use Rattle.mpicall.specs.Source.{coming, ended, input_of};
-ghost use Rattle.gather.specs.Told.{AcceptsRank, RefusesRank, count_after};
+ghost use Rattle.gather.specs.Ranks.{AcceptsRank, RefusesRank, failures_after};
 
 use crate::fault::{RankFault, Refusal, RunFault};
 use mpicall::device::Input;
 use mpicall::source::Source;
 use mpigroup::head::Head;
 use pairing::fault::next_fault;
-use pairing::trace::Calls;
+use pairing::recording::Calls;
 use std::alloc::Global;
 
 /// The refusal of a rank behind its calls.
@@ -33,7 +33,7 @@ pub fn read_rank<I: Input>(
     requires { ended source.old ≡ None }
     ensures ok { IfOk result (AcceptsRank head.now rank (coming I.left source.old)) }
     ensures fault { IfErr result (RefusesRank head.now rank (coming I.left source.old)) }
-    ensures count { I.failures (input_of source.new) ≡ count_after result (I.failures (input_of source.old)) }
+    ensures count { I.failures (input_of source.new) ≡ failures_after result (I.failures (input_of source.old)) }
 {
     let mut calls = Calls::new(alloc);
     loop {

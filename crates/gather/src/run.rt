@@ -5,7 +5,8 @@ ghost use Rattle.std.specs.Io.KnownBytes.{Appends};
 ghost use Rattle.mpicall.specs.Trace.{Trace as TraceValue};
 ghost use Rattle.gather.specs.Answers.{report_of};
 ghost use Rattle.mpigroup.specs.Groups.{ranks_of};
-ghost use Rattle.gather.specs.Told.{AreFresh, told_by, AcceptsAll, RefusesRun, ReadFailedAt, Tells, IsVerdictOver, RefusesOver, LeavesOutput};
+ghost use Rattle.gather.specs.Told.{AreFresh, ReadFailedAt, Tells, IsVerdictOver, RefusesOver, LeavesOutput};
+ghost use Rattle.gather.specs.Ranks.{told_by, AcceptsAll, RefusesRun};
 
 use crate::fault::RunFault;
 use crate::rank::read_rank;
@@ -13,7 +14,7 @@ use moves::verdict::{Verdict, verdict_of};
 use mpicall::device::{Input, Output, write_all};
 use mpicall::source::Source;
 use mpigroup::head::Head;
-use pairing::trace::Trace;
+use pairing::recording::Recording;
 use std::alloc::Global;
 
 /// Reads the sources in rank order, each to its end, and stops at the first fault.
@@ -21,24 +22,24 @@ fn read_ranks<I: Input>(
     alloc: Global,
     head: &Head,
     sources: &mut [Source<I>],
-) -> Result<Trace, RunFault>
+) -> Result<Recording, RunFault>
     requires one_a_rank { length sources.old ≡ ranks_of head.now }
     requires fresh { AreFresh sources.old }
     ensures ok { IfOk result (AcceptsAll head.now (told_by I.left sources.old)) }
     ensures fault { IfErr result (RefusesRun head.now (told_by I.left sources.old)) }
     ensures count { IfErr result (ReadFailedAt I.failures sources.old sources.new) }
 {
-    let mut trace = Trace::without_ranks(alloc);
+    let mut recording = Recording::without_ranks(alloc);
     for rank in 0..head.ranks() {
         let calls = match read_rank(alloc, head, rank, &mut sources[usize::from(rank)]) {
             Ok(calls) => calls,
             Err(fault) => return Err(fault),
         };
-        if trace.add_rank(calls).is_err() {
+        if recording.add_rank(calls).is_err() {
             return Err(RunFault::Memory);
         }
     }
-    Ok(trace)
+    Ok(recording)
 }
 
 /// The report of a verdict: one line.
@@ -78,11 +79,11 @@ pub fn run<I: Input, O: Output>(
     ensures no_write_failed { OnOk result (O.failures out.new ≡ O.failures out.old) }
     ensures output { IfErr result (LeavesOutput O.written O.failures out.old out.new) }
 {
-    let trace = match read_ranks(alloc, head, sources) {
-        Ok(trace) => trace,
+    let recording = match read_ranks(alloc, head, sources) {
+        Ok(recording) => recording,
         Err(fault) => return Err(fault),
     };
-    let Ok(verdict) = verdict_of(alloc, head, &trace) else {
+    let Ok(verdict) = verdict_of(alloc, head, &recording) else {
         return Err(RunFault::Memory);
     };
     match write_all(out, report_of(verdict)) {

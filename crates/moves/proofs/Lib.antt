@@ -1,4 +1,5 @@
 pub mod RunLemmas
+pub mod StayLemmas
 pub mod NeedLemmas
 pub mod StandLemmas
 pub mod VerdictLemmas

@@ -1,88 +1,87 @@
--- What the stands of a trace tell of its runs.
+-- What the stands of a recording tell of its runs.
 use Rattle.std.proofs.Common.{◌-◌, ◌≡◌, ℕ, suc, ◌+◌, ◌<◌, ◌≤◌, ◌≢◌, true, false, Option, Some, None, List, [], ◌∷◌, length, map, get_or, refl, sym, ap, subst, ◌∙◌, ⊎_elim, arith, get_or-set_same, get_or-set_other}
 use Rattle.std.specs.List.{slice_get}
 use Rattle.std.specs.Option.{option_map_or}
 use Rattle.std.proofs.lemmas.Option.{same_Some}
 use Rattle.std.proofs.lemmas.Bool.{cases_eq, cases_Bool, false≢true}
 use Rattle.mpicall.specs.declared.call.Call.{Call}
-use Rattle.mpicall.specs.declared.call.Call.TheVariants.{Send, Recv, Finalize}
+use Rattle.mpicall.specs.declared.call.Call.TheVariants.{Finalize}
 use Rattle.mpigroup.specs.Groups.{Groups}
-use Rattle.pairing.specs.Traces.{Lists, calls_of, is_finalize, GoesOn}
-use Rattle.moves.specs.Runs.{lowest, IsBelow, total, State, Rule, start, moved, Step, Steps, last_of, end_of, IsMaximal, IsReached, IsTheEnd, lowest_run}
+use Rattle.pairing.specs.Recordings.{Lists, calls_of, is_finalize, GoesOn}
+use Rattle.moves.specs.Runs.{lowest, StandsNoLater, total, State, Rule, start, moved, Step, Steps, last_of, end_of, IsMaximal, IsReached, IsTheEnd, lowest_run}
 use Rattle.moves.specs.Needs.{can_move}
-use Rattle.moves.specs.Stands.{calls_in, IsRunOver, end_over, lowest_run_over, stands_of, is_at_finalize, EveryMaximalRunEndsAtTheStands, NoRunBringsAStuckRankToFinalize, EveryMaximalRunBringsTheOthers, LongerTracesLowerNoStand, NoCallAfterFinalizeIsReached}
+use Rattle.moves.specs.Stands.{calls_in, IsRunOver, end_over, lowest_run_over, stands_of, is_at_finalize, EveryMaximalRunEndsAtTheStands, NoRunBringsAStuckRankToFinalize, EveryMaximalRunBringsTheOthers, LongerRecordingsLowerNoStand, NoCallAfterFinalizeIsReached}
 use Rattle.moves.proofs.RunLemmas.{any_end_is_the_end, maximal_runs_end_alike, run_below, reached_below, reached_ranks, reached_step, get_start, lowest_found, lowest_none, total_moved, total_less}
 use Rattle.moves.proofs.NeedLemmas.{can_move_is_persistent, can_move_is_bounded, can_pass, can_move_on}
 
-same_ranks : (trace : Lists) → length (map length trace) ≡ length trace
+same_ranks : (recording : Lists) → length (map length recording) ≡ length recording
 same_ranks [] = refl
-same_ranks (calls ∷ trace) = ap (λ (n : ℕ). suc n) (same_ranks trace)
+same_ranks (calls ∷ recording) = ap (λ (n : ℕ). suc n) (same_ranks recording)
 
 pub every_maximal_run_ends_at_the_stands : EveryMaximalRunEndsAtTheStands
-every_maximal_run_ends_at_the_stands groups trace =
-    subst (λ (ranks : ℕ). IsMaximal (can_move groups trace) ranks (lowest_run (can_move groups trace) ranks (calls_in trace))
-    × IsTheEnd (can_move groups trace) ranks (end_of ranks (lowest_run (can_move groups trace) ranks (calls_in trace))))
-    (same_ranks trace)
-    (maximal_runs_end_alike (can_move groups trace) (map length trace) (can_move_is_persistent groups trace) (can_move_is_bounded groups trace))
+every_maximal_run_ends_at_the_stands groups recording =
+    subst (λ (ranks : ℕ). IsMaximal (can_move groups recording) ranks (lowest_run (can_move groups recording) ranks (calls_in recording))
+    × IsTheEnd (can_move groups recording) ranks (end_of ranks (lowest_run (can_move groups recording) ranks (calls_in recording))))
+    (same_ranks recording)
+    (maximal_runs_end_alike (can_move groups recording) (map length recording) (can_move_is_persistent groups recording) (can_move_is_bounded groups recording))
 
 -- a rank whose Finalize is not behind it keeps it so
-passes_not : (groups : Groups) (trace : Lists) (s t : State) (rank place : ℕ) → slice_get (calls_of trace rank) place ≡ Some Finalize → get_or s rank 0 ≤ place → Step (can_move groups trace) s t → get_or t rank 0 ≤ place
-passes_not groups trace s t rank place finalize before step =
+passes_not : (groups : Groups) (recording : Lists) (s t : State) (rank place : ℕ) → slice_get (calls_of recording rank) place ≡ Some Finalize → get_or s rank 0 ≤ place → Step (can_move groups recording) s t → get_or t rank 0 ≤ place
+passes_not groups recording s t rank place finalize before step =
     rw step.moves_on
     (⊎_elim
-    (λ (same : rank ≡ step.rank). moved_to groups trace s rank place finalize before (rw same step.can_move) (rw same step.is_rank) step.rank same)
+    (λ (same : rank ≡ step.rank). moved_to groups recording s rank place finalize before (rw same step.can_move) (rw same step.is_rank) step.rank same)
     (λ (other : rank ≢ step.rank). rw (get_or-set_other s step.rank rank (get_or s step.rank 0 + 1) 0 other) before)
     (cases_eq rank step.rank))
   where
-    not_there : (groups : Groups) (trace : Lists) (s : State) (rank place : ℕ) → slice_get (calls_of trace rank) place ≡ Some Finalize → can_move groups trace s rank ≡ true → get_or s rank 0 ≢ place
-    not_there groups trace s rank place finalize can e =
-        let pass = can_pass groups trace s rank can in
-        let there : slice_get (calls_of trace rank) (get_or s rank 0) ≡ Some Finalize = rw e finalize in
+    not_there : (groups : Groups) (recording : Lists) (s : State) (rank place : ℕ) → slice_get (calls_of recording rank) place ≡ Some Finalize → can_move groups recording s rank ≡ true → get_or s rank 0 ≢ place
+    not_there groups recording s rank place finalize can e =
+        let pass = can_pass groups recording s rank can in
+        let there : slice_get (calls_of recording rank) (get_or s rank 0) ≡ Some Finalize = rw e finalize in
         let same : pass.call ≡ Finalize = same_Some pass.call Finalize (sym pass.is_present ∙ there) in
         false≢true (sym pass.is_not_finalize ∙ ap is_finalize same)
 
-    moved_to : (groups : Groups) (trace : Lists) (s : State) (rank place : ℕ) → slice_get (calls_of trace rank) place ≡ Some Finalize → get_or s rank 0 ≤ place → can_move groups trace s rank ≡ true → rank < length s → (other : ℕ) → rank ≡ other → get_or (moved s other) rank 0 ≤ place
-    moved_to groups trace s rank place finalize before can is_rank other same =
-        let differs = not_there groups trace s rank place finalize can in
+    moved_to : (groups : Groups) (recording : Lists) (s : State) (rank place : ℕ) → slice_get (calls_of recording rank) place ≡ Some Finalize → get_or s rank 0 ≤ place → can_move groups recording s rank ≡ true → rank < length s → (other : ℕ) → rank ≡ other → get_or (moved s other) rank 0 ≤ place
+    moved_to groups recording s rank place finalize before can is_rank other same =
+        let differs = not_there groups recording s rank place finalize can in
         rw (← same) (rw (get_or-set_same s rank (get_or s rank 0 + 1) 0 is_rank) (omega arith))
 
-steps_pass_not : (groups : Groups) (trace : Lists) (s : State) (states : List State) (rank place : ℕ) → slice_get (calls_of trace rank) place ≡ Some Finalize → get_or s rank 0 ≤ place → Steps (can_move groups trace) s states → get_or (last_of s states) rank 0 ≤ place
-steps_pass_not groups trace s [] rank place finalize before steps = before
-steps_pass_not groups trace s (t ∷ rest) rank place finalize before steps =
-    steps_pass_not groups trace t rest rank place finalize (passes_not groups trace s t rank place finalize before steps.0) steps.1
+steps_pass_not : (groups : Groups) (recording : Lists) (s : State) (states : List State) (rank place : ℕ) → slice_get (calls_of recording rank) place ≡ Some Finalize → get_or s rank 0 ≤ place → Steps (can_move groups recording) s states → get_or (last_of s states) rank 0 ≤ place
+steps_pass_not groups recording s [] rank place finalize before steps = before
+steps_pass_not groups recording s (t ∷ rest) rank place finalize before steps =
+    steps_pass_not groups recording t rest rank place finalize (passes_not groups recording s t rank place finalize before steps.0) steps.1
 
 pub no_call_after_finalize_is_reached : NoCallAfterFinalizeIsReached
-no_call_after_finalize_is_reached groups trace rank place states is_run finalize =
-    steps_pass_not groups trace (start (length trace)) states rank place finalize (rw (get_start (length trace) rank) (omega arith)) is_run
+no_call_after_finalize_is_reached groups recording rank place states is_run finalize =
+    steps_pass_not groups recording (start (length recording)) states rank place finalize (rw (get_start (length recording) rank) (omega arith)) is_run
 
 -- the call of a rank that is at its Finalize
 is_finalize_there : (present : Option Call) → option_map_or is_finalize present false ≡ true → present ≡ Some Finalize
 is_finalize_there None h = absurd (false≢true h)
 is_finalize_there (Some Finalize) h = refl
-is_finalize_there (Some (Send mode comm dest tag)) h = absurd (false≢true h)
-is_finalize_there (Some (Recv comm source tag)) h = absurd (false≢true h)
+is_finalize_there (Some _) h = absurd (false≢true h)
 
 -- a rank that some run brings to its Finalize stands there
-pub brought_to_finalize : (groups : Groups) (trace : Lists) (rank : ℕ) (states : List State) → IsRunOver groups trace states → is_at_finalize trace (end_over trace states) rank ≡ true → is_at_finalize trace (stands_of groups trace) rank ≡ true
-brought_to_finalize groups trace rank states is_run there =
-    let whole = every_maximal_run_ends_at_the_stands groups trace in
-    let finalize = is_finalize_there (slice_get (calls_of trace rank) (get_or (end_over trace states) rank 0)) there in
-    let below = run_below (can_move groups trace) (length trace) (stands_of groups trace) states (can_move_is_persistent groups trace) whole.1.is_stuck (reached_ranks (can_move groups trace) (length trace) (stands_of groups trace) whole.1.is_reached) is_run in
-    let not_past = no_call_after_finalize_is_reached groups trace rank (get_or (end_over trace states) rank 0) (lowest_run_over groups trace) whole.0.is_run finalize in
-    let same : get_or (end_over trace states) rank 0 ≡ get_or (stands_of groups trace) rank 0 = omega (arith, below.stands rank, not_past) in
-    subst (λ (stand : ℕ). option_map_or is_finalize (slice_get (calls_of trace rank) stand) false ≡ true) same there
+pub brought_to_finalize : (groups : Groups) (recording : Lists) (rank : ℕ) (states : List State) → IsRunOver groups recording states → is_at_finalize recording (end_over recording states) rank ≡ true → is_at_finalize recording (stands_of groups recording) rank ≡ true
+brought_to_finalize groups recording rank states is_run there =
+    let whole = every_maximal_run_ends_at_the_stands groups recording in
+    let finalize = is_finalize_there (slice_get (calls_of recording rank) (get_or (end_over recording states) rank 0)) there in
+    let below = run_below (can_move groups recording) (length recording) (stands_of groups recording) states (can_move_is_persistent groups recording) whole.1.is_stuck (reached_ranks (can_move groups recording) (length recording) (stands_of groups recording) whole.1.is_reached) is_run in
+    let not_past = no_call_after_finalize_is_reached groups recording rank (get_or (end_over recording states) rank 0) (lowest_run_over groups recording) whole.0.is_run finalize in
+    let same : get_or (end_over recording states) rank 0 ≡ get_or (stands_of groups recording) rank 0 = omega (arith, below.stands rank, not_past) in
+    subst (λ (stand : ℕ). option_map_or is_finalize (slice_get (calls_of recording rank) stand) false ≡ true) same there
 
 pub no_run_brings_a_stuck_rank_to_finalize : NoRunBringsAStuckRankToFinalize
-no_run_brings_a_stuck_rank_to_finalize groups trace rank states is_run stuck =
+no_run_brings_a_stuck_rank_to_finalize groups recording rank states is_run stuck =
     ⊎_elim
-    (λ (there : is_at_finalize trace (end_over trace states) rank ≡ true). absurd (false≢true (sym stuck ∙ brought_to_finalize groups trace rank states is_run there)))
-    (λ (not_there : is_at_finalize trace (end_over trace states) rank ≡ false). not_there)
-    (cases_Bool (is_at_finalize trace (end_over trace states) rank))
+    (λ (there : is_at_finalize recording (end_over recording states) rank ≡ true). absurd (false≢true (sym stuck ∙ brought_to_finalize groups recording rank states is_run there)))
+    (λ (not_there : is_at_finalize recording (end_over recording states) rank ≡ false). not_there)
+    (cases_Bool (is_at_finalize recording (end_over recording states) rank))
 
 pub every_maximal_run_brings_the_others : EveryMaximalRunBringsTheOthers
-every_maximal_run_brings_the_others groups trace rank states maximal there =
-    let same = (every_maximal_run_ends_at_the_stands groups trace).1.of_all states maximal in
-    subst (λ (s : State). is_at_finalize trace s rank ≡ true) (sym same) there
+every_maximal_run_brings_the_others groups recording rank states maximal there =
+    let same = (every_maximal_run_ends_at_the_stands groups recording).1.of_all states maximal in
+    subst (λ (s : State). is_at_finalize recording s rank ≡ true) (sym same) there
 
 steps_on : (can on : Rule) → ((s : State) (rank : ℕ) → can s rank ≡ true → on s rank ≡ true) → (s : State) (states : List State) → Steps can s states → Steps on s states
 steps_on can on more s [] steps = tt
@@ -91,56 +90,56 @@ steps_on can on more s (t ∷ rest) steps = (
   steps_on can on more t rest steps.1,
 )
 
--- what is reached over a trace is reached over each longer one
-pub reached_on : (groups : Groups) (trace longer : Lists) (s : State) → GoesOn trace longer → IsReached (can_move groups trace) (length trace) s → IsReached (can_move groups longer) (length longer) s
-reached_on groups trace longer s goes_on reached =
+-- what is reached over a recording is reached over each longer one
+pub reached_on : (groups : Groups) (recording longer : Lists) (s : State) → GoesOn recording longer → IsReached (can_move groups recording) (length recording) s → IsReached (can_move groups longer) (length longer) s
+reached_on groups recording longer s goes_on reached =
     subst (λ (ranks : ℕ). IsReached (can_move groups longer) ranks s) goes_on.same_ranks
     (record {
       states = reached.states;
-      is_run = steps_on (can_move groups trace) (can_move groups longer) (λ t rank h. can_move_on groups trace longer t rank goes_on h) (start (length trace)) reached.states reached.is_run;
+      is_run = steps_on (can_move groups recording) (can_move groups longer) (λ t rank h. can_move_on groups recording longer t rank goes_on h) (start (length recording)) reached.states reached.is_run;
       ends_there = reached.ends_there;
     })
 
-pub longer_traces_lower_no_stand : LongerTracesLowerNoStand
-longer_traces_lower_no_stand groups trace longer goes_on =
-    let old = every_maximal_run_ends_at_the_stands groups trace in
+pub longer_recordings_lower_no_stand : LongerRecordingsLowerNoStand
+longer_recordings_lower_no_stand groups recording longer goes_on =
+    let old = every_maximal_run_ends_at_the_stands groups recording in
     let new = every_maximal_run_ends_at_the_stands groups longer in
-    reached_below (can_move groups longer) (length longer) (stands_of groups trace) (stands_of groups longer) (can_move_is_persistent groups longer) new.1.is_stuck
+    reached_below (can_move groups longer) (length longer) (stands_of groups recording) (stands_of groups longer) (can_move_is_persistent groups longer) new.1.is_stuck
     (reached_ranks (can_move groups longer) (length longer) (stands_of groups longer) new.1.is_reached)
-    (reached_on groups trace longer (stands_of groups trace) goes_on old.1.is_reached)
+    (reached_on groups recording longer (stands_of groups recording) goes_on old.1.is_reached)
 
 -- no stand is past the last call, and a rank that can move has calls left
-pub reached_within : (groups : Groups) (trace : Lists) (s : State) → IsReached (can_move groups trace) (length trace) s → IsBelow s (map length trace)
-reached_within groups trace s reached =
-    reached_below (can_move groups trace) (length trace) s (map length trace) (can_move_is_persistent groups trace)
+pub reached_within : (groups : Groups) (recording : Lists) (s : State) → IsReached (can_move groups recording) (length recording) s → StandsNoLater s (map length recording)
+reached_within groups recording s reached =
+    reached_below (can_move groups recording) (length recording) s (map length recording) (can_move_is_persistent groups recording)
     (λ rank is_rank.
     ⊎_elim
-    (λ (can : can_move groups trace (map length trace) rank ≡ true). absurd (omega (arith, can_move_is_bounded groups trace (map length trace) rank can)))
-    (λ (cannot : can_move groups trace (map length trace) rank ≡ false). cannot)
-    (cases_Bool (can_move groups trace (map length trace) rank)))
-    (same_ranks trace)
+    (λ (can : can_move groups recording (map length recording) rank ≡ true). absurd (omega (arith, can_move_is_bounded groups recording (map length recording) rank can)))
+    (λ (cannot : can_move groups recording (map length recording) rank ≡ false). cannot)
+    (cases_Bool (can_move groups recording (map length recording) rank)))
+    (same_ranks recording)
     reached
 
-pub calls_left : (groups : Groups) (trace : Lists) (s : State) (rank : ℕ) → IsReached (can_move groups trace) (length trace) s → lowest (can_move groups trace) s ≡ Some rank → calls_in trace - total (moved s rank) < calls_in trace - total s
-calls_left groups trace s rank reached found =
-    let f = lowest_found (can_move groups trace) s rank found in
-    let within = reached_within groups trace s reached in
+pub calls_left : (groups : Groups) (recording : Lists) (s : State) (rank : ℕ) → IsReached (can_move groups recording) (length recording) s → lowest (can_move groups recording) s ≡ Some rank → calls_in recording - total (moved s rank) < calls_in recording - total s
+calls_left groups recording s rank reached found =
+    let f = lowest_found (can_move groups recording) s rank found in
+    let within = reached_within groups recording s reached in
     omega (
       arith,
       total_moved s rank f.1,
-      total_less s (map length trace) rank within.ranks within.stands (can_move_is_bounded groups trace s rank f.0),
+      total_less s (map length recording) rank within.ranks within.stands (can_move_is_bounded groups recording s rank f.0),
     )
 
-pub step_lowest : (groups : Groups) (trace : Lists) (s : State) (rank : ℕ) → IsReached (can_move groups trace) (length trace) s → lowest (can_move groups trace) s ≡ Some rank → IsReached (can_move groups trace) (length trace) (moved s rank)
-step_lowest groups trace s rank reached found =
-    let f = lowest_found (can_move groups trace) s rank found in
-    reached_step (can_move groups trace) (length trace) s (moved s rank) reached
+pub step_lowest : (groups : Groups) (recording : Lists) (s : State) (rank : ℕ) → IsReached (can_move groups recording) (length recording) s → lowest (can_move groups recording) s ≡ Some rank → IsReached (can_move groups recording) (length recording) (moved s rank)
+step_lowest groups recording s rank reached found =
+    let f = lowest_found (can_move groups recording) s rank found in
+    reached_step (can_move groups recording) (length recording) s (moved s rank) reached
     (record { rank = rank; is_rank = f.1; can_move = f.0; moves_on = refl })
 
-pub reached_end : (groups : Groups) (trace : Lists) (s : State) → IsReached (can_move groups trace) (length trace) s → lowest (can_move groups trace) s ≡ None → IsTheEnd (can_move groups trace) (length trace) s
-reached_end groups trace s reached none =
-    any_end_is_the_end (can_move groups trace) (length trace) s (can_move_is_persistent groups trace) reached (lowest_none (can_move groups trace) s none)
+pub reached_end : (groups : Groups) (recording : Lists) (s : State) → IsReached (can_move groups recording) (length recording) s → lowest (can_move groups recording) s ≡ None → IsTheEnd (can_move groups recording) (length recording) s
+reached_end groups recording s reached none =
+    any_end_is_the_end (can_move groups recording) (length recording) s (can_move_is_persistent groups recording) reached (lowest_none (can_move groups recording) s none)
 
-pub reached_stands : (groups : Groups) (trace : Lists) (s : State) → IsReached (can_move groups trace) (length trace) s → lowest (can_move groups trace) s ≡ None → s ≡ stands_of groups trace
-reached_stands groups trace s reached none =
-    sym ((reached_end groups trace s reached none).of_all (lowest_run_over groups trace) (every_maximal_run_ends_at_the_stands groups trace).0)
+pub reached_stands : (groups : Groups) (recording : Lists) (s : State) → IsReached (can_move groups recording) (length recording) s → lowest (can_move groups recording) s ≡ None → s ≡ stands_of groups recording
+reached_stands groups recording s reached none =
+    sym ((reached_end groups recording s reached none).of_all (lowest_run_over groups recording) (every_maximal_run_ends_at_the_stands groups recording).0)

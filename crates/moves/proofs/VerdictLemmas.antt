@@ -3,7 +3,7 @@ use Rattle.std.proofs.Common.{◌≡◌, ℕ, zero, suc, ◌+◌, ◌<◌, ◌�
 use Rattle.std.specs.List.{list_all, range_with_len}
 use Rattle.std.proofs.lemmas.Bool.{cases_eq, cases_Bool, false≢true}
 use Rattle.mpigroup.specs.Groups.{Groups}
-use Rattle.pairing.specs.Traces.{Lists}
+use Rattle.pairing.specs.Recordings.{Lists}
 use Rattle.moves.specs.Stands.{stands_of, is_at_finalize}
 use Rattle.moves.specs.Verdicts.{SomeRankIsStuck}
 use Rattle.moves.specs.declared.verdict.Verdict.TheVariants.{Free, Hang}
@@ -39,15 +39,15 @@ one_fails p a (suc n) h =
 
 -- each rank stands at its Finalize
 abbrev pub all_at_finalize : Groups → Lists → Bool
-all_at_finalize groups trace = list_all (is_at_finalize trace (stands_of groups trace)) (range_with_len 0 (length trace))
+all_at_finalize groups recording = list_all (is_at_finalize recording (stands_of groups recording)) (range_with_len 0 (length recording))
 
-pub free_where_all_are : (groups : Groups) (trace : Lists) → all_at_finalize groups trace ≡ true → (Free ≡ Hang) ↔ SomeRankIsStuck groups trace
-free_where_all_are groups trace h = (
+pub free_where_all_are : (groups : Groups) (recording : Lists) → all_at_finalize groups recording ≡ true → (Free ≡ Hang) ↔ SomeRankIsStuck groups recording
+free_where_all_are groups recording h = (
   (λ same. cc),
-  (λ stuck. absurd (false≢true (sym stuck.is_stuck ∙ all_pass (is_at_finalize trace (stands_of groups trace)) 0 (length trace) stuck.rank h (omega arith) (omega (arith, stuck.is_rank))))),
+  (λ stuck. absurd (false≢true (sym stuck.is_stuck ∙ all_pass (is_at_finalize recording (stands_of groups recording)) 0 (length recording) stuck.rank h (omega arith) (omega (arith, stuck.is_rank))))),
 )
 
-pub hang_where_one_is_not : (groups : Groups) (trace : Lists) → all_at_finalize groups trace ≡ false → (Hang ≡ Hang) ↔ SomeRankIsStuck groups trace
-hang_where_one_is_not groups trace h =
-    let one = one_fails (is_at_finalize trace (stands_of groups trace)) 0 (length trace) h in
+pub hang_where_one_is_not : (groups : Groups) (recording : Lists) → all_at_finalize groups recording ≡ false → (Hang ≡ Hang) ↔ SomeRankIsStuck groups recording
+hang_where_one_is_not groups recording h =
+    let one = one_fails (is_at_finalize recording (stands_of groups recording)) 0 (length recording) h in
     ((λ same. record { rank = one.number; is_rank = omega (arith, one.to); is_stuck = one.fails }), (λ stuck. refl))

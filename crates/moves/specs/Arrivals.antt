@@ -3,26 +3,26 @@
 use Rattle.std.specs.Prelude.{◌≡◌, ℕ, ◌==◌, is_none, List, [], ◌∷◌, replicate, if◌then◌else◌}
 use Rattle.mpicall.specs.declared.call.Call.{Call}
 use Rattle.mpigroup.specs.Groups.{Groups, ranks_of}
-use Rattle.pairing.specs.Traces.{Lists, calls_of, appended}
+use Rattle.pairing.specs.Recordings.{Lists, calls_of, appended}
 use Rattle.pairing.specs.Faults.{fault_of, IsLawful}
 
 -- a call and the rank that made it
 abbrev pub Arrival : Type 0
 Arrival = ℕ × Call
 
--- the trace once the call has arrived: with the call where it has no fault after its rank's calls so far
+-- the recording once the call has arrived: with the call where it has no fault after its rank's calls so far
 abbrev pub kept_one : Groups → Lists → Arrival → Lists
-kept_one groups trace arrival =
-    if is_none (fault_of groups arrival.0 (calls_of trace arrival.0) arrival.1)
-    then appended trace arrival.0 arrival.1
-    else trace
+kept_one groups recording arrival =
+    if is_none (fault_of groups arrival.0 (calls_of recording arrival.0) arrival.1)
+    then appended recording arrival.0 arrival.1
+    else recording
 
--- the trace once all have arrived, in their order
+-- the recording once all have arrived, in their order
 abbrev pub kept_from : Groups → Lists → List Arrival → Lists
-kept_from groups trace [] = trace
-kept_from groups trace (arrival ∷ rest) = kept_from groups (kept_one groups trace arrival) rest
+kept_from groups recording [] = recording
+kept_from groups recording (arrival ∷ rest) = kept_from groups (kept_one groups recording arrival) rest
 
--- the trace of the arrivals that are kept
+-- the recording of the arrivals that are kept
 abbrev pub kept : Groups → List Arrival → Lists
 kept groups arrivals = kept_from groups (replicate (ranks_of groups) []) arrivals
 
@@ -35,8 +35,8 @@ calls_by rank (arrival ∷ rest) = if arrival.0 == rank then arrival.1 ∷ calls
 abbrev pub KeptIsLawful : Type 0
 KeptIsLawful = (groups : Groups) (arrivals : List Arrival) → IsLawful groups (kept groups arrivals)
 
--- Law: however the ranks' records are mixed, the same trace is kept. If each rank's calls arrive in the
--- same order in both, the two mixes give one trace.
+-- Law: however the ranks' records are mixed, the same recording is kept. If each rank's calls arrive in the
+-- same order in both, the two mixes give one recording.
 abbrev pub MixesAreKeptAlike : Type 0
 MixesAreKeptAlike =
     (groups : Groups) (a b : List Arrival) → ((rank : ℕ) → calls_by rank a ≡ calls_by rank b) →

@@ -1,42 +1,88 @@
--- What a call waits for, by the strict reading of this project: a send is done once its receive is
--- reached, also in standard mode, which MPI 4.0 (section 3.4) allows to complete before; a receive is
--- done once its send is reached (section 3.2.4). MPI_Finalize is a rank's last call (section 11.2.2): it
--- needs nothing, and no rank moves past it.
-use Rattle.std.specs.Prelude.{ℕ, Bool, false, not, ◌&&◌, nat_le, Option, Some, None, unwrap_or, List, [], ◌∷◌, slice_get, slice_index}
+-- What a call waits for, by the strict reading of this project. A send is done once its receive is reached,
+-- also in standard mode, which MPI 4.0 (section 3.4) allows to complete before; a buffered send needs
+-- nothing (section 3.6). A receive is done once its send is reached (section 3.2.4). A collective is done
+-- once every member has reached its call of the wave, rooted ones too: MPI allows a collective not to
+-- synchronise (section 6.1), and the strict reading counts on neither. A call that starts a request needs
+-- nothing (section 3.7.2); a wait needs what the calls that it completes need (section 3.7.3). MPI_Finalize
+-- is a rank's last call (section 11.2.2): it needs nothing, and no rank moves past it.
+use Rattle.std.specs.Prelude.{ℕ, Bool, false, true, not, ◌&&◌, nat_le, Option, Some, None, unwrap_or, is_some, if◌then◌else◌, List, [], ◌∷◌, ◌++◌, map, flat_map, slice_get, slice_index}
 use Rattle.std.specs.List.{list_all}
 use Rattle.std.specs.Option.{option_map_or}
-use Rattle.mpicall.specs.declared.call.Peer.TheVariants.{Rank}
-use Rattle.mpicall.specs.declared.call.Mode.TheVariants.{Standard}
+use Rattle.mpicall.specs.declared.call.Mode.TheVariants.{Buffered}
 use Rattle.mpicall.specs.declared.call.Call.{Call}
-use Rattle.mpicall.specs.declared.call.Call.TheVariants.{Send, Recv, Finalize}
-use Rattle.mpigroup.specs.Groups.{Groups, world_rank_of}
+use Rattle.mpicall.specs.declared.call.Call.TheVariants.{Send, Isend}
+use Rattle.mpigroup.specs.Groups.{Groups, group_of, world_rank_of}
 use Rattle.pairing.specs.declared.envelope.Half.{Half}
 use Rattle.pairing.specs.declared.envelope.Half.TheVariants.{Send as SendHalf, Recv as RecvHalf}
-use Rattle.pairing.specs.Traces.{Lists, calls_of, is_finalize}
+use Rattle.pairing.specs.declared.envelope.Message.{Message}
+use Rattle.pairing.specs.Recordings.{Lists, calls_of, is_finalize}
+use Rattle.pairing.specs.Envelopes.{message_of}
 use Rattle.pairing.specs.Partners.{partner_of}
+use Rattle.pairing.specs.Requests.{starts, completes, started_before}
+use Rattle.pairing.specs.Waves.{place_in_wave, wave_of}
 use Rattle.moves.specs.Runs.{State, Rule}
 use Rattle.moves.specs.declared.need.Need.{Need}
 use Rattle.moves.specs.declared.need.Need.TheVariants.{At, Lacking}
 
 -- the rank of the world of a peer; the peer's own number where it is no rank of the group, as in no
--- lawful trace
+-- lawful recording
 abbrev pub world_of : Groups → ℕ → ℕ → ℕ
 world_of groups comm peer = unwrap_or (world_rank_of groups comm peer) peer
 
--- what a half of a call needs: that its partner is reached; where it has none, it lacks one of the peer
-abbrev pub half_need : Groups → Lists → ℕ → ℕ → Half → ℕ → ℕ → Need
-half_need groups trace rank place half comm peer =
-    option_map_or (λ partner. At partner.0 partner.1) (partner_of groups trace rank place half) (Lacking (world_of groups comm peer))
+-- what a message needs by one of its halves: that the partner is reached; where there is none, the peer
+-- lacks it
+abbrev pub half_need : Groups → Lists → ℕ → ℕ → Half → Message → Need
+half_need groups recording rank place half m =
+    option_map_or (λ partner. At partner.0 partner.1) (partner_of groups recording rank place half) (Lacking (world_of groups m.comm m.peer))
 
--- what the call at the place of the rank needs, one line for each shape of call
+-- the same of a half of a call; nothing where the call has no such message
+abbrev pub half_needs : Groups → Lists → ℕ → ℕ → Half → Call → List Need
+half_needs groups recording rank place half call =
+    option_map_or (λ m. half_need groups recording rank place half m ∷ []) (message_of half call) []
+
+-- what a wave needs of a member: that it has reached its call; where there is none, the member lacks it
+abbrev pub member_need : Lists → ℕ → ℕ → ℕ → Need
+member_need recording comm wave member = option_map_or (At member) (place_in_wave recording comm wave member) (Lacking member)
+
+-- what the call at the place needs of its wave: each member's call; nothing where it joins none
+abbrev pub wave_needs : Groups → Lists → ℕ → ℕ → List Need
+wave_needs groups recording rank place =
+    option_map_or (λ wave. map (member_need recording wave.0 wave.1) (group_of groups wave.0)) (wave_of recording rank place) []
+
+-- the call sends in buffered mode (MPI 4.0, section 3.4)
+abbrev pub is_buffered : Call → Bool
+is_buffered (Send Buffered comm dest tag) = true
+is_buffered (Isend req Buffered comm dest tag) = true
+is_buffered _ = false
+
+-- what the operation of the call at the place needs before it is done, whether the call waits for it itself
+-- or only starts it
+abbrev pub operation_needs : Groups → Lists → ℕ → ℕ → Call → List Need
+operation_needs groups recording rank place call =
+    (if is_buffered call then [] else half_needs groups recording rank place SendHalf call)
+    ++ half_needs groups recording rank place RecvHalf call
+    ++ wave_needs groups recording rank place
+
+-- the same of the call at a place; nothing where there is none
+abbrev pub operation_needs_at : Groups → Lists → ℕ → ℕ → List Need
+operation_needs_at groups recording rank place =
+    option_map_or (operation_needs groups recording rank place) (slice_get (calls_of recording rank) place) []
+
+-- what a request needs that a wait at the place completes: the operation that was started with it
+abbrev pub request_needs : Groups → Lists → ℕ → ℕ → ℕ → List Need
+request_needs groups recording rank place req =
+    option_map_or (operation_needs_at groups recording rank) (started_before recording rank place req) []
+
+-- What the call at the place of the rank needs: a call that starts a request nothing, a wait what the
+-- requests need that it completes, and any other call what its operation needs.
 abbrev pub needs_of_call : Groups → Lists → ℕ → ℕ → Call → List Need
-needs_of_call groups trace rank place (Send Standard comm (Rank dest) tag) = half_need groups trace rank place SendHalf comm dest ∷ []
-needs_of_call groups trace rank place (Recv comm (Rank source) tag) = half_need groups trace rank place RecvHalf comm source ∷ []
-needs_of_call groups trace rank place Finalize = []
+needs_of_call groups recording rank place call =
+    if is_some (starts call) then []
+    else operation_needs groups recording rank place call ++ flat_map (request_needs groups recording rank place) (completes call)
 
 -- what the rank's call at the place needs; nothing where there is none
 abbrev pub needs_of : Groups → Lists → ℕ → ℕ → List Need
-needs_of groups trace rank place = option_map_or (needs_of_call groups trace rank place) (slice_get (calls_of trace rank) place) []
+needs_of groups recording rank place = option_map_or (needs_of_call groups recording rank place) (slice_get (calls_of recording rank) place) []
 
 -- A rank has reached its calls up to the one at its stand. A need is met if its call is reached.
 abbrev pub is_met : State → Need → Bool
@@ -50,6 +96,6 @@ may_pass (Some call) = not (is_finalize call)
 
 -- A rank can move if its present call is not Finalize and each of that call's needs is met.
 abbrev pub can_move : Groups → Lists → Rule
-can_move groups trace stands rank =
-    may_pass (slice_get (calls_of trace rank) (slice_index stands rank))
-    && list_all (is_met stands) (needs_of groups trace rank (slice_index stands rank))
+can_move groups recording stands rank =
+    may_pass (slice_get (calls_of recording rank) (slice_index stands rank))
+    && list_all (is_met stands) (needs_of groups recording rank (slice_index stands rank))

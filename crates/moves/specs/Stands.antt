@@ -4,66 +4,66 @@ use Rattle.std.specs.Prelude.{◌≡◌, ℕ, ◌≤◌, Bool, true, false, Some
 use Rattle.std.specs.Option.{option_map_or}
 use Rattle.mpicall.specs.declared.call.Call.TheVariants.{Finalize}
 use Rattle.mpigroup.specs.Groups.{Groups}
-use Rattle.pairing.specs.Traces.{Lists, calls_of, is_finalize, GoesOn}
-use Rattle.moves.specs.Runs.{State, IsRun, end_of, IsMaximal, IsTheEnd, IsBelow, total, lowest_run}
+use Rattle.pairing.specs.Recordings.{Lists, calls_of, is_finalize, GoesOn}
+use Rattle.moves.specs.Runs.{State, IsRun, end_of, IsMaximal, IsTheEnd, StandsNoLater, total, lowest_run}
 use Rattle.moves.specs.Needs.{can_move}
 
--- how many calls the trace has
+-- how many calls the recording has
 abbrev pub calls_in : Lists → ℕ
-calls_in trace = total (map length trace)
+calls_in recording = total (map length recording)
 
--- a run over a trace: each of its steps moves a rank whose present call needs nothing that is not reached
+-- a run over a recording: each of its steps moves a rank whose present call needs nothing that is not reached
 abbrev pub IsRunOver : Groups → Lists → List State → Type 0
-IsRunOver groups trace states = IsRun (can_move groups trace) (length trace) states
+IsRunOver groups recording states = IsRun (can_move groups recording) (length recording) states
 
--- the last state of a run over a trace
+-- the last state of a run over a recording
 abbrev pub end_over : Lists → List State → State
-end_over trace states = end_of (length trace) states
+end_over recording states = end_of (length recording) states
 
--- the run over a trace that always moves the lowest rank that can move
+-- the run over a recording that always moves the lowest rank that can move
 abbrev pub lowest_run_over : Groups → Lists → List State
-lowest_run_over groups trace = lowest_run (can_move groups trace) (length trace) (calls_in trace)
+lowest_run_over groups recording = lowest_run (can_move groups recording) (length recording) (calls_in recording)
 
--- the stands of a trace: the last state of that run
+-- the stands of a recording: the last state of that run
 abbrev pub stands_of : Groups → Lists → State
-stands_of groups trace = end_over trace (lowest_run_over groups trace)
+stands_of groups recording = end_over recording (lowest_run_over groups recording)
 
 -- in a state, the rank's present call is its Finalize
 abbrev pub is_at_finalize : Lists → State → ℕ → Bool
-is_at_finalize trace stands rank = option_map_or is_finalize (slice_get (calls_of trace rank) (slice_index stands rank)) false
+is_at_finalize recording stands rank = option_map_or is_finalize (slice_get (calls_of recording rank) (slice_index stands rank)) false
 
--- Law: over every trace, the run that always moves the lowest rank is maximal, and every maximal run
+-- Law: over every recording, the run that always moves the lowest rank is maximal, and every maximal run
 -- ends at the stands.
 abbrev pub EveryMaximalRunEndsAtTheStands : Type 0
 EveryMaximalRunEndsAtTheStands =
-    (groups : Groups) (trace : Lists) →
-    IsMaximal (can_move groups trace) (length trace) (lowest_run_over groups trace)
-    × IsTheEnd (can_move groups trace) (length trace) (stands_of groups trace)
+    (groups : Groups) (recording : Lists) →
+    IsMaximal (can_move groups recording) (length recording) (lowest_run_over groups recording)
+    × IsTheEnd (can_move groups recording) (length recording) (stands_of groups recording)
 
 -- Law: a rank that is not at its Finalize at the stands is brought there by no run, maximal or not.
 abbrev pub NoRunBringsAStuckRankToFinalize : Type 0
 NoRunBringsAStuckRankToFinalize =
-    (groups : Groups) (trace : Lists) (rank : ℕ) (states : List State) → IsRunOver groups trace states →
-    is_at_finalize trace (stands_of groups trace) rank ≡ false →
-    is_at_finalize trace (end_over trace states) rank ≡ false
+    (groups : Groups) (recording : Lists) (rank : ℕ) (states : List State) → IsRunOver groups recording states →
+    is_at_finalize recording (stands_of groups recording) rank ≡ false →
+    is_at_finalize recording (end_over recording states) rank ≡ false
 
 -- Law: a rank that is at its Finalize at the stands is brought there by every maximal run.
 abbrev pub EveryMaximalRunBringsTheOthers : Type 0
 EveryMaximalRunBringsTheOthers =
-    (groups : Groups) (trace : Lists) (rank : ℕ) (states : List State) →
-    IsMaximal (can_move groups trace) (length trace) states →
-    is_at_finalize trace (stands_of groups trace) rank ≡ true →
-    is_at_finalize trace (end_over trace states) rank ≡ true
+    (groups : Groups) (recording : Lists) (rank : ℕ) (states : List State) →
+    IsMaximal (can_move groups recording) (length recording) states →
+    is_at_finalize recording (stands_of groups recording) rank ≡ true →
+    is_at_finalize recording (end_over recording states) rank ≡ true
 
--- Law: a longer trace lowers no stand.
-abbrev pub LongerTracesLowerNoStand : Type 0
-LongerTracesLowerNoStand =
-    (groups : Groups) (trace longer : Lists) → GoesOn trace longer →
-    IsBelow (stands_of groups trace) (stands_of groups longer)
+-- Law: a longer recording lowers no stand.
+abbrev pub LongerRecordingsLowerNoStand : Type 0
+LongerRecordingsLowerNoStand =
+    (groups : Groups) (recording longer : Lists) → GoesOn recording longer →
+    StandsNoLater (stands_of groups recording) (stands_of groups longer)
 
 -- Law: no run moves a rank past its Finalize, so a call after it is never reached.
 abbrev pub NoCallAfterFinalizeIsReached : Type 0
 NoCallAfterFinalizeIsReached =
-    (groups : Groups) (trace : Lists) (rank place : ℕ) (states : List State) → IsRunOver groups trace states →
-    slice_get (calls_of trace rank) place ≡ Some Finalize →
-    slice_index (end_over trace states) rank ≤ place
+    (groups : Groups) (recording : Lists) (rank place : ℕ) (states : List State) → IsRunOver groups recording states →
+    slice_get (calls_of recording rank) place ≡ Some Finalize →
+    slice_index (end_over recording states) rank ≤ place

@@ -3,18 +3,18 @@
 use Rattle.std.specs.Prelude.{◌≡◌, ℕ, ◌<◌, false, length, if◌then◌else◌}
 use Rattle.std.specs.List.{list_all, range_with_len}
 use Rattle.mpigroup.specs.Groups.{Groups}
-use Rattle.pairing.specs.Traces.{Lists}
+use Rattle.pairing.specs.Recordings.{Lists}
 use Rattle.moves.specs.Stands.{stands_of, is_at_finalize}
 use Rattle.moves.specs.declared.verdict.Verdict.{Verdict}
 use Rattle.moves.specs.declared.verdict.Verdict.TheVariants.{Free, Hang}
 
 -- free if each rank stands at its Finalize, else hang
 abbrev pub verdict_of : Groups → Lists → Verdict
-verdict_of groups trace =
-    if list_all (is_at_finalize trace (stands_of groups trace)) (range_with_len 0 (length trace)) then Free else Hang
+verdict_of groups recording =
+    if list_all (is_at_finalize recording (stands_of groups recording)) (range_with_len 0 (length recording)) then Free else Hang
 
 -- some rank does not stand at its Finalize
-pub record SomeRankIsStuck (groups : Groups) (trace : Lists) : Type 0 where
+pub record SomeRankIsStuck (groups : Groups) (recording : Lists) : Type 0 where
   pub rank : ℕ
-  pub is_rank : rank < length trace
-  pub is_stuck : is_at_finalize trace (stands_of groups trace) rank ≡ false
+  pub is_rank : rank < length recording
+  pub is_stuck : is_at_finalize recording (stands_of groups recording) rank ≡ false

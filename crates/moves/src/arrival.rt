@@ -7,7 +7,7 @@ pub fn kept_is_lawful()
     ensures { KeptIsLawful }
 {}
 
-/// However the ranks' records are mixed, the same trace is kept. Its premise is that each rank's
+/// However the ranks' records are mixed, the same recording is kept. Its premise is that each rank's
 /// records arrive in the same order.
 pub fn mixes_are_kept_alike()
     ensures { MixesAreKeptAlike }

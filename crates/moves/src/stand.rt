@@ -4,27 +4,27 @@ ghost use Rattle.std.specs.Prelude.{◌≡◌, ◌<◌, length, IfOk, IfSome, sl
 ghost use Rattle.pairing.specs.Limits.{most_calls};
 ghost use Rattle.moves.specs.Runs.{lowest, moved, IsTheEnd};
 ghost use Rattle.moves.specs.Needs.{can_move};
-ghost use Rattle.moves.specs.Stands.{stands_of, EveryMaximalRunEndsAtTheStands, NoRunBringsAStuckRankToFinalize, EveryMaximalRunBringsTheOthers, LongerTracesLowerNoStand, NoCallAfterFinalizeIsReached};
+ghost use Rattle.moves.specs.Stands.{stands_of, EveryMaximalRunEndsAtTheStands, NoRunBringsAStuckRankToFinalize, EveryMaximalRunBringsTheOthers, LongerRecordingsLowerNoStand, NoCallAfterFinalizeIsReached};
 
 use crate::need::can_move;
 use mpigroup::head::Head;
-use pairing::trace::Trace;
+use pairing::recording::Recording;
 use std::alloc::{AllocError, Global};
 
 // The lowest rank that can move.
 fn lowest(
     alloc: Global,
     head: &Head,
-    trace: &Trace,
+    recording: &Recording,
     stands: &[u32],
 ) -> Result<Option<u16>, AllocError>
-    requires { length stands.now ≡ length trace.now }
-    ensures value { IfOk result (λ found. found ≡ lowest (can_move head.now trace.now) stands.now) }
+    requires { length stands.now ≡ length recording.now }
+    ensures value { IfOk result (λ found. found ≡ lowest (can_move head.now recording.now) stands.now) }
     ensures is_rank { IfOk result (λ found. IfSome found (λ rank. rank < length stands.now)) }
     ensures room { IfOk result (λ found. IfSome found (λ rank. slice_index stands.now rank < most_calls)) }
 {
-    for rank in 0..trace.ranks() {
-        if can_move(alloc, head, trace, stands, rank)? {
+    for rank in 0..recording.ranks() {
+        if can_move(alloc, head, recording, stands, rank)? {
             return Ok(Some(rank));
         }
     }
@@ -41,19 +41,19 @@ fn move_on(stands: &mut Vec<u32>, rank: u16)
 }
 
 /// Where the ranks come to stand: each rank's number of completed calls once no rank can move, which
-/// is where every maximal run over the trace ends. It looks at all ranks again after each step.
-pub fn stands(alloc: Global, head: &Head, trace: &Trace) -> Result<Vec<u32>, AllocError>
-    ensures value { IfOk result (λ stands. stands.items ≡ stands_of head.now trace.now) }
-    ensures end { IfOk result (λ stands. IsTheEnd (can_move head.now trace.now) (length trace.now) stands.items) }
+/// is where every maximal run over the recording ends. It looks at all ranks again after each step.
+pub fn stands(alloc: Global, head: &Head, recording: &Recording) -> Result<Vec<u32>, AllocError>
+    ensures value { IfOk result (λ stands. stands.items ≡ stands_of head.now recording.now) }
+    ensures end { IfOk result (λ stands. IsTheEnd (can_move head.now recording.now) (length recording.now) stands.items) }
 {
-    let mut stands = vec![in alloc; 0u32; usize::from(trace.ranks())]?;
-    while let Some(rank) = lowest(alloc, head, trace, &stands)? {
+    let mut stands = vec![in alloc; 0u32; usize::from(recording.ranks())]?;
+    while let Some(rank) = lowest(alloc, head, recording, &stands)? {
         move_on(&mut stands, rank);
     }
     Ok(stands)
 }
-/// Over every trace, the run that always moves the lowest rank is maximal, and every maximal run ends
-/// at the stands. It has no premise: the trace need be neither closed nor lawful.
+/// Over every recording, the run that always moves the lowest rank is maximal, and every maximal run ends
+/// at the stands. It has no premise: the recording need be neither closed nor lawful.
 pub fn every_maximal_run_ends_at_the_stands()
     ensures { EveryMaximalRunEndsAtTheStands }
 {}
@@ -68,10 +68,10 @@ pub fn every_maximal_run_brings_the_others()
     ensures { EveryMaximalRunBringsTheOthers }
 {}
 
-/// A trace whose lists go on from those of another has no lower stand than that one. Its premise is
+/// A recording whose lists go on from those of another has no lower stand than that one. Its premise is
 /// that both have the same ranks.
-pub fn longer_traces_lower_no_stand()
-    ensures { LongerTracesLowerNoStand }
+pub fn longer_recordings_lower_no_stand()
+    ensures { LongerRecordingsLowerNoStand }
 {}
 
 /// No run moves a rank past its Finalize, so a call after it is never reached.

@@ -6,25 +6,51 @@ use Rattle.std.proofs.lemmas.List.{take-append-le}
 use Rattle.std.proofs.lemmas.Option.{none-some, same_Some}
 use Rattle.std.proofs.lemmas.Bool.{false≢true, cases_Bool, ltb-true}
 use Rattle.mpicall.specs.declared.call.Call.{Call}
-use Rattle.mpicall.specs.declared.call.Call.TheVariants.{Send, Recv, Finalize}
+use Rattle.mpicall.specs.declared.call.Call.TheVariants.{Finalize}
 use Rattle.mpigroup.specs.Groups.{Groups}
-use Rattle.std.specs.Prelude.{IfNone}
+use Rattle.std.specs.Prelude.{IfNone, not}
 use Rattle.pairing.specs.declared.fault.CallFault.{CallFault}
 use Rattle.pairing.specs.Limits.{most_calls}
-use Rattle.pairing.specs.Traces.{IsClosedList, is_finalize, has_finalize, ends_with_finalize}
-use Rattle.pairing.specs.Faults.{AnEndedLawfulListIsClosed, fault_of, IsLawfulList}
+use Rattle.pairing.specs.Recordings.{IsClosedList, is_finalize, has_finalize, ends_with_finalize}
+use Rattle.pairing.specs.Faults.{AnEndedLawfulListIsClosed, first_failed, comm_exists, holds_comm, peers_exist, starts_afresh, are_distinct, waits_for_active, makes_afresh, fault_of, IsLawfulList}
+use Rattle.pairing.specs.Requests.{waits_for}
+use Rattle.pairing.specs.declared.fault.CallFault.TheVariants.{CallAfterFinalize, TooManyCalls, UnknownCommunicator, CommunicatorNotHeld, PeerOutOfGroup, RequestInUse, RequestRepeated, RequestNotActive, WrongNewCommunicator}
+
+-- where no test has failed each one passes; four of them are used
+all_pass : (a b c d e f g i j : Bool) → first_failed ((CallAfterFinalize, a) ∷ ((TooManyCalls, b) ∷ ((UnknownCommunicator, c) ∷ ((CommunicatorNotHeld, d) ∷ ((PeerOutOfGroup, e) ∷ ((RequestInUse, f) ∷ ((RequestRepeated, g) ∷ ((RequestNotActive, i) ∷ ((WrongNewCommunicator, j) ∷ []))))))))) ≡ None → (a ≡ true) × (b ≡ true) × (f ≡ true) × (i ≡ true)
+all_pass false b c d e f g i j h = absurd (none-some CallAfterFinalize (sym h))
+all_pass true false c d e f g i j h = absurd (none-some TooManyCalls (sym h))
+all_pass true true false d e f g i j h = absurd (none-some UnknownCommunicator (sym h))
+all_pass true true true false e f g i j h = absurd (none-some CommunicatorNotHeld (sym h))
+all_pass true true true true false f g i j h = absurd (none-some PeerOutOfGroup (sym h))
+all_pass true true true true true false g i j h = absurd (none-some RequestInUse (sym h))
+all_pass true true true true true true false i j h = absurd (none-some RequestRepeated (sym h))
+all_pass true true true true true true true false j h = absurd (none-some RequestNotActive (sym h))
+all_pass true true true true true true true true false h = absurd (none-some WrongNewCommunicator (sym h))
+all_pass true true true true true true true true true h = (refl, refl, refl, refl)
 
 -- what it means that a call has no fault
-pub fault_none : (groups : Groups) (rank : ℕ) (calls : List Call) (call : Call) → fault_of groups rank calls call ≡ None → (has_finalize calls ≡ false) × (length calls < most_calls)
+pub record IsFaultless (rank : ℕ) (calls : List Call) (call : Call) : Type 0 where
+  pub is_open : has_finalize calls ≡ false
+  pub has_room : length calls < most_calls
+  pub afresh : starts_afresh calls call ≡ true
+  pub active : waits_for_active calls call ≡ true
+
+pub not_true : (b : Bool) → not b ≡ true → b ≡ false
+not_true true h = absurd (false≢true h)
+not_true false h = refl
+
+pub fault_none : (groups : Groups) (rank : ℕ) (calls : List Call) (call : Call) → fault_of groups rank calls call ≡ None → IsFaultless rank calls call
 fault_none groups rank calls call h =
-    ⊎_elim
-    (λ (ended : has_finalize calls ≡ true). absurd (none-some _ (sym (rw ended at h))))
-    (λ (open_still : has_finalize calls ≡ false).
-    ⊎_elim
-    (λ (room : ltb (length calls) most_calls ≡ true). (open_still, ltb-true (length calls) most_calls room))
-    (λ (full : ltb (length calls) most_calls ≡ false). absurd (none-some _ (sym (rw (open_still, full) at h))))
-    (cases_Bool (ltb (length calls) most_calls)))
-    (cases_Bool (has_finalize calls))
+    let passed = all_pass (not (has_finalize calls)) (ltb (length calls) most_calls) (comm_exists groups call)
+    (holds_comm groups rank calls call) (peers_exist groups call) (starts_afresh calls call) (are_distinct (waits_for call))
+    (waits_for_active calls call) (makes_afresh groups rank calls call) h in
+    record {
+      is_open = not_true (has_finalize calls) passed.0;
+      has_room = ltb-true (length calls) most_calls passed.1;
+      afresh = passed.2;
+      active = passed.3;
+    }
 
 -- one element that passes settles it
 any_at : {A : Type 0} (test : A → Bool) (xs : List A) (i : ℕ) (x : A) → slice_get xs i ≡ Some x → test x ≡ true → list_any test xs ≡ true
@@ -78,7 +104,7 @@ last_tells test (x ∷ y ∷ ys) alone =
 -- in a lawful list nothing follows Finalize, so the last call tells whether it has one
 pub lawful_end : (groups : Groups) (rank : ℕ) (calls : List Call) → IsLawfulList groups rank calls → ends_with_finalize calls ≡ has_finalize calls
 lawful_end groups rank calls lawful =
-    sym (last_tells is_finalize calls (λ place call h. (fault_none groups rank (take place calls) call (lawful place call h)).0))
+    sym (last_tells is_finalize calls (λ place call h. (fault_none groups rank (take place calls) call (lawful place call h)).is_open))
 
 pub no_fault : (groups : Groups) (rank : ℕ) (calls : List Call) (call : Call) (result : Option CallFault) → IsLawfulList groups rank calls → result ≡ fault_of groups rank calls call → IfNone result (IsLawfulList groups rank (calls ++ call ∷ []))
 no_fault groups rank calls call None lawful h = lawful_push groups rank calls call lawful (sym h)
@@ -86,8 +112,7 @@ no_fault groups rank calls call (Some fault) lawful h = tt
 
 is_the_finalize : (call : Call) → is_finalize call ≡ true → call ≡ Finalize
 is_the_finalize Finalize h = refl
-is_the_finalize (Send mode comm dest tag) h = absurd (false≢true h)
-is_the_finalize (Recv comm source tag) h = absurd (false≢true h)
+is_the_finalize _ h = absurd (false≢true h)
 
 closed_more : (x : Call) (calls : List Call) → is_finalize x ≡ false → IsClosedList calls → IsClosedList (x ∷ calls)
 closed_more x calls fails closed = record {
@@ -108,4 +133,4 @@ closed_from (x ∷ y ∷ ys) alone ended =
 
 pub an_ended_lawful_list_is_closed : AnEndedLawfulListIsClosed
 an_ended_lawful_list_is_closed groups rank calls lawful ended =
-    closed_from calls (λ place call h. (fault_none groups rank (take place calls) call (lawful place call h)).0) ended
+    closed_from calls (λ place call h. (fault_none groups rank (take place calls) call (lawful place call h)).is_open) ended

@@ -1,4 +1,7 @@
 pub mod PlaceLemmas
 pub mod PartnerLemmas
 pub mod FaultLemmas
-pub mod TraceLemmas
+pub mod RecordingLemmas
+pub mod WaveLemmas
+pub mod RequestLemmas
+pub mod RequestLaws

@@ -1,32 +1,48 @@
 -- Envelopes (MPI 4.0, section 3.2.3): a message carries its communicator, its source and destination,
 -- which are ranks of the communicator's group, and its tag. A call may have a half that sends a message
--- (section 3.2.1) and a half that receives one (section 3.2.4).
-use Rattle.std.specs.Prelude.{ℕ, ◌==◌, Bool, false, ◌&&◌, Option, None, option_map}
+-- (section 3.2.1) and a half that receives one (section 3.2.4); MPI_Sendrecv has both (section 3.11). The
+-- modes and the nonblocking forms send and receive alike (section 3.7: either form meets either). A call
+-- whose peer is MPI_PROC_NULL has no message (section 3.10).
+use Rattle.std.specs.Prelude.{ℕ, ◌==◌, Bool, false, ◌&&◌, Option, Some, None, option_map, option_and_then}
 use Rattle.std.specs.Option.{option_map_or}
 use Rattle.mpicall.specs.declared.call.Peer.TheVariants.{Rank}
 use Rattle.mpicall.specs.declared.call.Call.{Call}
-use Rattle.mpicall.specs.declared.call.Call.TheVariants.{Send, Recv}
+use Rattle.mpicall.specs.declared.call.Call.TheVariants.{Send, Recv, Isend, Irecv, Sendrecv}
 use Rattle.mpigroup.specs.Groups.{Groups, world_rank_of, group_rank_of}
 use Rattle.pairing.specs.declared.envelope.Envelope.{Envelope}
 use Rattle.pairing.specs.declared.envelope.Half.{Half}
 use Rattle.pairing.specs.declared.envelope.Half.TheVariants.{Send as SendHalf, Recv as RecvHalf}
+use Rattle.pairing.specs.declared.envelope.Message.{Message}
 
 -- the half that a message's other end has
 abbrev pub other_half : Half → Half
 other_half SendHalf = RecvHalf
 other_half RecvHalf = SendHalf
 
-abbrev pub same_envelope : Envelope → Envelope → Bool
-same_envelope e f = e.comm == f.comm && e.source == f.source && e.dest == f.dest && e.tag == f.tag
+-- the message that a half of a call sends or receives: its communicator, peer and tag. None where the
+-- call has no such half, and where its peer is MPI_PROC_NULL.
+abbrev pub message_of : Half → Call → Option Message
+message_of SendHalf (Send mode comm (Rank dest) tag) = Some (record { comm = comm; peer = dest; tag = tag })
+message_of SendHalf (Isend req mode comm (Rank dest) tag) = Some (record { comm = comm; peer = dest; tag = tag })
+message_of SendHalf (Sendrecv comm (Rank dest) send_tag source recv_tag) = Some (record { comm = comm; peer = dest; tag = send_tag })
+message_of RecvHalf (Recv comm (Rank source) tag) = Some (record { comm = comm; peer = source; tag = tag })
+message_of RecvHalf (Irecv req comm (Rank source) tag) = Some (record { comm = comm; peer = source; tag = tag })
+message_of RecvHalf (Sendrecv comm dest send_tag (Rank source) recv_tag) = Some (record { comm = comm; peer = source; tag = recv_tag })
+message_of _ _ = None
+
+-- the envelope of a message by the half that a member of the communicator's group has of it
+abbrev pub envelope_by : Half → Message → ℕ → Envelope
+envelope_by SendHalf m own = record { comm = m.comm; source = own; dest = m.peer; tag = m.tag }
+envelope_by RecvHalf m own = record { comm = m.comm; source = m.peer; dest = own; tag = m.tag }
 
 -- The envelope of the message that a half of the rank's call sends or receives. None where the call has
--- no such half, and where the rank is not in the communicator's group.
+-- no such message, and where the rank is not in the communicator's group.
 abbrev pub envelope_of : Groups → ℕ → Half → Call → Option Envelope
-envelope_of groups rank SendHalf (Send mode comm (Rank dest) tag) =
-    option_map (λ source. record { comm = comm; source = source; dest = dest; tag = tag }) (group_rank_of groups comm rank)
-envelope_of groups rank RecvHalf (Recv comm (Rank source) tag) =
-    option_map (λ dest. record { comm = comm; source = source; dest = dest; tag = tag }) (group_rank_of groups comm rank)
-envelope_of groups rank _ _ = None
+envelope_of groups rank half call =
+    option_and_then (λ m. option_map (envelope_by half m) (group_rank_of groups m.comm rank)) (message_of half call)
+
+abbrev pub same_envelope : Envelope → Envelope → Bool
+same_envelope e f = e.comm == f.comm && e.source == f.source && e.dest == f.dest && e.tag == f.tag
 
 -- the rank of the world whose calls have that half of the envelope's messages, if there is one
 abbrev pub rank_of_half : Groups → Half → Envelope → Option ℕ

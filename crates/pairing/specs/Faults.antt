@@ -1,17 +1,45 @@
 -- Faults: which call a rank may not have made after the calls before it. A fault looks at nothing of
--- another rank. MPI 4.0 calls such programs erroneous: no call after MPI_Finalize (section 11.2.2), a
--- communicator that exists and a rank of its group as peer (sections 3.2.3 and 3.2.4). The most calls of a
--- rank are this project's limit.
-use Rattle.std.specs.Prelude.{◌≡◌, ℕ, Bool, true, false, not, nat_lt, is_some, Option, Some, None, List, [], ◌∷◌, length, take, slice_get, ◌<◌, if◌then◌else◌}
+-- another rank. MPI 4.0 calls such programs erroneous: no call after MPI_Finalize (section 11.2.2); a
+-- communicator that exists and that the rank holds (section 7.2.4), and a rank of its group as peer or root
+-- (sections 3.2.3, 3.2.4 and 6.2); a request completed once (section 3.7.3). The most calls of a rank, the
+-- numbers of requests and those of new communicators are this project's own.
+use Rattle.std.specs.Prelude.{◌≡◌, ℕ, ◌==◌, Bool, true, false, not, ◌&&◌, nat_lt, is_some, Option, Some, None, List, [], ◌∷◌, length, take, slice_get, ◌<◌, if◌then◌else◌}
+use Rattle.std.specs.List.{list_all}
 use Rattle.std.specs.Option.{option_map_or}
-use Rattle.mpicall.specs.declared.call.Peer.TheVariants.{Rank}
+use Rattle.mpicall.specs.declared.call.Peer.{Peer}
+use Rattle.mpicall.specs.declared.call.Peer.TheVariants.{Rank, Null}
+use Rattle.mpicall.specs.declared.call.Kind.{Kind}
+use Rattle.mpicall.specs.declared.call.Kind.TheVariants.{Bcast, Gather, Scatter, Reduce}
 use Rattle.mpicall.specs.declared.call.Call.{Call}
-use Rattle.mpicall.specs.declared.call.Call.TheVariants.{Send, Recv, Finalize}
-use Rattle.mpigroup.specs.Groups.{Groups, size_of}
+use Rattle.mpicall.specs.declared.call.Call.TheVariants.{Send, Recv, Isend, Irecv, Sendrecv, Coll, Icoll, Dup, Split}
+use Rattle.mpigroup.specs.Groups.{Groups, size_of, group_rank_of}
 use Rattle.pairing.specs.Limits.{most_calls}
-use Rattle.pairing.specs.Traces.{Lists, calls_of, has_finalize, ends_with_finalize, IsClosedList}
+use Rattle.pairing.specs.Recordings.{Lists, calls_of, has_finalize, ends_with_finalize, IsClosedList}
+use Rattle.pairing.specs.Requests.{starts, waits_for, does_start, does_complete, is_among, is_active, started_of}
+use Rattle.pairing.specs.Communicators.{holds}
 use Rattle.pairing.specs.declared.fault.CallFault.{CallFault}
-use Rattle.pairing.specs.declared.fault.CallFault.TheVariants.{CallAfterFinalize, TooManyCalls, UnknownCommunicator, PeerOutOfGroup}
+use Rattle.pairing.specs.declared.fault.CallFault.TheVariants.{CallAfterFinalize, TooManyCalls, UnknownCommunicator, CommunicatorNotHeld, PeerOutOfGroup, RequestInUse, RequestRepeated, RequestNotActive, WrongNewCommunicator}
+
+-- the communicator over which the call is made, if it names one
+abbrev pub comm_of : Call → Option ℕ
+comm_of (Send mode comm dest tag) = Some comm
+comm_of (Recv comm source tag) = Some comm
+comm_of (Isend req mode comm dest tag) = Some comm
+comm_of (Irecv req comm source tag) = Some comm
+comm_of (Sendrecv comm dest send_tag source recv_tag) = Some comm
+comm_of (Coll comm kind) = Some comm
+comm_of (Icoll req comm kind) = Some comm
+comm_of (Dup comm new) = Some comm
+comm_of (Split comm colour key new) = Some comm
+comm_of _ = None
+
+-- the root of a collective, if it has one
+abbrev pub root_of : Kind → Option ℕ
+root_of (Bcast root) = Some root
+root_of (Gather root) = Some root
+root_of (Scatter root) = Some root
+root_of (Reduce root) = Some root
+root_of _ = None
 
 -- the communicator exists
 abbrev pub is_comm : Groups → ℕ → Bool
@@ -21,22 +49,63 @@ is_comm groups comm = is_some (size_of groups comm)
 abbrev pub is_group_rank : Groups → ℕ → ℕ → Bool
 is_group_rank groups comm g = option_map_or (nat_lt g) (size_of groups comm) false
 
--- each communicator that the call names exists
-abbrev pub comms_exist : Groups → Call → Bool
-comms_exist groups (Send mode comm dest tag) = is_comm groups comm
-comms_exist groups (Recv comm source tag) = is_comm groups comm
-comms_exist groups Finalize = true
+-- the peer is null, or a rank of the communicator's group
+abbrev pub is_peer : Groups → ℕ → Peer → Bool
+is_peer groups comm Null = true
+is_peer groups comm (Rank g) = is_group_rank groups comm g
 
--- each peer that the call names is a rank of its communicator's group
+-- the rank of the world is in the communicator's group
+abbrev pub is_member : Groups → ℕ → ℕ → Bool
+is_member groups rank comm = is_some (group_rank_of groups comm rank)
+
+-- the communicator that the call names exists
+abbrev pub comm_exists : Groups → Call → Bool
+comm_exists groups call = option_map_or (is_comm groups) (comm_of call) true
+
+-- the rank is in the group of the communicator that the call names, and holds that communicator
+abbrev pub holds_comm : Groups → ℕ → List Call → Call → Bool
+holds_comm groups rank calls call = option_map_or (λ comm. is_member groups rank comm && holds calls comm) (comm_of call) true
+
+-- each peer and root that the call names is a rank of its communicator's group
 abbrev pub peers_exist : Groups → Call → Bool
-peers_exist groups (Send mode comm (Rank dest) tag) = is_group_rank groups comm dest
-peers_exist groups (Recv comm (Rank source) tag) = is_group_rank groups comm source
-peers_exist groups Finalize = true
+peers_exist groups (Send mode comm dest tag) = is_peer groups comm dest
+peers_exist groups (Recv comm source tag) = is_peer groups comm source
+peers_exist groups (Isend req mode comm dest tag) = is_peer groups comm dest
+peers_exist groups (Irecv req comm source tag) = is_peer groups comm source
+peers_exist groups (Sendrecv comm dest send_tag source recv_tag) = is_peer groups comm dest && is_peer groups comm source
+peers_exist groups (Coll comm kind) = option_map_or (is_group_rank groups comm) (root_of kind) true
+peers_exist groups (Icoll req comm kind) = option_map_or (is_group_rank groups comm) (root_of kind) true
+peers_exist groups _ = true
+
+-- the request that the call starts isn't active before
+abbrev pub starts_afresh : List Call → Call → Bool
+starts_afresh calls call = option_map_or (λ req. not (is_active calls req)) (starts call) true
+
+-- no number stands twice
+abbrev pub are_distinct : List ℕ → Bool
+are_distinct [] = true
+are_distinct (number ∷ numbers) = not (is_among number numbers) && are_distinct numbers
+
+-- each request that the wait names is active
+abbrev pub waits_for_active : List Call → Call → Bool
+waits_for_active calls call = list_all (is_active calls) (waits_for call)
+
+-- the new communicator is not the world, has the rank in its group by the head, and isn't held before
+abbrev pub is_fresh_comm : Groups → ℕ → List Call → ℕ → Bool
+is_fresh_comm groups rank calls comm = not (comm == 0) && is_member groups rank comm && not (holds calls comm)
+
+-- what the call makes is such a communicator; a split makes one just where it has a colour
+abbrev pub makes_afresh : Groups → ℕ → List Call → Call → Bool
+makes_afresh groups rank calls (Dup comm new) = is_fresh_comm groups rank calls new
+makes_afresh groups rank calls (Split comm None key None) = true
+makes_afresh groups rank calls (Split comm (Some colour) key (Some new)) = is_fresh_comm groups rank calls new
+makes_afresh groups rank calls (Split comm colour key new) = false
+makes_afresh groups rank calls _ = true
 
 -- the fault of the first test that fails, if one does
 abbrev pub first_failed : List (CallFault × Bool) → Option CallFault
 first_failed [] = None
-first_failed ((fault, holds) ∷ rest) = if holds then first_failed rest else Some fault
+first_failed ((fault, passes) ∷ rest) = if passes then first_failed rest else Some fault
 
 -- The first fault of a call that the rank makes after the calls: the tests in their order, each with the
 -- fault of a call that fails it.
@@ -44,20 +113,45 @@ abbrev pub fault_of : Groups → ℕ → List Call → Call → Option CallFault
 fault_of groups rank calls call = first_failed (
     (CallAfterFinalize, not (has_finalize calls)) ∷
     ((TooManyCalls, nat_lt (length calls) most_calls) ∷
-    ((UnknownCommunicator, comms_exist groups call) ∷
-    ((PeerOutOfGroup, peers_exist groups call) ∷ []))))
+    ((UnknownCommunicator, comm_exists groups call) ∷
+    ((CommunicatorNotHeld, holds_comm groups rank calls call) ∷
+    ((PeerOutOfGroup, peers_exist groups call) ∷
+    ((RequestInUse, starts_afresh calls call) ∷
+    ((RequestRepeated, are_distinct (waits_for call)) ∷
+    ((RequestNotActive, waits_for_active calls call) ∷
+    ((WrongNewCommunicator, makes_afresh groups rank calls call) ∷ [])))))))))
 
 -- a rank's list is lawful if no call of it has a fault after those before it
 abbrev pub IsLawfulList : Groups → ℕ → List Call → Type 0
 IsLawfulList groups rank calls =
     (place : ℕ) (call : Call) → slice_get calls place ≡ Some call → fault_of groups rank (take place calls) call ≡ None
 
--- a trace is lawful if each rank's list is
+-- a recording is lawful if each rank's list is
 abbrev pub IsLawful : Groups → Lists → Type 0
-IsLawful groups trace = (rank : ℕ) → rank < length trace → IsLawfulList groups rank (calls_of trace rank)
+IsLawful groups recording = (rank : ℕ) → rank < length recording → IsLawfulList groups rank (calls_of recording rank)
 
 -- Law: a lawful list whose last call is Finalize is closed.
 abbrev pub AnEndedLawfulListIsClosed : Type 0
 AnEndedLawfulListIsClosed =
     (groups : Groups) (rank : ℕ) (calls : List Call) → IsLawfulList groups rank calls →
     ends_with_finalize calls ≡ true → IsClosedList calls
+
+-- Law: each request that a wait of a lawful list names has its start, which starts that request.
+abbrev pub EachWaitHasItsStarts : Type 0
+EachWaitHasItsStarts =
+    (groups : Groups) (recording : Lists) (rank place : ℕ) (call : Call) (req : ℕ) →
+    IsLawfulList groups rank (calls_of recording rank) →
+    slice_get (calls_of recording rank) place ≡ Some call → is_among req (waits_for call) ≡ true →
+    (start : ℕ) × (started_of recording rank place req ≡ Some start) × (start < place)
+    × ((starter : Call) × (slice_get (calls_of recording rank) start ≡ Some starter) × (does_start req starter ≡ true))
+
+-- Law: no two starts of one request are active at once. Between two calls of a lawful list that start it
+-- there is one that completes it.
+abbrev pub NoTwoStartsAreActive : Type 0
+NoTwoStartsAreActive =
+    (groups : Groups) (rank : ℕ) (calls : List Call) (req start later : ℕ) (starter restarter : Call) →
+    IsLawfulList groups rank calls → start < later →
+    slice_get calls start ≡ Some starter → does_start req starter ≡ true →
+    slice_get calls later ≡ Some restarter → does_start req restarter ≡ true →
+    (between : ℕ) × (start < between) × (between < later)
+    × ((wait : Call) × (slice_get calls between ≡ Some wait) × (does_complete req wait ≡ true))

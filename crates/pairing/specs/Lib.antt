@@ -1,7 +1,10 @@
 pub mod Limits
-pub mod Traces
-pub mod Faults
+pub mod Recordings
 pub mod Places
 pub mod Envelopes
 pub mod Partners
+pub mod Requests
+pub mod Waves
+pub mod Communicators
+pub mod Faults
 pub mod Codes

@@ -1,4 +1,4 @@
--- The limits of a trace.
+-- The limits of a recording.
 use Rattle.std.specs.Prelude.{ℕ}
 
 -- the most calls of a rank, its Finalize counted

@@ -5,66 +5,66 @@ use Rattle.std.specs.Prelude.{◌≡◌, ℕ, ◌<◌, Option, Some, option_map,
 use Rattle.mpigroup.specs.Groups.{Groups}
 use Rattle.pairing.specs.declared.envelope.Envelope.{Envelope}
 use Rattle.pairing.specs.declared.envelope.Half.{Half}
-use Rattle.pairing.specs.Traces.{Lists, calls_of, GoesOn}
+use Rattle.pairing.specs.Recordings.{Lists, calls_of, GoesOn}
 use Rattle.pairing.specs.Places.{places, count_before}
 use Rattle.pairing.specs.Envelopes.{envelope_of, has_envelope, other_half, rank_of_half}
 
 -- the envelope of a half of the call at the place of the rank
 abbrev pub envelope_at : Groups → Lists → ℕ → ℕ → Half → Option Envelope
-envelope_at groups trace rank place half = option_and_then (envelope_of groups rank half) (slice_get (calls_of trace rank) place)
+envelope_at groups recording rank place half = option_and_then (envelope_of groups rank half) (slice_get (calls_of recording rank) place)
 
 -- the places of the rank's sends of the envelope, or of its receives, in order
 abbrev pub places_of : Groups → Lists → ℕ → Half → Envelope → List ℕ
-places_of groups trace rank half e = places (has_envelope groups rank half e) (calls_of trace rank)
+places_of groups recording rank half e = places (has_envelope groups rank half e) (calls_of recording rank)
 
 -- how many sends of the envelope, or receives, the rank's list has before the place
 abbrev pub number_of : Groups → Lists → ℕ → Half → Envelope → ℕ → ℕ
-number_of groups trace rank half e place = count_before (has_envelope groups rank half e) (calls_of trace rank) place
+number_of groups recording rank half e place = count_before (has_envelope groups rank half e) (calls_of recording rank) place
 
 -- the rank and place of the envelope's send, or receive, with that number, counted from 0
 abbrev pub numbered : Groups → Lists → Half → Envelope → ℕ → Option (ℕ × ℕ)
-numbered groups trace half e number =
-    option_and_then (λ rank. option_map (λ place. (rank, place)) (slice_get (places_of groups trace rank half e) number))
+numbered groups recording half e number =
+    option_and_then (λ rank. option_map (λ place. (rank, place)) (slice_get (places_of groups recording rank half e) number))
     (rank_of_half groups half e)
 
 -- the partner of a half of a call: the other half of the same envelope with the same number
 abbrev pub partner_of : Groups → Lists → ℕ → ℕ → Half → Option (ℕ × ℕ)
-partner_of groups trace rank place half =
-    option_and_then (λ e. numbered groups trace (other_half half) e (number_of groups trace rank half e place))
-    (envelope_at groups trace rank place half)
+partner_of groups recording rank place half =
+    option_and_then (λ e. numbered groups recording (other_half half) e (number_of groups recording rank half e place))
+    (envelope_at groups recording rank place half)
 
 -- Law: partners are mutual. If a half of a call has a partner, that partner's half has the call as its
 -- partner.
 abbrev pub PartnersAreMutual : Type 0
 PartnersAreMutual =
-    (groups : Groups) (trace : Lists) (rank place : ℕ) (half : Half) (other place_there : ℕ) →
-    partner_of groups trace rank place half ≡ Some (other, place_there) →
-    partner_of groups trace other place_there (other_half half) ≡ Some (rank, place)
+    (groups : Groups) (recording : Lists) (rank place : ℕ) (half : Half) (other place_there : ℕ) →
+    partner_of groups recording rank place half ≡ Some (other, place_there) →
+    partner_of groups recording other place_there (other_half half) ≡ Some (rank, place)
 
 -- Law: two sends never have the same receive as partner, nor two receives the same send. If the halves
 -- of two calls have one partner, they are one call.
 abbrev pub PartnersAreNotShared : Type 0
 PartnersAreNotShared =
-    (groups : Groups) (trace : Lists) (rank place rank' place' : ℕ) (half : Half) (partner : ℕ × ℕ) →
-    partner_of groups trace rank place half ≡ Some partner →
-    partner_of groups trace rank' place' half ≡ Some partner →
+    (groups : Groups) (recording : Lists) (rank place rank' place' : ℕ) (half : Half) (partner : ℕ × ℕ) →
+    partner_of groups recording rank place half ≡ Some partner →
+    partner_of groups recording rank' place' half ≡ Some partner →
     (rank ≡ rank') × (place ≡ place')
 
--- Law: partners stay. A partner over a trace is the partner over each longer trace.
+-- Law: partners stay. A partner over a recording is the partner over each longer recording.
 abbrev pub PartnersStay : Type 0
 PartnersStay =
-    (groups : Groups) (trace longer : Lists) (rank place : ℕ) (half : Half) (other there : ℕ) → GoesOn trace longer →
-    partner_of groups trace rank place half ≡ Some (other, there) →
+    (groups : Groups) (recording longer : Lists) (rank place : ℕ) (half : Half) (other there : ℕ) → GoesOn recording longer →
+    partner_of groups recording rank place half ≡ Some (other, there) →
     partner_of groups longer rank place half ≡ Some (other, there)
 
 -- Law: messages do not overtake. Of two sends of one envelope, the earlier one's receive is the earlier;
 -- the same with sends and receives exchanged.
 abbrev pub MessagesDoNotOvertake : Type 0
 MessagesDoNotOvertake =
-    (groups : Groups) (trace : Lists) (rank place place' : ℕ) (half : Half) (e : Envelope) (other there other' there' : ℕ) →
+    (groups : Groups) (recording : Lists) (rank place place' : ℕ) (half : Half) (e : Envelope) (other there other' there' : ℕ) →
     place < place' →
-    envelope_at groups trace rank place half ≡ Some e →
-    envelope_at groups trace rank place' half ≡ Some e →
-    partner_of groups trace rank place half ≡ Some (other, there) →
-    partner_of groups trace rank place' half ≡ Some (other', there') →
+    envelope_at groups recording rank place half ≡ Some e →
+    envelope_at groups recording rank place' half ≡ Some e →
+    partner_of groups recording rank place half ≡ Some (other, there) →
+    partner_of groups recording rank place' half ≡ Some (other', there') →
     (other ≡ other') × (there < there')

@@ -1,7 +1,7 @@
 //! Envelopes of messages, and the halves of calls that send and receive them.
 
-ghost use Rattle.std.specs.Prelude.{◌≡◌};
-ghost use Rattle.pairing.specs.Envelopes.{other_half, same_envelope, envelope_of, rank_of_half, has_envelope};
+ghost use Rattle.std.specs.Prelude.{◌≡◌, Some};
+ghost use Rattle.pairing.specs.Envelopes.{other_half, message_of, envelope_by, same_envelope, envelope_of, rank_of_half, has_envelope};
 
 use mpicall::call::{Call, Peer};
 use mpicall::record::Record;
@@ -26,6 +26,15 @@ impl Half {
     }
 }
 
+/// What a call says of the message that one of its halves sends or receives. The peer is a rank of the
+/// communicator's group: the destination of what is sent, the source of what is received.
+#[derive(Clone, Copy, Debug, PartialEq, Eq)]
+pub struct Message {
+    pub comm: u16,
+    pub peer: u16,
+    pub tag: u32,
+}
+
 /// What a message carries beside its data. Source and destination are ranks of the communicator's
 /// group.
 #[derive(Clone, Copy, Debug, PartialEq, Eq)]
@@ -43,58 +52,99 @@ pub fn is_same(a: &Envelope, b: &Envelope) -> bool
     a.comm == b.comm && a.source == b.source && a.dest == b.dest && a.tag == b.tag
 }
 
-fn sent(head: &Head, rank: u16, call: &Record) -> Option<Envelope>
-    ensures { result ≡ envelope_of head.now rank Half.Send call.now }
+/// The message that the call sends.
+fn sent(call: &Call) -> Option<Message>
+    ensures { result ≡ message_of Half.Send call.now }
 {
-    match call.call() {
+    match *call {
         Call::Send {
             comm,
-            dest: Peer::Rank(dest),
+            dest: Peer::Rank(peer),
             tag,
             ..
-        } => {
-            let source = head.group_rank(comm, rank)?;
-            Some(Envelope {
-                comm,
-                source,
-                dest,
-                tag,
-            })
         }
+        | Call::Isend {
+            comm,
+            dest: Peer::Rank(peer),
+            tag,
+            ..
+        }
+        | Call::Sendrecv {
+            comm,
+            dest: Peer::Rank(peer),
+            send_tag: tag,
+            ..
+        } => Some(Message { comm, peer, tag }),
         _ => None,
     }
 }
 
-fn received(head: &Head, rank: u16, call: &Record) -> Option<Envelope>
-    ensures { result ≡ envelope_of head.now rank Half.Recv call.now }
+/// The message that the call receives.
+fn received(call: &Call) -> Option<Message>
+    ensures { result ≡ message_of Half.Recv call.now }
 {
-    match call.call() {
+    match *call {
         Call::Recv {
             comm,
-            source: Peer::Rank(source),
+            source: Peer::Rank(peer),
             tag,
-        } => {
-            let dest = head.group_rank(comm, rank)?;
-            Some(Envelope {
-                comm,
-                source,
-                dest,
-                tag,
-            })
         }
+        | Call::Irecv {
+            comm,
+            source: Peer::Rank(peer),
+            tag,
+            ..
+        }
+        | Call::Sendrecv {
+            comm,
+            source: Peer::Rank(peer),
+            recv_tag: tag,
+            ..
+        } => Some(Message { comm, peer, tag }),
         _ => None,
+    }
+}
+
+/// The message that a half of the call sends or receives. None where the call has no such half, and where
+/// its peer is MPI_PROC_NULL.
+pub fn message_of(half: Half, call: &Call) -> Option<Message>
+    ensures { result ≡ message_of half call.now }
+{
+    match half {
+        Half::Send => sent(call),
+        Half::Recv => received(call),
+    }
+}
+
+/// The envelope of a message by the half that the member with that rank in the group has of it.
+fn envelope_by(half: Half, message: Message, own: u16) -> Envelope
+    ensures { result ≡ envelope_by half message own }
+{
+    let Message { comm, peer, tag } = message;
+    match half {
+        Half::Send => Envelope {
+            comm,
+            source: own,
+            dest: peer,
+            tag,
+        },
+        Half::Recv => Envelope {
+            comm,
+            source: peer,
+            dest: own,
+            tag,
+        },
     }
 }
 
 /// The envelope of the message that a half of the rank's call sends or receives. None where the call
-/// has no such half, and where the rank is not in the communicator's group.
+/// has no such message, and where the rank is not in the communicator's group.
 pub fn envelope_of(head: &Head, rank: u16, half: Half, call: &Record) -> Option<Envelope>
     ensures { result ≡ envelope_of head.now rank half call.now }
 {
-    match half {
-        Half::Send => sent(head, rank, call),
-        Half::Recv => received(head, rank, call),
-    }
+    let message = message_of(half, call.as_call())?;
+    let own = head.group_rank(message.comm, rank)?;
+    Some(envelope_by(half, message, own))
 }
 
 /// The rank of the world whose calls have that half of the envelope's messages, if there is one.

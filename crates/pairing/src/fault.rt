@@ -1,13 +1,16 @@
 //! The first fault of a call after the calls that its rank made before.
 
-ghost use Rattle.std.specs.Prelude.{◌≡◌, ◌<◌, ◌∷◌, [], ◌++◌, length, IfNone};
+ghost use Rattle.std.specs.Prelude.{◌≡◌, ◌<◌, ◌≤◌, ◌∷◌, [], ◌++◌, true, length, IfNone};
+ghost use Rattle.std.specs.Option.{option_map_or};
 ghost use Rattle.pairing.specs.Limits.{most_calls};
-ghost use Rattle.pairing.specs.Traces.{is_finalize, has_finalize, ends_with_finalize};
+ghost use Rattle.pairing.specs.Recordings.{is_finalize, has_finalize, ends_with_finalize};
 ghost use Rattle.pairing.specs.Codes.{code_of};
-ghost use Rattle.pairing.specs.Faults.{fault_of, is_comm, is_group_rank, comms_exist, peers_exist, IsLawfulList, AnEndedLawfulListIsClosed};
+ghost use Rattle.pairing.specs.Faults.{comm_of, root_of, is_group_rank, is_peer, is_member, comm_exists, holds_comm, peers_exist, starts_afresh, are_distinct, waits_for_active, is_fresh_comm, makes_afresh, fault_of, IsLawfulList, AnEndedLawfulListIsClosed, EachWaitHasItsStarts, NoTwoStartsAreActive};
 
-use crate::trace::MOST_CALLS;
-use mpicall::call::{Call, Peer};
+use crate::comm::holds;
+use crate::recording::MOST_CALLS;
+use crate::request::{is_active, is_among, starts, waits_for};
+use mpicall::call::{Call, Kind, Peer};
 use mpicall::record::Record;
 use mpigroup::head::Head;
 use thiserror::Error;
@@ -21,8 +24,18 @@ pub enum CallFault {
     TooManyCalls,
     #[error("unknown communicator")]
     UnknownCommunicator,
+    #[error("communicator not held")]
+    CommunicatorNotHeld,
     #[error("peer or root out of group")]
     PeerOutOfGroup,
+    #[error("request in use")]
+    RequestInUse,
+    #[error("request repeated")]
+    RequestRepeated,
+    #[error("request not active")]
+    RequestNotActive,
+    #[error("wrong new communicator")]
+    WrongNewCommunicator,
 }
 
 impl CallFault {
@@ -34,23 +47,61 @@ impl CallFault {
             CallFault::CallAfterFinalize => "C9",
             CallFault::TooManyCalls => "C8",
             CallFault::UnknownCommunicator => "C1",
+            CallFault::CommunicatorNotHeld => "C2",
             CallFault::PeerOutOfGroup => "C3",
+            CallFault::RequestInUse => "C4",
+            CallFault::RequestRepeated => "C6",
+            CallFault::RequestNotActive => "C5",
+            CallFault::WrongNewCommunicator => "C7",
         }
     }
 }
 
+/// Whether the call is Finalize.
 fn is_finalize(call: &Record) -> bool
     ensures { result ≡ is_finalize call.now }
 {
-    matches!(call.call(), Call::Finalize)
+    matches!(call.as_call(), Call::Finalize)
 }
 
+/// Whether some call of the list is Finalize.
 fn has_finalize(calls: &[Record]) -> bool
     ensures { result ≡ has_finalize calls.now }
 {
     calls.iter().any(|call| is_finalize(call))
 }
 
+/// The communicator over which the call is made, if it names one.
+fn comm_of(call: &Call) -> Option<u16>
+    ensures { result ≡ comm_of call.now }
+{
+    match *call {
+        Call::Send { comm, .. }
+        | Call::Recv { comm, .. }
+        | Call::Isend { comm, .. }
+        | Call::Irecv { comm, .. }
+        | Call::Sendrecv { comm, .. }
+        | Call::Coll { comm, .. }
+        | Call::Icoll { comm, .. }
+        | Call::Dup { comm, .. }
+        | Call::Split { comm, .. } => Some(comm),
+        Call::Wait { .. } | Call::Waitall { .. } | Call::Waitany { .. } | Call::Finalize => None,
+    }
+}
+
+/// The root of a collective, if it has one.
+fn root_of(kind: Kind) -> Option<u16>
+    ensures { result ≡ root_of kind }
+{
+    match kind {
+        Kind::Bcast(root) | Kind::Gather(root) | Kind::Scatter(root) | Kind::Reduce(root) => {
+            Some(root)
+        }
+        _ => None,
+    }
+}
+
+/// Whether the number is a rank of the communicator's group.
 fn is_group_rank(head: &Head, comm: u16, rank: u16) -> bool
     ensures { result ≡ is_group_rank head.now comm rank }
 {
@@ -60,41 +111,132 @@ fn is_group_rank(head: &Head, comm: u16, rank: u16) -> bool
     }
 }
 
-fn comms_exist(head: &Head, call: &Record) -> bool
-    ensures { result ≡ comms_exist head.now call.now }
+/// Whether the peer is null, or a rank of the communicator's group.
+fn is_peer(head: &Head, comm: u16, peer: Peer) -> bool
+    ensures { result ≡ is_peer head.now comm peer }
 {
-    match call.call() {
-        Call::Send { comm, .. } => head.size(comm).is_some(),
-        Call::Recv { comm, .. } => head.size(comm).is_some(),
-        Call::Finalize => true,
+    match peer {
+        Peer::Rank(rank) => is_group_rank(head, comm, rank),
+        Peer::Null => true,
     }
 }
 
-fn peers_exist(head: &Head, call: &Record) -> bool
+/// Whether the collective has no root, or a rank of the communicator's group as root.
+fn is_root(head: &Head, comm: u16, kind: Kind) -> bool
+    ensures { result ≡ option_map_or (is_group_rank head.now comm) (root_of kind) true }
+{
+    match root_of(kind) {
+        Some(root) => is_group_rank(head, comm, root),
+        None => true,
+    }
+}
+
+/// Whether the rank of the world is in the communicator's group.
+fn is_member(head: &Head, rank: u16, comm: u16) -> bool
+    ensures { result ≡ is_member head.now rank comm }
+{
+    head.group_rank(comm, rank).is_some()
+}
+
+/// Whether the communicator that the call names exists.
+fn comm_exists(head: &Head, call: &Call) -> bool
+    ensures { result ≡ comm_exists head.now call.now }
+{
+    match comm_of(call) {
+        Some(comm) => head.size(comm).is_some(),
+        None => true,
+    }
+}
+
+/// Whether the rank is in the group of the communicator that the call names, and holds it.
+fn holds_comm(head: &Head, rank: u16, calls: &[Record], call: &Call) -> bool
+    ensures { result ≡ holds_comm head.now rank calls.now call.now }
+{
+    match comm_of(call) {
+        Some(comm) => is_member(head, rank, comm) && holds(calls, comm),
+        None => true,
+    }
+}
+
+/// Whether each peer and root that the call names is a rank of its communicator's group.
+fn peers_exist(head: &Head, call: &Call) -> bool
     ensures { result ≡ peers_exist head.now call.now }
 {
-    match call.call() {
-        Call::Send {
+    match *call {
+        Call::Send { comm, dest, .. } | Call::Isend { comm, dest, .. } => is_peer(head, comm, dest),
+        Call::Recv { comm, source, .. } | Call::Irecv { comm, source, .. } => {
+            is_peer(head, comm, source)
+        }
+        Call::Sendrecv {
             comm,
-            dest: Peer::Rank(dest),
+            dest,
+            source,
             ..
-        } => is_group_rank(head, comm, dest),
-        Call::Recv {
-            comm,
-            source: Peer::Rank(source),
-            ..
-        } => is_group_rank(head, comm, source),
-        Call::Finalize => true,
+        } => is_peer(head, comm, dest) && is_peer(head, comm, source),
+        Call::Coll { comm, kind } | Call::Icoll { comm, kind, .. } => is_root(head, comm, kind),
+        _ => true,
     }
 }
 
-// What `fault` answers, where it is known whether Finalize was among the calls.
+/// Whether the request that the call starts isn't active before.
+fn starts_afresh(calls: &[Record], call: &Call) -> bool
+    requires { length calls.now ≤ most_calls }
+    ensures { result ≡ starts_afresh calls.now call.now }
+{
+    match starts(call) {
+        Some(req) => !is_active(calls, req),
+        None => true,
+    }
+}
+
+/// Whether no number stands twice.
+fn are_distinct(numbers: &[u32]) -> bool
+    ensures { result ≡ are_distinct numbers.now }
+{
+    match numbers.split_first() {
+        Some((number, others)) => !is_among(*number, others) && are_distinct(others),
+        None => true,
+    }
+}
+
+/// Whether each request that the wait names is active.
+fn waits_for_active(calls: &[Record], call: &Call) -> bool
+    requires { length calls.now ≤ most_calls }
+    ensures { result ≡ waits_for_active calls.now call.now }
+{
+    waits_for(call).iter().all(|req| is_active(calls, *req))
+}
+
+/// Whether the rank may come to hold the communicator: not the world, with the rank in its group, and not
+/// held before.
+fn is_fresh_comm(head: &Head, rank: u16, calls: &[Record], comm: u16) -> bool
+    ensures { result ≡ is_fresh_comm head.now rank calls.now comm }
+{
+    comm != 0 && is_member(head, rank, comm) && !holds(calls, comm)
+}
+
+/// Whether what the call makes is such a communicator; a split makes one just where it has a colour.
+fn makes_afresh(head: &Head, rank: u16, calls: &[Record], call: &Call) -> bool
+    ensures { result ≡ makes_afresh head.now rank calls.now call.now }
+{
+    match *call {
+        Call::Dup { new, .. } => is_fresh_comm(head, rank, calls, new),
+        Call::Split { colour, new, .. } => match (colour, new) {
+            (None, None) => true,
+            (Some(_), Some(new)) => is_fresh_comm(head, rank, calls, new),
+            _ => false,
+        },
+        _ => true,
+    }
+}
+
+/// What `fault` answers, where it is known whether Finalize was among the calls.
 fn first_fault(
     head: &Head,
     rank: u16,
     is_ended: bool,
     calls: &[Record],
-    call: &Record,
+    call: &Call,
 ) -> Option<CallFault>
     requires { is_ended ≡ has_finalize calls.now }
     ensures { result ≡ fault_of head.now rank calls.now call.now }
@@ -103,15 +245,26 @@ fn first_fault(
         Some(CallFault::CallAfterFinalize)
     } else if calls.len() >= MOST_CALLS {
         Some(CallFault::TooManyCalls)
-    } else if !comms_exist(head, call) {
+    } else if !comm_exists(head, call) {
         Some(CallFault::UnknownCommunicator)
+    } else if !holds_comm(head, rank, calls, call) {
+        Some(CallFault::CommunicatorNotHeld)
     } else if !peers_exist(head, call) {
         Some(CallFault::PeerOutOfGroup)
+    } else if !starts_afresh(calls, call) {
+        Some(CallFault::RequestInUse)
+    } else if !are_distinct(waits_for(call)) {
+        Some(CallFault::RequestRepeated)
+    } else if !waits_for_active(calls, call) {
+        Some(CallFault::RequestNotActive)
+    } else if !makes_afresh(head, rank, calls, call) {
+        Some(CallFault::WrongNewCommunicator)
     } else {
         None
     }
 }
 
+/// Whether the last call of the list is Finalize.
 fn ends_with_finalize(calls: &[Record]) -> bool
     ensures { result ≡ ends_with_finalize calls.now }
 {
@@ -122,17 +275,17 @@ fn ends_with_finalize(calls: &[Record]) -> bool
 }
 
 /// The first fault of a call that the rank makes after the calls, in the order of the variants of
-/// `CallFault`; None where it has no fault, and then there is room for it in a trace. It looks at every
+/// `CallFault`; None where it has no fault, and then there is room for it in a recording. It looks at every
 /// call before.
 pub fn fault(head: &Head, rank: u16, calls: &[Record], call: &Record) -> Option<CallFault>
     ensures value { result ≡ fault_of head.now rank calls.now call.now }
     ensures room { IfNone result (length calls.now < most_calls) }
 {
-    first_fault(head, rank, has_finalize(calls), calls, call)
+    first_fault(head, rank, has_finalize(calls), calls, call.as_call())
 }
 
 /// The first fault of a call after calls that have none: what `fault` answers, by a look at the last
-/// call before alone. Where there is none, there is room for the call in a trace, and the calls are
+/// call before alone. Where there is none, there is room for the call in a recording, and the calls are
 /// lawful with it too.
 pub fn next_fault(head: &Head, rank: u16, calls: &[Record], call: &Record) -> Option<CallFault>
     requires { IsLawfulList head.now rank calls.now }
@@ -140,10 +293,21 @@ pub fn next_fault(head: &Head, rank: u16, calls: &[Record], call: &Record) -> Op
     ensures room { IfNone result (length calls.now < most_calls) }
     ensures lawful { IfNone result (IsLawfulList head.now rank (calls.now ++ call.now ∷ [])) }
 {
-    first_fault(head, rank, ends_with_finalize(calls), calls, call)
+    first_fault(head, rank, ends_with_finalize(calls), calls, call.as_call())
 }
 
 /// A lawful list whose last call is Finalize is closed: it has no other Finalize.
 pub fn an_ended_lawful_list_is_closed()
     ensures { AnEndedLawfulListIsClosed }
+{}
+
+/// Each request that a wait of a lawful list names has its start, a call before that starts it.
+pub fn each_wait_has_its_starts()
+    ensures { EachWaitHasItsStarts }
+{}
+
+/// No two starts of one request are active at once in a lawful list: between them there is a call that
+/// completes it.
+pub fn no_two_starts_are_active()
+    ensures { NoTwoStartsAreActive }
 {}

@@ -7,4 +7,4 @@ returns-in-Err-clause-refused g c = λ traces tells. refused_over _ _ _ c.in-Err
 
 pub returns-in-Ok-write_all-clause-verdict : goal.returns-in-Ok-write_all-clause-verdict
 returns-in-Ok-write_all-clause-verdict g c =
-    λ traces tells. verdict_over _ _ _ c.in-Ok.trace c.in-Ok-verdict_of.verdict traces c.requires.one_a_rank c.in-Ok.ensures.ok c.in-Ok-verdict_of.ensures.value c.in-Ok-verdict_of.ensures.hang tells
+    λ traces tells. verdict_over _ _ _ c.in-Ok.recording c.in-Ok-verdict_of.verdict traces c.requires.one_a_rank c.in-Ok.ensures.ok c.in-Ok-verdict_of.ensures.value c.in-Ok-verdict_of.ensures.hang tells

@@ -4,4 +4,4 @@ use Rattle.moves.proofs.stand.lowest.Given as goal
 
 -- no rank before can move
 abbrev pub invariant-loop-rank : goal.invariant-loop-rank
-invariant-loop-rank l = (k : ℕ) → k < l.rank → can_move l.head l.trace l.stands k ≡ false
+invariant-loop-rank l = (k : ℕ) → k < l.rank → can_move l.head l.recording l.stands k ≡ false

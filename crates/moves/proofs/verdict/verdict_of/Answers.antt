@@ -6,14 +6,14 @@ use Rattle.moves.proofs.verdict.verdict_of.Goals as goal
 
 pub returns-then-are_all_at_finalize-clause-hang : goal.returns-then-are_all_at_finalize-clause-hang
 returns-then-are_all_at_finalize-clause-hang c =
-    free_where_all_are c.args.head.now c.args.trace.now
-    (subst (λ (s : List ℕ). list_all (is_at_finalize c.args.trace.now s) (range_with_len 0 (length c.args.trace.now)) ≡ true)
+    free_where_all_are c.args.head.now c.args.recording.now
+    (subst (λ (s : List ℕ). list_all (is_at_finalize c.args.recording.now s) (range_with_len 0 (length c.args.recording.now)) ≡ true)
     (c.deref.ensures.value ∙ c.in_ok-stands.ensures.value)
     (sym c.are_all_at_finalize.ensures ∙ c.if-are_all_at_finalize.true))
 
 pub returns-clause-hang : goal.returns-clause-hang
 returns-clause-hang c =
-    hang_where_one_is_not c.args.head.now c.args.trace.now
-    (subst (λ (s : List ℕ). list_all (is_at_finalize c.args.trace.now s) (range_with_len 0 (length c.args.trace.now)) ≡ false)
+    hang_where_one_is_not c.args.head.now c.args.recording.now
+    (subst (λ (s : List ℕ). list_all (is_at_finalize c.args.recording.now s) (range_with_len 0 (length c.args.recording.now)) ≡ false)
     (c.deref.ensures.value ∙ c.in_ok-stands.ensures.value)
     (sym c.are_all_at_finalize.ensures ∙ c.if-are_all_at_finalize.false))

@@ -1,0 +1,63 @@
+-- What the answers for single ranks say, by what their sources tell: the words of the functions that read
+-- rank by rank. What `run` answers follows from them.
+use Rattle.std.specs.Prelude.{◌≡◌, ℕ, ◌<◌, Bool, false, ⊤, Option, None, option_and_then, Result, Err, IfSome, if◌then◌else◌, Some, List, length, slice_get}
+use Rattle.mpicall.specs.Source.{coming}
+use Rattle.mpicall.specs.declared.source.Source.{Source}
+use Rattle.mpicall.specs.Trace.{Trace}
+use Rattle.mpicall.specs.Device.{one_more}
+use Rattle.mpicall.specs.declared.call.Call.{Call}
+use Rattle.mpigroup.specs.Groups.{Groups, ranks_of}
+use Rattle.pairing.specs.Recordings.{Lists, calls_of}
+use Rattle.gather.specs.Answers.{fault_of_rank}
+use Rattle.gather.specs.Told.{is_read_failure}
+use Rattle.gather.specs.declared.fault.Refusal.{Refusal}
+use Rattle.gather.specs.declared.fault.RunFault.{RunFault}
+use Rattle.gather.specs.declared.fault.RunFault.TheVariants.{Memory, Refused, Write}
+
+-- the answer is the fault of a read that failed
+abbrev pub tells_read_failure : {A : Type 0} → Result A RunFault → Bool
+tells_read_failure (Err (Refused refusal)) = is_read_failure refusal.fault
+tells_read_failure answer = false
+
+-- the count of an input's failures after an answer: one more just where a read failed
+abbrev pub failures_after : {A : Type 0} → Result A RunFault → ℕ → ℕ
+failures_after answer count = if tells_read_failure answer then one_more count else count
+
+-- the refusal of a rank is that of its trace, a read that failed aside
+abbrev pub IsRefusalOf : Groups → ℕ → Trace → Refusal → Type 0
+IsRefusalOf groups rank trace refusal =
+    is_read_failure refusal.fault ≡ false → fault_of_rank groups rank trace ≡ Some (refusal.call, refusal.fault)
+
+-- the fault of a rank, by the trace of its source where that is told
+abbrev pub RefusesRank : Groups → ℕ → Option Trace → RunFault → Type 0
+RefusesRank groups rank told Memory = ⊤
+RefusesRank groups rank told (Refused refusal) = (refusal.rank ≡ rank) × IfSome told (λ trace. IsRefusalOf groups rank trace refusal)
+RefusesRank groups rank told Write = ⊥
+
+-- the calls of a rank, by the trace of its source where that is told: all of its records, and no fault
+abbrev pub AcceptsRank : Groups → ℕ → Option Trace → List Call → Type 0
+AcceptsRank groups rank told calls = IfSome told (λ trace. (calls ≡ trace.records) × (fault_of_rank groups rank trace ≡ None))
+
+-- what a rank's source tells of its trace
+abbrev pub told_by : {I : Type 0} → (I → Option (List ℕ)) → List (Source I) → ℕ → Option Trace
+told_by left sources rank = option_and_then (coming left) (slice_get sources rank)
+
+-- a rank has no fault, by the trace of its source where that is told
+abbrev pub HasNoFault : Groups → ℕ → Option Trace → Type 0
+HasNoFault groups rank told = IfSome told (λ trace. fault_of_rank groups rank trace ≡ None)
+
+-- the recording has the calls of each rank, by what their sources tell
+pub record AcceptsAll (groups : Groups) (told : ℕ → Option Trace) (lists : Lists) : Type 0 where
+  pub one_a_rank : length lists ≡ ranks_of groups
+  pub accepted : (rank : ℕ) → rank < length lists → AcceptsRank groups rank (told rank) (calls_of lists rank)
+
+-- the refusal is that of its rank, and no lower rank has a fault, by what their sources tell
+pub record IsLowestRefusal (groups : Groups) (told : ℕ → Option Trace) (refusal : Refusal) : Type 0 where
+  pub is_rank : refusal.rank < ranks_of groups
+  pub lowest : (rank : ℕ) → rank < refusal.rank → HasNoFault groups rank (told rank)
+  pub its_own : IfSome (told refusal.rank) (λ trace. IsRefusalOf groups refusal.rank trace refusal)
+
+abbrev pub RefusesRun : Groups → (ℕ → Option Trace) → RunFault → Type 0
+RefusesRun groups told Memory = ⊤
+RefusesRun groups told (Refused refusal) = IsLowestRefusal groups told refusal
+RefusesRun groups told Write = ⊥

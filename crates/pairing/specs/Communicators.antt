@@ -1,0 +1,20 @@
+-- Communicators of a rank (MPI 4.0, section 7.4.2). Each rank holds the world, and the communicators that
+-- its own MPI_Comm_dup and MPI_Comm_split have made.
+use Rattle.std.specs.Prelude.{ℕ, ◌==◌, Bool, false, ◌||◌, Option, Some, None, List}
+use Rattle.std.specs.List.{list_any}
+use Rattle.std.specs.Option.{option_map_or}
+use Rattle.mpicall.specs.declared.call.Call.{Call}
+use Rattle.mpicall.specs.declared.call.Call.TheVariants.{Dup, Split}
+
+-- the communicator that the call makes for its rank
+abbrev pub makes : Call → Option ℕ
+makes (Dup comm new) = Some new
+makes (Split comm colour key new) = new
+makes _ = None
+
+abbrev pub does_make : ℕ → Call → Bool
+does_make comm call = option_map_or (λ made. made == comm) (makes call) false
+
+-- the rank holds the communicator after its calls
+abbrev pub holds : List Call → ℕ → Bool
+holds calls comm = comm == 0 || list_any (does_make comm) calls

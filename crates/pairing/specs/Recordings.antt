@@ -1,0 +1,49 @@
+-- Recordings. A recording gives each rank of the world its trace: the list of its recorded calls. A call's
+-- place is its index in its rank's list, from 0.
+use Rattle.std.specs.Prelude.{◌≡◌, ℕ, ◌<◌, ◌-◌, Bool, true, false, unwrap_or, List, [], ◌∷◌, ◌++◌, length, slice_get, slice_set}
+use Rattle.std.specs.List.{list_any}
+use Rattle.std.specs.Option.{option_map_or}
+use Rattle.mpicall.specs.declared.call.Call.{Call}
+use Rattle.mpicall.specs.declared.call.Call.TheVariants.{Finalize}
+
+-- each rank's list of calls
+abbrev pub Lists : Type 0
+Lists = List (List Call)
+
+-- the calls of a rank; none where there is no such rank
+abbrev pub calls_of : Lists → ℕ → List Call
+calls_of recording rank = unwrap_or (slice_get recording rank) []
+
+-- the recording with one more call at the end of the rank's list
+abbrev pub appended : Lists → ℕ → Call → Lists
+appended recording rank call = slice_set recording rank (calls_of recording rank ++ call ∷ [])
+
+-- whether the call is MPI_Finalize, after which a rank makes no other call (MPI 4.0, section 11.2.2)
+abbrev pub is_finalize : Call → Bool
+is_finalize Finalize = true
+is_finalize _ = false
+
+-- some call of the list is Finalize
+abbrev pub has_finalize : List Call → Bool
+has_finalize calls = list_any is_finalize calls
+
+-- the last call of the list is Finalize
+abbrev pub ends_with_finalize : List Call → Bool
+ends_with_finalize calls = option_map_or is_finalize (slice_get calls (length calls - 1)) false
+
+-- a rank's list is closed if it ends with Finalize and has no other (MPI 4.0, section 11.2.2: each
+-- process calls it once, as its last call)
+pub record IsClosedList (calls : List Call) : Type 0 where
+  pub before : List Call
+  pub ends_with_finalize : calls ≡ before ++ Finalize ∷ []
+  pub has_no_other : has_finalize before ≡ false
+
+-- a recording is closed if each rank's list is
+abbrev pub IsClosed : Lists → Type 0
+IsClosed recording = (rank : ℕ) → rank < length recording → IsClosedList (calls_of recording rank)
+
+-- the longer recording goes on from the other: it has the same ranks, and each list may go on
+pub record GoesOn (recording longer : Lists) : Type 0 where
+  pub same_ranks : length recording ≡ length longer
+  pub more : ℕ → List Call
+  pub goes_on : (rank : ℕ) → calls_of longer rank ≡ calls_of recording rank ++ more rank
