@@ -246,85 +246,34 @@ mod tests {
     use super::*;
     use std::test::Fail;
 
-    /// What the words ask for, on one line at least: a check, or the stream and the text.
-    fn told(alloc: Global, words: &[&str]) -> Result<String, AllocError> {
-        match parse(alloc, words) {
-            Words::Check { head, files } => format!(in alloc; "check {head} {files:?}"),
-            Words::Lint { file } => format!(in alloc; "lint {file}"),
-            Words::Said {
-                text,
-                is_error: false,
-            } => format!(in alloc; "out {text}"),
-            Words::Said {
-                text,
-                is_error: true,
-            } => format!(in alloc; "err {text}"),
-            Words::NoMemory => format!(in alloc; "no memory"),
-        }
-    }
-
-    #[test]
-    fn reads_words(rt: HostRuntime) -> Result<(), Fail> {
-        let rows: [(&[&str], &str); 18] = [
-            (&["check", "h", "a"], "check h [\"a\"]"),
-            (&["check", "h", "a", "b"], "check h [\"a\", \"b\"]"),
-            (&["check", "h", "h"], "check h [\"h\"]"),
-            (&["check", "--", "-h", "a"], "check -h [\"a\"]"),
-            (&["check", "h", "-"], "check h [\"-\"]"),
-            (
-                &[],
-                "err error: 'mpiwait' requires a subcommand but one was not provided\n",
-            ),
-            (&["frob"], "err error: unrecognized subcommand 'frob'\n"),
-            (&["help"], "err error: unrecognized subcommand 'help'\n"),
-            (
-                &["--frob"],
-                "err error: unexpected argument '--frob' found\n",
-            ),
-            (
-                &["check"],
-                "err error: the following required arguments were not provided:\n  <HEAD>\n  <FILE>...\n",
-            ),
-            (
-                &["check", "h"],
-                "err error: the following required arguments were not provided:\n  <FILE>...\n",
-            ),
-            (
-                &["check", "h", "a", "-x"],
-                "err error: unexpected argument '-x' found\n",
-            ),
-            (&["-h"], "out Reads the recorded MPI calls"),
-            (&["--help"], "out Reads the recorded MPI calls"),
-            (&["check", "-h"], "out Reads the head of a run"),
-            (
-                &["check", "h", "a", "--help"],
-                "out Reads the head of a run",
-            ),
-            (&["--version"], "out mpiwait 0.1.0\n"),
-            (&["check", "--version"], "out mpiwait-check 0.1.0\n"),
-        ];
-        for (words, begins) in rows {
-            let told = told(rt.alloc(), words)?;
-            assert!(rt; told.as_str().starts_with(begins), "{told} of {words:?}");
-        }
-        Ok(())
-    }
-
     #[test]
     fn help_lists_the_statuses(rt: HostRuntime) -> Result<(), Fail> {
-        for words in [["--help"].as_slice(), &["check", "--help"]] {
-            let told = told(rt.alloc(), words)?;
+        for words in [
+            ["--help"].as_slice(),
+            &["check", "--help"],
+            &["lint", "--help"],
+        ] {
+            let Words::Said { text, .. } = parse(rt.alloc(), words) else {
+                return Err("no text".into());
+            };
             for line in [
                 "mpiwait check run/head run/r0 run/r1",
+                "mpiwait lint run/r0",
                 "  0  no hang",
                 "  1  hang",
                 "  2  refused",
                 "  3  usage",
                 "  4  fault",
             ] {
-                assert!(rt; told.as_str().contains(line), "{line} in {told}");
+                assert!(rt; text.as_str().contains(line), "{line} in {text}");
             }
         }
         Ok(())
+    }
+
+    #[test]
+    fn takes_a_path_that_begins_with_a_dash(rt: HostRuntime) {
+        let words = parse(rt.alloc(), &["lint", "--", "-r0"]);
+        assert!(rt; matches!(words, Words::Lint { file: "-r0" }));
     }
 }
