@@ -1,18 +1,23 @@
 -- How the answers to a command line follow from what clap finds in it.
-use Rattle.std.proofs.Common.{◌≡◌, ◌<◌, Bool, true, Option, Some, None, List, [], ◌∷◌, length, map, option_and_then, ap, ◌∙◌, sym, refl, arith, Bor}
+use Rattle.std.proofs.Common.{◌≡◌, ◌<◌, ◌⊎◌, Bool, true, false, Option, Some, None, List, [], ◌∷◌, length, map, option_and_then, ap, ◌∙◌, sym, refl, arith, Bor, inl, inr}
 use Rattle.clap.specs.Walk.{Row, Text}
 use Rattle.clap.specs.Simple.{is_simple, subcommand_of}
-use Rattle.clap.specs.Takes.{takes}
+use Rattle.clap.specs.Faults.{fault_of, is_simple_and_free}
+use Rattle.clap.specs.Kinds.{HasKind}
+use Rattle.clap.specs.Values.{kind_of}
+use Rattle.clap.specs.declared.error.Error.{Error}
+use Rattle.clap.specs.declared.error.kind.ErrorKind.TheVariants.{OutOfMemory}
 use Rattle.mpiwait.specs.declared.words.Words.{Words}
-use Rattle.mpiwait.specs.declared.words.Words.TheVariants.{Check, Said, NoMemory}
-use Rattle.mpiwait.specs.Asked.{Answers, Names, Says, SaysSome, program, run_in, run_of, run_of_rows}
+use Rattle.mpiwait.specs.declared.words.Words.TheVariants.{Check, Lint, Said, NoMemory}
+use Rattle.mpiwait.specs.Asked.{Answers, CheckRun, Names, Says, SaysError, Task, program, run_of, task_in, task_of}
 
-pub said_where_none : (run : Option (Text × List Text)) (text : Text) (is_error : Bool) (said : Words) → run ≡ None → Says text is_error said → Names run said
-said_where_none run text is_error (Check head files) none says = absurd says
-said_where_none run text is_error (Said told is_told) none says = none
-said_where_none run text is_error NoMemory none says = tt
+pub said_where_none : (task : Option Task) (text : Text) (said : Words) → task ≡ None → Says text true said → Names task said
+said_where_none task text (Check head files) none says = absurd says
+said_where_none task text (Lint file) none says = absurd says
+said_where_none task text (Said told is_told) none says = (none, says.1)
+said_where_none task text NoMemory none says = tt
 
-pub run_of_some : (head : Text) (files : List (Bor Text)) → 0 < length files → run_of (Some head) (Some (map (λ file. file.now) files)) ≡ Some (head, map (λ file. file.now) files)
+pub run_of_some : (head : Text) (files : List (Bor Text)) → 0 < length files → run_of (Some head) (Some (map (λ file. file.now) files)) ≡ Some (CheckRun head (map (λ file. file.now) files))
 run_of_some head [] some = absurd (omega arith)
 run_of_some head (file ∷ files) some = refl
 
@@ -26,13 +31,27 @@ pub program_is_simple : is_simple program ≡ true
 unfolding program
 program_is_simple = refl
 
-pub answers_named : (words : List Text) (found : Option (Text × List Row)) (asked : Words) → found ≡ subcommand_of program words → Names (option_and_then (λ rows. run_of_rows rows.1) found) asked → Answers words asked
-unfolding run_in
-answers_named words found (Check head files) is names = sym (ap (option_and_then (λ (rows : Text × List Row). run_of_rows rows.1)) is) ∙ names
-answers_named words found (Said text is_error) is names = λ taken. sym (ap (option_and_then (λ (rows : Text × List Row). run_of_rows rows.1)) is) ∙ names
-answers_named words found NoMemory is names = tt
+pub program_is_free : is_simple_and_free program ≡ true
+unfolding program
+program_is_free = refl
 
-pub answers_error : (words : List Text) (asked : Words) → SaysSome asked → (takes program words ≡ true → asked ≡ NoMemory) → Answers words asked
-answers_error words (Check head files) some memory = absurd some
-answers_error words (Said text is_error) some memory = λ taken. let e : Said text is_error ≡ NoMemory = memory taken in cc
-answers_error words NoMemory some memory = tt
+pub answers_named : (words : List Text) (found : Option (Text × List Row)) (asked : Words) → found ≡ subcommand_of program words → fault_of program words ≡ [] → Names (option_and_then (λ rows. task_of rows.0 rows.1) found) asked → Answers words asked
+unfolding task_in
+answers_named words found (Check head files) is taken names = (taken, sym (ap (option_and_then (λ (rows : Text × List Row). task_of rows.0 rows.1)) is) ∙ names)
+answers_named words found (Lint file) is taken names = (taken, sym (ap (option_and_then (λ (rows : Text × List Row). task_of rows.0 rows.1)) is) ∙ names)
+answers_named words found (Said text false) is taken names = let e : false ≡ true = names.1 in cc
+answers_named words found (Said text true) is taken names = inr (taken, sym (ap (option_and_then (λ (rows : Text × List Row). task_of rows.0 rows.1)) is) ∙ names.0)
+answers_named words found NoMemory is taken names = tt
+
+pub answers_error : (words : List Text) (error : Error) (asked : Words) → HasKind (fault_of program words) error → SaysError (kind_of error) asked → (kind_of error ≡ OutOfMemory → asked ≡ NoMemory) → Answers words asked
+answers_error words error (Check head files) has says memory = absurd says
+answers_error words error (Lint file) has says memory = absurd says
+answers_error words error (Said text false) has says memory = elim has [
+  | inl out ↦ let e : Said text false ≡ NoMemory = memory out in cc
+  | inr among ↦ (kind_of error, among, says)
+]
+answers_error words error (Said text true) has says memory = elim has [
+  | inl out ↦ let e : Said text true ≡ NoMemory = memory out in cc
+  | inr among ↦ inl (kind_of error, among, says)
+]
+answers_error words error NoMemory has says memory = tt

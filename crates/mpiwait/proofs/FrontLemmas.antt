@@ -33,7 +33,10 @@ whole_when_full (Some start) None front k full = absurd k
 whole_when_full (Some start) (Some now) front k full =
     sym (take-append_seam front now) ∙ ap (λ (n : ℕ). take n (front ++ now)) full ∙ ap (λ (bytes : List ℕ). take deciding_bytes bytes) k
 
--- a read that gave nothing, though there was room, shows that no bytes are left
+-- a read that gave nothing leaves the front and what is behind it
+pub stays_after : (start old new : Option (List ℕ)) (front into : List ℕ) (count : ℕ) → Keeps start (prepend_known front old) → count ≡ 0 → Consumes old new (take count into) → Keeps start (prepend_known front new)
+stays_after start old new front into count k none c = grows start old new front front (take count into) k c (rw none (sym (append-nil front)))
+
+-- and shows, where there was room, that no bytes are left
 pub whole_after : (start old new : Option (List ℕ)) (front into : List ℕ) (count : ℕ) → Keeps start (prepend_known front old) → count ≡ 0 → Consumes old new (take count into) → length front ≤ deciding_bytes → IsAtEnd new → IsFrontOf start front
-whole_after start old new front into count k none c within end =
-    whole_at_end start new front (grows start old new front front (take count into) k c (rw none (sym (append-nil front)))) within end
+whole_after start old new front into count k none c within end = whole_at_end start new front (stays_after start old new front into count k none c) within end

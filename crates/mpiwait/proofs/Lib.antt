@@ -1,2 +1,4 @@
 pub mod AskedLemmas
 pub mod FrontLemmas
+pub mod TextLemmas
+pub mod EndLemmas

@@ -1,12 +1,15 @@
 -- What a command line asks for, by clap's own definitions: what it makes of words, where it is told of
 -- the program's command.
-use Rattle.std.specs.Prelude.{◌≡◌, Bool, true, Option, Some, None, List, ◌∷◌, codes, map, string_bytes, option_and_then}
+use Rattle.std.specs.Prelude.{◌≡◌, ◌⊎◌, Bool, true, false, Option, Some, None, List, [], ◌∷◌, codes, map, string_bytes, option_and_then, option_map, bytes_eq, if◌then◌else◌, not}
 use Rattle.clap.specs.Lexer.{usize_max}
 use Rattle.clap.specs.Walk.{Row, Rule, Text, first_of, all_of}
 use Rattle.clap.specs.Simple.{App, new_rule, new_shape, new_app, with_rule, with_subcommand, subcommand_of}
-use Rattle.clap.specs.Takes.{takes}
+use Rattle.clap.specs.Faults.{fault_of}
+use Rattle.clap.specs.Kinds.{IsAmong}
+use Rattle.clap.specs.declared.error.kind.ErrorKind.{ErrorKind}
+use Rattle.clap.specs.declared.error.kind.ErrorKind.TheVariants.{DisplayHelp, DisplayVersion}
 use Rattle.mpiwait.specs.declared.words.Words.{Words}
-use Rattle.mpiwait.specs.declared.words.Words.TheVariants.{Check, Said, NoMemory}
+use Rattle.mpiwait.specs.declared.words.Words.TheVariants.{Check, Lint, Said, NoMemory}
 
 -- a head, and traces of which there is one at least
 abbrev pub head_rule : Rule
@@ -18,57 +21,109 @@ traces_rule = record (new_rule (codes "FILE")) {
   range = Some (record { start_inclusive = 1; end_inclusive = usize_max });
 }
 
--- the command `check`
+-- one trace
+abbrev pub trace_rule : Rule
+trace_rule = record (new_rule (codes "FILE")) { required = true }
+
+-- a command with a version
+abbrev pub versioned : Text → App
+versioned name = record (new_app name) { top = record (new_shape name) { has_version = true } }
+
+-- the commands `check` and `lint`
 abbrev pub check : App
-check = with_rule (with_rule (record (new_app (codes "check")) {
-  top = record (new_shape (codes "check")) { has_version = true };
-}) head_rule) traces_rule
+check = with_rule (with_rule (versioned (codes "check")) head_rule) traces_rule
+
+abbrev pub lint : App
+lint = with_rule (versioned (codes "lint")) trace_rule
 
 -- the program
 unfoldable pub program : App
-program = with_subcommand (record (new_app (codes "mpiwait")) {
+program = with_subcommand (with_subcommand (record (new_app (codes "mpiwait")) {
   top = record (new_shape (codes "mpiwait")) {
     no_binary_name = true;
     has_version = true;
     subcommand_required = true;
     disable_help_subcommand = true;
   };
-}) check.top
+}) check.top) lint.top
 
--- a run to check: its head and its traces, if there are a head and a trace
-abbrev pub run_of : Option Text → Option (List Text) → Option (Text × List Text)
-run_of (Some head) (Some (trace ∷ traces)) = Some (head, trace ∷ traces)
+-- what a command line can ask the program to do: to check a run, of a head and its traces, one a rank; to
+-- read one trace alone
+pub data Task : Type 0 where
+  CheckRun : Text → List Text → Task
+  LintTrace : Text → Task
+
+-- a run to check, if there are a head and a trace
+abbrev pub run_of : Option Text → Option (List Text) → Option Task
+run_of (Some head) (Some (trace ∷ traces)) = Some (CheckRun head (trace ∷ traces))
 run_of _ _ = None
 
--- the run that clap finds in what follows `check`
-abbrev pub run_of_rows : List Row → Option (Text × List Text)
-run_of_rows rows = run_of (first_of (codes "HEAD") rows) (all_of (codes "FILE") rows)
+-- the task that clap finds in what follows `check`, and in what follows `lint`
+abbrev pub check_of : List Row → Option Task
+check_of rows = run_of (first_of (codes "HEAD") rows) (all_of (codes "FILE") rows)
 
--- the run that clap finds in the words
-unfoldable pub run_in : List Text → Option (Text × List Text)
-run_in words = option_and_then (λ found. run_of_rows found.1) (subcommand_of program words)
+abbrev pub lint_of : List Row → Option Task
+lint_of rows = option_map LintTrace (first_of (codes "FILE") rows)
 
--- the answer checks the run, says a text where there is none, or has no memory
-abbrev pub Names : Option (Text × List Text) → Words → Type 0
-Names run (Check head files) = run ≡ Some (head.now, map (λ file. file.now) files.items)
-Names run (Said text is_error) = run ≡ None
-Names run NoMemory = Unit {0}
+-- the task of a command and of what follows it
+abbrev pub task_of : Text → List Row → Option Task
+task_of name rows =
+    if bytes_eq name (codes "check") then check_of rows
+    else (if bytes_eq name (codes "lint") then lint_of rows else None)
 
--- a run is checked where clap finds one in the words, and as it finds it; a text is said where clap
--- doesn't take the words or finds none
+-- the task that clap finds in words that it takes
+unfoldable pub task_in : List Text → Option Task
+task_in words = option_and_then (λ found. task_of found.0 found.1) (subcommand_of program words)
+
+-- clap takes the words, and the task is what it finds in them
+abbrev pub Asks : List Text → Task → Type 0
+Asks words task = (fault_of program words ≡ []) × (task_in words ≡ Some task)
+
+-- clap answers with its help or with the version
+abbrev pub is_text : ErrorKind → Bool
+is_text DisplayHelp = true
+is_text DisplayVersion = true
+is_text _ = false
+
+-- the words ask for the help or for the version
+abbrev pub AsksForText : List Text → Type 0
+AsksForText words = (kind : ErrorKind) × IsAmong kind (fault_of program words) × (is_text kind ≡ true)
+
+-- the words are wrong: clap finds a fault in them, or takes them and finds no task
+abbrev pub AreWrong : List Text → Type 0
+AreWrong words =
+    ((kind : ErrorKind) × IsAmong kind (fault_of program words) × (is_text kind ≡ false))
+    ⊎ ((fault_of program words ≡ []) × (task_in words ≡ None))
+
+-- the answer has the task, says that there is none, or has no memory
+abbrev pub Names : Option Task → Words → Type 0
+Names task (Check head files) = task ≡ Some (CheckRun head.now (map (λ file. file.now) files.items))
+Names task (Lint file) = task ≡ Some (LintTrace file.now)
+Names task (Said text is_error) = (task ≡ None) × (is_error ≡ true)
+Names task NoMemory = Unit {0}
+
+-- a text is said of words that ask for it, or of words that are wrong
+abbrev pub SaysRightly : List Text → Bool → Type 0
+SaysRightly words true = AreWrong words
+SaysRightly words false = AsksForText words
+
+-- the answer has the task for which the words ask, or a text where they ask for none
 abbrev pub Answers : List Text → Words → Type 0
-Answers words (Check head files) = run_in words ≡ Some (head.now, map (λ file. file.now) files.items)
-Answers words (Said text is_error) = takes program words ≡ true → run_in words ≡ None
+Answers words (Check head files) = Asks words (CheckRun head.now (map (λ file. file.now) files.items))
+Answers words (Lint file) = Asks words (LintTrace file.now)
+Answers words (Said text is_error) = SaysRightly words is_error
 Answers words NoMemory = Unit {0}
 
 -- the text is said, or there is no memory for it
 abbrev pub Says : Text → Bool → Words → Type 0
 Says text is_error (Check head files) = ⊥
+Says text is_error (Lint file) = ⊥
 Says text is_error (Said said is_said) = (string_bytes said ≡ text) × (is_said ≡ is_error)
 Says text is_error NoMemory = Unit {0}
 
--- a text is said, or there is no memory for it
-abbrev pub SaysSome : Words → Type 0
-SaysSome (Check head files) = ⊥
-SaysSome (Said text is_error) = Unit {0}
-SaysSome NoMemory = Unit {0}
+-- a text is said of an error of this kind, or there is no memory for it
+abbrev pub SaysError : ErrorKind → Words → Type 0
+SaysError kind (Check head files) = ⊥
+SaysError kind (Lint file) = ⊥
+SaysError kind (Said text is_error) = is_text kind ≡ not is_error
+SaysError kind NoMemory = Unit {0}

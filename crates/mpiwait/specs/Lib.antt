@@ -1,2 +1,10 @@
 pub mod Asked
 pub mod Front
+pub mod Statuses
+pub mod Faults
+pub mod Outputs
+pub mod Ends
+pub mod Answer
+pub mod Texts
+pub mod Given
+pub mod Lints

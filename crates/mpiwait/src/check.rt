@@ -1,116 +1,43 @@
 //! `mpiwait check`: the head of a run and its traces are opened and read, and the run's report written.
 
-ghost use Rattle.std.specs.Prelude.{◌≡◌, IfOk, vec_len, length};
+ghost use Rattle.std.specs.Prelude.{◌≡◌, ℕ, List, Some, IfOk, IfErr, OnOk, map, option_map};
+ghost use Rattle.std.specs.Io.KnownBytes.{Appends, Keeps, prepend_known};
+ghost use Rattle.mpicall.specs.Source.{coming};
+ghost use Rattle.mpicall.specs.Trace.{trace_of};
+ghost use Rattle.mpigroup.specs.HeadText.{read_head};
+ghost use Rattle.gather.specs.Answers.{report_of};
 ghost use Rattle.gather.specs.Told.{AreFresh};
-ghost use Rattle.mpiwait.specs.Front.{IsFrontOf};
+ghost use Rattle.mpiwait.specs.Front.{IsFrontFault, IsFrontOf};
+ghost use Rattle.mpiwait.specs.Outputs.{LeavesOutput};
+ghost use Rattle.mpiwait.specs.Texts.{IsFaultOfHead, IsFaultOfOpening, IsFaultOfTexts, IsHeadOf, IsVerdictOfTexts};
 
+use crate::fault::Fault;
 use crate::opener::Opener;
-use crate::status::Status;
-use gather::fault::{RankFault, Refusal, RunFault};
 use gather::run::run;
 use moves::verdict::Verdict;
 use mpicall::device::{DeviceFault, Input, Output};
-use mpicall::fault::SourceFault;
 use mpicall::source::Source;
-use mpigroup::fault::HeadFault;
 use mpigroup::head::{DECIDING_BYTES, Head};
-use std::alloc::{AllocError, AllocFailed, Global};
-use thiserror::Error;
+use std::alloc::Global;
 
 /// How many bytes of a head are read at once.
 const PIECE: usize = 4096;
 
-/// Why a check has no verdict.
-#[derive(Clone, Copy, Debug, PartialEq, Eq, Error)]
-pub enum CheckFault<'a> {
-    #[error("fault open {0}")]
-    Open(&'a str),
-    #[error("fault read head")]
-    ReadHead,
-    #[error("refused head {0}")]
-    Head(HeadFault),
-    #[error("usage: head has {ranks} ranks, {files} files given")]
-    FileCount { ranks: u16, files: usize },
-    #[error("refused {0}")]
-    Refused(Refusal),
-    #[error("fault {0}")]
-    Failed(Refusal),
-    #[error("fault memory")]
-    Memory,
-    #[error("fault write")]
-    Write,
-}
-
-impl CheckFault<'_> {
-    /// The exit status that tells the fault.
-    pub fn status(&self) -> Status {
-        match self {
-            CheckFault::Head(_) | CheckFault::Refused(_) => Status::Refused,
-            CheckFault::FileCount { .. } => Status::Usage,
-            CheckFault::Open(_)
-            | CheckFault::ReadHead
-            | CheckFault::Failed(_)
-            | CheckFault::Memory
-            | CheckFault::Write => Status::Fault,
-        }
-    }
-}
-
-impl From<AllocError> for CheckFault<'_> {
-    fn from(_fault: AllocError) -> Self {
-        CheckFault::Memory
-    }
-}
-
-impl<T: Drop> From<AllocFailed<T>> for CheckFault<'_> {
-    fn from(_fault: AllocFailed<T>) -> Self {
-        CheckFault::Memory
-    }
-}
-
-impl From<DeviceFault> for CheckFault<'_> {
-    fn from(_fault: DeviceFault) -> Self {
-        CheckFault::ReadHead
-    }
-}
-
-impl From<HeadFault> for CheckFault<'_> {
-    fn from(fault: HeadFault) -> Self {
-        CheckFault::Head(fault)
-    }
-}
-
-impl From<RunFault> for CheckFault<'_> {
-    fn from(fault: RunFault) -> Self {
-        match fault {
-            RunFault::Memory => CheckFault::Memory,
-            RunFault::Write => CheckFault::Write,
-            RunFault::Refused(refusal) if is_failure(&refusal) => CheckFault::Failed(refusal),
-            RunFault::Refused(refusal) => CheckFault::Refused(refusal),
-        }
-    }
-}
-
-/// Whether a rank's fault is no fault of its records: a read that failed, or a thread that was stopped or
-/// didn't start.
-fn is_failure(refusal: &Refusal) -> bool {
-    matches!(
-        refusal.fault,
-        RankFault::OfSource(
-            SourceFault::ReadFailed | SourceFault::GateStopped | SourceFault::ThreadNotStarted
-        )
-    )
-}
-
-/// The bytes of a head, as far as they decide it.
-fn read_front<'a, I: Input>(alloc: Global, input: &mut I) -> Result<Vec<u8>, CheckFault<'a>>
-    ensures { IfOk result (λ front. IsFrontOf (I.left input.old) front.items) }
+/// The bytes of a head, as far as they decide it. What is behind them stays in the input.
+fn read_front<'a, I: Input>(alloc: Global, input: &mut I) -> Result<Vec<u8>, Fault<'a>>
+    ensures front { IfOk result (λ front. IsFrontOf (I.left input.old) front.items) }
+    ensures left { IfOk result (λ front. Keeps (I.left input.old) (prepend_known front.items (I.left input.new))) }
+    ensures count { OnOk result (I.failures input.new ≡ I.failures input.old) }
+    ensures fault { IfErr result (IsFrontFault (I.failures input.old) (I.failures input.new)) }
 {
     let mut front = Vec::new(alloc);
     let mut piece = [0; PIECE];
     while front.len() < DECIDING_BYTES {
         let most = PIECE.min(DECIDING_BYTES - front.len());
-        let count = input.read_some(&mut piece[..most])?;
+        let count = match input.read_some(&mut piece[..most]) {
+            Ok(count) => count,
+            Err(DeviceFault) => return Err(Fault::ReadHead),
+        };
         if count == 0 {
             return Ok(front);
         }
@@ -119,15 +46,25 @@ fn read_front<'a, I: Input>(alloc: Global, input: &mut I) -> Result<Vec<u8>, Che
     Ok(front)
 }
 
+/// The head that the front of its text gives.
+fn head_of_front<'a>(front: &[u8]) -> Result<Head, Fault<'a>>
+    ensures head { IfOk result (λ head. read_head front.now ≡ Ok head) }
+    ensures fault { IfErr result (IsFaultOfHead (Some front.now)) }
+{
+    match Head::read(front) {
+        Ok(head) => Ok(head),
+        Err(fault) => Err(Fault::Head(fault)),
+    }
+}
+
 /// The head of the run, from the file that the path names.
-fn open_head<'a, P: Opener>(
-    alloc: Global,
-    opener: &P,
-    path: &'a str,
-) -> Result<Head, CheckFault<'a>> {
-    let mut input = opener.open_input(path).ok_or(CheckFault::Open(path))?;
+fn open_head<'a, P: Opener>(alloc: Global, opener: &P, path: &'a str) -> Result<Head, Fault<'a>>
+    ensures head { IfOk result (IsHeadOf (P.told opener.now path.now)) }
+    ensures fault { IfErr result (IsFaultOfHead (P.told opener.now path.now)) }
+{
+    let mut input = opener.open_input(path).ok_or(Fault::Open(path))?;
     let front = read_front(alloc, &mut input)?;
-    Ok(Head::read(&front)?)
+    head_of_front(&front)
 }
 
 /// The sources of the ranks' records, from the files that the paths name.
@@ -135,33 +72,54 @@ fn open_sources<'a, P: Opener>(
     alloc: Global,
     opener: &P,
     paths: &[&'a str],
-) -> Result<Vec<Source<P::In>>, CheckFault<'a>>
-    ensures one_a_path { IfOk result (λ sources. vec_len sources ≡ length paths.now) }
+) -> Result<Vec<Source<P::In>>, Fault<'a>>
     ensures fresh { IfOk result (λ sources. AreFresh sources.items) }
+    ensures told { IfOk result (λ sources. map (coming P.In.left) sources.items
+        ≡ map (λ path. option_map trace_of (P.told opener.now path.now)) paths.now) }
+    ensures fault { IfErr result IsFaultOfOpening }
 {
     let mut sources = Vec::new(alloc);
     for path in paths {
-        let input = opener.open_input(path).ok_or(CheckFault::Open(path))?;
+        let input = opener.open_input(path).ok_or(Fault::Open(path))?;
         sources.push(Source::new(input))?;
     }
     Ok(sources)
 }
 
-/// Checks the run of a head and its traces, and writes its report.
+/// Checks the run of a head and its traces, and writes its report. The traces are opened in rank order,
+/// once their number is known to be that of the ranks.
 pub fn check<'a, P: Opener, O: Output>(
     alloc: Global,
     head: &'a str,
     files: &[&'a str],
     opener: &P,
     out: &mut O,
-) -> Result<Verdict, CheckFault<'a>> {
+) -> Result<Verdict, Fault<'a>>
+    // The answer is that of the texts of the files, where the opener tells them.
+    ensures verdict { IfOk result (λ verdict. (text : List ℕ) (texts : List (List ℕ)) →
+        P.told opener.now head.now ≡ Some text →
+        map (λ file. P.told opener.now file.now) files.now ≡ map Some texts →
+        IsVerdictOfTexts text texts verdict) }
+    ensures fault { IfErr result (λ fault. (text : List ℕ) (texts : List (List ℕ)) →
+        P.told opener.now head.now ≡ Some text →
+        map (λ file. P.told opener.now file.now) files.now ≡ map Some texts →
+        IsFaultOfTexts text texts fault) }
+
+    ensures written { IfOk result (λ verdict.
+        Appends (O.written out.old) (O.written out.new) (report_of verdict)) }
+    ensures no_write_failed { OnOk result (O.failures out.new ≡ O.failures out.old) }
+    ensures output { IfErr result (LeavesOutput O.written O.failures out.old out.new) }
+{
     let head = open_head(alloc, opener, head)?;
     if files.len() != usize::from(head.ranks()) {
-        return Err(CheckFault::FileCount {
+        return Err(Fault::FileCount {
             ranks: head.ranks(),
             files: files.len(),
         });
     }
     let mut sources = open_sources(alloc, opener, files)?;
-    Ok(run(alloc, &head, sources.as_mut_slice(), out)?)
+    match run(alloc, &head, sources.as_mut_slice(), out) {
+        Ok(verdict) => Ok(verdict),
+        Err(fault) => Err(Fault::from(fault)),
+    }
 }

@@ -1,24 +1,32 @@
 //! Opening the files that the command line names.
 
+ghost use Rattle.std.specs.Prelude.{◌≡◌, ℕ, Option, None, List, IfSome};
+
 use mpicall::counted::Counted;
 use mpicall::device::Input;
 use std::fs;
 use std::rt::Files;
 
-/// What opens the inputs that paths name.
+/// What opens the inputs that paths name: `told` is the text of the file with a path, where the opener
+/// tells it.
 pub trait Opener {
     type In: Input + Drop;
 
+    ghost told: { Self → List ℕ → Option (List ℕ) };
+
     /// The input that a path names, from its first byte on; None where it can't be opened.
-    fn open_input(&self, path: &str) -> Option<Self::In>;
+    fn open_input(&self, path: &str) -> Option<Self::In>
+        ensures { IfSome result (λ input. Self.In.left input ≡ told self.now path.now) };
 }
 
-/// The files of the machine.
+/// The files of the machine. What they hold is not told.
 #[derive(Drop)]
 pub struct Disk<'a, R>(pub &'a R);
 
 impl<R: Files> Opener for Disk<'_, R> {
     type In = Counted<R::File>;
+
+    ghost told = { λ _ _. None };
 
     fn open_input(&self, path: &str) -> Option<Counted<R::File>> {
         match fs::open(self.0, path) {

@@ -1,9 +1,12 @@
 //! The exit statuses of the program.
 
+ghost use Rattle.std.specs.Prelude.{◌≡◌};
+ghost use Rattle.mpiwait.specs.Statuses.{code_of};
+
 /// How the program ended.
 #[derive(Clone, Copy, Debug, PartialEq, Eq)]
 pub enum Status {
-    /// The run can't hang, or help or the version was asked for.
+    /// The run can't hang, the trace is in its format, or help or the version was asked for.
     Free = 0,
     /// The run can hang.
     Hang = 1,
@@ -13,4 +16,13 @@ pub enum Status {
     Usage = 3,
     /// A file, the memory or the output failed.
     Fault = 4,
+}
+
+impl Status {
+    /// The number with which the process ends.
+    pub fn code(self) -> u8
+        ensures { result ≡ code_of self }
+    {
+        self as u8
+    }
 }

@@ -7,7 +7,7 @@ ghost use Rattle.clap.specs.Values.{kind_of};
 ghost use Rattle.clap.specs.Walk.{rows_of, rule_of};
 ghost use Rattle.clap.specs.declared.builder.command.Command.TheViews.{out-Command as fields_of};
 ghost use Rattle.clap.specs.declared.error.kind.ErrorKind.TheVariants.{OutOfMemory};
-ghost use Rattle.mpiwait.specs.Asked.{Answers, Names, Says, SaysSome, check, head_rule, program, run_of, run_of_rows, traces_rule};
+ghost use Rattle.mpiwait.specs.Asked.{Answers, LintTrace, Names, Says, SaysError, check, check_of, head_rule, is_text, lint, lint_of, program, run_of, task_of, trace_rule, traces_rule};
 
 use clap::error::ErrorKind;
 use clap::{Arg, ArgMatches, Command, Error};
@@ -18,6 +18,8 @@ use std::alloc::{AllocError, Global};
 pub enum Words<'a> {
     /// To check a run, by the path of its head and those of its traces, at least one, in rank order.
     Check { head: &'a str, files: Vec<&'a str> },
+    /// To read one trace alone, by its path.
+    Lint { file: &'a str },
     /// To show a text: the help or the version, or what is wrong with the words.
     Said { text: String, is_error: bool },
     /// There was no memory to read the words.
@@ -32,18 +34,21 @@ const ABOUT: &str =
 const CHECK_ABOUT: &str =
     "Reads the head of a run and its traces, and says whether the run can hang";
 
+const LINT_ABOUT: &str = "Reads one trace alone, and says whether it is in its format";
+
 const AFTER: &str = "\
-Example:
+Examples:
   mpiwait check run/head run/r0 run/r1
+  mpiwait lint run/r0
 
 Exit status:
-  0  no hang; or help or the version was asked for
+  0  no hang; or the trace is in its format; or help or the version was asked for
   1  hang
   2  refused: the head or a trace isn't in its format
   3  usage: the words, or the number of files
   4  fault: a file, the memory or the output";
 
-const USAGE: &str = "usage: mpiwait check HEAD FILE..\n";
+const USAGE: &str = "usage: mpiwait check HEAD FILE.. or mpiwait lint FILE\n";
 
 /// What clap is told of the head.
 fn head_argument<'a>(alloc: Global) -> Arg<'a>
@@ -66,6 +71,16 @@ fn traces_argument<'a>(alloc: Global) -> Arg<'a>
         .help("The traces of the ranks, one file a rank, in rank order")
 }
 
+/// What clap is told of one trace.
+fn trace_argument<'a>(alloc: Global) -> Arg<'a>
+    ensures rule { rule_of result ≡ trace_rule }
+    ensures local { result.global ≡ false }
+{
+    Arg::new(alloc, "FILE")
+        .required(true)
+        .help("The trace of one rank")
+}
+
 /// What clap is told of `check`.
 fn check_command<'a>(alloc: Global) -> Result<Command<'a>, AllocError>
     ensures app { IfOk result (λ command. app_of command ≡ check) }
@@ -79,11 +94,24 @@ fn check_command<'a>(alloc: Global) -> Result<Command<'a>, AllocError>
         .arg(traces_argument(alloc))
 }
 
+/// What clap is told of `lint`.
+fn lint_command<'a>(alloc: Global) -> Result<Command<'a>, AllocError>
+    ensures app { IfOk result (λ command. app_of command ≡ lint) }
+    ensures local { IfOk result (λ command. (fields_of command).has_globals ≡ false) }
+{
+    Command::new(alloc, "lint")
+        .about(LINT_ABOUT)
+        .after_help(AFTER)
+        .version(VERSION)
+        .arg(trace_argument(alloc))
+}
+
 /// What clap is told of the program.
 fn program_command<'a>(alloc: Global) -> Result<Command<'a>, AllocError>
     ensures { IfOk result (λ command. app_of command ≡ program) }
 {
     let check = check_command(alloc)?;
+    let lint = lint_command(alloc)?;
     Command::new(alloc, "mpiwait")
         .about(ABOUT)
         .after_help(AFTER)
@@ -92,7 +120,8 @@ fn program_command<'a>(alloc: Global) -> Result<Command<'a>, AllocError>
         .subcommand_required(true)
         .disable_help_subcommand(true)
         .bin_name("mpiwait")?
-        .subcommand(check)
+        .subcommand(check)?
+        .subcommand(lint)
 }
 
 /// A text as the answer; without memory for it, that.
@@ -105,9 +134,16 @@ fn say<'a>(alloc: Global, text: &str, is_error: bool) -> Words<'a>
     }
 }
 
+/// Whether clap answers with its help or with the version.
+fn is_text(kind: ErrorKind) -> bool
+    ensures { result ≡ is_text kind }
+{
+    matches!(kind, ErrorKind::DisplayHelp | ErrorKind::DisplayVersion)
+}
+
 /// What clap says instead of an answer.
 fn say_error<'a>(alloc: Global, error: Error) -> Words<'a>
-    ensures some { SaysSome result }
+    ensures says { SaysError (kind_of error) result }
     ensures memory { kind_of error ≡ OutOfMemory → result ≡ Words.NoMemory }
 {
     if error.kind() == ErrorKind::OutOfMemory {
@@ -116,7 +152,7 @@ fn say_error<'a>(alloc: Global, error: Error) -> Words<'a>
     match error.to_string(alloc) {
         Ok(text) => Words::Said {
             text,
-            is_error: error.use_stderr(),
+            is_error: !is_text(error.kind()),
         },
         Err(_) => Words::NoMemory,
     }
@@ -144,18 +180,50 @@ fn run_named<'a>(alloc: Global, head: Option<&'a str>, files: Option<&[&'a str]>
 
 /// The run that the words after `check` name.
 fn check_of<'a>(alloc: Global, matches: &ArgMatches<'a>) -> Words<'a>
-    ensures { Names (run_of_rows (rows_of (found_of matches.now))) result }
+    ensures { Names (check_of (rows_of (found_of matches.now))) result }
 {
     run_named(alloc, matches.get_str("HEAD"), matches.get_strs("FILE"))
+}
+
+/// The trace that this path names.
+#[tactic(auto, using(crate::proofs::AskedLemmas::asked_steps))]
+fn trace_named<'a>(alloc: Global, file: Option<&'a str>) -> Words<'a>
+    ensures { Names (option_map LintTrace (option_map (λ path. path.now) file.entry)) result }
+{
+    match file {
+        Some(file) => Words::Lint { file },
+        None => say(alloc, USAGE, true),
+    }
+}
+
+/// The trace that the words after `lint` name.
+fn lint_of<'a>(alloc: Global, matches: &ArgMatches<'a>) -> Words<'a>
+    ensures { Names (lint_of (rows_of (found_of matches.now))) result }
+{
+    trace_named(alloc, matches.get_str("FILE"))
+}
+
+/// The task of a command and of the words after it.
+#[tactic(auto, using(crate::proofs::AskedLemmas::asked_steps))]
+fn task_of<'a>(alloc: Global, name: &str, matches: &ArgMatches<'a>) -> Words<'a>
+    ensures { Names (task_of name.now (rows_of (found_of matches.now))) result }
+{
+    if name == "check" {
+        check_of(alloc, matches)
+    } else if name == "lint" {
+        lint_of(alloc, matches)
+    } else {
+        say(alloc, USAGE, true)
+    }
 }
 
 /// What the words that clap takes ask for.
 #[tactic(auto, using(crate::proofs::AskedLemmas::asked_steps))]
 fn asked<'a>(alloc: Global, matches: &ArgMatches<'a>) -> Words<'a>
-    ensures { Names (option_and_then (λ found. run_of_rows found.1) (subcommand_rows_of matches.now)) result }
+    ensures { Names (option_and_then (λ found. task_of found.0 found.1) (subcommand_rows_of matches.now)) result }
 {
     match matches.subcommand() {
-        Some((_, check)) => check_of(alloc, check),
+        Some((name, found)) => task_of(alloc, name, found),
         None => say(alloc, USAGE, true),
     }
 }
@@ -178,84 +246,34 @@ mod tests {
     use super::*;
     use std::test::Fail;
 
-    /// What the words ask for, on one line at least: a check, or the stream and the text.
-    fn told(alloc: Global, words: &[&str]) -> Result<String, AllocError> {
-        match parse(alloc, words) {
-            Words::Check { head, files } => format!(in alloc; "check {head} {files:?}"),
-            Words::Said {
-                text,
-                is_error: false,
-            } => format!(in alloc; "out {text}"),
-            Words::Said {
-                text,
-                is_error: true,
-            } => format!(in alloc; "err {text}"),
-            Words::NoMemory => format!(in alloc; "no memory"),
-        }
-    }
-
-    #[test]
-    fn reads_words(rt: HostRuntime) -> Result<(), Fail> {
-        let rows: [(&[&str], &str); 18] = [
-            (&["check", "h", "a"], "check h [\"a\"]"),
-            (&["check", "h", "a", "b"], "check h [\"a\", \"b\"]"),
-            (&["check", "h", "h"], "check h [\"h\"]"),
-            (&["check", "--", "-h", "a"], "check -h [\"a\"]"),
-            (&["check", "h", "-"], "check h [\"-\"]"),
-            (
-                &[],
-                "err error: 'mpiwait' requires a subcommand but one was not provided\n",
-            ),
-            (&["frob"], "err error: unrecognized subcommand 'frob'\n"),
-            (&["help"], "err error: unrecognized subcommand 'help'\n"),
-            (
-                &["--frob"],
-                "err error: unexpected argument '--frob' found\n",
-            ),
-            (
-                &["check"],
-                "err error: the following required arguments were not provided:\n  <HEAD>\n  <FILE>...\n",
-            ),
-            (
-                &["check", "h"],
-                "err error: the following required arguments were not provided:\n  <FILE>...\n",
-            ),
-            (
-                &["check", "h", "a", "-x"],
-                "err error: unexpected argument '-x' found\n",
-            ),
-            (&["-h"], "out Reads the recorded MPI calls"),
-            (&["--help"], "out Reads the recorded MPI calls"),
-            (&["check", "-h"], "out Reads the head of a run"),
-            (
-                &["check", "h", "a", "--help"],
-                "out Reads the head of a run",
-            ),
-            (&["--version"], "out mpiwait 0.1.0\n"),
-            (&["check", "--version"], "out mpiwait-check 0.1.0\n"),
-        ];
-        for (words, begins) in rows {
-            let told = told(rt.alloc(), words)?;
-            assert!(rt; told.as_str().starts_with(begins), "{told} of {words:?}");
-        }
-        Ok(())
-    }
-
     #[test]
     fn help_lists_the_statuses(rt: HostRuntime) -> Result<(), Fail> {
-        for words in [["--help"].as_slice(), &["check", "--help"]] {
-            let told = told(rt.alloc(), words)?;
+        for words in [
+            ["--help"].as_slice(),
+            &["check", "--help"],
+            &["lint", "--help"],
+        ] {
+            let Words::Said { text, .. } = parse(rt.alloc(), words) else {
+                return Err("no text".into());
+            };
             for line in [
                 "mpiwait check run/head run/r0 run/r1",
+                "mpiwait lint run/r0",
                 "  0  no hang",
                 "  1  hang",
                 "  2  refused",
                 "  3  usage",
                 "  4  fault",
             ] {
-                assert!(rt; told.as_str().contains(line), "{line} in {told}");
+                assert!(rt; text.as_str().contains(line), "{line} in {text}");
             }
         }
         Ok(())
+    }
+
+    #[test]
+    fn takes_a_path_that_begins_with_a_dash(rt: HostRuntime) {
+        let words = parse(rt.alloc(), &["lint", "--", "-r0"]);
+        assert!(rt; matches!(words, Words::Lint { file: "-r0" }));
     }
 }

@@ -1,5 +1,5 @@
--- What was read and what is left are the input's bytes.
-use Rattle.std.proofs.Common.{◌≤◌, ◌-◌, vec_len}
+-- What was read and what is left are the input's bytes, and no read failed.
+use Rattle.std.proofs.Common.{◌≡◌, ◌≤◌, ◌-◌, vec_len}
 use Rattle.std.specs.Io.KnownBytes.{Keeps, prepend_known}
 use Rattle.mpiwait.specs.Front.{deciding_bytes}
 use Rattle.mpiwait.proofs.check.read_front.Given as goal
@@ -8,6 +8,7 @@ abbrev pub invariant-loop-piece : goal.invariant-loop-piece
 invariant-loop-piece g l = record {
   within : vec_len l.front ≤ deciding_bytes;
   known : Keeps (g.I.Input.left l.fn.input) (prepend_known l.front.items (g.I.Input.left l.input));
+  failures : g.I.Input.failures l.input ≡ g.I.Input.failures l.fn.input;
 }
 
 abbrev pub decreases-loop-piece : goal.decreases-loop-piece

@@ -25,4 +25,5 @@ returns c =
     let required = ap app_of_fields c.subcommand_required.ensures ∙ ap with_required_subcommand bare in
     let helpless = ap app_of_fields c.disable_help_subcommand.ensures ∙ ap without_help_subcommand required in
     let base = ap app_of_fields c.in_ok-bin_name.ensures.0 ∙ helpless in
-    IfOk-weaker c.subcommand.result _ _ (λ command adds. adds.shape c.in_ok-check.ensures.local ∙ ap₂ with_subcommand base (ap (λ (a : App). a.top) c.in_ok-check.ensures.app)) c.subcommand.ensures
+    let one = c.in_ok-subcommand.ensures.shape c.in_ok-check.ensures.local ∙ ap₂ with_subcommand base (ap (λ (a : App). a.top) c.in_ok-check.ensures.app) in
+    IfOk-weaker c.subcommand-2.result _ _ (λ command adds. adds.shape c.in_ok-lint.ensures.local ∙ ap₂ with_subcommand one (ap (λ (a : App). a.top) c.in_ok-lint.ensures.app)) c.subcommand-2.ensures

@@ -1,0 +1,203 @@
+//! The words that the process is given, and the program on them.
+
+ghost use Rattle.std.specs.Prelude.{◌≡◌, IfOk, map, string_bytes};
+ghost use Rattle.std.specs.Process.{exit_status};
+ghost use Rattle.mpiwait.specs.Given.{status_in, status_of};
+ghost use Rattle.mpiwait.specs.Statuses.{code_of};
+ghost use Rattle.mpiwait.specs.declared.given.WordsFault.TheVariants.{NoMemory};
+
+use crate::opener::Opener;
+use crate::program::program;
+use crate::status::Status;
+use mpicall::device::{Output, write_all};
+use std::alloc::{AllocError, Global};
+use std::env::Env;
+use std::process::{ExitCode, Termination};
+use std::sync::Wait;
+use std::{env, io};
+
+/// Why the words of the command line can't be read.
+#[derive(Clone, Copy, Debug, PartialEq, Eq)]
+enum WordsFault {
+    NoText,
+    NoMemory,
+}
+
+impl WordsFault {
+    fn status(self) -> Status
+        ensures { result ≡ status_of self }
+    {
+        match self {
+            WordsFault::NoText => Status::Usage,
+            WordsFault::NoMemory => Status::Fault,
+        }
+    }
+
+    fn text(self) -> &'static str {
+        match self {
+            WordsFault::NoText => "usage: the words must be text in UTF-8\n",
+            WordsFault::NoMemory => "fault memory\n",
+        }
+    }
+}
+
+impl From<AllocError> for WordsFault {
+    ghost from_gives = { λ _ fault. fault ≡ NoMemory };
+
+    fn from(_error: AllocError) -> WordsFault {
+        WordsFault::NoMemory
+    }
+}
+
+impl From<io::Error> for WordsFault {
+    fn from(error: io::Error) -> WordsFault {
+        match error.kind() {
+            io::ErrorKind::OutOfMemory => WordsFault::NoMemory,
+            _ => WordsFault::NoText,
+        }
+    }
+}
+
+/// The words after the program's name.
+fn words_given(rt: &(impl Env + AllocGlobal)) -> Result<Vec<String>, WordsFault> {
+    let words = env::args(rt)?.skip(1).collect(rt.alloc())?;
+    Ok(words)
+}
+
+/// The same words, as the program takes them.
+fn as_texts<'a>(alloc: Global, words: &'a [String]) -> Result<Vec<&'a str>, AllocError>
+    ensures { IfOk result (λ texts. map (λ text. text.now) texts.items ≡ map string_bytes words.now) }
+{
+    let mut texts = Vec::new(alloc);
+    for word in words {
+        texts.push(word.as_str())?;
+    }
+    Ok(texts)
+}
+
+/// The end of the program. Nobody can let it go: it is handed on to what ends the process, with the status
+/// that it holds.
+#[must_use]
+pub struct Ended {
+    status: Status,
+}
+
+impl Termination for Ended {
+    fn report<R: Eprint>(self, _rt: &R) -> ExitCode
+        ensures { exit_status result ≡ code_of (status_in self) }
+    {
+        let Ended { status } = self;
+        ExitCode::from(status.code())
+    }
+}
+
+/// The program on the words of the process.
+fn status_on<R: Env + AllocGlobal, P: Opener, O: Output, E: Output>(
+    rt: &R,
+    opener: &P,
+    wait: &impl Wait,
+    out: &mut O,
+    err: &mut E,
+) -> Result<Status, WordsFault> {
+    let words = words_given(rt)?;
+    let texts = as_texts(rt.alloc(), words.as_slice())?;
+    Ok(program(rt.alloc(), texts.as_slice(), opener, wait, out, err))
+}
+
+/// Runs the program on the words of the process, over the opener's files, and tells words that can't be
+/// read.
+pub fn run<R: Env + AllocGlobal, P: Opener, O: Output, E: Output>(
+    rt: &R,
+    opener: &P,
+    wait: &impl Wait,
+    out: &mut O,
+    err: &mut E,
+) -> Ended {
+    let status = match status_on(rt, opener, wait, out, err) {
+        Ok(status) => status,
+        Err(fault) => {
+            let _ = write_all(err, fault.text().as_bytes());
+            fault.status()
+        }
+    };
+    Ended { status }
+}
+
+#[cfg(test)]
+mod tests {
+    use super::*;
+    use crate::shelf::Shelf;
+    use mpicall::memory::MemoryOutput;
+    use std::env::FillError;
+    use std::test::Fail;
+
+    /// The arguments of a process, its name the first.
+    #[derive(Drop)]
+    struct Arguments<'a>(&'a [&'a [u8]]);
+
+    impl Env for Arguments<'_> {
+        fn arg(&self, i: usize, buf: &mut [u8]) -> Result<usize, FillError> {
+            let word = self.0.get(i).ok_or(FillError::NotPresent)?;
+            if buf.len() < word.len() {
+                return Err(FillError::TooLong);
+            }
+            buf[..word.len()].copy_from_slice(word);
+            Ok(word.len())
+        }
+
+        fn var(&self, _name: &str, _buf: &mut [u8]) -> Result<usize, FillError> {
+            Err(FillError::NotPresent)
+        }
+
+        fn var_at(&self, _i: usize, _buf: &mut [u8]) -> Result<usize, FillError> {
+            Err(FillError::NotPresent)
+        }
+    }
+
+    #[test]
+    fn ends_by_the_words_of_the_process(rt: HostRuntime) -> Result<(), Fail> {
+        let files = [
+            ("head", "ranks 1\n"),
+            ("r0", "finalize\n"),
+            ("r1", "recv 0 0 0\nfinalize\n"),
+        ];
+        let no_text = "usage: the words must be text in UTF-8\n";
+        let rows: [(&[&[u8]], &str, &str, u8); 6] = [
+            (&[b"check", b"head", b"r0"], "verdict free\n", "", 0),
+            (&[b"check", b"head", b"r1"], "verdict hang\n", "", 1),
+            (
+                &[b"lint", b"head"],
+                "refused lint call 0 L2 unknown word\n",
+                "",
+                2,
+            ),
+            (&[b"check", b"head", b"\xff"], "", no_text, 3),
+            (&[b"\xc3", b"--help"], "", no_text, 3),
+            (&[b"lint", b"nowhere"], "", "fault open nowhere\n", 4),
+        ];
+        for (words, told, complained, status) in rows {
+            let mut process = vec![in rt.alloc(); b"mpiwait".as_slice()]?;
+            process.extend_from_slice(words)?;
+            let mut out = MemoryOutput::new(rt.alloc());
+            let mut err = MemoryOutput::new(rt.alloc());
+            let given = (Arguments(process.as_slice()), rt.alloc());
+            let ended = run(&given, &Shelf::of(&files), &rt, &mut out, &mut err);
+            assert_eq!(rt;
+                ended.report(&rt),
+                ExitCode::from(status),
+                "of {told}{complained}"
+            );
+            assert_eq!(rt; out.bytes(), told.as_bytes());
+            assert_eq!(rt; err.bytes(), complained.as_bytes());
+        }
+        Ok(())
+    }
+
+    #[test]
+    fn tells_words_that_it_has_no_memory_for(rt: HostRuntime) {
+        let fault = WordsFault::from(io::Error::from(AllocError));
+        assert_eq!(rt; fault, WordsFault::NoMemory);
+        assert_eq!(rt; fault.text(), "fault memory\n");
+        assert_eq!(rt; fault.status(), Status::Fault);
+    }
+}

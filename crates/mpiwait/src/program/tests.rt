@@ -1,0 +1,322 @@
+//! The program's texts, their streams and the statuses.
+
+use super::*;
+use crate::shelf::Shelf;
+use mpicall::fails_at::FailsAt;
+use mpicall::memory::MemoryOutput;
+use std::test::Fail;
+
+const FREE: [(&str, &str); 2] = [("head", "ranks 1\n"), ("r0", "finalize\n")];
+
+const REFUSED: [(&str, &str); 2] = [("head", "ranks 1\n"), ("r0", "stop\n")];
+
+const TWO: [(&str, &str); 3] = [
+    ("head", "ranks 2\n"),
+    ("r0", "send 0 1 0\nfinalize\n"),
+    ("r1", "recv 0 0 0\nfinalize\n"),
+];
+
+/// What the program writes where each write succeeds. Its status must be this one, and all goes to one
+/// stream, by that status.
+fn told_of(
+    rt: &(impl AllocGlobal + Wait),
+    shelf: &Shelf<'_>,
+    words: &[&str],
+    status: u8,
+) -> Result<String, Fail> {
+    let mut out = MemoryOutput::new(rt.alloc());
+    let mut err = MemoryOutput::new(rt.alloc());
+    let ended = program(rt.alloc(), words, shelf, rt, &mut out, &mut err);
+    if ended.code() != status {
+        return Err("another status".into());
+    }
+    let (used, unused) = if status < 3 {
+        (&out, &err)
+    } else {
+        (&err, &out)
+    };
+    if !unused.bytes().is_empty() {
+        return Err("written to the other stream".into());
+    }
+    let text = str::from_utf8(used.bytes()).map_err(|_| "no text")?;
+    Ok(String::from_str(rt.alloc(), text)?)
+}
+
+#[test]
+fn reports_runs(rt: HostRuntime) -> Result<(), Fail> {
+    let rows: [(&str, &str, &str, &str, u8); 12] = [
+        ("ranks 1\n", "finalize\n", "", "verdict free\n", 0),
+        (
+            "ranks 2\n",
+            "send 0 1 0\nrecv 0 1 0\nfinalize\n",
+            "send 0 0 0\nrecv 0 0 0\nfinalize\n",
+            "verdict hang\n",
+            1,
+        ),
+        (
+            "ranks 1\n",
+            "send 0 0 0\nrecv 0 0 0\nfinalize\n",
+            "",
+            "verdict hang\n",
+            1,
+        ),
+        (
+            "ranks 2\n",
+            "send 0 1 1\nsend 0 1 2\nfinalize\n",
+            "recv 0 0 2\nrecv 0 0 1\nfinalize\n",
+            "verdict hang\n",
+            1,
+        ),
+        (
+            "ranks 2\n",
+            "send 0 1 0\nfinalize\n",
+            "recv 0 0 0\nfinalize\n",
+            "verdict free\n",
+            0,
+        ),
+        (
+            "ranks 1\n",
+            "recv 0 any 7\nfinalize\n",
+            "",
+            "refused rank 0 call 0 L5 wildcard\n",
+            2,
+        ),
+        (
+            "ranks 1\n",
+            "finalize",
+            "",
+            "refused rank 0 call 0 L7 no line feed\n",
+            2,
+        ),
+        (
+            "ranks 1\n",
+            "send 0 0 0\n",
+            "",
+            "refused rank 0 call 1 E1 no finalize\n",
+            2,
+        ),
+        (
+            "ranks 2\n",
+            "send 0 9 0\nfinalize\n",
+            "recv 0 any 7\n",
+            "refused rank 0 call 0 C3 peer or root out of group\n",
+            2,
+        ),
+        (
+            "ranks 2\n",
+            "finalize\n",
+            "send 0 0 0\nrecv 0 any 7\n",
+            "refused rank 1 call 1 L5 wildcard\n",
+            2,
+        ),
+        (
+            "",
+            "finalize\n",
+            "",
+            "refused head line 1 H1 first line\n",
+            2,
+        ),
+        (
+            "ranks 2\n",
+            "finalize\n",
+            "",
+            "usage: head has 2 ranks, 1 files given\n",
+            3,
+        ),
+    ];
+    for (head, first, second, told, status) in rows {
+        let files = [("head", head), ("r0", first), ("r1", second)];
+        let words = ["check", "head", "r0", "r1"];
+        let given = if second.is_empty() { 3 } else { 4 };
+        let shown = told_of(&rt, &Shelf::of(&files), &words[..given], status)?;
+        assert_eq!(rt; shown.as_str(), told, "of {first:?} and {second:?}");
+    }
+    Ok(())
+}
+
+#[test]
+fn tells_files_that_fail(rt: HostRuntime) -> Result<(), Fail> {
+    let rows: [(&[(&str, &str)], &str, u64, &str, u8); 10] = [
+        (&[], "", 0, "fault open head\n", 4),
+        (&TWO[..2], "", 0, "fault open r1\n", 4),
+        (&TWO, "head", 0, "fault read head\n", 4),
+        (&TWO, "head", 1, "fault read head\n", 4),
+        (&TWO, "r0", 0, "fault rank 0 call 0 E2 read failed\n", 4),
+        (&TWO, "r1", 0, "fault rank 1 call 0 E2 read failed\n", 4),
+        (&TWO, "r1", 1, "fault rank 1 call 2 E2 read failed\n", 4),
+        (&TWO, "r1", 2, "verdict free\n", 0),
+        // Files are counted before any is opened, and a lower rank's fault is told first.
+        (
+            &FREE[..1],
+            "",
+            0,
+            "usage: head has 1 ranks, 2 files given\n",
+            3,
+        ),
+        (
+            &[("head", "ranks 2\n"), ("r0", "stop\n"), ("r1", "")],
+            "r1",
+            0,
+            "refused rank 0 call 0 L2 unknown word\n",
+            2,
+        ),
+    ];
+    for (files, failing, at, told, status) in rows {
+        let shelf = Shelf { files, failing, at };
+        let shown = told_of(&rt, &shelf, &["check", "head", "r0", "r1"], status)?;
+        assert_eq!(rt; shown.as_str(), told, "at {at} of {failing}");
+    }
+    Ok(())
+}
+
+/// A head of which the first 262,145 bytes decide what it says takes 65 reads, and the next isn't made.
+#[test]
+fn reads_no_more_of_a_head_than_decides_it(rt: HostRuntime) -> Result<(), Fail> {
+    let mut text = String::new(rt.alloc());
+    for _ in 0..262_146 {
+        text.push('x')?;
+    }
+    let files = [("head", text.as_str())];
+    for (at, told, status) in [
+        (64, "fault read head\n", 4),
+        (65, "refused head line 1 H6 line length or end\n", 2),
+    ] {
+        let shelf = Shelf {
+            files: &files,
+            failing: "head",
+            at,
+        };
+        let shown = told_of(&rt, &shelf, &["check", "head", "r0"], status)?;
+        assert_eq!(rt; shown.as_str(), told);
+    }
+    Ok(())
+}
+
+#[test]
+fn tells_what_the_words_ask_for(rt: HostRuntime) -> Result<(), Fail> {
+    let rows: [(&[&str], &str, u8); 20] = [
+        (&[], "error: 'mpiwait' requires a subcommand", 3),
+        (&["frob"], "error: unrecognized subcommand 'frob'", 3),
+        (&["help"], "error: unrecognized subcommand 'help'", 3),
+        (&["--frob"], "error: unexpected argument '--frob'", 3),
+        (&["check"], "error: the following required arguments", 3),
+        (&["check", "head"], "error: the following required", 3),
+        (&["check", "head", "r0", "-x"], "error: unexpected", 3),
+        (&["lint"], "error: the following required arguments", 3),
+        (&["lint", "r0", "r0"], "error: unexpected argument 'r0'", 3),
+        (&["lint", "r0", "-x"], "error: unexpected argument '-x'", 3),
+        (&["-h"], "Reads the recorded MPI calls", 0),
+        (&["--help"], "Reads the recorded MPI calls", 0),
+        (&["--version"], "mpiwait 0.1.0\n", 0),
+        (&["check", "-h"], "Reads the head of a run", 0),
+        (&["check", "--help"], "Reads the head of a run", 0),
+        (&["check", "--version"], "mpiwait-check 0.1.0\n", 0),
+        (&["lint", "--help"], "Reads one trace alone", 0),
+        (&["lint", "--version"], "mpiwait-lint 0.1.0\n", 0),
+        (&["check", "head", "r0"], "verdict free\n", 0),
+        (&["lint", "r0"], "lint ok 1\n", 0),
+    ];
+    for (words, begins, status) in rows {
+        let told = told_of(&rt, &Shelf::of(&FREE), words, status)?;
+        assert!(rt; told.as_str().starts_with(begins), "{told} of {words:?}");
+    }
+    Ok(())
+}
+
+#[test]
+fn lints_traces(rt: HostRuntime) -> Result<(), Fail> {
+    let rows: [(&str, &str, u8); 11] = [
+        ("send 0 1 0\nfinalize\n", "lint ok 2\n", 0),
+        // Lint doesn't ask whether there is such a communicator or peer.
+        ("send 255 63 0\nfinalize\n", "lint ok 2\n", 0),
+        ("send  0 1 0\n", "refused lint call 0 L1 empty field\n", 2),
+        ("stop\n", "refused lint call 0 L2 unknown word\n", 2),
+        ("send 0 1\n", "refused lint call 0 L3 number of fields\n", 2),
+        (
+            "send 0 1 0\nsend 0 1 00\n",
+            "refused lint call 1 L4 field out of form or range\n",
+            2,
+        ),
+        ("recv 0 any 7\n", "refused lint call 0 L5 wildcard\n", 2),
+        ("finalize", "refused lint call 0 L7 no line feed\n", 2),
+        (
+            "finalize\nx",
+            "refused lint call 1 L8 text after finalize\n",
+            2,
+        ),
+        ("", "refused lint call 0 E1 no finalize\n", 2),
+        ("send 0 1 0\n", "refused lint call 1 E1 no finalize\n", 2),
+    ];
+    for (text, told, status) in rows {
+        let shown = told_of(&rt, &Shelf::of(&[("r0", text)]), &["lint", "r0"], status)?;
+        assert_eq!(rt; shown.as_str(), told, "of {text:?}");
+    }
+    let mut long = String::new(rt.alloc());
+    for _ in 0..1_025 {
+        long.push('x')?;
+    }
+    let files = [("r0", long.as_str())];
+    let shown = told_of(&rt, &Shelf::of(&files), &["lint", "r0"], 2)?;
+    assert_eq!(rt; shown.as_str(), "refused lint call 0 L6 line too long\n");
+    Ok(())
+}
+
+#[test]
+fn tells_a_lint_that_fails(rt: HostRuntime) -> Result<(), Fail> {
+    let rows: [(&str, u64, &str); 3] = [
+        ("nowhere", 0, "fault open nowhere\n"),
+        ("r0", 0, "fault lint call 0 E2 read failed\n"),
+        ("r0", 1, "fault lint call 2 E2 read failed\n"),
+    ];
+    for (file, at, told) in rows {
+        let shelf = Shelf {
+            files: &TWO,
+            failing: "r0",
+            at,
+        };
+        let shown = told_of(&rt, &shelf, &["lint", file], 4)?;
+        assert_eq!(rt; shown.as_str(), told, "at {at} of {file}");
+    }
+    Ok(())
+}
+
+#[test]
+fn tells_want_of_memory(rt: HostRuntime) {
+    let mut out = MemoryOutput::new(rt.alloc());
+    let answered = answer(
+        rt.alloc(),
+        Words::NoMemory,
+        &Shelf::of(&FREE),
+        &rt,
+        &mut out,
+    );
+    assert!(rt; out.bytes().is_empty());
+    assert!(rt; matches!(answered, Err(Complaint::Fault(Fault::Memory))));
+    let mut err = MemoryOutput::new(rt.alloc());
+    let complaint = Complaint::Fault(Fault::Memory);
+    assert_eq!(rt; complain(rt.alloc(), complaint, &mut err), Status::Fault);
+    assert_eq!(rt; err.bytes(), b"fault memory\n".as_slice());
+}
+
+#[test]
+fn tells_an_output_that_fails(rt: HostRuntime) {
+    let rows: [(&[(&str, &str)], &[&str]); 4] = [
+        (&FREE, &["check", "head", "r0"]),
+        (&REFUSED, &["check", "head", "r0"]),
+        (&FREE, &["lint", "r0"]),
+        (&FREE, &["--help"]),
+    ];
+    for (files, words) in rows {
+        let shelf = Shelf::of(files);
+        let mut out = FailsAt::new(MemoryOutput::new(rt.alloc()), 0);
+        let mut err = MemoryOutput::new(rt.alloc());
+        let ended = program(rt.alloc(), words, &shelf, &rt, &mut out, &mut err);
+        assert_eq!(rt; ended, Status::Fault);
+        assert!(rt; out.device().bytes().is_empty());
+        assert_eq!(rt; err.bytes(), b"fault write\n".as_slice());
+        let mut mute = FailsAt::new(MemoryOutput::new(rt.alloc()), 0);
+        let mut out = FailsAt::new(MemoryOutput::new(rt.alloc()), 0);
+        let ended = program(rt.alloc(), words, &shelf, &rt, &mut out, &mut mute);
+        assert_eq!(rt; ended, Status::Fault);
+    }
+}
