@@ -1,0 +1,4 @@
+pub mod NumberLemmas
+pub mod RingLemmas
+pub mod OwnerLemmas
+pub mod LinkLemmas
