@@ -190,3 +190,11 @@ count_back x n l lists l_in = ap (count x) (get_or-set_same lists l (list_at lis
 
 pub count_back_other : (x n l m : ℕ) (lists : List (List ℕ)) → m ≢ l → count x (list_at (set lists l (list_at lists l ++ n ∷ [])) m) ≡ count x (list_at lists m)
 count_back_other x n l m lists other = ap (count x) (get_or-set_other lists l m (list_at lists l ++ n ∷ []) [] other)
+
+pub count_after : (x n : ℕ) (xs : List ℕ) → count x (after n xs) ≤ count x xs
+count_after x n [] = omega arith
+count_after x n (y ∷ ys) =
+    ⊎_elim
+    (λ (same : n ≡ y). let is : after n (y ∷ ys) ≡ ys = rw (eq-eqb n y same) refl in omega (arith, ap (count x) is))
+    (λ (other : n ≡ y → ⊥). let is : after n (y ∷ ys) ≡ after n ys = rw (ne_eqb n y other) refl in omega (arith, ap (count x) is, count_after x n ys))
+    (cases_eq n y)

@@ -1,5 +1,5 @@
 -- Lists of nodes with values, by their numbers.
-use Rattle.std.specs.Prelude.{◌≡◌, ℕ, ◌+◌, ◌-◌, ◌^◌, ◌≤◌, min, Option, Some, None, List, [], ◌∷◌, ◌++◌, map, drop, slice_set, sum_by, count_by, ◌==◌, if◌then◌else◌}
+use Rattle.std.specs.Prelude.{◌≡◌, ℕ, ◌+◌, ◌-◌, ◌^◌, ◌≤◌, min, Option, Some, None, List, [], ◌∷◌, ◌++◌, map, drop, slice_set, ◌==◌, if◌then◌else◌}
 use Rattle.arenalist.specs.Numbers.{list_at}
 
 -- the lists, each an entry (node, value) after the other; how many nodes are spare; and the count
@@ -26,9 +26,14 @@ abbrev pub value_at : {T : Type 0} → List (List (ℕ × T)) → ℕ → Option
 value_at [] n = None
 value_at (list ∷ lists) n = or_value (value_in list n) (value_at lists n)
 
--- how often a node stands in the lists
+-- how often a node stands in a list, and in the lists
+abbrev pub times_in : {T : Type 0} → List (ℕ × T) → ℕ → ℕ
+times_in [] n = 0
+times_in (entry ∷ list) n = (if n == entry.0 then 1 else 0) + times_in list n
+
 abbrev pub times : {T : Type 0} → List (List (ℕ × T)) → ℕ → ℕ
-times lists n = sum_by (λ list. count_by (λ entry. n == entry.0) list) lists
+times [] n = 0
+times (list ∷ lists) n = times_in list n + times lists n
 
 abbrev pub first_node : {T : Type 0} → List (ℕ × T) → Option ℕ
 first_node [] = None

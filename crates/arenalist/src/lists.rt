@@ -1,6 +1,7 @@
 //! Many lists in one arena.
 
-ghost use Rattle.std.specs.Prelude.{◌≡◌, ◌+◌, ◌-◌, ◌*◌, ◌<◌, ◌≤◌, ◌≢◌, ◌^◌, ℕ, [], ◌∷◌, ◌++◌, length, drop, slice_set, max, Some, None, IsSome, IsOk, IfOk, IfErr, IfSome, IfNone, OnOk, OnErr, OnSome, ForSome};
+ghost use Rattle.std.specs.Prelude.{◌≡◌, ◌+◌, ◌-◌, ◌*◌, ◌<◌, ◌≤◌, ◌≢◌, ◌^◌, ℕ, [], ◌∷◌, ◌++◌, length, drop, slice_set, max, Some, None, IsSome, IsOk, IfOk, IfErr, IfSome, IfNone, OnOk, OnErr, OnSome};
+ghost use Rattle.std.specs.Option.{ForSome};
 ghost use Rattle.std.specs.Vec.{vec_len, vec_capacity};
 ghost use Rattle.arenalist.specs.Numbers.{list_at};
 ghost use Rattle.arenalist.specs.Arena.{value_in, value_at, times, first_node, first_value, behind, unlinked, linked, appended, IsFirst, counted};
@@ -217,6 +218,8 @@ impl<T> Lists<T> {
         ensures spare { self.new.spare ≡ self.old.spare }
         ensures work { self.new.work ≡ counted self.old.work (2 * length (list_at self.old.lists from)) }
     {
+        // The loop starts from a count that fits.
+        let _work = self.work;
         while let Some(node) = self.first(from) {
             self.move_back(node, to);
         }
