@@ -4,7 +4,7 @@ use Rattle.std.specs.Prelude.{is_some, ◌==◌, if◌then◌else◌}
 use Rattle.std.proofs.lemmas.List.{map-set, get_or-map, length-map}
 use Rattle.std.proofs.lemmas.Bool.{cases_eq, cases_lt, eq-eqb, ne_eqb}
 use Rattle.arenalist.specs.Numbers.{count, in_all, list_at, without, after, first_of}
-use Rattle.arenalist.specs.Arena.{value_in, or_value, value_at, times_in, times, first_node, first_value, behind, without_node, unlinked, linked}
+use Rattle.arenalist.specs.Arena.{value_in, or_value, value_at, times_in, times, first_node, first_value, behind, without_node, unlinked, linked, revalued_in, revalued}
 use Rattle.arenalist.specs.Slots.{entry_of, entries, entries_of}
 use Rattle.arenalist.proofs.NumberLemmas.{count_one, count_other, count_head, get_or-push_default}
 
@@ -199,3 +199,36 @@ module _ {T : Type 0} where
 
   pub long_entries : (values : List (Option T)) (lists : List (List ℕ)) → length (entries_of values lists) ≡ length lists
   long_entries values lists = length-map lists (entries values)
+
+  -- the value at a cell is another
+  revalued_entry : (n x : ℕ) (o : Option T) (w : T) (es : List (ℕ × T)) → n ≡ x → is_some o ≡ true → revalued_in (entry_of x o ++ es) n w ≡ (n, w) ∷ revalued_in es n w
+  revalued_entry n x None w es e some = cc
+  revalued_entry n x (Some v) w es e some = rw (eq-eqb n x e) refl
+
+  revalued_other : (n x : ℕ) (o : Option T) (w : T) (es : List (ℕ × T)) → (n ≡ x → ⊥) → revalued_in (entry_of x o ++ es) n w ≡ entry_of x o ++ revalued_in es n w
+  revalued_other n x None w es e = refl
+  revalued_other n x (Some v) w es e = rw (ne_eqb n x e) refl
+
+  entries_revalued_in : (values : List (Option T)) (n : ℕ) (w : T) (xs : List ℕ) → n < length values → is_some (get_or values n None) ≡ true → entries (set values n (Some w)) xs ≡ revalued_in (entries values xs) n w
+  entries_revalued_in values n w [] n_in some = refl
+  entries_revalued_in values n w (x ∷ xs) n_in some =
+      ⊎_elim
+      (λ (same : n ≡ x).
+      let has : is_some (get_or values x None) ≡ true = ap (λ (y : ℕ). is_some (get_or values y None)) (sym same) ∙ some in
+      let new : get_or (set values n (Some w)) x None ≡ Some w = ap (λ (y : ℕ). get_or (set values n (Some w)) y None) (sym same) ∙ get_or-set_same values n (Some w) None n_in in
+      ap (λ (o : Option T). entry_of x o ++ entries (set values n (Some w)) xs) new
+      ∙ ap (λ (y : ℕ). (y, w) ∷ entries (set values n (Some w)) xs) (sym same)
+      ∙ ap (λ (es : List (ℕ × T)). (n, w) ∷ es) (entries_revalued_in values n w xs n_in some)
+      ∙ sym (revalued_entry n x (get_or values x None) w (entries values xs) same has))
+      (λ (other : n ≡ x → ⊥).
+      ap (λ (o : Option T). entry_of x o ++ entries (set values n (Some w)) xs) (get_or-set_other values n x (Some w) None (λ e. other (sym e)))
+      ∙ ap (λ (es : List (ℕ × T)). entry_of x (get_or values x None) ++ es) (entries_revalued_in values n w xs n_in some)
+      ∙ sym (revalued_other n x (get_or values x None) w (entries values xs) other))
+      (cases_eq n x)
+
+  pub entries_revalued : (values : List (Option T)) (n : ℕ) (w : T) (lists : List (List ℕ)) → n < length values → is_some (get_or values n None) ≡ true → entries_of (set values n (Some w)) lists ≡ revalued (entries_of values lists) n w
+  entries_revalued values n w [] n_in some = refl
+  entries_revalued values n w (xs ∷ lists) n_in some =
+      let first : entries (set values n (Some w)) xs ≡ revalued_in (entries values xs) n w = entries_revalued_in values n w xs n_in some in
+      let rest : entries_of (set values n (Some w)) lists ≡ revalued (entries_of values lists) n w = entries_revalued values n w lists n_in some in
+      cc

@@ -3,3 +3,4 @@ pub mod Numbers
 pub mod Rings
 pub mod Links
 pub mod Slots
+pub mod Lends

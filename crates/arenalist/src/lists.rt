@@ -2,7 +2,9 @@
 
 ghost use Rattle.std.specs.Prelude.{◌≡◌, ◌+◌, ◌-◌, ◌*◌, ◌<◌, ◌≤◌, ◌≢◌, ◌^◌, ℕ, [], ◌∷◌, ◌++◌, length, drop, slice_set, max, Some, None, IsSome, IsOk, IfOk, IfErr, IfSome, IfNone, OnOk, OnErr, OnSome};
 ghost use Rattle.std.specs.Option.{ForSome};
+ghost use Rattle.std.specs.Borrow.{sem};
 ghost use Rattle.std.specs.Vec.{vec_len, vec_capacity};
+ghost use Rattle.arenalist.specs.Lends.{lends_slot, lends_value};
 ghost use Rattle.arenalist.specs.Numbers.{list_at};
 ghost use Rattle.arenalist.specs.Arena.{value_in, value_at, times, first_node, first_value, behind, unlinked, linked, appended, IsFirst, counted};
 
@@ -28,6 +30,18 @@ fn reserve_slots<T>(
     let lacking = values.len() - free.len();
     free.reserve(lacking.saturating_add(more))?;
     Ok(())
+}
+
+/// The value in a slot that has one.
+fn value_mut<T>(slot: &mut Option<T>) -> &mut T
+    requires { IsSome slot.old }
+    ensures* writes_back { sem 𝓛 (lends_slot T.row slot.entry result) }
+    ensures value { slot.old ≡ Some result.now }
+{
+    match slot {
+        Some(value) => value,
+        None => unreachable!(),
+    }
 }
 
 /// Lists of values, doubly linked in one arena. See the crate's page for an example.
@@ -163,6 +177,23 @@ impl<T> Lists<T> {
         ensures { value_at self.now.lists node ≡ Some result.now }
     {
         self.values[node.number() as usize].as_ref().unwrap()
+    }
+
+    /// The value at a node, to be changed.
+    pub fn get_mut(&mut self, node: Node) -> &mut T
+        requires { IsSome (value_at self.old.lists node) }
+        ensures* writes_back { sem 𝓛 (lends_value T.row self.entry node result) }
+        ensures value { value_at self.old.lists node ≡ Some result.now }
+    {
+        let cell = node.number();
+        value_mut(&mut self.values[cell as usize])
+    }
+
+    /// No node stands twice, in one list or in two. This does nothing: it only says so.
+    pub fn nodes_stand_once(&self)
+        ensures { (n : ℕ) → times self.now.lists n ≤ 1 }
+    {
+        let _links = &self.links;
     }
 
     /// Takes a node out of its list, and answers its value. The node is spare then.
