@@ -109,6 +109,12 @@ impl Links {
         }
     }
 
+    pub(crate) fn list_count(&self) -> usize
+        ensures { result ≡ length self.now.lists }
+    {
+        self.heads.len()
+    }
+
     /// Makes a list, with a cell for its head.
     pub(crate) fn add_list(&mut self) -> Result<u32, AllocError>
         ensures list { IfOk result (λ list. list ≡ length self.old.lists) }

@@ -1,6 +1,6 @@
 //! Many lists in one arena.
 
-ghost use Rattle.std.specs.Prelude.{◌≡◌, ◌+◌, ◌-◌, ◌*◌, ◌<◌, ◌≤◌, ◌≢◌, ◌^◌, ℕ, [], ◌∷◌, ◌++◌, length, drop, slice_set, max, Some, None, IsSome, IsOk, IfOk, IfErr, IfSome, IfNone, OnOk, OnErr, OnSome};
+ghost use Rattle.std.specs.Prelude.{◌≡◌, ◌+◌, ◌-◌, ◌*◌, ◌<◌, ◌≤◌, ◌≢◌, ◌^◌, ◌↔◌, ℕ, [], ◌∷◌, ◌++◌, length, drop, slice_set, max, Some, None, IsSome, IsOk, IfOk, IfErr, IfSome, IfNone, OnOk, OnErr, OnSome};
 ghost use Rattle.std.specs.Option.{ForSome};
 ghost use Rattle.std.specs.Borrow.{sem};
 ghost use Rattle.std.specs.Vec.{vec_len, vec_capacity};
@@ -160,8 +160,16 @@ impl<T> Lists<T> {
         }
     }
 
+    /// How many lists there are. Their numbers are those below.
+    pub fn list_count(&self) -> usize
+        ensures { result ≡ length self.now.lists }
+    {
+        self.links.list_count()
+    }
+
     /// The list that a node stands in, and None for a spare node.
     pub fn list_of(&self, node: Node) -> Option<ListId>
+        ensures linked { IsSome result ↔ IsSome (value_at self.now.lists node) }
         ensures standing { (l : ℕ) → IsSome (value_in (list_at self.now.lists l) node) → result ≡ Some l }
         ensures found { IfSome result (λ list. IsSome (value_in (list_at self.now.lists list) node)) }
     {

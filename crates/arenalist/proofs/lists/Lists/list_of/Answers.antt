@@ -1,10 +1,10 @@
-use Rattle.std.proofs.Common.{◌≡◌, ◌<◌, ◌≤◌, ◌∙◌, ℕ, List, Option, Some, None, get_or, sym, ap, subst, arith}
+use Rattle.std.proofs.Common.{◌≡◌, ◌<◌, ◌≤◌, ◌∙◌, ℕ, List, Bool, true, false, Option, Some, None, get_or, refl, sym, ap, subst, arith}
 use Rattle.std.specs.Prelude.{is_some, IsSome}
-use Rattle.arenalist.specs.Numbers.{list_at, count, after, first_of}
-use Rattle.arenalist.specs.Arena.{Arena, value_in, first_node, behind}
+use Rattle.arenalist.specs.Numbers.{list_at, in_all, count, after, first_of}
+use Rattle.arenalist.specs.Arena.{Arena, value_at, value_in, first_node, behind}
 use Rattle.arenalist.specs.Slots.{entries, entries_of}
-use Rattle.arenalist.proofs.NumberLemmas.{count_after}
-use Rattle.arenalist.proofs.EntryLemmas.{standing, standing_in, entries_at, entries_behind, entries_first, value_some}
+use Rattle.arenalist.proofs.NumberLemmas.{count_after, count_in_all, found_in}
+use Rattle.arenalist.proofs.EntryLemmas.{standing, standing_in, at_some, entries_at, entries_behind, entries_first, value_some}
 use Rattle.arenalist.proofs.ArenaLemmas.{valued_in}
 use Rattle.arenalist.proofs.lists.Lists.list_of.Goals as goal
 
@@ -29,3 +29,22 @@ returns-in-None-clause-standing g c l some =
     let is : list_at c.args.self.now.lists l ≡ entries c.self.inside.values.items list = ap (λ (a : Arena g.row.T.Denot). list_at a.lists l) (sym c.self.view_is) ∙ entries_at c.self.inside.values.items c.self.inside.links.lists l in
     let there : 0 < count c.args.node list = standing_in c.self.inside.values.items c.args.node list (subst (λ (es : List (ℕ × g.row.T.Denot)). IsSome (value_in es c.args.node)) is some) in
     sym c.in-None.is ∙ c.owner.ensures.owned l (rw c.number.ensures there)
+
+pub returns-in-Some-clause-linked : goal.returns-in-Some-clause-linked
+returns-in-Some-clause-linked g c =
+    let there : 0 < count c.args.node (list_at c.self.inside.links.lists c.in-Some.list) = rw c.number.ensures at (c.owner.ensures.held c.in-Some.list c.in-Some.is) in
+    let on : 0 < in_all c.args.node c.self.inside.links.lists = omega (arith, there, count_in_all c.args.node c.self.inside.links.lists c.in-Some.list) in
+    let has : IsSome (value_at c.args.self.now.lists c.args.node) = ap (λ (a : Arena g.row.T.Denot). is_some (value_at a.lists c.args.node)) (sym c.self.view_is) ∙ ap is_some (at_some c.self.inside.values.items c.args.node c.self.inside.links.lists on) ∙ c.self.invariant.valued c.args.node on in
+    (λ _. has, λ _. refl)
+
+pub returns-in-None-clause-linked : goal.returns-in-None-clause-linked
+returns-in-None-clause-linked g c = (
+  λ h.
+      let no : false ≡ true = h in
+      cc,
+  λ h.
+      let on : 0 < in_all c.args.node c.self.inside.links.lists = standing c.self.inside.values.items c.args.node c.self.inside.links.lists (rw (← c.self.view_is) at h) in
+      let at = found_in c.args.node c.self.inside.links.lists on in
+      let no : None ≡ Some at.0 = sym c.in-None.is ∙ c.owner.ensures.owned at.0 (rw c.number.ensures at.2) in
+      cc,
+)
