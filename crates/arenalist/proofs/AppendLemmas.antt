@@ -1,8 +1,8 @@
 -- A list is appended node by node.
-use Rattle.std.proofs.Common.{◌≡◌, ℕ, ◌+◌, ◌*◌, ◌<◌, ◌++◌, ◌≢◌, Option, Some, None, List, [], ◌∷◌, length, drop, get_or, set, refl, sym, ap, subst, ◌∙◌, arith, get_or-set_same, get_or-set_other}
+use Rattle.std.proofs.Common.{◌≡◌, ℕ, ◌+◌, ◌*◌, ◌<◌, ◌++◌, ◌≢◌, None, List, [], ◌∷◌, length, drop, set, refl, sym, ap, ◌∙◌, arith, get_or-set_same, get_or-set_other}
 use Rattle.std.proofs.lemmas.List.{append_assoc, length-set, set-set, set_comm, set-get_or}
 use Rattle.arenalist.specs.Numbers.{list_at}
-use Rattle.arenalist.specs.Arena.{first_node, linked, unlinked, appended, IsFirst, counted, value_at}
+use Rattle.arenalist.specs.Arena.{first_node, linked, unlinked, appended, IsFirst, counted}
 
 append_nil : {X : Type 0} → (xs : List X) → xs ++ [] ≡ xs
 append_nil [] = refl
@@ -41,14 +41,16 @@ module _ {T : Type 0} where
       let from_in' : from < length cur = omega (arith, a.long) in
       let mid_from : list_at mid from ≡ rest = ap (λ (ls : List (List (ℕ × T))). list_at ls from) f.rest ∙ get_or-set_same cur from rest [] from_in' in
       let new_from : list_at new from ≡ rest = ap (λ (ls : List (List (ℕ × T))). list_at ls from) new_is ∙ get_or-set_other mid to from (list_at mid to ++ (n, f.value) ∷ []) [] (λ e. differs (sym e)) ∙ mid_from in
-      let shorter : length (list_at new from) + 1 ≡ length (list_at cur from) = omega (arith, ap (length {A = ℕ × T}) new_from, ap (length {A = ℕ × T}) f.is) in
-      (record {
-        whole = moved_step cur mid new to from (n, f.value) differs (omega (arith, a.long)) f.rest f.is new_is from_in' ∙ a.whole;
-        long = ap (length {A = List (ℕ × T)}) new_is ∙ length-set mid to (list_at mid to ++ (n, f.value) ∷ []) ∙ ap (length {A = List (ℕ × T)}) f.rest ∙ length-set cur from rest ∙ a.long;
-        same_spare = spare_is ∙ a.same_spare;
-        same_work = omega (arith, work_is, shorter) ∙ a.same_work;
-        fits = omega (arith, work_is);
-      }, shorter)
+      let shorter : length (list_at new from) + 1 ≡ length (list_at cur from) = omega (arith, ap (length {A = ℕ × T}) new_from, ap (length {A = ℕ × T}) f.is) in (
+        record {
+          whole = moved_step cur mid new to from (n, f.value) differs (omega (arith, a.long)) f.rest f.is new_is from_in' ∙ a.whole;
+          long = ap (length {A = List (ℕ × T)}) new_is ∙ length-set mid to (list_at mid to ++ (n, f.value) ∷ []) ∙ ap (length {A = List (ℕ × T)}) f.rest ∙ length-set cur from rest ∙ a.long;
+          same_spare = spare_is ∙ a.same_spare;
+          same_work = omega (arith, work_is, shorter) ∙ a.same_work;
+          fits = omega (arith, work_is);
+        },
+        shorter,
+      )
 
   none_left : (list : List (ℕ × T)) → None ≡ first_node list → list ≡ []
   none_left [] is = refl
@@ -56,9 +58,11 @@ module _ {T : Type 0} where
 
   pub moved_all : (lists : List (List (ℕ × T))) (to from : ℕ) → None ≡ first_node (list_at lists from) → (lists ≡ appended lists to from) × (length (list_at lists from) ≡ 0)
   moved_all lists to from none =
-      let empty : list_at lists from ≡ [] = none_left (list_at lists from) none in
-      (sym (ap (λ (xs : List (ℕ × T)). set (set lists to (list_at lists to ++ xs)) from []) empty
-      ∙ ap (λ (xs : List (ℕ × T)). set (set lists to xs) from []) (append_nil (list_at lists to))
-      ∙ ap (λ (ls : List (List (ℕ × T))). set ls from []) (set-get_or lists to [])
-      ∙ ap (set lists from) (sym empty)
-      ∙ set-get_or lists from []), ap (length {A = ℕ × T}) empty)
+      let empty : list_at lists from ≡ [] = none_left (list_at lists from) none in (
+        sym (ap (λ (xs : List (ℕ × T)). set (set lists to (list_at lists to ++ xs)) from []) empty
+            ∙ ap (λ (xs : List (ℕ × T)). set (set lists to xs) from []) (append_nil (list_at lists to))
+            ∙ ap (λ (ls : List (List (ℕ × T))). set ls from []) (set-get_or lists to [])
+            ∙ ap (set lists from) (sym empty)
+            ∙ set-get_or lists from []),
+        ap (length {A = ℕ × T}) empty,
+      )

@@ -4,7 +4,7 @@ use Rattle.std.specs.Prelude.{is_some}
 use Rattle.std.proofs.lemmas.List.{length-set, length-append, length-map, map-set}
 use Rattle.std.proofs.lemmas.Bool.{cases_eq, cases_lt, eq-eqb}
 use Rattle.arenalist.specs.Numbers.{count, in_all, list_at, without, first_of}
-use Rattle.arenalist.specs.Arena.{value_at, unlinked, IsFirst}
+use Rattle.arenalist.specs.Arena.{IsFirst}
 use Rattle.arenalist.specs.Links.{Linked}
 use Rattle.arenalist.specs.Slots.{entries, entries_of, IsArena, entry_of}
 use Rattle.arenalist.proofs.NumberLemmas.{count-append, count_one, count_other, count_head, in_all-set, in_all-append, in_all_without, in_all_without_same, count_without, without_none, count_in_all, length_most, get_or-push_default}
@@ -84,9 +84,12 @@ module _ {T : Type 0} where
   given heads lists cells values free room n k on =
       let away : count n free ≡ 0 = omega (arith, on, k.once n) in record {
         cell_in = k.within n (omega (arith, on));
-        fewer = omega (arith, length_most cells (n ∷ free)
-            (λ x some. ⊎_elim (λ (same : x ≡ n). let it : n < cells = k.within n (omega (arith, on)) in omega arith) (λ (other : x ≡ n → ⊥). k.within x (omega (arith, some, count_other x n other))) (cases_eq x n))
-            (λ x. ⊎_elim (λ (same : x ≡ n). let it : count n (n ∷ free) ≤ 1 = omega (arith, away, count_head n free) in subst (λ (y : ℕ). count y (n ∷ free) ≤ 1) (sym same) it) (λ (other : x ≡ n → ⊥). omega (arith, k.once x, count_other x n other)) (cases_eq x n)));
+        fewer = omega (
+          arith,
+          length_most cells (n ∷ free)
+              (λ x some. ⊎_elim (λ (same : x ≡ n). let it : n < cells = k.within n (omega (arith, on)) in omega arith) (λ (other : x ≡ n → ⊥). k.within x (omega (arith, some, count_other x n other))) (cases_eq x n))
+              (λ x. ⊎_elim (λ (same : x ≡ n). let it : count n (n ∷ free) ≤ 1 = omega (arith, away, count_head n free) in subst (λ (y : ℕ). count y (n ∷ free) ≤ 1) (sym same) it) (λ (other : x ≡ n → ⊥). omega (arith, k.once x, count_other x n other)) (cases_eq x n)),
+        );
         has = k.valued n on;
       }
 

@@ -1,12 +1,12 @@
 -- Entries of lists of cells, by the cells' values.
-use Rattle.std.proofs.Common.{◌≡◌, ℕ, zero, suc, ◌+◌, ◌<◌, ◌≤◌, ◌++◌, ◌≢◌, Bool, true, false, Option, Some, None, List, [], ◌∷◌, length, map, drop, get_or, set, refl, sym, ap, subst, ◌∙◌, ⊎_elim, arith, get_or-set_same, get_or-set_other}
-use Rattle.std.specs.Prelude.{is_some, ◌==◌, if◌then◌else◌}
-use Rattle.std.proofs.lemmas.List.{map-set, get_or-map, length-map}
+use Rattle.std.proofs.Common.{◌≡◌, ℕ, zero, suc, ◌+◌, ◌<◌, ◌≤◌, ◌++◌, ◌≢◌, true, Option, Some, None, List, [], ◌∷◌, length, map, get_or, set, refl, sym, ap, ◌∙◌, ⊎_elim, arith, get_or-set_same, get_or-set_other}
+use Rattle.std.specs.Prelude.{is_some}
+use Rattle.std.proofs.lemmas.List.{map-set, length-map}
 use Rattle.std.proofs.lemmas.Bool.{cases_eq, cases_lt, eq-eqb, ne_eqb}
 use Rattle.arenalist.specs.Numbers.{count, in_all, list_at, without, after, first_of}
-use Rattle.arenalist.specs.Arena.{value_in, or_value, value_at, times_in, times, first_node, first_value, behind, without_node, unlinked, linked, revalued_in, revalued}
+use Rattle.arenalist.specs.Arena.{value_in, or_value, value_at, times_in, times, first_node, behind, without_node, unlinked, linked, revalued_in, revalued}
 use Rattle.arenalist.specs.Slots.{entry_of, entries, entries_of}
-use Rattle.arenalist.proofs.NumberLemmas.{count_one, count_other, count_head, get_or-push_default}
+use Rattle.arenalist.proofs.NumberLemmas.{count_other, count_head}
 
 -- a number is the first of a list, or not
 same_first : (n x : ℕ) (xs : List ℕ) → n ≡ x → count n (x ∷ xs) ≡ 1 + count n xs
@@ -21,8 +21,8 @@ module _ {T : Type 0} where
       elim (get_or values n None) as (λ o. entry_of n o ++ [] ≡ entry_of n o) [ None ↦ refl | Some v ↦ refl ]
   entries_back values (x ∷ xs) n =
       elim (get_or values x None) as (λ o. entry_of x o ++ entries values (xs ++ n ∷ []) ≡ (entry_of x o ++ entries values xs) ++ entry_of n (get_or values n None)) [
-        None ↦ entries_back values xs n
-      | Some v ↦ ap (λ (es : List (ℕ × T)). (x, v) ∷ es) (entries_back values xs n)
+        | None ↦ entries_back values xs n
+        | Some v ↦ ap (λ (es : List (ℕ × T)). (x, v) ∷ es) (entries_back values xs n)
       ]
 
   -- values that differ at cells outside a list

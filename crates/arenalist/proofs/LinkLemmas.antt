@@ -1,13 +1,12 @@
 -- Links and lists change together.
-use Rattle.std.proofs.Common.{◌≡◌, ℕ, zero, suc, ◌+◌, ◌^◌, ◌<◌, ◌≤◌, ◌++◌, ◌≢◌, Option, Some, None, List, [], ◌∷◌, length, map, drop, get_or, set, refl, sym, ap, subst, ◌∙◌, ⊎_elim, inl, inr, arith, get_or-set_same, get_or-set_other}
-use Rattle.std.specs.Prelude.{◌⊎◌}
+use Rattle.std.proofs.Common.{◌≡◌, ℕ, zero, suc, ◌+◌, ◌^◌, ◌<◌, ◌≤◌, ◌++◌, ◌≢◌, Option, Some, None, List, [], ◌∷◌, length, map, drop, get_or, set, refl, sym, ap, subst, ◌∙◌, ⊎_elim, arith}
 use Rattle.std.proofs.lemmas.List.{get_or_append_left, get_or_push, map-append, map-set, length-set, length-map, get_or-map, length-append, ext_get_or}
 use Rattle.std.proofs.lemmas.Bool.{cases_eq, cases_lt, ne_eqb}
 use Rattle.arenalist.specs.Numbers.{count, in_all, list_at, without, after, first_of}
 use Rattle.arenalist.specs.Rings.{Chain, IsRing, walk, rings_of, lists_of, AreLinked, nexts_linked, prevs_linked, nexts_unlinked, prevs_unlinked}
 use Rattle.arenalist.specs.Links.{AreOwned, AreLinks}
-use Rattle.arenalist.proofs.NumberLemmas.{count-append, count_one, count_other, count_head, count_in_all, count_in_two, count_drop, found_in, Cut, cut_at, at_map, in_all-append, after_cut}
-use Rattle.arenalist.proofs.RingLemmas.{chain_split, ring_same, RingHead, ring_head, head_of, heads_of, Links, links, Unlinks, unlinks_from, lists_at, rings_walked, heads_walked, heads_linked, heads_without, nexts_length}
+use Rattle.arenalist.proofs.NumberLemmas.{count-append, count_one, count_other, count_head, count_in_all, count_in_two, count_drop, found_in, cut_at, at_map, in_all-append, after_cut}
+use Rattle.arenalist.proofs.RingLemmas.{chain_split, ring_same, RingHead, ring_head, head_of, links, unlinks_from, lists_at, rings_walked, heads_walked, heads_linked, heads_without, nexts_length}
 use Rattle.arenalist.proofs.RingLemmas.RingHead.{Head}
 use Rattle.arenalist.proofs.OwnerLemmas.{owned_linked, owned_unlinked, owned_more, owned_listed}
 
@@ -115,14 +114,16 @@ links_linked heads nexts prevs nexts' prevs' owners owners' l n h k l_in n_in aw
     let p_is' : prevs' ≡ prevs_linked prevs (get_or heads l 0) n = p_is ∙ ap (λ (x : ℕ). prevs_linked prevs x n) h_is in
     let lists : lists_of (rings_of heads nexts') ≡ set (lists_of (rings_of heads nexts)) l (list_at (lists_of (rings_of heads nexts)) l ++ n ∷ []) = ap (λ (xs : List ℕ). lists_of (rings_of heads xs)) n_is' ∙ it.lists in
     let long : length nexts' ≡ length nexts = ap (length {A = ℕ}) n_is ∙ nexts_length nexts prevs h n in
-    let owned : AreOwned (set owners n (Some l)) (set (lists_of (rings_of heads nexts)) l (list_at (lists_of (rings_of heads nexts)) l ++ n ∷ [])) = owned_linked owners (lists_of (rings_of heads nexts)) n l k.owned (omega (arith, away, in_rings heads nexts n)) (omega (arith, k.as_many)) (omega (arith, long_lists heads nexts)) in
-    (record {
-      linked = subst (λ (xs : List ℕ). AreLinked xs prevs' (rings_of heads xs)) (sym n_is') (subst (λ (xs : List ℕ). AreLinked (nexts_linked nexts prevs (get_or heads l 0) n) xs (rings_of heads (nexts_linked nexts prevs (get_or heads l 0) n))) (sym p_is') it.linked);
-      owned = subst (λ (xs : List (Option ℕ)). AreOwned xs (lists_of (rings_of heads nexts'))) (sym o_is) (subst (AreOwned (set owners n (Some l))) (sym lists) owned);
-      as_many = ap (length {A = Option ℕ}) o_is ∙ length-set owners n (Some l) ∙ k.as_many ∙ sym long;
-      small = omega (arith, k.small, long);
-      few = k.few;
-    }, lists)
+    let owned : AreOwned (set owners n (Some l)) (set (lists_of (rings_of heads nexts)) l (list_at (lists_of (rings_of heads nexts)) l ++ n ∷ [])) = owned_linked owners (lists_of (rings_of heads nexts)) n l k.owned (omega (arith, away, in_rings heads nexts n)) (omega (arith, k.as_many)) (omega (arith, long_lists heads nexts)) in (
+      record {
+        linked = subst (λ (xs : List ℕ). AreLinked xs prevs' (rings_of heads xs)) (sym n_is') (subst (λ (xs : List ℕ). AreLinked (nexts_linked nexts prevs (get_or heads l 0) n) xs (rings_of heads (nexts_linked nexts prevs (get_or heads l 0) n))) (sym p_is') it.linked);
+        owned = subst (λ (xs : List (Option ℕ)). AreOwned xs (lists_of (rings_of heads nexts'))) (sym o_is) (subst (AreOwned (set owners n (Some l))) (sym lists) owned);
+        as_many = ap (length {A = Option ℕ}) o_is ∙ length-set owners n (Some l) ∙ k.as_many ∙ sym long;
+        small = omega (arith, k.small, long);
+        few = k.few;
+      },
+      lists,
+    )
 
 -- a cell leaves its list
 pub record Unlinking (heads nexts prevs : List ℕ) (n : ℕ) : Type 0 where
@@ -143,17 +144,17 @@ lists_without nexts prevs rings n l h l_in on =
     let tail : List ℕ → List ℕ = λ (ring : List ℕ). drop 1 ring in
     let long : length (map (without n) rings) ≡ length rings = length-map rings (without n) in
     ext_get_or [] (lists_of (map (without n) rings)) (map (without n) (lists_of rings)) (length-map (map (without n) rings) tail ∙ long ∙ sym (length-map rings tail) ∙ sym (length-map (lists_of rings) (without n))) (λ m m_in.
-        let m_in' : m < length rings = omega (arith, length-map (map (without n) rings) tail, long) in
-        let inside : count n (list_at rings m) ≡ count n (drop 1 (list_at rings m)) =
-        ⊎_elim
-        (λ (same : m ≡ l). let it : count n (list_at rings l) ≡ count n (drop 1 (list_at rings l)) = omega (arith, on, count_drop n (list_at rings l), count_in_all n rings l, h.once n) in subst (λ (k : ℕ). count n (list_at rings k) ≡ count n (drop 1 (list_at rings k))) (sym same) it)
-        (λ (other : m ≡ l → ⊥). omega (arith, h.once n, count_in_two n rings m l other, count_drop n (list_at rings l), count_drop n (list_at rings m)))
-        (cases_eq m l) in
-        lists_at (map (without n) rings) m (omega arith)
-        ∙ ap tail (at_map (without n) rings m m_in')
-        ∙ drop_without nexts prevs (list_at rings m) n (ring_head nexts prevs (list_at rings m) (h.ring m m_in')) inside
-        ∙ ap (without n) (sym (lists_at rings m m_in'))
-        ∙ sym (at_map (without n) (lists_of rings) m (omega (arith, length-map rings tail))))
+    let m_in' : m < length rings = omega (arith, length-map (map (without n) rings) tail, long) in
+    let inside : count n (list_at rings m) ≡ count n (drop 1 (list_at rings m)) =
+    ⊎_elim
+    (λ (same : m ≡ l). let it : count n (list_at rings l) ≡ count n (drop 1 (list_at rings l)) = omega (arith, on, count_drop n (list_at rings l), count_in_all n rings l, h.once n) in subst (λ (k : ℕ). count n (list_at rings k) ≡ count n (drop 1 (list_at rings k))) (sym same) it)
+    (λ (other : m ≡ l → ⊥). omega (arith, h.once n, count_in_two n rings m l other, count_drop n (list_at rings l), count_drop n (list_at rings m)))
+    (cases_eq m l) in
+    lists_at (map (without n) rings) m (omega arith)
+    ∙ ap tail (at_map (without n) rings m m_in')
+    ∙ drop_without nexts prevs (list_at rings m) n (ring_head nexts prevs (list_at rings m) (h.ring m m_in')) inside
+    ∙ ap (without n) (sym (lists_at rings m m_in'))
+    ∙ sym (at_map (without n) (lists_of rings) m (omega (arith, length-map rings tail))))
 
 pub unlinking : (heads nexts prevs : List ℕ) (owners : List (Option ℕ)) (n : ℕ) → AreLinks heads nexts prevs owners → 0 < in_all n (lists_of (rings_of heads nexts)) → Unlinking heads nexts prevs n
 unlinking heads nexts prevs owners n k some =
@@ -175,14 +176,16 @@ links_unlinked heads nexts prevs nexts' prevs' owners owners' n k some n_is p_is
     let u = unlinking heads nexts prevs owners n k some in
     let lists : lists_of (rings_of heads nexts') ≡ map (without n) (lists_of (rings_of heads nexts)) = ap (λ (xs : List ℕ). lists_of (rings_of heads xs)) n_is ∙ u.lists in
     let long : length nexts' ≡ length nexts = ap (length {A = ℕ}) n_is ∙ length-set nexts (get_or prevs n 0) (get_or nexts n 0) in
-    let owned : AreOwned (set owners n None) (map (without n) (lists_of (rings_of heads nexts))) = owned_unlinked owners (lists_of (rings_of heads nexts)) n k.owned (omega (arith, k.as_many, u.cell_in)) in
-    (record {
-      linked = subst (λ (xs : List ℕ). AreLinked xs prevs' (rings_of heads xs)) (sym n_is) (subst (λ (xs : List ℕ). AreLinked (nexts_unlinked nexts prevs n) xs (rings_of heads (nexts_unlinked nexts prevs n))) (sym p_is) u.linked);
-      owned = subst (λ (xs : List (Option ℕ)). AreOwned xs (lists_of (rings_of heads nexts'))) (sym o_is) (subst (AreOwned (set owners n None)) (sym lists) owned);
-      as_many = ap (length {A = Option ℕ}) o_is ∙ length-set owners n None ∙ k.as_many ∙ sym long;
-      small = omega (arith, k.small, long);
-      few = k.few;
-    }, lists)
+    let owned : AreOwned (set owners n None) (map (without n) (lists_of (rings_of heads nexts))) = owned_unlinked owners (lists_of (rings_of heads nexts)) n k.owned (omega (arith, k.as_many, u.cell_in)) in (
+      record {
+        linked = subst (λ (xs : List ℕ). AreLinked xs prevs' (rings_of heads xs)) (sym n_is) (subst (λ (xs : List ℕ). AreLinked (nexts_unlinked nexts prevs n) xs (rings_of heads (nexts_unlinked nexts prevs n))) (sym p_is) u.linked);
+        owned = subst (λ (xs : List (Option ℕ)). AreOwned xs (lists_of (rings_of heads nexts'))) (sym o_is) (subst (AreOwned (set owners n None)) (sym lists) owned);
+        as_many = ap (length {A = Option ℕ}) o_is ∙ length-set owners n None ∙ k.as_many ∙ sym long;
+        small = omega (arith, k.small, long);
+        few = k.few;
+      },
+      lists,
+    )
 
 -- a cell more
 ring_grown : (nexts prevs : List ℕ) (rings : List (List ℕ)) (a b l : ℕ) → AreLinked nexts prevs rings → l < length rings → IsRing (nexts ++ a ∷ []) (prevs ++ b ∷ []) (list_at rings l)
@@ -254,14 +257,16 @@ links_listed heads nexts prevs heads' nexts' prevs' owners owners' c k c_is h_is
     let it : AreLinked nexts' prevs' new = subst (λ (xs : List ℕ). AreLinked xs prevs' new) (sym n_is') (subst (λ (xs : List ℕ). AreLinked (nexts ++ length nexts ∷ []) xs new) (sym p_is') (linked_listed nexts prevs (rings_of heads nexts) k.linked)) in
     let rings : rings_of heads' nexts' ≡ new = rings_walked nexts' prevs' heads' new it (h_is' ∙ ap (λ (xs : List ℕ). xs ++ length nexts ∷ []) (heads_walked heads nexts) ∙ sym (map-append head_of (rings_of heads nexts) ((length nexts ∷ []) ∷ []))) in
     let lists : lists_of (rings_of heads' nexts') ≡ lists_of (rings_of heads nexts) ++ [] ∷ [] = ap lists_of rings ∙ map-append (λ (ring : List ℕ). drop 1 ring) (rings_of heads nexts) ((length nexts ∷ []) ∷ []) in
-    let long : length nexts' ≡ length nexts + 1 = ap (length {A = ℕ}) n_is ∙ length-append nexts (c ∷ []) in
-    (record {
-      linked = subst (AreLinked nexts' prevs') (sym rings) it;
-      owned = subst (AreOwned owners') (sym lists) (subst (λ (xs : List (Option ℕ)). AreOwned xs (lists_of (rings_of heads nexts) ++ [] ∷ [])) (sym o_is) (owned_listed (owners ++ None ∷ []) (lists_of (rings_of heads nexts)) (owned_more owners (lists_of (rings_of heads nexts)) k.owned)));
-      as_many = ap (length {A = Option ℕ}) o_is ∙ length-append owners (None ∷ []) ∙ ap (λ (n : ℕ). n + 1) k.as_many ∙ sym long;
-      small = omega arith;
-      few = omega (arith, ap (length {A = ℕ}) h_is, length-append heads (c ∷ []));
-    }, lists)
+    let long : length nexts' ≡ length nexts + 1 = ap (length {A = ℕ}) n_is ∙ length-append nexts (c ∷ []) in (
+      record {
+        linked = subst (AreLinked nexts' prevs') (sym rings) it;
+        owned = subst (AreOwned owners') (sym lists) (subst (λ (xs : List (Option ℕ)). AreOwned xs (lists_of (rings_of heads nexts) ++ [] ∷ [])) (sym o_is) (owned_listed (owners ++ None ∷ []) (lists_of (rings_of heads nexts)) (owned_more owners (lists_of (rings_of heads nexts)) k.owned)));
+        as_many = ap (length {A = Option ℕ}) o_is ∙ length-append owners (None ∷ []) ∙ ap (λ (n : ℕ). n + 1) k.as_many ∙ sym long;
+        small = omega arith;
+        few = omega (arith, ap (length {A = ℕ}) h_is, length-append heads (c ∷ []));
+      },
+      lists,
+    )
 
 -- while cells are added, with room for the rest
 pub record Growing (heads₀ nexts₀ heads nexts prevs : List ℕ) (owners : List (Option ℕ)) (nexts_room prevs_room owners_room done more : ℕ) : Type 0 where

@@ -1,9 +1,9 @@
 -- How often numbers stand in lists.
-use Rattle.std.proofs.Common.{◌≡◌, ℕ, zero, suc, ◌+◌, ◌-◌, ◌*◌, ◌<◌, ◌≤◌, ◌++◌, ◌≢◌, Bool, true, false, List, [], ◌∷◌, length, map, drop, get_or, set, refl, sym, ap, subst, ◌∙◌, ⊎_elim, inl, inr, arith, get_or-set_same, get_or-set_other}
-use Rattle.std.specs.Prelude.{◌⊎◌, ◌==◌, if◌then◌else◌}
-use Rattle.std.proofs.lemmas.List.{length-map, get_or-map, map-append}
+use Rattle.std.proofs.Common.{◌≡◌, ℕ, zero, suc, ◌+◌, ◌<◌, ◌≤◌, ◌++◌, ◌≢◌, List, [], ◌∷◌, length, map, drop, get_or, set, refl, sym, ap, ◌∙◌, ⊎_elim, arith, get_or-set_same, get_or-set_other}
+use Rattle.std.specs.Prelude.{◌==◌, if◌then◌else◌}
+use Rattle.std.proofs.lemmas.List.{get_or-map}
 use Rattle.std.proofs.lemmas.Bool.{cases_eq, cases_lt, eq-eqb, ne_eqb}
-use Rattle.arenalist.specs.Numbers.{count, in_all, list_at, without, after, first_of}
+use Rattle.arenalist.specs.Numbers.{count, in_all, list_at, without, after}
 
 pub count-append : (r : ℕ) (xs ys : List ℕ) → count r (xs ++ ys) ≡ count r xs + count r ys
 count-append r [] ys = omega arith
@@ -164,7 +164,6 @@ sum_to_count n (x ∷ xs) h =
 
 pub length_most : (n : ℕ) (xs : List ℕ) → ((r : ℕ) → 0 < count r xs → r < n) → ((r : ℕ) → count r xs ≤ 1) → length xs ≤ n
 length_most n xs within once = omega (arith, sum_to_count n xs within, sum_to_least n (λ k. count k xs) (λ k. 1) (λ k l. once k), sum_to_ones n)
-
 
 -- a default at the end is not seen
 pub get_or-push_default : {X : Type 0} (d : X) (xs : List X) (i : ℕ) → get_or (xs ++ d ∷ []) i d ≡ get_or xs i d

@@ -1,5 +1,5 @@
 -- The lists that cells know as theirs.
-use Rattle.std.proofs.Common.{◌≡◌, ℕ, ◌+◌, ◌<◌, ◌++◌, ◌≢◌, Option, Some, None, List, [], ◌∷◌, length, map, get_or, set, refl, sym, ap, subst, ◌∙◌, ⊎_elim, arith, get_or-set_same, get_or-set_other}
+use Rattle.std.proofs.Common.{◌≡◌, ℕ, ◌<◌, ◌++◌, Option, Some, None, List, [], ◌∷◌, length, map, get_or, set, sym, ap, subst, ◌∙◌, ⊎_elim, arith, get_or-set_same, get_or-set_other}
 use Rattle.std.proofs.lemmas.Bool.{cases_eq}
 use Rattle.arenalist.specs.Numbers.{count, in_all, list_at, without}
 use Rattle.arenalist.specs.Links.{AreOwned}
@@ -18,9 +18,9 @@ owned_linked owners lists n l o none n_in l_in = record {
       (λ (other : x ≡ n → ⊥).
       get_or-set_other owners n x (Some l) None other
       ∙ o.owned x m (⊎_elim
-          (λ (at : m ≡ l). let it : 0 < count x (list_at (set lists l (list_at lists l ++ n ∷ [])) l) = subst (λ (k : ℕ). 0 < count x (list_at (set lists l (list_at lists l ++ n ∷ [])) k)) at some in let there : 0 < count x (list_at lists l) = omega (arith, count_back x n l lists l_in, count_other x n other) in subst (λ (k : ℕ). 0 < count x (list_at lists k)) (sym at) there)
-          (λ (away : m ≡ l → ⊥). omega (arith, some, count_back_other x n l m lists away))
-          (cases_eq m l)))
+      (λ (at : m ≡ l). let it : 0 < count x (list_at (set lists l (list_at lists l ++ n ∷ [])) l) = subst (λ (k : ℕ). 0 < count x (list_at (set lists l (list_at lists l ++ n ∷ [])) k)) at some in let there : 0 < count x (list_at lists l) = omega (arith, count_back x n l lists l_in, count_other x n other) in subst (λ (k : ℕ). 0 < count x (list_at lists k)) (sym at) there)
+      (λ (away : m ≡ l → ⊥). omega (arith, some, count_back_other x n l m lists away))
+      (cases_eq m l)))
       (cases_eq x n);
   held = λ x m is.
       ⊎_elim

@@ -1,11 +1,11 @@
 -- What unlinking and linking do to rings.
-use Rattle.std.proofs.Common.{◌≡◌, ℕ, zero, suc, ◌+◌, ◌-◌, ◌*◌, ◌<◌, ◌≤◌, ◌++◌, ◌≢◌, Bool, true, false, List, [], ◌∷◌, length, map, drop, get_or, set, refl, sym, ap, subst, ◌∙◌, ⊎_elim, inl, inr, arith, get_or-set_same, get_or-set_other}
+use Rattle.std.proofs.Common.{◌≡◌, ℕ, zero, suc, ◌+◌, ◌<◌, ◌≤◌, ◌++◌, ◌≢◌, List, [], ◌∷◌, length, map, drop, get_or, set, refl, sym, ap, subst, ◌∙◌, ⊎_elim, inl, inr, arith, get_or-set_same, get_or-set_other}
 use Rattle.std.specs.Prelude.{◌⊎◌, ◌==◌, if◌then◌else◌}
-use Rattle.std.proofs.lemmas.List.{length-set, length-map, get_or-map, length-append, ext_get_or, map-set, set-get_or}
-use Rattle.std.proofs.lemmas.Bool.{cases_eq, cases_lt, eq-eqb, ne_eqb}
+use Rattle.std.proofs.lemmas.List.{length-set, length-map, get_or-map, ext_get_or, map-set, set-get_or}
+use Rattle.std.proofs.lemmas.Bool.{cases_eq, eq-eqb, ne_eqb}
 use Rattle.arenalist.specs.Numbers.{count, in_all, list_at, without}
 use Rattle.arenalist.specs.Rings.{Chain, IsRing, walk, rings_of, lists_of, AreLinked, nexts_linked, prevs_linked}
-use Rattle.arenalist.proofs.NumberLemmas.{count-append, count_one, count_other, count_head, in_all-set, count_in_all, count_in_two, found_in, Cut, cut_at, without_none, without_cut, in_all_without, count_drop, apart, append_none, at_map, length_most}
+use Rattle.arenalist.proofs.NumberLemmas.{count-append, count_one, count_other, count_head, in_all-set, count_in_all, count_in_two, found_in, cut_at, without_none, without_cut, in_all_without, count_drop, apart, append_none, at_map, length_most}
 
 -- chains
 pub chain_same : (nexts prevs nexts' prevs' : List ℕ) (a : ℕ) (xs : List ℕ) (z : ℕ) → Chain nexts prevs a xs z → ((b : ℕ) → 0 < count b (a ∷ xs) → get_or nexts' b 0 ≡ get_or nexts b 0) → ((b : ℕ) → 0 < count b xs + count b (z ∷ []) → get_or prevs' b 0 ≡ get_or prevs b 0) → Chain nexts' prevs' a xs z
@@ -337,4 +337,3 @@ pub heads_linked : (nexts prevs : List ℕ) (rings : List (List ℕ)) (l n : ℕ
 heads_linked nexts prevs rings l n (Head h xs is chain) =
     let same : head_of (list_at rings l ++ n ∷ []) ≡ head_of (list_at rings l) = ap (λ (ys : List ℕ). head_of (ys ++ n ∷ [])) is ∙ sym (ap head_of is) in
     map-set head_of rings l (list_at rings l ++ n ∷ []) ∙ ap (set (heads_of rings) l) same ∙ sym (map-set head_of rings l (list_at rings l)) ∙ ap heads_of (set-get_or rings l [])
-

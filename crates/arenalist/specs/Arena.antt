@@ -1,5 +1,5 @@
 -- Lists of nodes with values, by their numbers.
-use Rattle.std.specs.Prelude.{◌≡◌, ℕ, ◌+◌, ◌-◌, ◌^◌, ◌≤◌, min, Option, Some, None, List, [], ◌∷◌, ◌++◌, map, drop, slice_set, ◌==◌, if◌then◌else◌}
+use Rattle.std.specs.Prelude.{◌≡◌, ℕ, ◌+◌, ◌-◌, ◌^◌, min, Option, Some, None, List, [], ◌∷◌, ◌++◌, map, drop, slice_set, ◌==◌, if◌then◌else◌}
 use Rattle.arenalist.specs.Numbers.{list_at}
 
 -- the lists, each an entry (node, value) after the other; how many nodes are spare; and the count

@@ -1,5 +1,5 @@
 -- The links of an arena's cells.
-use Rattle.std.specs.Prelude.{◌≡◌, ℕ, ◌+◌, ◌<◌, ◌^◌, List, length, get_or, Option, Some, None}
+use Rattle.std.specs.Prelude.{◌≡◌, ℕ, ◌<◌, ◌^◌, List, length, get_or, Option, Some, None}
 use Rattle.arenalist.specs.Numbers.{count, list_at}
 use Rattle.arenalist.specs.Rings.{AreLinked, rings_of, lists_of}
 

@@ -1,5 +1,5 @@
 -- Lists of numbers.
-use Rattle.std.specs.Prelude.{ℕ, zero, suc, ◌+◌, List, [], ◌∷◌, get_or, Option, Some, None, ◌==◌, if◌then◌else◌}
+use Rattle.std.specs.Prelude.{ℕ, ◌+◌, List, [], ◌∷◌, get_or, Option, Some, None, ◌==◌, if◌then◌else◌}
 
 -- how often a number stands in a list, and in all lists
 abbrev pub count : ℕ → List ℕ → ℕ

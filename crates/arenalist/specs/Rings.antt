@@ -1,5 +1,5 @@
 -- Rings of cells by their links. A ring begins and ends at a cell of its own, its head.
-use Rattle.std.specs.Prelude.{◌≡◌, ℕ, zero, suc, ◌+◌, ◌<◌, ◌≤◌, Bool, true, false, List, [], ◌∷◌, length, get_or, set, map, drop, ◌==◌, if◌then◌else◌}
+use Rattle.std.specs.Prelude.{◌≡◌, ℕ, zero, suc, ◌<◌, ◌≤◌, List, [], ◌∷◌, length, get_or, set, map, drop, ◌==◌, if◌then◌else◌}
 use Rattle.arenalist.specs.Numbers.{in_all, list_at}
 
 -- from `a` over the cells to `z`, by the links there and back

@@ -242,9 +242,9 @@ impl<T> Lists<T> {
         ensures spare { self.new.spare ≡ self.old.spare }
         ensures work { self.new.work ≡ counted self.old.work 2 }
     {
-        let cell = node.number();
-        self.links.unlink(cell);
-        self.links.link(list.number(), cell);
+        let moved = node.number();
+        self.links.unlink(moved);
+        self.links.link(list.number(), moved);
         self.work = self.work.saturating_add(2);
     }
 

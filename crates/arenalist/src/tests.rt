@@ -39,10 +39,13 @@ impl Compared {
     }
 
     /// The list at a place, if the lists have it.
-    fn list(&self, l: usize) -> Option<ListId>
-    {
+    fn list(&self, l: usize) -> Option<ListId> {
         let list = *self.ids.get(l)?;
-        if has_list(&self.lists, list) { Some(list) } else { None }
+        if has_list(&self.lists, list) {
+            Some(list)
+        } else {
+            None
+        }
     }
 
     /// The node at a place of a list.

@@ -1,4 +1,3 @@
-use Rattle.std.proofs.Common.{refl}
 use Rattle.arenalist.proofs.LinkLemmas.{grows}
 use Rattle.arenalist.proofs.links.Links.add_cells.Goals as goal
 

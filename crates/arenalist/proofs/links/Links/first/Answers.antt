@@ -1,6 +1,5 @@
 use Rattle.std.proofs.Common.{◌≡◌, ◌<◌, ◌∙◌, ℕ, get_or, length, sym, ap, arith, Some}
 use Rattle.std.proofs.lemmas.List.{get_or_read}
-use Rattle.std.proofs.lemmas.Bool.{eqb-true, eqb-false}
 use Rattle.arenalist.specs.Numbers.{list_at, first_of}
 use Rattle.arenalist.specs.Links.{Linked}
 use Rattle.arenalist.proofs.LinkLemmas.{long_lists, its, home, ahead}

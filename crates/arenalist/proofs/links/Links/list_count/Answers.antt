@@ -1,4 +1,4 @@
-use Rattle.std.proofs.Common.{◌≡◌, length, ap, arith}
+use Rattle.std.proofs.Common.{length, ap, arith}
 use Rattle.arenalist.specs.Links.{Linked}
 use Rattle.arenalist.proofs.LinkLemmas.{long_lists}
 use Rattle.arenalist.proofs.links.Links.list_count.Goals as goal

@@ -1,4 +1,4 @@
-use Rattle.std.proofs.Common.{◌≡◌, ◌<◌, ◌∙◌, ℕ, get_or, length, sym, ap, arith, Option, Some, None}
+use Rattle.std.proofs.Common.{◌≡◌, ◌<◌, ◌∙◌, ℕ, get_or, sym, ap, arith, Some, None}
 use Rattle.std.proofs.lemmas.List.{get_or_read}
 use Rattle.arenalist.specs.Numbers.{list_at, first_of, after, count}
 use Rattle.arenalist.specs.Rings.{rings_of, lists_of}

@@ -1,4 +1,4 @@
-use Rattle.std.proofs.Common.{◌<◌, ◌∙◌, map, refl, ap, arith}
+use Rattle.std.proofs.Common.{◌∙◌, map, refl, ap, arith}
 use Rattle.arenalist.specs.Numbers.{without}
 use Rattle.arenalist.specs.Links.{Linked}
 use Rattle.arenalist.proofs.LinkLemmas.{unlinking, links_unlinked}

@@ -1,6 +1,5 @@
-use Rattle.std.proofs.Common.{◌≡◌, ◌+◌, ◌<◌, length, arith}
-use Rattle.arenalist.specs.Numbers.{list_at}
-use Rattle.arenalist.proofs.AppendLemmas.{moves_one, moved_all}
+use Rattle.std.proofs.Common.{arith}
+use Rattle.arenalist.proofs.AppendLemmas.{moves_one}
 use Rattle.arenalist.proofs.lists.Lists.append.Goals as goal
 
 pub loop-node-smaller : goal.loop-node-smaller

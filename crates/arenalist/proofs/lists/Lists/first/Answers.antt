@@ -1,7 +1,6 @@
 use Rattle.std.proofs.Common.{◌≡◌, ◌∙◌, ℕ, sym, ap, subst, Some}
 use Rattle.arenalist.specs.Numbers.{list_at, first_of}
 use Rattle.arenalist.specs.Arena.{Arena, first_node, IsFirst}
-use Rattle.arenalist.specs.Slots.{entries_of}
 use Rattle.arenalist.proofs.EntryLemmas.{entries_at, entries_first}
 use Rattle.arenalist.proofs.ArenaLemmas.{is_first, valued_in}
 use Rattle.arenalist.proofs.lists.Lists.first.Goals as goal

@@ -1,10 +1,10 @@
-use Rattle.std.proofs.Common.{◌≡◌, ◌<◌, ◌∙◌, ℕ, List, Some, None, get_or, set, length, refl, sym, ap, arith}
+use Rattle.std.proofs.Common.{◌≡◌, ◌∙◌, ℕ, List, Some, None, get_or, set, length, refl, sym, ap, arith}
 use Rattle.std.proofs.lemmas.List.{get_or_read}
 use Rattle.std.specs.Prelude.{is_some}
 use Rattle.arenalist.specs.Arena.{Arena, value_at, revalued}
 use Rattle.arenalist.specs.Slots.{entries_of}
 use Rattle.arenalist.proofs.EntryLemmas.{standing, at_some, entries_revalued}
-use Rattle.arenalist.proofs.ArenaLemmas.{given, rewritten}
+use Rattle.arenalist.proofs.ArenaLemmas.{given}
 use Rattle.arenalist.proofs.lists.Lists.get_mut.Goals as goal
 
 pub index_mut-requires : goal.index_mut-requires

@@ -1,4 +1,4 @@
-use Rattle.std.proofs.Common.{◌≡◌, length, ap, arith}
+use Rattle.std.proofs.Common.{length, ap, arith}
 use Rattle.arenalist.specs.Arena.{Arena}
 use Rattle.arenalist.proofs.EntryLemmas.{long_entries}
 use Rattle.arenalist.proofs.lists.Lists.list_count.Goals as goal

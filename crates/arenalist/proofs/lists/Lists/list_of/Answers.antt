@@ -1,10 +1,10 @@
-use Rattle.std.proofs.Common.{◌≡◌, ◌<◌, ◌≤◌, ◌∙◌, ℕ, List, Bool, true, false, Option, Some, None, get_or, refl, sym, ap, subst, arith}
+use Rattle.std.proofs.Common.{◌≡◌, ◌<◌, ◌∙◌, ℕ, List, true, false, Some, None, refl, sym, ap, subst, arith}
 use Rattle.std.specs.Prelude.{is_some, IsSome}
-use Rattle.arenalist.specs.Numbers.{list_at, in_all, count, after, first_of}
-use Rattle.arenalist.specs.Arena.{Arena, value_at, value_in, first_node, behind}
-use Rattle.arenalist.specs.Slots.{entries, entries_of}
-use Rattle.arenalist.proofs.NumberLemmas.{count_after, count_in_all, found_in}
-use Rattle.arenalist.proofs.EntryLemmas.{standing, standing_in, at_some, entries_at, entries_behind, entries_first, value_some}
+use Rattle.arenalist.specs.Numbers.{list_at, in_all, count}
+use Rattle.arenalist.specs.Arena.{Arena, value_at, value_in}
+use Rattle.arenalist.specs.Slots.{entries}
+use Rattle.arenalist.proofs.NumberLemmas.{count_in_all, found_in}
+use Rattle.arenalist.proofs.EntryLemmas.{standing, standing_in, at_some, entries_at, value_some}
 use Rattle.arenalist.proofs.ArenaLemmas.{valued_in}
 use Rattle.arenalist.proofs.lists.Lists.list_of.Goals as goal
 

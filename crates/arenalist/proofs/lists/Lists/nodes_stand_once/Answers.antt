@@ -1,4 +1,4 @@
-use Rattle.std.proofs.Common.{◌≤◌, ap, arith}
+use Rattle.std.proofs.Common.{ap, arith}
 use Rattle.arenalist.specs.Arena.{Arena, times}
 use Rattle.arenalist.proofs.EntryLemmas.{times_entries}
 use Rattle.arenalist.proofs.lists.Lists.nodes_stand_once.Goals as goal

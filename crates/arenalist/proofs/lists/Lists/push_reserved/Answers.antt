@@ -1,8 +1,6 @@
-use Rattle.std.proofs.Common.{◌≡◌, ◌<◌, ◌+◌, ◌++◌, ◌∷◌, [], ◌∙◌, ℕ, List, Option, Some, None, get_or, set, length, sym, ap, arith, get_or-set_same, get_or-set_other}
+use Rattle.std.proofs.Common.{◌≡◌, ◌<◌, ◌++◌, ◌∷◌, [], ◌∙◌, ℕ, Option, Some, None, set, length, sym, ap, arith, get_or-set_same, get_or-set_other}
 use Rattle.std.specs.Option.{option_to_list}
-use Rattle.arenalist.specs.Numbers.{in_all}
 use Rattle.arenalist.specs.Arena.{Arena, value_at, linked}
-use Rattle.arenalist.specs.Slots.{entries_of}
 use Rattle.arenalist.proofs.EntryLemmas.{at_none, entries_linked, long_entries}
 use Rattle.arenalist.proofs.ArenaLemmas.{taken, pushed}
 use Rattle.arenalist.proofs.lists.Lists.push_reserved.Goals as goal

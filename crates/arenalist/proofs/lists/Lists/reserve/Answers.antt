@@ -1,4 +1,4 @@
-use Rattle.std.proofs.Common.{◌≡◌, ◌+◌, ◌<◌, ◌≤◌, ◌∙◌, ℕ, List, Option, length, refl, ap, subst, arith}
+use Rattle.std.proofs.Common.{◌≡◌, ◌∙◌, ℕ, length, refl, ap, subst, arith}
 use Rattle.std.specs.Vec.{vec_capacity}
 use Rattle.arenalist.specs.Arena.{Arena}
 use Rattle.arenalist.specs.Links.{Linked}

@@ -1,9 +1,7 @@
-use Rattle.std.proofs.Common.{◌≡◌, ◌<◌, ◌∙◌, ℕ, Option, Some, None, get_or, set, sym, ap, arith, get_or-set_other}
+use Rattle.std.proofs.Common.{◌≡◌, ◌∙◌, ℕ, None, get_or, set, sym, ap, arith, get_or-set_other}
 use Rattle.std.proofs.lemmas.List.{get_or_read}
 use Rattle.std.specs.Prelude.{is_some}
-use Rattle.arenalist.specs.Numbers.{in_all, without}
 use Rattle.arenalist.specs.Arena.{Arena, value_at, unlinked}
-use Rattle.arenalist.specs.Slots.{entries_of, IsArena}
 use Rattle.arenalist.proofs.EntryLemmas.{standing, at_some, entries_unlinked}
 use Rattle.arenalist.proofs.ArenaLemmas.{given, freed}
 use Rattle.arenalist.proofs.lists.Lists.unlink.Goals as goal
