@@ -1,0 +1,22 @@
+-- The links of an arena's cells.
+use Rattle.std.specs.Prelude.{◌≡◌, ℕ, ◌<◌, ◌^◌, List, length, get_or, Option, Some, None}
+use Rattle.arenalist.specs.Numbers.{count, list_at}
+use Rattle.arenalist.specs.Rings.{AreLinked, rings_of, lists_of}
+
+-- each list's own cell, the cells in each list, and how many cells there are
+pub record Linked : Type 0 where
+  pub heads : List ℕ
+  pub lists : List (List ℕ)
+  pub cells : ℕ
+
+-- each cell has the number of the list that it is in
+pub record AreOwned (owners : List (Option ℕ)) (lists : List (List ℕ)) : Type 0 where
+  pub owned : (x l : ℕ) → 0 < count x (list_at lists l) → get_or owners x None ≡ Some l
+  pub held : (x l : ℕ) → get_or owners x None ≡ Some l → 0 < count x (list_at lists l)
+
+pub record AreLinks (heads nexts prevs : List ℕ) (owners : List (Option ℕ)) : Type 0 where
+  pub linked : AreLinked nexts prevs (rings_of heads nexts)
+  pub owned : AreOwned owners (lists_of (rings_of heads nexts))
+  pub as_many : length owners ≡ length nexts
+  pub small : length nexts < 2 ^ 32
+  pub few : length heads < 2 ^ 32
