@@ -68,6 +68,10 @@ follow_on-split : (before : Option Item) (xs ys : List Item) → follow_on befor
 follow_on-split before [] ys h = h
 follow_on-split before (x ∷ xs) ys h = follow_on-split (Some x) xs ys (second_part _ _ h)
 
+-- of items in order, the next may follow those before it
+pub next_may_follow : (xs ys : List Item) (x : Item) → are_in_order (xs ++ x ∷ ys) ≡ true → may_follow (last_item xs) x ≡ true
+next_may_follow xs ys x h = first_part _ _ (follow_on-split None xs (x ∷ ys) h)
+
 none_behind_mark : (earlier : Ending) (after : List Item) → follow_on (Some (Mark earlier)) after ≡ true → after ≡ []
 none_behind_mark earlier [] h = refl
 none_behind_mark earlier (x ∷ xs) h = absurd (false≢true h)

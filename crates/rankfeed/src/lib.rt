@@ -2,6 +2,7 @@
 #![tactic(auto)]
 
 pub mod answer;
+pub mod channel;
 pub mod item;
 pub mod ring;
 

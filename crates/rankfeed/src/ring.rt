@@ -257,7 +257,7 @@ impl Taker {
         ensures received { received_by self.new ≡ received_by self.old }
         ensures left { received_by self.new ++ left_for self.new ≡ sent_whole receipt }
         ensures whole { are_ended (received_by self.new ++ left_for self.new) ≡ true }
-        ensures order { IsFeed (received_by self.new ++ left_for self.new) }
+        ensures order { IsFeed (sent_whole receipt) }
         ensures count { result.count ≡ length (left_for self.new) }
     {
         let Receipt { mut ring, .. } = receipt;
