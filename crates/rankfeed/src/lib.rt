@@ -9,3 +9,6 @@ pub mod ring;
 pub use answer::{Met, PutFault, Took, Unsealed};
 pub use item::{Ending, Item};
 pub use ring::{Feed, Receipt, Taker};
+
+#[cfg(test)]
+mod tests;
