@@ -19,6 +19,8 @@ use std::thread;
 use thiserror::Error;
 
 mod rule;
+#[cfg(test)]
+mod tests;
 
 /// Why a record wasn't put. It comes back, and the feed is as before.
 #[derive(Clone, Copy, Debug, PartialEq, Eq, Error)]

@@ -8,7 +8,7 @@ use std::sync::Wait;
 use std::test::Fail;
 use std::thread;
 
-fn record(rt: &impl Abort, line: &[u8]) -> Record {
+pub(crate) fn record(rt: &impl Abort, line: &[u8]) -> Record {
     read_line(line).expect(rt, "a record's line")
 }
 
