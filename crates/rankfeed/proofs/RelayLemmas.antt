@@ -1,5 +1,5 @@
 -- Each step of an end keeps the rule of the channel, and what it tells.
-use Rattle.std.proofs.Common.{◌≡◌, ◌≢◌, ℕ, zero, suc, ◌+◌, ◌^◌, ◌<◌, ◌≤◌, Bool, true, false, true≢false, Option, Some, None, is_some, List, [], ◌∷◌, ◌++◌, length, set, drop, sym, refl, ap, ◌∙◌, subst, ⊎_elim, append_assoc, length-append, append-nil, arith}
+use Rattle.std.proofs.Common.{◌≡◌, ◌≢◌, ℕ, zero, suc, ◌+◌, ◌^◌, ◌<◌, ◌≤◌, true, false, true≢false, Some, None, is_some, List, [], ◌∷◌, ◌++◌, length, set, drop, sym, refl, ap, ◌∙◌, subst, ⊎_elim, append_assoc, length-append, append-nil, arith}
 use Rattle.std.proofs.lemmas.Bool.{false≢true, cases_Bool}
 use mathlib.Core.Option.{some, some-ne-none}
 use lib.ListN.{get_elem?}

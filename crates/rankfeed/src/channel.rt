@@ -22,6 +22,10 @@ mod rule;
 #[cfg(test)]
 mod tests;
 
+/// The most records of one feed, so that its items can be counted. A feed that has as many is full for
+/// good.
+const MOST_RECORDS: usize = usize::MAX - 2;
+
 /// Why a record wasn't put. It comes back, and the feed is as before.
 #[derive(Clone, Copy, Debug, PartialEq, Eq, Error)]
 pub enum PutFault {
@@ -148,7 +152,7 @@ impl Feed {
         if self.done {
             return Err(PutFault::Closed(call));
         }
-        if self.count >= usize::MAX - 2 {
+        if self.count >= MOST_RECORDS {
             return Err(PutFault::Full(call));
         }
         let sent = self

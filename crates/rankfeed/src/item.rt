@@ -17,7 +17,7 @@ pub enum Ending {
 }
 
 /// One item of a feed.
-#[derive(Clone, Copy, Debug, PartialEq, Eq)]
+#[derive(Clone, Copy, Debug)]
 pub enum Item {
     Entry(Record),
     Mark(Ending),

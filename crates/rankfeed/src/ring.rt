@@ -116,15 +116,15 @@ impl Feed {
 
     /// Puts a record at the back, where there is a place for it.
     #[tactic(auto, using(crate::proofs::ItemLemmas::item_steps))]
-    fn push(&mut self, call: Record)
+    fn push(&mut self, call: &Record)
         requires open { self.old.done ≡ false }
         requires room { 1 < known_free self.old.ring }
         ensures name { feed_ring self.new ≡ feed_ring self.old }
         ensures capacity { feed_capacity self.new ≡ feed_capacity self.old }
-        ensures sent { sent_by self.new ≡ sent_by self.old ++ Entry call ∷ [] }
+        ensures sent { sent_by self.new ≡ sent_by self.old ++ Entry call.now ∷ [] }
     {
-        self.done = is_finalize(&call);
-        self.ring.push_reserved(Item::Entry(call));
+        self.done = is_finalize(call);
+        self.ring.push_reserved(Item::Entry(*call));
     }
 
     /// Puts a record at the back. `Closed` comes first, `Full` only once as many records were put as the
@@ -144,7 +144,7 @@ impl Feed {
         if !self.has_room() {
             return Err(PutFault::Full(call));
         }
-        self.push(call);
+        self.push(&call);
         Ok(())
     }
 
@@ -162,7 +162,7 @@ impl Feed {
         }
         for _ in wait.forever() {
             if self.has_room() {
-                self.push(call);
+                self.push(&call);
                 return Ok(());
             }
             thread::yield_now();

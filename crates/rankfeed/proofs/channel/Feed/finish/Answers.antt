@@ -1,4 +1,4 @@
-use Rattle.std.proofs.Common.{◌≡◌, true, is_some, ap, sym, ◌∙◌, arith, rules}
+use Rattle.std.proofs.Common.{is_some, ap, arith}
 use Rattle.rankfeed.specs.declared.item.Item.TheVariants.{Mark}
 use Rattle.crossbeam_channel.specs.Claims.{view}
 use Rattle.rankfeed.specs.Items.{mark_in}

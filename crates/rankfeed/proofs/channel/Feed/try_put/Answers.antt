@@ -1,4 +1,4 @@
-use Rattle.std.proofs.Common.{◌≡◌, true, ap, sym, ◌∙◌, arith, rules}
+use Rattle.std.proofs.Common.{◌≡◌, true, ap, sym, ◌∙◌, arith}
 use Rattle.rankfeed.specs.declared.item.Item.TheVariants.{Entry}
 use Rattle.crossbeam_channel.specs.Claims.{view}
 use Rattle.rankfeed.specs.Items.{may_follow, last_item, is_finalize_item, mark_in}
@@ -22,6 +22,6 @@ invariant_of-self g c =
       closed = ap is_finalize_item has.last ∙ sym c.is_finalize-self.ensures;
       unended = ap mark_in has.last;
       counted = (let count = c.args.self.now.counted in let longer = has.longer in omega arith);
-      countable = (let room = c.if-self-2.false in omega arith);
+      countable = (let room = c.if-self-ge-MOST_RECORDS.false in omega arith);
       small = c.args.self.now.small;
     }

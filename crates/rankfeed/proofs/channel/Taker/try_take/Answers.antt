@@ -1,7 +1,6 @@
-use Rattle.std.proofs.Common.{◌≡◌, Some, None, ap, sym, ◌∙◌, arith, rules}
-use Rattle.rankfeed.specs.declared.item.Item.TheVariants.{Entry, Mark}
+use Rattle.std.proofs.Common.{Some, ap, sym, ◌∙◌, arith}
 use Rattle.crossbeam_channel.specs.Claims.{view}
-use Rattle.rankfeed.specs.Items.{mark_in, end_of}
+use Rattle.rankfeed.specs.Items.{mark_in}
 use Rattle.rankfeed.proofs.RelayLemmas.{takes, finds_empty, has_taken, took_left}
 use Rattle.rankfeed.proofs.channel.Taker.try_take.Goals as goal
 
