@@ -1,0 +1,2 @@
+pub mod ItemLemmas
+pub mod RelayLemmas

@@ -1,0 +1,29 @@
+-- What the answers of a feed and of its taker mean.
+use Rattle.std.specs.Prelude.{◌≡◌, Option, Some, None, List, [], ◌∷◌, ◌++◌}
+use Rattle.mpicall.specs.declared.call.Call.{Call}
+use Rattle.rankfeed.specs.declared.item.Ending.{Ending}
+use Rattle.rankfeed.specs.declared.item.Item.{Item}
+use Rattle.rankfeed.specs.declared.item.Item.TheVariants.{Entry, Mark}
+use Rattle.rankfeed.specs.declared.answer.PutFault.{PutFault}
+use Rattle.rankfeed.specs.declared.answer.PutFault.TheVariants.{Full, Closed}
+use Rattle.rankfeed.specs.declared.answer.Took.{Took}
+use Rattle.rankfeed.specs.declared.answer.Took.TheVariants.{Record, Empty, Sealed, Torn}
+
+-- the record that a refused put hands back
+abbrev pub handed_back : PutFault → Call
+handed_back (Full call) = call
+handed_back (Closed call) = call
+
+-- how a taker tells an end mark
+abbrev pub told_end : Ending → Took
+told_end Ending.Sealed = Sealed
+told_end (Ending.Torn fault) = Torn fault
+
+-- what is received once an answer was given: where no end mark had come, the one item that it tells is
+-- added, and Empty adds nothing; an end mark that had come is told again, and nothing is added
+abbrev pub Receives : Option Ending → Took → List Item → List Item → Type 0
+Receives (Some earlier) took old new = (took ≡ told_end earlier) × (new ≡ old)
+Receives None (Record call) old new = new ≡ old ++ Entry call ∷ []
+Receives None Empty old new = new ≡ old
+Receives None Sealed old new = new ≡ old ++ Mark Ending.Sealed ∷ []
+Receives None (Torn fault) old new = new ≡ old ++ Mark (Ending.Torn fault) ∷ []

@@ -1,0 +1,75 @@
+-- What a feed carries: records, and behind them one end mark.
+use Rattle.std.specs.Prelude.{◌≡◌, Bool, true, false, not, ◌&&◌, Option, Some, None, is_some, List, [], ◌∷◌, ◌++◌}
+use Rattle.mpicall.specs.declared.call.Call.{Call}
+use Rattle.mpicall.specs.declared.call.Call.TheVariants.{Finalize}
+use Rattle.rankfeed.specs.declared.item.Ending.{Ending}
+use Rattle.rankfeed.specs.declared.item.Ending.TheVariants.{Sealed, Torn}
+use Rattle.rankfeed.specs.declared.item.Item.{Item}
+use Rattle.rankfeed.specs.declared.item.Item.TheVariants.{Entry, Mark}
+
+-- whether the call is MPI_Finalize, after which a rank makes no other call (MPI 4.0, section 11.2.2)
+abbrev pub is_finalize : Call → Bool
+is_finalize Finalize = true
+is_finalize _ = false
+
+-- what may follow what: the item before, if there is one, and the item behind it
+abbrev pub may_follow : Option Item → Item → Bool
+may_follow None (Entry call) = true
+may_follow None (Mark Sealed) = false
+may_follow None (Mark (Torn fault)) = true
+may_follow (Some (Entry earlier)) (Entry call) = not (is_finalize earlier)
+may_follow (Some (Entry earlier)) (Mark Sealed) = is_finalize earlier
+may_follow (Some (Entry earlier)) (Mark (Torn fault)) = true
+may_follow (Some (Mark earlier)) next = false
+
+-- the last of the items behind a first one; that one where there are no more
+abbrev pub last_behind : Option Item → List Item → Option Item
+last_behind before [] = before
+last_behind before (next ∷ items) = last_behind (Some next) items
+
+-- the last item, if there is one
+abbrev pub last_item : List Item → Option Item
+last_item items = last_behind None items
+
+-- each item may follow the one before it
+abbrev pub follow_on : Option Item → List Item → Bool
+follow_on before [] = true
+follow_on before (next ∷ items) = may_follow before next && follow_on (Some next) items
+
+abbrev pub are_in_order : List Item → Bool
+are_in_order items = follow_on None items
+
+-- the last item is the record Finalize
+abbrev pub is_finalize_item : Option Item → Bool
+is_finalize_item (Some (Entry call)) = is_finalize call
+is_finalize_item (Some (Mark earlier)) = false
+is_finalize_item None = false
+
+abbrev pub end_with_finalize : List Item → Bool
+end_with_finalize items = is_finalize_item (last_item items)
+
+-- the end mark that is the last item, if it is one
+abbrev pub mark_in : Option Item → Option Ending
+mark_in (Some (Mark earlier)) = Some earlier
+mark_in (Some (Entry call)) = None
+mark_in None = None
+
+abbrev pub end_of : List Item → Option Ending
+end_of items = mark_in (last_item items)
+
+-- the last item is an end mark
+abbrev pub are_ended : List Item → Bool
+are_ended items = is_some (end_of items)
+
+-- the records among the items
+abbrev pub calls_among : List Item → List Call
+calls_among [] = []
+calls_among (Entry call ∷ items) = call ∷ calls_among items
+calls_among (Mark earlier ∷ items) = calls_among items
+
+-- the order of a feed's items in plain words: an end mark is last, no record follows Finalize, and
+-- Sealed stands only directly behind Finalize
+pub record IsFeed (items : List Item) : Type 0 where
+  pub mark_is_last : (before after : List Item) (earlier : Ending) → items ≡ before ++ Mark earlier ∷ after → after ≡ []
+  pub none_behind_finalize : (before after : List Item) (call : Call) → items ≡ before ++ Entry call ∷ after → is_finalize call ≡ true → calls_among after ≡ []
+  pub sealed_behind_finalize : (before after : List Item) → items ≡ before ++ Mark Sealed ∷ after → end_with_finalize before ≡ true

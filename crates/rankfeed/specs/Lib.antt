@@ -1,0 +1,5 @@
+pub mod Items
+pub mod Answers
+pub mod Rings
+pub mod Relays
+pub mod Channels

@@ -1,0 +1,43 @@
+//! The feed of one rank's records, from the thread that reads them to the one that takes them.
+//!
+//! A feed has two ends, and each may go to a thread of its own. A `Feed` puts records at the back and
+//! then one end mark: `seal` where Finalize was put, `tear` with the fault where the records stop. Its
+//! `Taker` takes from the front.
+//!
+//! What it promises, as contracts that are proved:
+//!
+//! - Once the taker met the receipt that `seal` or `tear` answers, what it received followed by what is
+//!   left is what was sent: no record is lost, doubled, changed, invented or out of its place. `meet`
+//!   tells how many items are left, and from then on each call finds one.
+//! - A put that is refused hands the record back and changes nothing. `Closed` comes exactly where
+//!   Finalize was put, `Full` never for a new feed's first `capacity` records.
+//! - The items are in order (`IsFeed` of `specs/Items.antt`): an end mark is last, no record follows
+//!   Finalize, and `Sealed` stands only directly behind Finalize.
+//! - No call but `put` waits, and none but `open` takes memory. The end mark has a place of its own.
+//!
+//! It isn't promised that a full feed has room again, that an item comes to an empty one, or that there
+//! is a receipt: there is none where the taker was dropped before.
+//!
+//! The module `channel` has the same calls over a bounded channel, by the same definitions; there most
+//! calls may wait.
+//!
+//! ```text
+//! let (mut feed, mut taker) = Feed::open(alloc, rank, 64)?;
+//! feed.put(record, wait)?;                          // in one thread
+//! let receipt = feed.tear(fault)?;
+//! taker.try_take() == Took::Record(record)          // in another
+//! taker.meet(receipt) == Met { count: 1 }           // the end mark
+//! taker.try_take() == Took::Torn(fault)             // for good
+//! ```
+#![tactic(auto)]
+
+pub mod answer;
+pub mod channel;
+pub mod item;
+pub mod ring;
+#[cfg(test)]
+mod tests;
+
+pub use answer::{Met, PutFault, Took, Unsealed};
+pub use item::{Ending, Item};
+pub use ring::{Feed, Receipt, Taker};
