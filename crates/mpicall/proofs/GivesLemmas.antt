@@ -1,6 +1,6 @@
 -- What each answer of a source says of the trace that was to come.
 use Rattle.std.proofs.Common.{◌≡◌, ◌≢◌, ℕ, ◌-◌, ◌<◌, Bool, true, false, ◌==◌, nat_lt, cond, List, [], ◌∷◌, ◌++◌, length, get_or, take, drop, sym, ap, ◌∙◌, refl, arith, Option, Some, None, suc, Ok, Err, option_map, inl, inr, ◌&&◌}
-use Rattle.std.specs.Io.KnownBytes.{Keeps, prepend_known, IsAtEnd}
+use Rattle.std.specs.Io.KnownBytes.{Keeps, prepend_known, IsAtEnd, Consumes}
 use Rattle.std.specs.List.{onto_first}
 use Rattle.std.proofs.lemmas.Bool.Decides.{nat_tests}
 use Rattle.std.proofs.lemmas.List.{take_all, length-append}
@@ -69,6 +69,12 @@ gives_no_finalize (Some known) (Some left) held keeps ends =
     let empty : known ≡ [] = sym keeps ∙ ap (λ (xs : List ℕ). xs ++ left) none.0 ∙ none.1 in
     let old : trace_of known ≡ ends_here (Torn NoFinalize) = ap trace_of empty in
     (old, ap Some (sym old))
+
+-- what was unread is what is held and what is left
+pub held_left : (known left : Option (List ℕ)) (held : List ℕ) → Keeps known (prepend_known held left) → Consumes known left held
+held_left None left held keeps = tt
+held_left (Some known) None held keeps = absurd keeps
+held_left (Some known) (Some left) held keeps = sym keeps
 
 -- A record was read.
 

@@ -18,3 +18,4 @@ pub mod CallLemmas
 pub mod LineLemmas
 pub mod BeginningLemmas
 pub mod GivesLemmas
+pub mod LintLemmas

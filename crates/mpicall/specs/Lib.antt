@@ -16,4 +16,5 @@ pub mod Trace
 pub mod Window
 pub mod Stage
 pub mod Source
+pub mod Lint
 pub mod Code

@@ -1,7 +1,8 @@
 -- What a source of records still gives.
-use Rattle.std.specs.Prelude.{◌≡◌, ◌≢◌, ℕ, Bool, true, false, ◌&&◌, if◌then◌else◌, Option, Some, None, is_none, option_map, Result, Ok, Err, List, ⊤}
-use Rattle.std.specs.Io.KnownBytes.{prepend_known}
-use Rattle.mpicall.specs.Device.{one_more}
+use Rattle.std.specs.Prelude.{◌≡◌, ◌≢◌, ℕ, Bool, true, false, ◌&&◌, if◌then◌else◌, Option, Some, None, is_none, option_map, Result, Ok, Err, List, length, ⊤}
+use Rattle.std.specs.Io.KnownBytes.{prepend_known, Consumes}
+use Rattle.mpicall.specs.Window.{NoFeedBelow}
+use Rattle.mpicall.specs.Device.{count_if}
 use Rattle.mpicall.specs.Trace.{Trace, End, Sealed, Torn, trace_of, end_after_finalize, ends_here, put_first}
 use Rattle.mpicall.specs.Lines.{lines_of}
 use Rattle.mpicall.specs.declared.call.Call.{Call}
@@ -21,6 +22,14 @@ trace_at (Failed fault) bytes = Some (ends_here (Torn fault))
 -- the same of a source, where its input tells the bytes that are left
 unfoldable pub coming : {I : Type 0} → (I → Option (List ℕ)) → Source I → Option Trace
 coming left source = trace_at source.stage (prepend_known source.window (left source.input))
+
+-- the bytes that a source has not used: those that it holds, and those still to come
+abbrev pub unread : {I : Type 0} → (I → Option (List ℕ)) → Source I → Option (List ℕ)
+unread left source = prepend_known source.window (left source.input)
+
+-- what was unread, but for what is left of the input, is no whole line
+abbrev pub IsCutOff : Option (List ℕ) → Option (List ℕ) → Type 0
+IsCutOff unread left = (part : List ℕ) × Consumes unread left part × NoFeedBelow part (length part)
 
 -- the end that a source has answered; None before
 abbrev pub ended_at : Stage → Option End
@@ -62,7 +71,7 @@ is_read_failed answer = false
 
 -- the count of the input's failures after an answer: one more just where a read failed in that call
 abbrev pub count_after : Option End → Result (Option Call) SourceFault → ℕ → ℕ
-count_after old_end answer count = if is_none old_end && is_read_failed answer then one_more count else count
+count_after old_end answer count = count_if (is_none old_end && is_read_failed answer) count
 
 -- a fault that a source itself may answer
 abbrev pub IsOwnFault : SourceFault → Type 0

@@ -36,6 +36,7 @@ pub mod fields;
 mod first_fault;
 pub mod limits;
 pub mod line;
+pub mod lint;
 pub mod memory;
 pub mod number;
 mod reading;

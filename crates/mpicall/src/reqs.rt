@@ -16,15 +16,16 @@ pub struct Reqs {
 impl Model for Reqs {
     ghost use Rattle.std.specs.Prelude.{List, ℕ, ◌≡◌, ◌≤◌, ◌-◌, ◌++◌, length, take, drop, replicate};
     ghost use Rattle.mpicall.specs.Cells.{same_cells, same_len};
+    ghost use Rattle.mpicall.specs.declared.limits.TheConstants.{MOST_REQUESTS};
 
     ghost Value = { List ℕ };
 
     ghost view = { λ r. take r.len r.cells };
 
     // the cells behind the numbers are 0, so that the list gives the fields back
-    ghost invariant = { λ r. (1 ≤ r.len) × (r.len ≤ 64) × (length r.cells ≡ 64) × (drop r.len r.cells ≡ replicate (64 - r.len) 0) };
+    ghost invariant = { λ r. (1 ≤ r.len) × (r.len ≤ MOST_REQUESTS) × (length r.cells ≡ MOST_REQUESTS) × (drop r.len r.cells ≡ replicate (MOST_REQUESTS - r.len) 0) };
 
-    ghost inverse = { λ xs. record { cells = xs ++ replicate (64 - length xs) 0; len = length xs } };
+    ghost inverse = { λ xs. record { cells = xs ++ replicate (MOST_REQUESTS - length xs) 0; len = length xs } };
 
     ghost inverse_ok = { λ r h i. record {
       cells = same_cells r.len r.cells h.1 h.2 h.3 i;

@@ -39,10 +39,13 @@ impl<I: Input> Source<I> {
     ghost use Rattle.mpicall.specs.declared.call.Call.{Call as CallValue};
     ghost use Rattle.mpicall.specs.declared.source.Stage.TheVariants.{Reading, Finalized};
     ghost use Rattle.mpicall.specs.Limits.{in_ranges};
-    ghost use Rattle.mpicall.specs.Source.{coming, ended, input_of, Gives, end_of_answer, answer_of, answer_into, count_after, IsOwnFault};
+    ghost use Rattle.mpicall.specs.Source.{coming, ended, input_of, Gives, end_of_answer, answer_of, answer_into, count_after, IsOwnFault, unread, IsCutOff};
+    ghost use Rattle.mpicall.specs.Spelling.{spelling};
+    ghost use Rattle.mpicall.specs.declared.fault.SourceFault.TheVariants.{ReadFailed};
+    ghost use Rattle.std.specs.Io.KnownBytes.{Consumes};
 
-    #[tactic(auto, using(crate::proofs::SourceLemmas::source_steps), unfolding(crate::specs::Source::coming))]
     /// The source of the records that an input's bytes hold.
+    #[tactic(auto, using(crate::proofs::SourceLemmas::source_steps), unfolding(crate::specs::Source::coming))]
     pub fn new(input: I) -> Source<I>
         ensures trace { coming I.left result ≡ option_map trace_of (I.left input) }
         ensures end { ended result ≡ None }
@@ -54,6 +57,7 @@ impl<I: Input> Source<I> {
             stage: Stage::Reading,
         }
     }
+
     /// The next line's record; None once the bytes end behind `finalize`. A fault is answered for good,
     /// and so is None.
     pub fn next(&mut self) -> Result<Option<Record>, SourceFault>
@@ -63,6 +67,10 @@ impl<I: Input> Source<I> {
         ensures count { I.failures (input_of self.new)
             ≡ count_after (ended self.old) result (I.failures (input_of self.old)) }
         ensures own { IfErr result IsOwnFault }
+        ensures line { (x : CallValue) → result ≡ Ok (Some x)
+            → Consumes (unread I.left self.old) (unread I.left self.new) (spelling x) }
+        ensures cut { ended self.old ≡ None → result ≡ Err ReadFailed
+            → IsCutOff (unread I.left self.old) (I.left (input_of self.new)) }
     {
         let mut call = Call::Finalize;
         match self.next_into(&mut call) {
@@ -73,7 +81,7 @@ impl<I: Input> Source<I> {
     }
 
     /// Reads the next record into one place, and says whether there was one.
-    fn next_into(&mut self, into: &mut Call) -> Result<bool, SourceFault>
+    pub(crate) fn next_into(&mut self, into: &mut Call) -> Result<bool, SourceFault>
         ensures trace { Gives (coming I.left self.old) (coming I.left self.new) (answer_into result into.new) }
         ensures end { ended self.new ≡ end_of_answer (answer_into result into.new) }
         ensures repeats { IfSome (ended self.old) (λ end. (answer_into result into.new ≡ answer_of end) × (self.new ≡ self.old)) }
@@ -81,6 +89,10 @@ impl<I: Input> Source<I> {
             ≡ count_after (ended self.old) (answer_into result into.new) (I.failures (input_of self.old)) }
         ensures own { IfErr result IsOwnFault }
         ensures in_ranges { result ≡ Ok true → IsTrue (in_ranges into.new) }
+        ensures line { result ≡ Ok true
+            → Consumes (unread I.left self.old) (unread I.left self.new) (spelling into.new) }
+        ensures cut { ended self.old ≡ None → result ≡ Err ReadFailed
+            → IsCutOff (unread I.left self.old) (I.left (input_of self.new)) }
     {
         match self.stage {
             Stage::Reading => self.read_record(into),
@@ -99,6 +111,10 @@ impl<I: Input> Source<I> {
             ≡ count_after None (answer_into result into.new) (I.failures (input_of self.old)) }
         ensures own { IfErr result IsOwnFault }
         ensures in_ranges { result ≡ Ok true → IsTrue (in_ranges into.new) }
+        ensures line { result ≡ Ok true
+            → Consumes (unread I.left self.old) (unread I.left self.new) (spelling into.new) }
+        ensures cut { result ≡ Err ReadFailed
+            → IsCutOff (unread I.left self.old) (I.left (input_of self.new)) }
     {
         let len = match line_end(&mut self.window, &mut self.input) {
             Ok(len) => len,
@@ -133,6 +149,8 @@ impl<I: Input> Source<I> {
             ≡ count_after None (answer_into result call) (I.failures (input_of self.old)) }
         ensures own { IfErr result IsOwnFault }
         ensures no_record { result ≢ Ok true }
+        ensures cut { result ≡ Err ReadFailed
+            → IsCutOff (unread I.left self.old) (I.left (input_of self.new)) }
     {
         match has_more(&mut self.window, &mut self.input) {
             Ok(false) => {

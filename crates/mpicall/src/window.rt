@@ -25,23 +25,24 @@ pub(crate) struct Window {
 impl Model for Window {
     ghost use Rattle.std.specs.Prelude.{List, ℕ, ◌≤◌};
     ghost use Rattle.mpicall.specs.Window.{held_between};
+    ghost use Rattle.mpicall.specs.declared.window.TheConstants.{CAPACITY};
 
     ghost Value = { List ℕ };
 
     ghost view = { λ w. held_between w.start w.end w.buffer };
 
-    ghost invariant = { λ w. (w.start ≤ w.end) × (w.end ≤ 16384) };
+    ghost invariant = { λ w. (w.start ≤ w.end) × (w.end ≤ CAPACITY) };
 }
 
 /// Makes room behind the bytes that are held from `start` to `end`; they go to the buffer's front
 /// where that is needed.
 fn make_room(buffer: &mut [u8; CAPACITY], start: &mut usize, end: &mut usize)
     requires order { start.old ≤ end.old }
-    requires within { end.old ≤ 16384 }
-    requires few { end.old - start.old ≤ 1024 }
+    requires within { end.old ≤ CAPACITY }
+    requires few { end.old - start.old ≤ MOST_LINE_BYTES }
     ensures held { held_between start.new end.new buffer.new ≡ held_between start.old end.old buffer.old }
     ensures order { start.new ≤ end.new }
-    ensures room { end.new < 16384 }
+    ensures room { end.new < CAPACITY }
 {
     if *start == *end {
         *start = 0;
@@ -87,7 +88,7 @@ impl Window {
 
     /// Reads once, straight behind the held bytes, and says how many bytes came; 0 at the input's end.
     pub(crate) fn fill<I: Input>(&mut self, input: &mut I) -> Result<usize, DeviceFault>
-        requires { length self.old ≤ 1024 }
+        requires { length self.old ≤ MOST_LINE_BYTES }
         ensures known { Keeps
             (prepend_known self.old (I.left input.old))
             (prepend_known self.new (I.left input.new)) }
@@ -126,6 +127,7 @@ pub(crate) fn line_end<I: Input>(window: &mut Window, input: &mut I) -> Result<u
         (prepend_known window.old (I.left input.old))
         (prepend_known window.new (I.left input.new)) }
     ensures ends { IfOk result (EndsLine window.new (I.left input.new)) }
+    ensures cut { OnErr result (NoFeedBelow window.new (length window.new)) }
     ensures count { CountsFailure (I.failures input.old) (I.failures input.new) result }
 {
     let mut searched = 0;
@@ -147,6 +149,7 @@ pub(crate) fn has_more<I: Input>(window: &mut Window, input: &mut I) -> Result<b
         (prepend_known window.new (I.left input.new)) }
     ensures some { result ≡ Ok true → window.new ≢ [] }
     ensures none { result ≡ Ok false → (window.new ≡ []) × IsAtEnd (I.left input.new) }
+    ensures cut { OnErr result (window.new ≡ []) }
     ensures count { CountsFailure (I.failures input.old) (I.failures input.new) result }
 {
     if !window.is_empty() {

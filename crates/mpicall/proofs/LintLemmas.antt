@@ -1,0 +1,82 @@
+-- A source that is read record by record.
+use Rattle.std.proofs.Common.{◌≡◌, ℕ, ◌+◌, ◌-◌, ◌^◌, ◌≤◌, min, Bool, true, false, ◌&&◌, cond, List, ◌∷◌, length, sym, ap, ◌∙◌, refl, arith, Option, Some, None, is_none, Result, Ok, Err, IfSome}
+use Rattle.mpicall.specs.Device.{one_more, count_if}
+use Rattle.mpicall.specs.Lint.{capped, TellsTrace, EndsWith}
+use Rattle.mpicall.specs.Source.{Gives, answer_of, is_read_failed, count_after}
+use Rattle.mpicall.specs.Trace.{Trace, End, Sealed, Torn, put_first, ends_here}
+use Rattle.mpicall.specs.declared.call.Call.{Call}
+use Rattle.mpicall.specs.declared.fault.SourceFault.{SourceFault}
+use Rattle.mpicall.specs.declared.fault.SourceFault.TheVariants.{Line, TextAfterFinalize, NoFinalize, ReadFailed, GateStopped, ThreadNotStarted}
+use Rattle.mpicall.specs.declared.lint.LintFault.{LintFault}
+
+-- some records of a trace were given, and the others are to come
+pub record Given (old now : Trace) (count : ℕ) : Type 0 where
+  pub given : ℕ
+  pub records : length old.records ≡ given + length now.records
+  pub end : old.end ≡ now.end
+  pub count_is : count ≡ capped given
+
+abbrev pub SoFar : Option Trace → Option Trace → ℕ → Type 0
+SoFar None now count = Unit {0}
+SoFar (Some old) None count = ⊥
+SoFar (Some old) (Some now) count = Given old now count
+
+pub lint_begins : (trace : Option Trace) → SoFar trace trace 0
+lint_begins None = tt
+lint_begins (Some trace) = record { given = 0; records = omega arith; end = refl; count_is = omega arith }
+
+pub lint_steps : (old now next : Option Trace) (count : ℕ) (call : Call) → SoFar old now count → Gives now next (Ok (Some call)) → SoFar old next (min (count + 1) (2 ^ 64 - 1))
+lint_steps None now next count call s g = tt
+lint_steps (Some old) None next count call s g = absurd s
+lint_steps (Some old) (Some now) None count call s g = let no = g.2 in cc
+lint_steps (Some old) (Some now) (Some next) count call s g =
+    let rest : next ≡ g.0 = cc g.2 in
+    let more = ap (λ (t : Trace). length t.records) g.1 in
+    let same = ap (λ (t : Trace). length t.records) rest in
+    let count_is = s.count_is in
+    record {
+      given = s.given + 1;
+      records = omega (arith, s.records);
+      end = s.end ∙ ap (λ (t : Trace). t.end) g.1 ∙ sym (ap (λ (t : Trace). t.end) rest);
+      count_is = omega arith;
+    }
+
+pub lint_ends : (old now next : Option Trace) (count : ℕ) → SoFar old now count → Gives now next (Ok None) → TellsTrace old (Ok count)
+lint_ends None now next count s g = tt
+lint_ends (Some old) None next count s g = absurd s
+lint_ends (Some old) (Some now) next count s g =
+    let none = ap (λ (t : Trace). length t.records) g.0 in
+    let all : length old.records ≡ s.given = omega (arith, s.records) in
+    (s.end ∙ ap (λ (t : Trace). t.end) g.0, s.count_is ∙ ap capped (sym all))
+
+ends_with : (old now : Trace) (count : ℕ) (fault : SourceFault) → Given old now count → now ≡ ends_here (Torn fault) → (old.end ≡ Torn fault) × (count ≡ capped (length old.records))
+ends_with old now count fault s is =
+    let none = ap (λ (t : Trace). length t.records) is in
+    let all : length old.records ≡ s.given = omega (arith, s.records) in
+    (s.end ∙ ap (λ (t : Trace). t.end) is, s.count_is ∙ ap capped (sym all))
+
+faults : (old now : Trace) (next : Option Trace) (count : ℕ) (fault : SourceFault) → Given old now count → Gives (Some now) next (Err fault) → EndsWith old count fault
+faults old now next count (Line fault) s g = ends_with old now count (Line fault) s g.0
+faults old now next count TextAfterFinalize s g = ends_with old now count TextAfterFinalize s g.0
+faults old now next count NoFinalize s g = ends_with old now count NoFinalize s g.0
+faults old now next count ReadFailed s g = (s.given, omega (arith, s.records), s.count_is)
+faults old now next count GateStopped s g = ends_with old now count GateStopped s g.0
+faults old now next count ThreadNotStarted s g = ends_with old now count ThreadNotStarted s g.0
+
+pub lint_faults : (old now next : Option Trace) (count : ℕ) (fault : SourceFault) → SoFar old now count → Gives now next (Err fault) → TellsTrace old (Err (record { call = count; fault = fault }))
+lint_faults None now next count fault s g = tt
+lint_faults (Some old) None next count fault s g = absurd s
+lint_faults (Some old) (Some now) next count fault s g = faults old now next count fault s g
+
+-- a source that gives a record had no end
+pub gives_none : {A : Type 0} (end : Option End) (call : Call) (x y : A) → IfSome end (λ e. (Ok (Some call) ≡ answer_of e) × (x ≡ y)) → end ≡ None
+gives_none None call x y h = refl
+gives_none (Some Sealed) call x y h = let e = h.0 in cc
+gives_none (Some (Torn fault)) call x y h = let e = h.0 in cc
+
+not_failed : (b : Bool) (count : ℕ) → count_if (b && false) count ≡ count
+not_failed true count = refl
+not_failed false count = refl
+
+pub counts_none : (end : Option End) (call : Call) (count : ℕ) → count_after end (Ok (Some call)) count ≡ count
+counts_none end call count = not_failed (is_none end) count

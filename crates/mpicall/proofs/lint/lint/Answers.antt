@@ -1,0 +1,17 @@
+-- One more record was given, so the source had no end before.
+use Rattle.std.proofs.Common.{sym, ◌∙◌}
+use Rattle.mpicall.proofs.LintLemmas.{lint_steps, gives_none, counts_none}
+use Rattle.mpicall.proofs.lint.lint.Goals as goal
+
+pub loop-preserved : goal.loop-preserved
+loop-preserved g c =
+    let yes = c.in-Ok-true.field-0-test in
+    let trace = rw yes at c.in-Ok-true.ensures.trace in
+    let end = rw yes at c.in-Ok-true.ensures.end in
+    let none = gives_none _ c.next_into.new.into _ _ (rw yes at c.in-Ok-true.ensures.repeats) in
+    let count = rw yes at c.in-Ok-true.ensures.count in
+    record {
+      given = rw c.saturating_add-count.ensures (lint_steps _ _ _ _ _ c.loop.invariant.given trace);
+      end = end ∙ sym none ∙ c.loop.invariant.end;
+      count = count ∙ counts_none _ c.next_into.new.into _ ∙ c.loop.invariant.count;
+    }

@@ -1,0 +1,39 @@
+//! Reading a source to its end, for what is wrong with it alone.
+
+ghost use Rattle.std.specs.Prelude.{◌≡◌, Some, IfErr};
+ghost use Rattle.mpicall.specs.Lint.{TellsTrace, last_answer};
+ghost use Rattle.mpicall.specs.Source.{coming, ended, input_of, end_of_answer, count_after, IsOwnFault};
+
+use crate::call::Call;
+use crate::device::Input;
+use crate::fault::SourceFault;
+use crate::source::Source;
+use std::sync::Wait;
+
+/// The fault with which a source ends, behind `call` records; that number stays at the greatest `u64`.
+#[derive(Clone, Copy, Debug, PartialEq, Eq)]
+pub struct LintFault {
+    pub call: u64,
+    pub fault: SourceFault,
+}
+
+/// Reads a source to its end: the number of the records that it still gives, up to the greatest `u64`, or
+/// the fault with which it ends. An input may have no end, so this may wait for good.
+pub fn lint<I: Input>(source: &mut Source<I>, wait: &impl Wait) -> Result<u64, LintFault>
+    ensures trace { TellsTrace (coming I.left source.old) result }
+    ensures end { ended source.new ≡ end_of_answer (last_answer result) }
+    ensures count { I.failures (input_of source.new)
+        ≡ count_after (ended source.old) (last_answer result) (I.failures (input_of source.old)) }
+    ensures own { IfErr result (λ told. IsOwnFault told.fault) }
+{
+    let mut count: u64 = 0;
+    let mut call = Call::Finalize;
+    for _ in wait.forever() {
+        match source.next_into(&mut call) {
+            Ok(true) => count = count.saturating_add(1),
+            Ok(false) => return Ok(count),
+            Err(fault) => return Err(LintFault { call: count, fault }),
+        }
+    }
+    unreachable!()
+}
