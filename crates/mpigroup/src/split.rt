@@ -61,6 +61,7 @@ fn run_length(members: &[Member], colour: u32) -> usize
     other_colour_at(members, colour).unwrap_or(members.len())
 }
 
+/// The ranks that the members have in the old group.
 fn ranks_of(alloc: Global, members: &[Member]) -> Result<Vec<u16>, AllocError>
     ensures { IfOk result (λ ranks. ranks.items ≡ map (λ member. member.rank) members.now) }
 {
