@@ -1,5 +1,5 @@
 -- Lists of nodes with values, by their numbers.
-use Rattle.std.specs.Prelude.{◌≡◌, ℕ, ◌+◌, ◌-◌, ◌^◌, min, Option, Some, None, List, [], ◌∷◌, ◌++◌, map, drop, slice_set, ◌==◌, if◌then◌else◌}
+use Rattle.std.specs.Prelude.{◌≡◌, ℕ, ◌+◌, ◌-◌, ◌^◌, min, Option, Some, None, IsSome, List, [], ◌∷◌, ◌++◌, map, drop, slice_set, ◌==◌, if◌then◌else◌}
 use Rattle.arenalist.specs.Numbers.{list_at}
 
 -- the lists, each an entry (node, value) after the other; how many nodes are spare; and the count
@@ -25,6 +25,13 @@ or_value (Some v) other = Some v
 abbrev pub value_at : {T : Type 0} → List (List (ℕ × T)) → ℕ → Option T
 value_at [] n = None
 value_at (list ∷ lists) n = or_value (value_in list n) (value_at lists n)
+
+-- the node stands in the list, and in some list
+abbrev pub HasNode : {T : Type 0} → List (ℕ × T) → ℕ → Type 0
+HasNode list n = IsSome (value_in list n)
+
+abbrev pub IsLinked : {T : Type 0} → List (List (ℕ × T)) → ℕ → Type 0
+IsLinked lists n = IsSome (value_at lists n)
 
 -- how often a node stands in a list, and in the lists
 abbrev pub times_in : {T : Type 0} → List (ℕ × T) → ℕ → ℕ

@@ -194,7 +194,8 @@ impl Links {
     /// The cell behind one in its list.
     pub(crate) fn next(&self, cell: u32) -> Option<u32>
         requires { 0 < in_all cell self.now.lists }
-        ensures { (l : ℕ) → 0 < count cell (list_at self.now.lists l) → result ≡ first_of (after cell (list_at self.now.lists l)) }
+        ensures { (l : ℕ) → 0 < count cell (list_at self.now.lists l) →
+            result ≡ first_of (after cell (list_at self.now.lists l)) }
     {
         let list = self.owners[cell as usize]?;
         let head = self.heads[list as usize];

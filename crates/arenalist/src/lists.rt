@@ -6,7 +6,7 @@ ghost use Rattle.std.specs.Borrow.{sem};
 ghost use Rattle.std.specs.Vec.{vec_len, vec_capacity};
 ghost use Rattle.arenalist.specs.Lends.{lends_slot, lends_value};
 ghost use Rattle.arenalist.specs.Numbers.{list_at};
-ghost use Rattle.arenalist.specs.Arena.{value_in, value_at, times, first_node, first_value, behind, unlinked, linked, appended, IsFirst, counted};
+ghost use Rattle.arenalist.specs.Arena.{value_at, HasNode, IsLinked, times, first_node, first_value, behind, unlinked, linked, appended, IsFirst, counted};
 
 use crate::links::Links;
 use crate::node::{ListId, Node};
@@ -69,7 +69,8 @@ impl<T> Model for Lists<T> {
       work = a.work;
     } };
 
-    ghost invariant = { λ a. IsArena a.links.heads a.links.lists a.links.cells a.values.items a.free.items (vec_capacity a.free) };
+    ghost invariant = { λ a.
+        IsArena a.links.heads a.links.lists a.links.cells a.values.items a.free.items (vec_capacity a.free) };
 }
 
 impl<T> Lists<T> {
@@ -151,8 +152,9 @@ impl<T> Lists<T> {
 
     /// The node behind one in its list.
     pub fn next(&self, node: Node) -> Option<Node>
-        requires { IsSome (value_at self.now.lists node) }
-        ensures { (l : ℕ) → IsSome (value_in (list_at self.now.lists l) node) → result ≡ first_node (behind (list_at self.now.lists l) node) }
+        requires { IsLinked self.now.lists node }
+        ensures { (l : ℕ) → HasNode (list_at self.now.lists l) node →
+            result ≡ first_node (behind (list_at self.now.lists l) node) }
     {
         match self.links.next(node.number()) {
             Some(node) => Some(Node::new(node)),
@@ -169,9 +171,9 @@ impl<T> Lists<T> {
 
     /// The list that a node stands in, and None for a spare node.
     pub fn list_of(&self, node: Node) -> Option<ListId>
-        ensures linked { IsSome result ↔ IsSome (value_at self.now.lists node) }
-        ensures standing { (l : ℕ) → IsSome (value_in (list_at self.now.lists l) node) → result ≡ Some l }
-        ensures found { IfSome result (λ list. IsSome (value_in (list_at self.now.lists list) node)) }
+        ensures linked { IsSome result ↔ IsLinked self.now.lists node }
+        ensures standing { (l : ℕ) → HasNode (list_at self.now.lists l) node → result ≡ Some l }
+        ensures found { IfSome result (λ list. HasNode (list_at self.now.lists list) node) }
     {
         match self.links.owner(node.number()) {
             Some(list) => Some(ListId::new(list)),
@@ -181,7 +183,7 @@ impl<T> Lists<T> {
 
     /// The value at a node.
     pub fn get(&self, node: Node) -> &T
-        requires { IsSome (value_at self.now.lists node) }
+        requires { IsLinked self.now.lists node }
         ensures { value_at self.now.lists node ≡ Some result.now }
     {
         self.values[node.number() as usize].as_ref().unwrap()
@@ -189,7 +191,7 @@ impl<T> Lists<T> {
 
     /// The value at a node, to be changed.
     pub fn get_mut(&mut self, node: Node) -> &mut T
-        requires { IsSome (value_at self.old.lists node) }
+        requires { IsLinked self.old.lists node }
         ensures* writes_back { sem 𝓛 (lends_value T.row self.entry node result) }
         ensures value { value_at self.old.lists node ≡ Some result.now }
     {
@@ -206,7 +208,7 @@ impl<T> Lists<T> {
 
     /// Takes a node out of its list, and answers its value. The node is spare then.
     pub fn unlink(&mut self, node: Node) -> T
-        requires { IsSome (value_at self.old.lists node) }
+        requires { IsLinked self.old.lists node }
         ensures value { value_at self.old.lists node ≡ Some result }
         ensures lists { self.new.lists ≡ unlinked self.old.lists node }
         ensures spare { self.new.spare ≡ self.old.spare + 1 }
@@ -236,9 +238,10 @@ impl<T> Lists<T> {
 
     /// Moves a node to the back of a list, which may be its own. It keeps its number and its value.
     pub fn move_back(&mut self, node: Node, list: ListId)
-        requires node { IsSome (value_at self.old.lists node) }
+        requires node { IsLinked self.old.lists node }
         requires list { list < length self.old.lists }
-        ensures lists { ForSome (value_at self.old.lists node) (λ value. self.new.lists ≡ linked (unlinked self.old.lists node) list node value) }
+        ensures lists { ForSome (value_at self.old.lists node) (λ value.
+            self.new.lists ≡ linked (unlinked self.old.lists node) list node value) }
         ensures spare { self.new.spare ≡ self.old.spare }
         ensures work { self.new.work ≡ counted self.old.work 2 }
     {
