@@ -17,6 +17,14 @@ abbrev pub IsVerdictWhereTold : Option Text → List (Option Text) → Verdict �
 IsVerdictWhereTold head files verdict =
     (text : Text) (texts : List Text) → head ≡ Some text → files ≡ map Some texts → IsVerdictOfTexts text texts verdict
 
+-- standard output by the status alone: a text for 0 to 2, nothing for 3, and nothing but for a failed write
+-- for 4
+module _ {O : Type 0} (written : O → Option (List ℕ)) (failures : O → ℕ) where
+  abbrev pub EndsOutput : O → O → Status → Type 0
+  EndsOutput old new Usage = new ≡ old
+  EndsOutput old new Fault = WritesNone written failures old new
+  EndsOutput old new _ = WritesSome written failures old new
+
 -- an output, the texts that files have where they are told, and the output as it was and as it is
 module _ {O : Type 0} (written : O → Option (List ℕ)) (failures : O → ℕ) (told : Text → Option Text) (old new : O) where
   -- the report of a run stands behind what was there, and its verdict is that of the files' texts
