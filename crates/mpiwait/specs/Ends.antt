@@ -1,5 +1,5 @@
 -- What stands on the two outputs at the end of the program, by what its words ask for.
-use Rattle.std.specs.Prelude.{◌≡◌, ◌⊎◌, ℕ, Bool, true, false, Option, Some, List, map, string_bytes}
+use Rattle.std.specs.Prelude.{◌≡◌, ◌⊎◌, ℕ, true, false, Option, Some, List, map, string_bytes}
 use Rattle.clap.specs.Walk.{Text}
 use Rattle.moves.specs.declared.verdict.Verdict.{Verdict}
 use Rattle.moves.specs.declared.verdict.Verdict.TheVariants as verdict
