@@ -1,5 +1,5 @@
 -- How the answers to a command line follow from what clap finds in it.
-use Rattle.std.proofs.Common.{◌≡◌, ◌<◌, ◌⊎◌, Bool, true, false, Option, Some, None, List, [], ◌∷◌, length, map, option_and_then, ap, ◌∙◌, sym, refl, arith, Bor, inl, inr}
+use Rattle.std.proofs.Common.{◌≡◌, ◌<◌, true, false, Option, Some, None, List, [], ◌∷◌, length, map, option_and_then, ap, ◌∙◌, sym, refl, arith, Bor, inl, inr}
 use Rattle.clap.specs.Walk.{Row, Text}
 use Rattle.clap.specs.Simple.{is_simple, subcommand_of}
 use Rattle.clap.specs.Faults.{fault_of, is_simple_and_free}

@@ -1,5 +1,5 @@
 -- What stands on the two outputs at the end of the program, by what its words ask for.
-use Rattle.std.specs.Prelude.{◌≡◌, ◌⊎◌, ℕ, Bool, true, false, Option, Some, List, map, string_bytes}
+use Rattle.std.specs.Prelude.{◌≡◌, ◌⊎◌, ℕ, true, false, Option, Some, List, map, string_bytes}
 use Rattle.clap.specs.Walk.{Text}
 use Rattle.moves.specs.declared.verdict.Verdict.{Verdict}
 use Rattle.moves.specs.declared.verdict.Verdict.TheVariants as verdict
@@ -16,6 +16,14 @@ use Rattle.mpiwait.specs.declared.words.Words.TheVariants.{Check, Lint, Said, No
 abbrev pub IsVerdictWhereTold : Option Text → List (Option Text) → Verdict → Type 0
 IsVerdictWhereTold head files verdict =
     (text : Text) (texts : List Text) → head ≡ Some text → files ≡ map Some texts → IsVerdictOfTexts text texts verdict
+
+-- standard output by the status alone: a text for 0 to 2, nothing for 3, and nothing but for a failed write
+-- for 4
+module _ {O : Type 0} (written : O → Option (List ℕ)) (failures : O → ℕ) where
+  abbrev pub EndsOutput : O → O → Status → Type 0
+  EndsOutput old new Usage = new ≡ old
+  EndsOutput old new Fault = WritesNone written failures old new
+  EndsOutput old new _ = WritesSome written failures old new
 
 -- an output, the texts that files have where they are told, and the output as it was and as it is
 module _ {O : Type 0} (written : O → Option (List ℕ)) (failures : O → ℕ) (told : Text → Option Text) (old new : O) where

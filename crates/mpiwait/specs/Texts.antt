@@ -1,5 +1,5 @@
 -- What a check says of the texts of its files.
-use Rattle.std.specs.Prelude.{◌≡◌, ◌≢◌, ℕ, true, false, Option, Some, None, Ok, Err, IfSome, List, length, map, ⊤, option_map}
+use Rattle.std.specs.Prelude.{◌≡◌, ◌≢◌, ℕ, true, false, Option, Ok, Err, IfSome, List, length, map, ⊤}
 use Rattle.mpicall.specs.Trace.{trace_of}
 use Rattle.mpigroup.specs.Groups.{Groups, ranks_of}
 use Rattle.mpigroup.specs.HeadText.{read_head}
@@ -8,7 +8,7 @@ use Rattle.gather.specs.declared.fault.Refusal.{Refusal}
 use Rattle.gather.specs.Told.{IsRefusalOver, IsVerdictOver}
 use Rattle.mpiwait.specs.Faults.{is_failure}
 use Rattle.mpiwait.specs.declared.fault.Fault.{Fault}
-use Rattle.mpiwait.specs.declared.fault.Fault.TheVariants.{Open, ReadHead, Head, FileCount, Refused, Failed, LintRefused, LintFailed, Memory, Write}
+use Rattle.mpiwait.specs.declared.fault.Fault.TheVariants.{Open, ReadHead, Head, FileCount, Refused, Failed, LintRefused, LintFailed, Memory}
 
 -- the head is the one that the text gives, where it is told
 abbrev pub IsHeadOf : Option (List ℕ) → Groups → Type 0

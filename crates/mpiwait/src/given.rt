@@ -1,7 +1,8 @@
 //! The words that the process is given, and the program on them.
 
-ghost use Rattle.std.specs.Prelude.{◌≡◌, IfOk, map, string_bytes};
+ghost use Rattle.std.specs.Prelude.{◌≡◌, IfOk, OnErr, map, string_bytes};
 ghost use Rattle.std.specs.Process.{exit_status};
+ghost use Rattle.mpiwait.specs.Ends.{EndsError, EndsOutput};
 ghost use Rattle.mpiwait.specs.Given.{status_in, status_of};
 ghost use Rattle.mpiwait.specs.Statuses.{code_of};
 ghost use Rattle.mpiwait.specs.declared.given.WordsFault.TheVariants.{NoMemory};
@@ -98,7 +99,11 @@ fn status_on<R: Env + AllocGlobal, P: Opener, O: Output, E: Output>(
     wait: &impl Wait,
     out: &mut O,
     err: &mut E,
-) -> Result<Status, WordsFault> {
+) -> Result<Status, WordsFault>
+    ensures output { IfOk result (EndsOutput O.written O.failures out.old out.new) }
+    ensures errors { IfOk result (EndsError E.written E.failures err.old err.new) }
+    ensures untouched { OnErr result ((out.new ≡ out.old) × (err.new ≡ err.old)) }
+{
     let words = words_given(rt)?;
     let texts = as_texts(rt.alloc(), words.as_slice())?;
     Ok(program(rt.alloc(), texts.as_slice(), opener, wait, out, err))
@@ -112,7 +117,10 @@ pub fn run<R: Env + AllocGlobal, P: Opener, O: Output, E: Output>(
     wait: &impl Wait,
     out: &mut O,
     err: &mut E,
-) -> Ended {
+) -> Ended
+    ensures output { EndsOutput O.written O.failures out.old out.new (status_in result) }
+    ensures errors { EndsError E.written E.failures err.old err.new (status_in result) }
+{
     let status = match status_on(rt, opener, wait, out, err) {
         Ok(status) => status,
         Err(fault) => {

@@ -1,4 +1,4 @@
-use Rattle.std.proofs.Common.{rules, sym, subst, Option, List, ℕ}
+use Rattle.std.proofs.Common.{rules, sym, subst, List, ℕ}
 use Rattle.std.proofs.lemmas.Result.{IfErr-weaker, IfOk-weaker}
 use Rattle.mpiwait.specs.Front.{IsFrontOf}
 use Rattle.mpiwait.proofs.TextLemmas.{fault_says, head_says}
