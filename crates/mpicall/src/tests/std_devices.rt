@@ -60,26 +60,20 @@ impl<'a> io::Write for Writer<'a> {
 #[test]
 fn a_reader_of_std_is_an_input(rt: HostRuntime) {
     let all = calls();
-    let end = Err(SourceFault::ReadFailed);
-    let rows: [(usize, usize, usize, Result<Option<Record>, SourceFault>); 4] = [
-        (1, 100, 3, Ok(None)),
-        (11, 1, 1, end),
-        (1000, 1, 3, end),
-        (0, 100, 0, Err(SourceFault::NoFinalize)),
-    ];
-    for (most, before, count, end) in rows {
+    for (most, before, count) in [(1, 100, 3), (11, 1, 1), (1000, 1, 3), (0, 100, 0)] {
         assert!(rt; count <= 3);
+        let end = match (most, before) {
+            (1, _) => Ok(None),
+            (0, _) => Err(SourceFault::NoFinalize),
+            _ => Err(SourceFault::ReadFailed),
+        };
         let reader = Reader {
             left: TRACE,
             most,
             before,
         };
-        gives(
-            &rt,
-            &mut Source::new(Counted::new(reader)),
-            &all[..count],
-            end,
-        );
+        let mut source = Source::new(Counted::new(reader));
+        gives(&rt, &mut source, &all[..count], end);
     }
     let mut input = Counted::new(Reader {
         left: TRACE,
