@@ -9,7 +9,6 @@ pub mod Lines
 pub mod Line
 pub mod Reading
 pub mod Device
-pub mod FailsAt
 pub mod Devices
 pub mod Ending
 pub mod Trace

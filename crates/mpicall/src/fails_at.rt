@@ -1,7 +1,7 @@
 //! A device that fails once, at one stated call.
 
-ghost use Rattle.std.specs.Prelude.{◌≡◌, ◌+◌, Some, if◌then◌else◌};
-ghost use Rattle.mpicall.specs.FailsAt.{own_failures, all_failures};
+ghost use Rattle.std.specs.Prelude.{◌≡◌, ◌||◌, true, false, Some, is_none};
+ghost use Rattle.mpicall.specs.Device.{count_if};
 
 use crate::device::{DeviceFault, Input, Output};
 
@@ -9,12 +9,14 @@ use crate::device::{DeviceFault, Input, Output};
 #[derive(Debug, Drop)]
 pub struct FailsAt<D> {
     device: D,
+    /// How many calls come before the one that fails; None once that one has come.
     before: Option<u64>,
 }
 
 /// Whether this call is the stated one; counts the calls before it down.
 fn is_stated_call(before: &mut Option<u64>) -> bool
-    ensures { own_failures before.new ≡ own_failures before.old + (if result then 1 else 0) }
+    ensures come { is_none before.new ≡ (result || is_none before.old) }
+    ensures once { result ≡ true → is_none before.old ≡ false }
 {
     match *before {
         None => false,
@@ -54,7 +56,7 @@ impl<D> FailsAt<D> {
 impl<D: Input> Input for FailsAt<D> {
     ghost left = { λ f. D.left f.device };
 
-    ghost failures = { λ f. all_failures (D.failures f.device) f.before };
+    ghost failures = { λ f. count_if (is_none f.before) (D.failures f.device) };
 
     fn read_some(&mut self, into: &mut [u8]) -> Result<usize, DeviceFault> {
         if is_stated_call(&mut self.before) {
@@ -67,7 +69,7 @@ impl<D: Input> Input for FailsAt<D> {
 impl<D: Output> Output for FailsAt<D> {
     ghost written = { λ f. D.written f.device };
 
-    ghost failures = { λ f. all_failures (D.failures f.device) f.before };
+    ghost failures = { λ f. count_if (is_none f.before) (D.failures f.device) };
 
     fn write_some(&mut self, from: &[u8]) -> Result<usize, DeviceFault> {
         if is_stated_call(&mut self.before) {

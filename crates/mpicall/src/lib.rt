@@ -1,21 +1,27 @@
 //! Recorded MPI calls: records, their one-line spellings, and sources of records.
 //!
-//! A trace is a text with one line a call, as `send 0 1 5`, ended by `finalize`. This crate reads and
-//! writes such lines, over any input and output. It takes no memory, but for `memory::MemoryOutput`, an
-//! output that keeps its bytes.
+//! A trace is a text with one line a call, as `send 0 1 5` or `waitall 7 8`, ended by `finalize`. This
+//! crate reads and writes such lines, over any input and output. It takes no memory, but for
+//! `memory::MemoryOutput`, an output that keeps its bytes.
 //!
 //! What it promises, as contracts that are proved:
 //!
-//! - `line::read_line` answers a record exactly where the line is that record's spelling, else the
-//!   line's first fault; `spelling::write_line` writes that spelling, or after a fault of the output a
-//!   beginning of it. No spelling begins another one.
+//! - `line::read_line` answers a record exactly where the line is that record's spelling and the record's
+//!   fields are in their ranges, and a fault exactly where it is the line's first fault.
+//!   `spelling::write_line` writes the spelling, or after a fault of the output a beginning of it. No
+//!   spelling begins another one.
 //! - The records that `source::Source::next` gives, and its end, are those of the input's bytes, however
-//!   the input cuts them into pieces. A fault is answered for good, and so is the end.
+//!   the input cuts them into pieces. A fault is answered for good, and so is the end. Where a read fails,
+//!   the bytes that came and were given as no record hold no whole line.
+//! - `lint::lint` reads a source to its end and tells the number of its records, or the place and the
+//!   fault of that end.
 //! - A device's fault is answered only where the device's count of failures rose.
-//! - Every call returns, whatever the bytes are.
+//! - Every call returns, whatever the bytes are; `lint` does where the input ends.
 //!
-//! The definitions stand in `specs/`: `Limits`, `Number`, `Word`, `Spelling` and `Line` say what a line
-//! is, `Trace` what the bytes of a source are, and `Device` and `Source` what a call of one does.
+//! The definitions stand in `specs/`: `Number`, `Argument`, `Word` and `Spelling` say how a call is
+//! spelled, `Limits` which calls are records, `Lines` and `Line` what is wrong with a line, `Trace` what
+//! the bytes of a source are, and `Device`, `Source` and `Lint` what a call does. Nobody has to believe
+//! `Reading`, `Draft`, `Window`, `Stage` and `Cells`, which only proofs and private functions use.
 //!
 //! ```text
 //! let mut source = Source::new(MemoryInput::new(b"recv 0 1 5\nfinalize\n"));
