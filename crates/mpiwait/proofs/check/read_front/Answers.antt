@@ -6,15 +6,15 @@ use Rattle.mpiwait.proofs.check.read_front.Goals as goal
 
 pub returns-then-count-eq0-clause-front : goal.returns-then-count-eq0-clause-front
 returns-then-count-eq0-clause-front g c =
-    let within = c.loop-piece.front.ok.0 in
+    let within = c.pieces.front.ok.0 in
     let same = c.read_some.auto.into in
-    let room : 0 < length c.read_some.new.into = omega (arith, length-take {A = ℕ}, c.min-most.ensures, c.len.ensures, c.len-in-loop-piece.ensures) in
-    whole_after _ _ _ c.loop-piece.front.items c.read_some.new.into c.in-Ok.count c.loop-piece.invariant.known c.if-count-eq0.true c.in-Ok.ensures.bytes.0
+    let room : 0 < length c.read_some.new.into = omega (arith, length-take {A = ℕ}, c.min-most.ensures, c.len.ensures, c.len-in-pieces.ensures) in
+    whole_after _ _ _ c.pieces.front.items c.read_some.new.into c.in-Ok.count c.pieces.invariant.known c.if-count-eq0.true c.in-Ok.ensures.bytes.0
     (omega arith) (c.in-Ok.ensures.bytes.1 c.if-count-eq0.true room)
 
 pub returns-then-count-eq0-clause-left : goal.returns-then-count-eq0-clause-left
 returns-then-count-eq0-clause-left g c =
-    stays_after _ _ _ c.loop-piece.front.items c.read_some.new.into c.in-Ok.count c.loop-piece.invariant.known c.if-count-eq0.true c.in-Ok.ensures.bytes.0
+    stays_after _ _ _ c.pieces.front.items c.read_some.new.into c.in-Ok.count c.pieces.invariant.known c.if-count-eq0.true c.in-Ok.ensures.bytes.0
 
 pub returns-clause-front : goal.returns-clause-front
-returns-clause-front g c = whole_when_full _ _ c.loop-piece.front.items c.loop-piece.invariant.known (omega (arith, c.loop-piece.front.ok.0))
+returns-clause-front g c = whole_when_full _ _ c.pieces.front.items c.pieces.invariant.known (omega (arith, c.pieces.front.ok.0))

@@ -4,12 +4,12 @@ use Rattle.std.specs.Io.KnownBytes.{Keeps, prepend_known}
 use Rattle.mpiwait.specs.Front.{deciding_bytes}
 use Rattle.mpiwait.proofs.check.read_front.Given as goal
 
-abbrev pub invariant-loop-piece : goal.invariant-loop-piece
-invariant-loop-piece g l = record {
+abbrev pub invariant-pieces : goal.invariant-pieces
+invariant-pieces g l = record {
   within : vec_len l.front ≤ deciding_bytes;
   known : Keeps (g.I.Input.left l.fn.input) (prepend_known l.front.items (g.I.Input.left l.input));
   failures : g.I.Input.failures l.input ≡ g.I.Input.failures l.fn.input;
 }
 
-abbrev pub decreases-loop-piece : goal.decreases-loop-piece
-decreases-loop-piece g l = deciding_bytes - vec_len l.front
+abbrev pub decreases-pieces : goal.decreases-pieces
+decreases-pieces g l = deciding_bytes - vec_len l.front
