@@ -27,4 +27,6 @@ pub mod arrival;
 pub mod need;
 pub mod run;
 pub mod stand;
+#[cfg(test)]
+mod tests;
 pub mod verdict;

@@ -6,12 +6,12 @@ use Rattle.std.proofs.lemmas.List.{take-append-le}
 use Rattle.std.proofs.lemmas.Option.{none-some, same_Some}
 use Rattle.std.proofs.lemmas.Bool.{false≢true, cases_Bool, ltb-true}
 use Rattle.mpicall.specs.declared.call.Call.{Call}
-use Rattle.mpicall.specs.declared.call.Call.TheVariants.{Finalize}
+use Rattle.mpicall.specs.Ending.{ends_list}
 use Rattle.mpigroup.specs.Groups.{Groups}
 use Rattle.std.specs.Prelude.{IfNone, not}
 use Rattle.pairing.specs.declared.fault.CallFault.{CallFault}
 use Rattle.pairing.specs.Limits.{most_calls}
-use Rattle.pairing.specs.Recordings.{IsClosedList, is_finalize, has_finalize, ends_with_finalize}
+use Rattle.pairing.specs.Recordings.{IsClosedList, has_end, is_ended}
 use Rattle.pairing.specs.Faults.{AnEndedLawfulListIsClosed, first_failed, comm_exists, holds_comm, peers_exist, starts_afresh, are_distinct, waits_for_active, makes_afresh, fault_of, IsLawfulList}
 use Rattle.pairing.specs.Requests.{waits_for}
 use Rattle.pairing.specs.declared.fault.CallFault.TheVariants.{CallAfterFinalize, TooManyCalls, UnknownCommunicator, CommunicatorNotHeld, PeerOutOfGroup, RequestInUse, RequestRepeated, RequestNotActive, WrongNewCommunicator}
@@ -31,7 +31,7 @@ all_pass true true true true true true true true true h = (refl, refl, refl, ref
 
 -- what it means that a call has no fault
 pub record IsFaultless (rank : ℕ) (calls : List Call) (call : Call) : Type 0 where
-  pub is_open : has_finalize calls ≡ false
+  pub is_open : has_end calls ≡ false
   pub has_room : length calls < most_calls
   pub afresh : starts_afresh calls call ≡ true
   pub active : waits_for_active calls call ≡ true
@@ -42,11 +42,11 @@ not_true false h = refl
 
 pub fault_none : (groups : Groups) (rank : ℕ) (calls : List Call) (call : Call) → fault_of groups rank calls call ≡ None → IsFaultless rank calls call
 fault_none groups rank calls call h =
-    let passed = all_pass (not (has_finalize calls)) (ltb (length calls) most_calls) (comm_exists groups call)
+    let passed = all_pass (not (has_end calls)) (ltb (length calls) most_calls) (comm_exists groups call)
     (holds_comm groups rank calls call) (peers_exist groups call) (starts_afresh calls call) (are_distinct (waits_for call))
     (waits_for_active calls call) (makes_afresh groups rank calls call) h in
     record {
-      is_open = not_true (has_finalize calls) passed.0;
+      is_open = not_true (has_end calls) passed.0;
       has_room = ltb-true (length calls) most_calls passed.1;
       afresh = passed.2;
       active = passed.3;
@@ -102,31 +102,29 @@ last_tells test (x ∷ y ∷ ys) alone =
     rw (fails, end) rest
 
 -- in a lawful list nothing follows Finalize, so the last call tells whether it has one
-pub lawful_end : (groups : Groups) (rank : ℕ) (calls : List Call) → IsLawfulList groups rank calls → ends_with_finalize calls ≡ has_finalize calls
+pub lawful_end : (groups : Groups) (rank : ℕ) (calls : List Call) → IsLawfulList groups rank calls → is_ended calls ≡ has_end calls
 lawful_end groups rank calls lawful =
-    sym (last_tells is_finalize calls (λ place call h. (fault_none groups rank (take place calls) call (lawful place call h)).is_open))
+    sym (last_tells ends_list calls (λ place call h. (fault_none groups rank (take place calls) call (lawful place call h)).is_open))
 
 pub no_fault : (groups : Groups) (rank : ℕ) (calls : List Call) (call : Call) (result : Option CallFault) → IsLawfulList groups rank calls → result ≡ fault_of groups rank calls call → IfNone result (IsLawfulList groups rank (calls ++ call ∷ []))
 no_fault groups rank calls call None lawful h = lawful_push groups rank calls call lawful (sym h)
 no_fault groups rank calls call (Some fault) lawful h = tt
 
-is_the_finalize : (call : Call) → is_finalize call ≡ true → call ≡ Finalize
-is_the_finalize Finalize h = refl
-is_the_finalize _ h = absurd (false≢true h)
-
-closed_more : (x : Call) (calls : List Call) → is_finalize x ≡ false → IsClosedList calls → IsClosedList (x ∷ calls)
+closed_more : (x : Call) (calls : List Call) → ends_list x ≡ false → IsClosedList calls → IsClosedList (x ∷ calls)
 closed_more x calls fails closed = record {
   before = x ∷ closed.before;
-  ends_with_finalize = ap (λ (others : List Call). x ∷ others) closed.ends_with_finalize;
+  last = closed.last;
+  is_all = ap (λ (others : List Call). x ∷ others) closed.is_all;
+  is_the_end = closed.is_the_end;
   has_no_other = rw fails closed.has_no_other;
 }
 
-closed_from : (calls : List Call) → ((place : ℕ) (call : Call) → slice_get calls place ≡ Some call → list_any is_finalize (take place calls) ≡ false) → ends_with_finalize calls ≡ true → IsClosedList calls
+closed_from : (calls : List Call) → ((place : ℕ) (call : Call) → slice_get calls place ≡ Some call → list_any ends_list (take place calls) ≡ false) → is_ended calls ≡ true → IsClosedList calls
 closed_from [] alone ended = absurd (false≢true ended)
 closed_from (x ∷ []) alone ended =
-    record { before = []; ends_with_finalize = ap (λ (call : Call). call ∷ []) (is_the_finalize x ended); has_no_other = refl }
+    record { before = []; last = x; is_all = refl; is_the_end = ended; has_no_other = refl }
 closed_from (x ∷ y ∷ ys) alone ended =
-    let fails : is_finalize x ≡ false = sym (any_one is_finalize x) ∙ alone 1 y refl in
+    let fails : ends_list x ≡ false = sym (any_one ends_list x) ∙ alone 1 y refl in
     let end : suc (suc (length ys)) - 1 ≡ suc (suc (length ys) - 1) = omega arith in
     let rest = closed_from (y ∷ ys) (λ place call h. rw fails at (alone (suc place) call h)) (rw end at ended) in
     closed_more x (y ∷ ys) fails rest

@@ -14,7 +14,7 @@ use Rattle.mpicall.specs.declared.call.Call.{Call}
 use Rattle.mpicall.specs.declared.call.Call.TheVariants.{Send, Recv, Isend, Irecv, Sendrecv, Coll, Icoll, Dup, Split}
 use Rattle.mpigroup.specs.Groups.{Groups, size_of, group_rank_of}
 use Rattle.pairing.specs.Limits.{most_calls}
-use Rattle.pairing.specs.Recordings.{Lists, calls_of, has_finalize, ends_with_finalize, IsClosedList}
+use Rattle.pairing.specs.Recordings.{Lists, calls_of, has_end, is_ended, IsClosedList}
 use Rattle.pairing.specs.Requests.{starts, waits_for, does_start, does_complete, is_among, is_active, started_of}
 use Rattle.pairing.specs.Communicators.{holds}
 use Rattle.pairing.specs.declared.fault.CallFault.{CallFault}
@@ -111,7 +111,7 @@ first_failed ((fault, passes) ∷ rest) = if passes then first_failed rest else 
 -- fault of a call that fails it.
 abbrev pub fault_of : Groups → ℕ → List Call → Call → Option CallFault
 fault_of groups rank calls call = first_failed (
-    (CallAfterFinalize, not (has_finalize calls)) ∷
+    (CallAfterFinalize, not (has_end calls)) ∷
     ((TooManyCalls, nat_lt (length calls) most_calls) ∷
     ((UnknownCommunicator, comm_exists groups call) ∷
     ((CommunicatorNotHeld, holds_comm groups rank calls call) ∷
@@ -130,11 +130,11 @@ IsLawfulList groups rank calls =
 abbrev pub IsLawful : Groups → Lists → Type 0
 IsLawful groups recording = (rank : ℕ) → rank < length recording → IsLawfulList groups rank (calls_of recording rank)
 
--- Law: a lawful list whose last call is Finalize is closed.
+-- Law: a lawful list whose last call ends it is closed.
 abbrev pub AnEndedLawfulListIsClosed : Type 0
 AnEndedLawfulListIsClosed =
     (groups : Groups) (rank : ℕ) (calls : List Call) → IsLawfulList groups rank calls →
-    ends_with_finalize calls ≡ true → IsClosedList calls
+    is_ended calls ≡ true → IsClosedList calls
 
 -- Law: each request that a wait of a lawful list names has its start, which starts that request.
 abbrev pub EachWaitHasItsStarts : Type 0

@@ -3,6 +3,7 @@
 use Rattle.std.specs.Prelude.{◌≡◌, ℕ, ◌<◌, ◌-◌, Bool, true, false, unwrap_or, List, [], ◌∷◌, ◌++◌, length, slice_get, slice_set}
 use Rattle.std.specs.List.{list_any}
 use Rattle.std.specs.Option.{option_map_or}
+use Rattle.mpicall.specs.Ending.{ends_list}
 use Rattle.mpicall.specs.declared.call.Call.{Call}
 use Rattle.mpicall.specs.declared.call.Call.TheVariants.{Finalize}
 
@@ -18,25 +19,27 @@ calls_of recording rank = unwrap_or (slice_get recording rank) []
 abbrev pub appended : Lists → ℕ → Call → Lists
 appended recording rank call = slice_set recording rank (calls_of recording rank ++ call ∷ [])
 
--- whether the call is MPI_Finalize, after which a rank makes no other call (MPI 4.0, section 11.2.2)
+-- whether the call is MPI_Finalize (MPI 4.0, section 11.2.2)
 abbrev pub is_finalize : Call → Bool
 is_finalize Finalize = true
 is_finalize _ = false
 
--- some call of the list is Finalize
-abbrev pub has_finalize : List Call → Bool
-has_finalize calls = list_any is_finalize calls
+-- some call of the list ends it
+abbrev pub has_end : List Call → Bool
+has_end calls = list_any ends_list calls
 
--- the last call of the list is Finalize
-abbrev pub ends_with_finalize : List Call → Bool
-ends_with_finalize calls = option_map_or is_finalize (slice_get calls (length calls - 1)) false
+-- the last call of the list ends it
+abbrev pub is_ended : List Call → Bool
+is_ended calls = option_map_or ends_list (slice_get calls (length calls - 1)) false
 
--- a rank's list is closed if it ends with Finalize and has no other (MPI 4.0, section 11.2.2: each
--- process calls it once, as its last call)
+-- a rank's list is closed if its last call ends it and no other does (MPI 4.0, section 11.2.2: each
+-- process calls MPI_Finalize once, as its last call)
 pub record IsClosedList (calls : List Call) : Type 0 where
   pub before : List Call
-  pub ends_with_finalize : calls ≡ before ++ Finalize ∷ []
-  pub has_no_other : has_finalize before ≡ false
+  pub last : Call
+  pub is_all : calls ≡ before ++ last ∷ []
+  pub is_the_end : ends_list last ≡ true
+  pub has_no_other : has_end before ≡ false
 
 -- a recording is closed if each rank's list is
 abbrev pub IsClosed : Lists → Type 0

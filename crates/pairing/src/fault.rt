@@ -3,7 +3,7 @@
 ghost use Rattle.std.specs.Prelude.{◌≡◌, ◌<◌, ◌≤◌, ◌∷◌, [], ◌++◌, true, length, IfNone};
 ghost use Rattle.std.specs.Option.{option_map_or};
 ghost use Rattle.pairing.specs.Limits.{most_calls};
-ghost use Rattle.pairing.specs.Recordings.{is_finalize, has_finalize, ends_with_finalize};
+ghost use Rattle.pairing.specs.Recordings.{has_end, is_ended};
 ghost use Rattle.pairing.specs.Codes.{code_of};
 ghost use Rattle.pairing.specs.Faults.{comm_of, root_of, is_group_rank, is_peer, is_member, comm_exists, holds_comm, peers_exist, starts_afresh, are_distinct, waits_for_active, is_fresh_comm, makes_afresh, fault_of, IsLawfulList, AnEndedLawfulListIsClosed, EachWaitHasItsStarts, NoTwoStartsAreActive};
 
@@ -57,18 +57,11 @@ impl CallFault {
     }
 }
 
-/// Whether the call is Finalize.
-fn is_finalize(call: &Record) -> bool
-    ensures { result ≡ is_finalize call.now }
+/// Whether some call of the list ends it.
+fn has_end(calls: &[Record]) -> bool
+    ensures { result ≡ has_end calls.now }
 {
-    matches!(call.as_call(), Call::Finalize)
-}
-
-/// Whether some call of the list is Finalize.
-fn has_finalize(calls: &[Record]) -> bool
-    ensures { result ≡ has_finalize calls.now }
-{
-    calls.iter().any(|call| is_finalize(call))
+    calls.iter().any(|call| call.ends_list())
 }
 
 /// The communicator over which the call is made, if it names one.
@@ -230,18 +223,18 @@ fn makes_afresh(head: &Head, rank: u16, calls: &[Record], call: &Call) -> bool
     }
 }
 
-/// What `fault` answers, where it is known whether Finalize was among the calls.
+/// What `fault` answers, where it is known whether one of the calls ended the list.
 fn first_fault(
     head: &Head,
     rank: u16,
-    is_ended: bool,
+    is_over: bool,
     calls: &[Record],
     call: &Call,
 ) -> Option<CallFault>
-    requires { is_ended ≡ has_finalize calls.now }
+    requires { is_over ≡ has_end calls.now }
     ensures { result ≡ fault_of head.now rank calls.now call.now }
 {
-    if is_ended {
+    if is_over {
         Some(CallFault::CallAfterFinalize)
     } else if calls.len() >= MOST_CALLS {
         Some(CallFault::TooManyCalls)
@@ -264,12 +257,12 @@ fn first_fault(
     }
 }
 
-/// Whether the last call of the list is Finalize.
-fn ends_with_finalize(calls: &[Record]) -> bool
-    ensures { result ≡ ends_with_finalize calls.now }
+/// Whether the last call of the list ends it.
+fn is_ended(calls: &[Record]) -> bool
+    ensures { result ≡ is_ended calls.now }
 {
     match calls.last() {
-        Some(last) => is_finalize(last),
+        Some(last) => last.ends_list(),
         None => false,
     }
 }
@@ -281,7 +274,7 @@ pub fn fault(head: &Head, rank: u16, calls: &[Record], call: &Record) -> Option<
     ensures value { result ≡ fault_of head.now rank calls.now call.now }
     ensures room { IfNone result (length calls.now < most_calls) }
 {
-    first_fault(head, rank, has_finalize(calls), calls, call.as_call())
+    first_fault(head, rank, has_end(calls), calls, call.as_call())
 }
 
 /// The first fault of a call after calls that have none: what `fault` answers, by a look at the last
@@ -293,10 +286,10 @@ pub fn next_fault(head: &Head, rank: u16, calls: &[Record], call: &Record) -> Op
     ensures room { IfNone result (length calls.now < most_calls) }
     ensures lawful { IfNone result (IsLawfulList head.now rank (calls.now ++ call.now ∷ [])) }
 {
-    first_fault(head, rank, ends_with_finalize(calls), calls, call.as_call())
+    first_fault(head, rank, is_ended(calls), calls, call.as_call())
 }
 
-/// A lawful list whose last call is Finalize is closed: it has no other Finalize.
+/// A lawful list whose last call ends it is closed: no other call ends it.
 pub fn an_ended_lawful_list_is_closed()
     ensures { AnEndedLawfulListIsClosed }
 {}

@@ -33,7 +33,6 @@ pub mod partner;
 mod places;
 pub mod recording;
 pub mod request;
-pub mod wave;
-
 #[cfg(test)]
 mod tests;
+pub mod wave;

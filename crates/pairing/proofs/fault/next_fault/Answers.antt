@@ -3,7 +3,7 @@ use Rattle.pairing.proofs.FaultLemmas.{lawful_end, no_fault}
 use Rattle.pairing.proofs.fault.next_fault.Goals as goal
 
 pub first_fault-requires : goal.first_fault-requires
-first_fault-requires c = c.ends_with_finalize.ensures ∙ lawful_end c.args.head.now c.args.rank c.args.calls.now c.requires
+first_fault-requires c = c.is_ended.ensures ∙ lawful_end c.args.head.now c.args.rank c.args.calls.now c.requires
 
 pub returns-clause-lawful : goal.returns-clause-lawful
 returns-clause-lawful c =
