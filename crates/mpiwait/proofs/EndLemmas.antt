@@ -26,12 +26,12 @@ module _ {O : Type 0} (written : O → Option (List ℕ)) (failures : O → ℕ)
   check_output told old new head files status.Usage ends = ends
   check_output told old new head files status.Fault ends = ends
 
-  pub lint_output : (told : List ℕ → Option (List ℕ)) (old new : O) (ended : Status) → EndsLint written failures told old new ended → EndsOutput written failures old new ended
-  lint_output told old new status.Free ends = (_, ends.1)
-  lint_output told old new status.Hang ends = absurd ends
-  lint_output told old new status.Refused ends = ends
-  lint_output told old new status.Usage ends = absurd ends
-  lint_output told old new status.Fault ends = ends
+  pub lint_output : (told : List ℕ → Option (List ℕ)) (old new : O) (text : Option (List ℕ)) (ended : Status) → EndsLint written failures told old new text ended → EndsOutput written failures old new ended
+  lint_output told old new text status.Free ends = (_, ends.2)
+  lint_output told old new text status.Hang ends = absurd ends
+  lint_output told old new text status.Refused ends = ends
+  lint_output told old new text status.Usage ends = absurd ends
+  lint_output told old new text status.Fault ends = ends
 
   pub text_output : (told : List ℕ → Option (List ℕ)) (old new : O) (text : List ℕ) (ended : Status) → EndsText written failures told old new text ended → EndsOutput written failures old new ended
   text_output told old new text status.Free ends = (text, ends)
@@ -42,7 +42,7 @@ module _ {O : Type 0} (written : O → Option (List ℕ)) (failures : O → ℕ)
 
   pub asked_output : (told : List ℕ → Option (List ℕ)) (old new : O) (asked : Words) (ended : Status) → EndsBy written failures told old new asked ended → EndsOutput written failures old new ended
   asked_output told old new (Check head files) ended ends = check_output told old new _ _ ended ends
-  asked_output told old new (Lint file) ended ends = lint_output told old new ended ends
+  asked_output told old new (Lint file) ended ends = lint_output told old new _ ended ends
   asked_output told old new (Said text false) ended ends = text_output told old new _ ended ends
   asked_output told old new (Said text true) ended ends = subst (λ (s : Status). EndsOutput written failures old new s) (sym ends.0) ends.1
   asked_output told old new NoMemory ended ends = subst (λ (s : Status). EndsOutput written failures old new s) (sym ends.0) (inl ends.1)

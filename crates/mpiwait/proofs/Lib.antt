@@ -2,3 +2,4 @@ pub mod AskedLemmas
 pub mod FrontLemmas
 pub mod TextLemmas
 pub mod EndLemmas
+pub mod LintLemmas

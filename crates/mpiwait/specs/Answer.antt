@@ -52,11 +52,11 @@ module _ {O : Type 0} (written : O → Option (List ℕ)) (failures : O → ℕ)
       IsOfError (status_of fault) × EndsCheck written failures told old new head files (status_of fault) × EndsCheck written failures told old new head files status.Fault
 
   -- the same of a lint
-  abbrev pub LintEnds : (Text → Option Text) → O → O → Result Status Complaint → Type 0
-  LintEnds told old new (Ok ended) = IsOfOutput ended × EndsLint written failures told old new ended
-  LintEnds told old new (Err (complaint.Usage said)) = ⊥
-  LintEnds told old new (Err (complaint.Fault fault)) =
-      IsOfError (status_of fault) × EndsLint written failures told old new (status_of fault) × EndsLint written failures told old new status.Fault
+  abbrev pub LintEnds : (Text → Option Text) → O → O → Option Text → Result Status Complaint → Type 0
+  LintEnds told old new text (Ok ended) = IsOfOutput ended × EndsLint written failures told old new text ended
+  LintEnds told old new text (Err (complaint.Usage said)) = ⊥
+  LintEnds told old new text (Err (complaint.Fault fault)) =
+      IsOfError (status_of fault) × EndsLint written failures told old new text (status_of fault) × EndsLint written failures told old new text status.Fault
 
   -- the same of whatever the words ask for
   abbrev pub AnswerEnds : (Text → Option Text) → O → O → Words → Result Status Complaint → Type 0

@@ -6,6 +6,7 @@ use Rattle.moves.specs.declared.verdict.Verdict.TheVariants as verdict
 use Rattle.gather.specs.Answers.{report_of}
 use Rattle.mpiwait.specs.Asked.{Answers}
 use Rattle.mpiwait.specs.Outputs.{Writes, WritesSome, WritesNone, FailsToWrite, lint_report}
+use Rattle.mpiwait.specs.Lints.{IsCountOf}
 use Rattle.mpiwait.specs.Texts.{IsVerdictOfTexts}
 use Rattle.mpiwait.specs.declared.status.Status.{Status}
 use Rattle.mpiwait.specs.declared.status.Status.TheVariants.{Free, Hang, Refused, Usage, Fault}
@@ -39,12 +40,13 @@ module _ {O : Type 0} (written : O → Option (List ℕ)) (failures : O → ℕ)
   EndsCheck head files Usage = new ≡ old
   EndsCheck head files Fault = WritesNone written failures old new
 
-  -- a trace was to be read alone: the number of its calls stands there; or a refusal; or nothing
-  abbrev pub EndsLint : Status → Type 0
-  EndsLint Free = (count : ℕ) × Writes written failures old new (lint_report count)
-  EndsLint Refused = WritesSome written failures old new
-  EndsLint Fault = WritesNone written failures old new
-  EndsLint _ = ⊥
+  -- a trace was to be read alone: the number of its calls stands there, by its text where that is told; or
+  -- a refusal; or nothing, but for a failed write
+  abbrev pub EndsLint : Option Text → Status → Type 0
+  EndsLint text Free = (count : ℕ) × IsCountOf text count × Writes written failures old new (lint_report count)
+  EndsLint text Refused = WritesSome written failures old new
+  EndsLint text Fault = WritesNone written failures old new
+  EndsLint text _ = ⊥
 
   -- a text was asked for: it stands there, or a write failed
   abbrev pub EndsText : Text → Status → Type 0
@@ -59,7 +61,7 @@ module _ {O : Type 0} (written : O → Option (List ℕ)) (failures : O → ℕ)
   -- the end of the program, by what its words ask for
   abbrev pub EndsBy : Words → Status → Type 0
   EndsBy (Check head files) status = EndsCheck (told head.now) (map (λ file. told file.now) files.items) status
-  EndsBy (Lint file) status = EndsLint status
+  EndsBy (Lint file) status = EndsLint (told file.now) status
   EndsBy (Said text false) status = EndsText (string_bytes text) status
   EndsBy (Said text true) status = EndsAs Usage status
   EndsBy NoMemory status = EndsAs Fault status

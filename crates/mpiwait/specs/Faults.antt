@@ -7,7 +7,7 @@ use Rattle.gather.specs.declared.fault.RankFault.{RankFault}
 use Rattle.gather.specs.declared.fault.RankFault.TheVariants.{OfCall, OfSource}
 use Rattle.gather.specs.declared.fault.RunFault.{RunFault}
 use Rattle.gather.specs.declared.fault.RunFault.TheVariants as run
-use Rattle.mpiwait.specs.declared.lint.LintFault.{LintFault}
+use Rattle.mpicall.specs.declared.lint.LintFault.{LintFault}
 use Rattle.mpiwait.specs.declared.fault.Fault.{Fault}
 use Rattle.mpiwait.specs.declared.fault.Fault.TheVariants.{Open, ReadHead, Head, FileCount, Refused, Failed, LintRefused, LintFailed, Memory, Write}
 use Rattle.mpiwait.specs.declared.status.Status.{Status}

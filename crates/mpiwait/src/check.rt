@@ -17,6 +17,7 @@ use gather::run::run;
 use moves::verdict::Verdict;
 use mpicall::device::{DeviceFault, Input, Output};
 use mpicall::source::Source;
+use mpigroup::fault::ReadFault;
 use mpigroup::head::{DECIDING_BYTES, Head};
 use std::alloc::Global;
 
@@ -47,13 +48,14 @@ fn read_front<'a, I: Input>(alloc: Global, input: &mut I) -> Result<Vec<u8>, Fau
 }
 
 /// The head that the front of its text gives.
-fn head_of_front<'a>(front: &[u8]) -> Result<Head, Fault<'a>>
+fn head_of_front<'a>(alloc: Global, front: &[u8]) -> Result<Head, Fault<'a>>
     ensures head { IfOk result (λ head. read_head front.now ≡ Ok head) }
     ensures fault { IfErr result (IsFaultOfHead (Some front.now)) }
 {
-    match Head::read(front) {
+    match Head::read(alloc, front) {
         Ok(head) => Ok(head),
-        Err(fault) => Err(Fault::Head(fault)),
+        Err(ReadFault::Text(fault)) => Err(Fault::Head(fault)),
+        Err(ReadFault::Memory) => Err(Fault::Memory),
     }
 }
 
@@ -64,7 +66,7 @@ fn open_head<'a, P: Opener>(alloc: Global, opener: &P, path: &'a str) -> Result<
 {
     let mut input = opener.open_input(path).ok_or(Fault::Open(path))?;
     let front = read_front(alloc, &mut input)?;
-    head_of_front(&front)
+    head_of_front(alloc, &front)
 }
 
 /// The sources of the ranks' records, from the files that the paths name.

@@ -4,10 +4,10 @@ ghost use Rattle.std.specs.Prelude.{◌≡◌};
 ghost use Rattle.mpiwait.specs.Faults.{is_failure, is_source_failure, of_head, of_lint, of_run, status_of};
 ghost use Rattle.mpiwait.specs.declared.fault.Fault.TheVariants.{Memory};
 
-use crate::lint::LintFault;
 use crate::status::Status;
 use gather::fault::{RankFault, Refusal, RunFault};
 use mpicall::fault::SourceFault;
+use mpicall::lint::LintFault;
 use mpigroup::fault::HeadFault;
 use std::alloc::{AllocError, AllocFailed};
 use thiserror::Error;
@@ -135,7 +135,7 @@ mod tests {
 
     #[test]
     fn shows_codes_and_words_of_rank_faults(rt: HostRuntime) -> Result<(), Fail> {
-        let rows: [(RankFault, &str); 16] = [
+        let rows: [(RankFault, &str); 21] = [
             (of_line(LineFault::EmptyField), "L1 empty field"),
             (of_line(LineFault::UnknownWord), "L2 unknown word"),
             (of_line(LineFault::FieldCount), "L3 number of fields"),
@@ -162,8 +162,22 @@ mod tests {
                 "C1 unknown communicator",
             ),
             (
+                of_call(CallFault::CommunicatorNotHeld),
+                "C2 communicator not held",
+            ),
+            (
                 of_call(CallFault::PeerOutOfGroup),
                 "C3 peer or root out of group",
+            ),
+            (of_call(CallFault::RequestInUse), "C4 request in use"),
+            (
+                of_call(CallFault::RequestNotActive),
+                "C5 request not active",
+            ),
+            (of_call(CallFault::RequestRepeated), "C6 request repeated"),
+            (
+                of_call(CallFault::WrongNewCommunicator),
+                "C7 wrong new communicator",
             ),
             (of_call(CallFault::TooManyCalls), "C8 too many calls"),
             (

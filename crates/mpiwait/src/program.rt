@@ -84,7 +84,7 @@ fn answer_lint<'a, P: Opener, O: Output>(
     wait: &impl Wait,
     out: &mut O,
 ) -> Result<Status, Complaint<'a>>
-    ensures { LintEnds O.written O.failures (P.told opener.now) out.old out.new result }
+    ensures { LintEnds O.written O.failures (P.told opener.now) out.old out.new (P.told opener.now file.now) result }
 {
     match lint_file(alloc, file, opener, wait, out) {
         Ok(_) => Ok(Status::Free),

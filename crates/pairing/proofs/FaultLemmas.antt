@@ -41,6 +41,7 @@ not_true true h = absurd (false≢true h)
 not_true false h = refl
 
 pub fault_none : (groups : Groups) (rank : ℕ) (calls : List Call) (call : Call) → fault_of groups rank calls call ≡ None → IsFaultless rank calls call
+unfolding fault_of
 fault_none groups rank calls call h =
     let passed = all_pass (not (has_end calls)) (ltb (length calls) most_calls) (comm_exists groups call)
     (holds_comm groups rank calls call) (peers_exist groups call) (starts_afresh calls call) (are_distinct (waits_for call))

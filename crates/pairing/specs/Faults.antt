@@ -109,7 +109,7 @@ first_failed ((fault, passes) ∷ rest) = if passes then first_failed rest else 
 
 -- The first fault of a call that the rank makes after the calls: the tests in their order, each with the
 -- fault of a call that fails it.
-abbrev pub fault_of : Groups → ℕ → List Call → Call → Option CallFault
+unfoldable pub fault_of : Groups → ℕ → List Call → Call → Option CallFault
 fault_of groups rank calls call = first_failed (
     (CallAfterFinalize, not (has_end calls)) ∷
     ((TooManyCalls, nat_lt (length calls) most_calls) ∷

@@ -224,6 +224,7 @@ fn makes_afresh(head: &Head, rank: u16, calls: &[Record], call: &Call) -> bool
 }
 
 /// What `fault` answers, where it is known whether one of the calls ended the list.
+#[tactic(auto, unfolding(crate::specs::Faults::fault_of))]
 fn first_fault(
     head: &Head,
     rank: u16,
@@ -232,7 +233,8 @@ fn first_fault(
     call: &Call,
 ) -> Option<CallFault>
     requires { is_over ≡ has_end calls.now }
-    ensures { result ≡ fault_of head.now rank calls.now call.now }
+    ensures value { result ≡ fault_of head.now rank calls.now call.now }
+    ensures room { IfNone result (length calls.now < most_calls) }
 {
     if is_over {
         Some(CallFault::CallAfterFinalize)

@@ -134,6 +134,214 @@ fn reports_runs(rt: HostRuntime) -> Result<(), Fail> {
     Ok(())
 }
 
+/// Runs over each kind of call: both verdicts, and each fault of a call that a trace may have.
+#[test]
+fn reports_runs_of_every_kind(rt: HostRuntime) -> Result<(), Fail> {
+    let rows: [(&str, &[&str], &str, u8); 26] = [
+        (
+            "ranks 2\n",
+            &[
+                "bsend 0 1 0\nrecv 0 1 0\nfinalize\n",
+                "bsend 0 0 0\nrecv 0 0 0\nfinalize\n",
+            ],
+            "verdict free\n",
+            0,
+        ),
+        (
+            "ranks 2\n",
+            &[
+                "irecv 7 0 1 0\nsend 0 1 0\nwait 7\nfinalize\n",
+                "irecv 7 0 0 0\nsend 0 0 0\nwait 7\nfinalize\n",
+            ],
+            "verdict free\n",
+            0,
+        ),
+        (
+            "ranks 3\n",
+            &[
+                "sendrecv 0 1 0 2 0\nfinalize\n",
+                "sendrecv 0 2 0 0 0\nfinalize\n",
+                "sendrecv 0 0 0 1 0\nfinalize\n",
+            ],
+            "verdict free\n",
+            0,
+        ),
+        (
+            "ranks 2\n",
+            &["barrier 0\nfinalize\n", "finalize\n"],
+            "verdict hang\n",
+            1,
+        ),
+        (
+            "ranks 2\ncomm 0 1\n",
+            &[
+                "dup 0 1\nbarrier 0\nbarrier 1\nfinalize\n",
+                "dup 0 1\nbarrier 1\nbarrier 0\nfinalize\n",
+            ],
+            "verdict hang\n",
+            1,
+        ),
+        (
+            "ranks 2\n",
+            &[
+                "ibarrier 0 0\nsend 0 1 5\nwait 0\nfinalize\n",
+                "recv 0 0 5\nibarrier 0 0\nwait 0\nfinalize\n",
+            ],
+            "verdict free\n",
+            0,
+        ),
+        (
+            "ranks 2\n",
+            &[
+                "irecv 0 0 1 9\nirecv 1 0 1 8\nwaitany 1 0 1\nfinalize\n",
+                "send 0 0 8\nfinalize\n",
+            ],
+            "verdict free\n",
+            0,
+        ),
+        (
+            "ranks 2\n",
+            &["bcast 0 0\nfinalize\n", "barrier 0\nfinalize\n"],
+            "verdict free\n",
+            0,
+        ),
+        (
+            "ranks 3\ncomm 2 0\ncomm 1\n",
+            &[
+                "split 0 4 9 1\nsend 1 0 6\nfinalize\n",
+                "split 0 5 0 2\nfinalize\n",
+                "split 0 4 3 1\nrecv 1 1 6\nfinalize\n",
+            ],
+            "verdict free\n",
+            0,
+        ),
+        (
+            "ranks 3\ncomm 0 2\ncomm 1\n",
+            &[
+                "split 0 4 9 1\nsend 1 0 6\nfinalize\n",
+                "split 0 5 0 2\nfinalize\n",
+                "split 0 4 3 1\nrecv 1 1 6\nfinalize\n",
+            ],
+            "verdict hang\n",
+            1,
+        ),
+        (
+            "ranks 3\n",
+            &[
+                "recv 0 1 0\nfinalize\n",
+                "recv 0 2 0\nsend 0 0 0\nfinalize\n",
+                "recv 0 0 3\nsend 0 1 0\nfinalize\n",
+            ],
+            "verdict hang\n",
+            1,
+        ),
+        (
+            "ranks 1\n",
+            &["send 0 null 0\nrecv 0 null 0\nsendrecv 0 null 0 null 0\nfinalize\n"],
+            "verdict free\n",
+            0,
+        ),
+        (
+            "ranks 1\n",
+            &["isend 5 0 null 0\nwait 5\nisend 5 0 null 0\nwait 5\nfinalize\n"],
+            "verdict free\n",
+            0,
+        ),
+        (
+            "ranks 2\n",
+            &["issend 3 0 1 0\nwait 3\nfinalize\n", "finalize\n"],
+            "verdict hang\n",
+            1,
+        ),
+        (
+            "ranks 2\n",
+            &["ibsend 3 0 1 0\nwait 3\nfinalize\n", "finalize\n"],
+            "verdict free\n",
+            0,
+        ),
+        (
+            "ranks 1\n",
+            &["split 0 undefined 0 none\nfinalize\n"],
+            "verdict free\n",
+            0,
+        ),
+        (
+            "ranks 1\n",
+            &["send 1 0 0\nfinalize\n"],
+            "refused rank 0 call 0 C1 unknown communicator\n",
+            2,
+        ),
+        (
+            "ranks 1\ncomm 0\n",
+            &["barrier 1\ndup 0 1\nfinalize\n"],
+            "refused rank 0 call 0 C2 communicator not held\n",
+            2,
+        ),
+        (
+            "ranks 1\n",
+            &["irecv 1 0 null 0\nirecv 1 0 null 0\nfinalize\n"],
+            "refused rank 0 call 1 C4 request in use\n",
+            2,
+        ),
+        (
+            "ranks 1\n",
+            &["irecv 5 0 null 0\nwait 5\nwait 5\nfinalize\n"],
+            "refused rank 0 call 2 C5 request not active\n",
+            2,
+        ),
+        (
+            "ranks 1\n",
+            &["irecv 1 0 null 0\nwaitany 0 1 2\nfinalize\n"],
+            "refused rank 0 call 1 C5 request not active\n",
+            2,
+        ),
+        (
+            "ranks 1\n",
+            &["waitall 2 2\nfinalize\n"],
+            "refused rank 0 call 0 C6 request repeated\n",
+            2,
+        ),
+        (
+            "ranks 1\n",
+            &["dup 0 1\nfinalize\n"],
+            "refused rank 0 call 0 C7 wrong new communicator\n",
+            2,
+        ),
+        (
+            "ranks 1\n",
+            &["split 0 1 0 none\nfinalize\n"],
+            "refused rank 0 call 0 C7 wrong new communicator\n",
+            2,
+        ),
+        (
+            "ranks 1\ncomm 0\n",
+            &["dup 0 1\ndup 0 1\nfinalize\n"],
+            "refused rank 0 call 1 C7 wrong new communicator\n",
+            2,
+        ),
+        (
+            "ranks 2\ncomm 0 0\n",
+            &["finalize\n", "finalize\n"],
+            "refused head line 2 H4 group\n",
+            2,
+        ),
+    ];
+    for (head, texts, told, status) in rows {
+        let second = texts.get(1).copied().unwrap_or("");
+        let third = texts.get(2).copied().unwrap_or("");
+        let files = [
+            ("head", head),
+            ("r0", texts[0]),
+            ("r1", second),
+            ("r2", third),
+        ];
+        let words = ["check", "head", "r0", "r1", "r2"];
+        let shown = told_of(&rt, &Shelf::of(&files), &words[..texts.len() + 2], status)?;
+        assert_eq!(rt; shown.as_str(), told, "of {texts:?}");
+    }
+    Ok(())
+}
+
 #[test]
 fn tells_files_that_fail(rt: HostRuntime) -> Result<(), Fail> {
     let rows: [(&[(&str, &str)], &str, u64, &str, u8); 10] = [

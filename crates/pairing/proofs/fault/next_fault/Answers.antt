@@ -7,4 +7,4 @@ first_fault-requires c = c.is_ended.ensures ∙ lawful_end c.args.head.now c.arg
 
 pub returns-clause-lawful : goal.returns-clause-lawful
 returns-clause-lawful c =
-    no_fault c.args.head.now c.args.rank c.args.calls.now c.args.call.now c.first_fault.result c.requires (rw c.as_call.ensures.value at c.first_fault.ensures)
+    no_fault c.args.head.now c.args.rank c.args.calls.now c.args.call.now c.first_fault.result c.requires (rw c.as_call.ensures.value at c.first_fault.ensures.value)
