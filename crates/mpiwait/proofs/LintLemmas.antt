@@ -4,7 +4,7 @@ use Rattle.mpicall.specs.Trace.{Trace, trace_of}
 use Rattle.mpicall.specs.Lint.{TellsTrace}
 use Rattle.mpicall.specs.declared.lint.LintFault.{LintFault}
 use Rattle.mpiwait.specs.Faults.{is_source_failure, of_lint}
-use Rattle.mpiwait.specs.Lints.{IsCountOf, IsTraceFault, IsFaultOfLint}
+use Rattle.mpiwait.specs.Lints.{IsCountOf, IsTraceFault, IsFaultOfTrace}
 use Rattle.mpiwait.specs.declared.fault.Fault.{Fault}
 use Rattle.mpiwait.specs.declared.fault.Fault.TheVariants.{LintRefused, LintFailed}
 
@@ -15,11 +15,11 @@ told_is (Some text) known answer is tells = subst (λ k. TellsTrace k answer) is
 pub count_is : (told left : Option (List ℕ)) (known : Option Trace) (count : ℕ) → left ≡ told → known ≡ option_map trace_of left → TellsTrace known (Ok count) → IsCountOf told count
 count_is told left known count same is tells = told_is told known (Ok count) (subst (λ l. known ≡ option_map trace_of l) same is) tells
 
-by_failure : (told : Option (List ℕ)) (fault : LintFault) (failure : Bool) → is_source_failure fault.fault ≡ failure → IsTraceFault told fault → IsFaultOfLint told (cond failure (LintFailed fault) (LintRefused fault))
+by_failure : (told : Option (List ℕ)) (fault : LintFault) (failure : Bool) → is_source_failure fault.fault ≡ failure → IsTraceFault told fault → IsFaultOfTrace told (cond failure (LintFailed fault) (LintRefused fault))
 by_failure told fault true is says = (says, is)
 by_failure told fault false is says = (says, is)
 
-pub fault_is : (told left : Option (List ℕ)) (known : Option Trace) (fault : LintFault) (answer : Fault) → left ≡ told → known ≡ option_map trace_of left → TellsTrace known (Err fault) → answer ≡ of_lint fault → IsFaultOfLint told answer
+pub fault_is : (told left : Option (List ℕ)) (known : Option Trace) (fault : LintFault) (answer : Fault) → left ≡ told → known ≡ option_map trace_of left → TellsTrace known (Err fault) → answer ≡ of_lint fault → IsFaultOfTrace told answer
 fault_is told left known fault answer same is tells of =
-    subst (λ f. IsFaultOfLint told f) (sym of)
+    subst (λ f. IsFaultOfTrace told f) (sym of)
     (by_failure told fault (is_source_failure fault.fault) refl (told_is told known (Err fault) (subst (λ l. known ≡ option_map trace_of l) same is) tells))

@@ -15,11 +15,15 @@ IsCountOf told count = IfSome told (λ text. TellsTrace (Some (trace_of text)) (
 abbrev pub IsTraceFault : Option (List ℕ) → LintFault → Type 0
 IsTraceFault told fault = IfSome told (λ text. TellsTrace (Some (trace_of text)) (Err fault))
 
--- the file couldn't be opened, the trace has a fault, or the machine failed
+-- the file couldn't be opened, or its trace has a fault
+abbrev pub IsFaultOfTrace : Option (List ℕ) → Fault → Type 0
+IsFaultOfTrace told (Open path) = ⊤
+IsFaultOfTrace told (LintRefused fault) = IsTraceFault told fault × (is_source_failure fault.fault ≡ false)
+IsFaultOfTrace told (LintFailed fault) = IsTraceFault told fault × (is_source_failure fault.fault ≡ true)
+IsFaultOfTrace told fault = ⊥
+
+-- the same, or memory was wanted, or the answer couldn't be written
 abbrev pub IsFaultOfLint : Option (List ℕ) → Fault → Type 0
-IsFaultOfLint told (Open path) = ⊤
-IsFaultOfLint told (LintRefused fault) = IsTraceFault told fault × (is_source_failure fault.fault ≡ false)
-IsFaultOfLint told (LintFailed fault) = IsTraceFault told fault × (is_source_failure fault.fault ≡ true)
 IsFaultOfLint told Memory = ⊤
 IsFaultOfLint told Write = ⊤
-IsFaultOfLint told fault = ⊥
+IsFaultOfLint told fault = IsFaultOfTrace told fault

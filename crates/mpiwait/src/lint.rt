@@ -2,7 +2,7 @@
 
 ghost use Rattle.std.specs.Prelude.{◌≡◌, IfOk, IfErr, OnOk};
 ghost use Rattle.std.specs.Io.KnownBytes.{Appends};
-ghost use Rattle.mpiwait.specs.Lints.{IsCountOf, IsFaultOfLint};
+ghost use Rattle.mpiwait.specs.Lints.{IsCountOf, IsFaultOfLint, IsFaultOfTrace};
 ghost use Rattle.mpiwait.specs.Outputs.{LeavesOutput, lint_report};
 
 use crate::fault::Fault;
@@ -17,7 +17,7 @@ use std::sync::Wait;
 #[tactic(auto, using(crate::proofs::LintLemmas::count_is, crate::proofs::LintLemmas::fault_is))]
 fn lint_opened<'a, P: Opener>(file: &'a str, opener: &P, wait: &impl Wait) -> Result<u64, Fault<'a>>
     ensures count { IfOk result (IsCountOf (P.told opener.now file.now)) }
-    ensures fault { IfErr result (IsFaultOfLint (P.told opener.now file.now)) }
+    ensures fault { IfErr result (IsFaultOfTrace (P.told opener.now file.now)) }
 {
     let input = opener.open_input(file).ok_or(Fault::Open(file))?;
     let mut source = Source::new(input);
