@@ -16,11 +16,11 @@ pub enum RankFault {
 }
 
 impl RankFault {
-    ghost use Rattle.gather.specs.Codes.{code_of};
+    ghost use Rattle.gather.specs.Codes.{code_of_rank};
 
     /// The code under which the program reports the fault.
     pub fn code(self) -> &'static str
-        ensures { result.now ≡ code_of self }
+        ensures { result.now ≡ code_of_rank self }
     {
         match self {
             RankFault::OfCall(fault) => fault.code(),

@@ -16,4 +16,4 @@ pub mod Window
 pub mod Stage
 pub mod Source
 pub mod Lint
-pub mod Code
+pub mod Codes

@@ -56,11 +56,11 @@ pub enum SourceFault {
 }
 
 impl LineFault {
-    ghost use Rattle.mpicall.specs.Code.{line_code};
+    ghost use Rattle.mpicall.specs.Codes.{code_of_line};
 
     /// The code under which the fault is reported.
     pub fn code(self) -> &'static str
-        ensures { result.now ≡ line_code self }
+        ensures { result.now ≡ code_of_line self }
     {
         match self {
             LineFault::EmptyField => "L1",
@@ -75,11 +75,11 @@ impl LineFault {
 }
 
 impl SourceFault {
-    ghost use Rattle.mpicall.specs.Code.{source_code};
+    ghost use Rattle.mpicall.specs.Codes.{code_of_source};
 
     /// The code under which the fault is reported.
     pub fn code(self) -> &'static str
-        ensures { result.now ≡ source_code self }
+        ensures { result.now ≡ code_of_source self }
     {
         match self {
             SourceFault::Line(fault) => fault.code(),

@@ -11,7 +11,7 @@ use Rattle.mpigroup.specs.declared.limits.TheConstants.{MOST_COMMS}
 use Rattle.mpigroup.specs.declared.fault.HeadFault.{HeadFault}
 use Rattle.mpigroup.specs.declared.fault.ReadFault.{ReadFault}
 use Rattle.mpigroup.specs.declared.fault.ReadFault.TheVariants.{Text, Memory}
-use Rattle.mpigroup.specs.HeadFaults.{IsFaultOf}
+use Rattle.mpigroup.specs.Codes.{IsFaultOf}
 use Rattle.mpigroup.specs.HeadText.{is_group, is_head_line, is_comm, checked_group, group_of_fields, group_of_line, at_line, put_front, put_line, groups_of_lines}
 
 -- the groups behind others, or the first fault there

@@ -1,5 +1,5 @@
 pub mod Groups
-pub mod HeadFaults
+pub mod Codes
 pub mod HeadText
 pub mod Heads
 pub mod Splits

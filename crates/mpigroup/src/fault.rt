@@ -1,7 +1,7 @@
 //! What can be wrong with the text of a head.
 
 ghost use Rattle.std.specs.Prelude.{◌≡◌};
-ghost use Rattle.mpigroup.specs.HeadFaults.{code_of};
+ghost use Rattle.mpigroup.specs.Codes.{code_of_head};
 ghost use Rattle.mpigroup.specs.declared.fault.ReadFault.TheVariants.{Memory as MemoryFault};
 
 use std::alloc::{AllocError, AllocFailed};
@@ -53,7 +53,7 @@ pub enum ReadFault {
 impl HeadFaultKind {
     /// The code under which the program reports the fault.
     pub fn code(self) -> &'static str
-        ensures { result.now ≡ code_of self }
+        ensures { result.now ≡ code_of_head self }
     {
         match self {
             HeadFaultKind::FirstLine => "H1",

@@ -4,7 +4,7 @@ ghost use Rattle.std.specs.Prelude.{take, ◌≡◌, ◌≤◌, ◌<◌, ◌==�
 ghost use Rattle.std.specs.Option.{option_copied};
 ghost use Rattle.mpigroup.specs.Groups.{ranks_of, size_of, world_rank_of, group_rank_of};
 ghost use Rattle.mpigroup.specs.Heads.{AreSound};
-ghost use Rattle.mpigroup.specs.HeadFaults.{IsFaultOf};
+ghost use Rattle.mpigroup.specs.Codes.{IsFaultOf};
 ghost use Rattle.mpicall.specs.Lines.{lines_of};
 ghost use Rattle.mpigroup.specs.HeadText.{groups_of_lines, read_head};
 

@@ -4,7 +4,7 @@ ghost use Rattle.std.specs.Prelude.{◌≡◌, [], ◌∷◌, ◌==◌, ◌≤�
 ghost use Rattle.std.specs.List.{list_all};
 ghost use Rattle.mpicall.specs.Spelling.{line_feed};
 ghost use Rattle.mpicall.specs.Number.{is_canonical, value_of};
-ghost use Rattle.mpigroup.specs.HeadFaults.{IsFaultOf};
+ghost use Rattle.mpigroup.specs.Codes.{IsFaultOf};
 ghost use Rattle.mpicall.specs.Lines.{lines_of};
 ghost use Rattle.mpigroup.specs.HeadText.{is_head_line, is_comm, ranks_of_fields, ranks_of_line, checked_group, group_of_line, at_line};
 

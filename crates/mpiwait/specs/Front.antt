@@ -1,12 +1,13 @@
 -- The front of a head, which decides what the head says.
 use Rattle.std.specs.Prelude.{◌≡◌, ℕ, Option, IfSome, List, take}
 use Rattle.mpicall.specs.Device.{one_more}
+use Rattle.mpigroup.specs.declared.limits.TheConstants.{DECIDING_BYTES}
 use Rattle.mpiwait.specs.declared.fault.Fault.{Fault}
 use Rattle.mpiwait.specs.declared.fault.Fault.TheVariants.{ReadHead, Memory}
 
 -- so many bytes of a head decide it
 abbrev pub deciding_bytes : ℕ
-deciding_bytes = 262145
+deciding_bytes = DECIDING_BYTES
 
 -- the front of the bytes that an input gives, where it tells them
 abbrev pub IsFrontOf : Option (List ℕ) → List ℕ → Type 0

@@ -3,13 +3,13 @@ use Rattle.std.specs.Prelude.{ℕ, List, codes}
 use Rattle.pairing.specs.declared.fault.CallFault.{CallFault}
 use Rattle.pairing.specs.declared.fault.CallFault.TheVariants.{CallAfterFinalize, TooManyCalls, UnknownCommunicator, CommunicatorNotHeld, PeerOutOfGroup, RequestInUse, RequestRepeated, RequestNotActive, WrongNewCommunicator}
 
-abbrev pub code_of : CallFault → List ℕ
-code_of CallAfterFinalize = codes "C9"
-code_of TooManyCalls = codes "C8"
-code_of UnknownCommunicator = codes "C1"
-code_of CommunicatorNotHeld = codes "C2"
-code_of PeerOutOfGroup = codes "C3"
-code_of RequestInUse = codes "C4"
-code_of RequestRepeated = codes "C6"
-code_of RequestNotActive = codes "C5"
-code_of WrongNewCommunicator = codes "C7"
+abbrev pub code_of_call : CallFault → List ℕ
+code_of_call CallAfterFinalize = codes "C9"
+code_of_call TooManyCalls = codes "C8"
+code_of_call UnknownCommunicator = codes "C1"
+code_of_call CommunicatorNotHeld = codes "C2"
+code_of_call PeerOutOfGroup = codes "C3"
+code_of_call RequestInUse = codes "C4"
+code_of_call RequestRepeated = codes "C6"
+code_of_call RequestNotActive = codes "C5"
+code_of_call WrongNewCommunicator = codes "C7"

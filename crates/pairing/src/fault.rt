@@ -4,11 +4,11 @@ ghost use Rattle.std.specs.Prelude.{◌≡◌, ◌<◌, ◌≤◌, ◌∷◌, []
 ghost use Rattle.std.specs.Option.{option_map_or};
 ghost use Rattle.pairing.specs.Limits.{most_calls};
 ghost use Rattle.pairing.specs.Recordings.{has_end, is_ended};
-ghost use Rattle.pairing.specs.Codes.{code_of};
+ghost use Rattle.pairing.specs.Codes.{code_of_call};
 ghost use Rattle.pairing.specs.Faults.{comm_of, root_of, is_group_rank, is_peer, is_member, comm_exists, holds_comm, peers_exist, starts_afresh, are_distinct, waits_for_active, is_fresh_comm, makes_afresh, fault_of, IsLawfulList, AnEndedLawfulListIsClosed, EachWaitHasItsStarts, NoTwoStartsAreActive};
 
 use crate::comm::holds;
-use crate::recording::MOST_CALLS;
+use crate::limits::MOST_CALLS;
 use crate::request::{is_active, is_among, starts, waits_for};
 use mpicall::call::{Call, Kind, Peer};
 use mpicall::record::Record;
@@ -41,7 +41,7 @@ pub enum CallFault {
 impl CallFault {
     /// The code under which the program reports the fault.
     pub fn code(self) -> &'static str
-        ensures { result.now ≡ code_of self }
+        ensures { result.now ≡ code_of_call self }
     {
         match self {
             CallFault::CallAfterFinalize => "C9",

@@ -29,6 +29,7 @@
 pub mod comm;
 pub mod envelope;
 pub mod fault;
+pub mod limits;
 pub mod partner;
 mod places;
 pub mod recording;

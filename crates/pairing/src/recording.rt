@@ -8,9 +8,6 @@ use mpicall::record::Record;
 use std::alloc::{AllocError, Global};
 use std::marker::Model;
 
-/// The most calls of a rank, its Finalize counted.
-pub const MOST_CALLS: usize = 1000000;
-
 /// The recorded calls of one rank, at most `MOST_CALLS`. Contracts see their list.
 #[derive(Drop)]
 pub struct Calls {

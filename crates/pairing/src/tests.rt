@@ -1,8 +1,9 @@
 use crate::comm::holds;
 use crate::envelope::Half;
 use crate::fault::{CallFault, fault};
+use crate::limits::MOST_CALLS;
 use crate::partner::partner;
-use crate::recording::{Calls, MOST_CALLS, Recording};
+use crate::recording::{Calls, Recording};
 use crate::request::{is_active, started_of};
 use crate::wave::{is_full, member_of, wave_of};
 use mpicall::line::read_line;

@@ -7,13 +7,13 @@ use Rattle.mpigroup.specs.declared.fault.ReadFault.{ReadFault}
 use Rattle.mpigroup.specs.declared.fault.ReadFault.TheVariants.{Text, Memory}
 
 -- the code of a fault
-abbrev pub code_of : HeadFaultKind → List ℕ
-code_of FirstLine = codes "H1"
-code_of RankCount = codes "H2"
-code_of CommLine = codes "H3"
-code_of Group = codes "H4"
-code_of TooManyComms = codes "H5"
-code_of LineForm = codes "H6"
+abbrev pub code_of_head : HeadFaultKind → List ℕ
+code_of_head FirstLine = codes "H1"
+code_of_head RankCount = codes "H2"
+code_of_head CommLine = codes "H3"
+code_of_head Group = codes "H4"
+code_of_head TooManyComms = codes "H5"
+code_of_head LineForm = codes "H6"
 
 -- a fault that is told of a text is the one that the text has; want of memory says nothing of it
 abbrev pub IsFaultOf : {T : Type 0} → Result T HeadFault → ReadFault → Type 0
