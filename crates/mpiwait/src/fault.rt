@@ -27,7 +27,7 @@ pub enum Fault<'a> {
     Refused(Refusal),
     #[error("fault {0}")]
     Failed(Refusal),
-    #[error("refused lint call {} {} {}", .0.call, .0.fault.code(), .0.fault)]
+    #[error("lint refused call {} {} {}", .0.call, .0.fault.code(), .0.fault)]
     LintRefused(LintFault),
     #[error("fault lint call {} {} {}", .0.call, .0.fault.code(), .0.fault)]
     LintFailed(LintFault),

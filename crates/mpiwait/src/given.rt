@@ -175,7 +175,7 @@ mod tests {
             (&[b"check", b"head", b"r1"], "verdict hang\n", "", 1),
             (
                 &[b"lint", b"head"],
-                "refused lint call 0 L2 unknown word\n",
+                "lint refused call 0 L2 unknown word\n",
                 "",
                 2,
             ),

@@ -437,23 +437,23 @@ fn lints_traces(rt: HostRuntime) -> Result<(), Fail> {
         ("send 0 1 0\nfinalize\n", "lint ok 2\n", 0),
         // Lint doesn't ask whether there is such a communicator or peer.
         ("send 255 63 0\nfinalize\n", "lint ok 2\n", 0),
-        ("send  0 1 0\n", "refused lint call 0 L1 empty field\n", 2),
-        ("stop\n", "refused lint call 0 L2 unknown word\n", 2),
-        ("send 0 1\n", "refused lint call 0 L3 number of fields\n", 2),
+        ("send  0 1 0\n", "lint refused call 0 L1 empty field\n", 2),
+        ("stop\n", "lint refused call 0 L2 unknown word\n", 2),
+        ("send 0 1\n", "lint refused call 0 L3 number of fields\n", 2),
         (
             "send 0 1 0\nsend 0 1 00\n",
-            "refused lint call 1 L4 field out of form or range\n",
+            "lint refused call 1 L4 field out of form or range\n",
             2,
         ),
-        ("recv 0 any 7\n", "refused lint call 0 L5 wildcard\n", 2),
-        ("finalize", "refused lint call 0 L7 no line feed\n", 2),
+        ("recv 0 any 7\n", "lint refused call 0 L5 wildcard\n", 2),
+        ("finalize", "lint refused call 0 L7 no line feed\n", 2),
         (
             "finalize\nx",
-            "refused lint call 1 L8 text after finalize\n",
+            "lint refused call 1 L8 text after finalize\n",
             2,
         ),
-        ("", "refused lint call 0 E1 no finalize\n", 2),
-        ("send 0 1 0\n", "refused lint call 1 E1 no finalize\n", 2),
+        ("", "lint refused call 0 E1 no finalize\n", 2),
+        ("send 0 1 0\n", "lint refused call 1 E1 no finalize\n", 2),
     ];
     for (text, told, status) in rows {
         let shown = told_of(&rt, &Shelf::of(&[("r0", text)]), &["lint", "r0"], status)?;
@@ -465,7 +465,7 @@ fn lints_traces(rt: HostRuntime) -> Result<(), Fail> {
     }
     let files = [("r0", long.as_str())];
     let shown = told_of(&rt, &Shelf::of(&files), &["lint", "r0"], 2)?;
-    assert_eq!(rt; shown.as_str(), "refused lint call 0 L6 line too long\n");
+    assert_eq!(rt; shown.as_str(), "lint refused call 0 L6 line too long\n");
     Ok(())
 }
 
