@@ -80,14 +80,14 @@ fixed_enough (Dup comm new) h = refl
 fixed_enough (Split comm colour key new) h = refl
 fixed_enough Finalize h = refl
 
-both : (a b : Bool) → a ≡ true → b ≡ true → (a && b) ≡ true
+pub both : (a b : Bool) → a ≡ true → b ≡ true → (a && b) ≡ true
 both a b ha hb = rw (ha, hb) refl
 
 not_both : (a b : Bool) → (a ≡ true → b ≡ false) → (a && b) ≡ false
 not_both true b h = h refl
 not_both false b h = refl
 
-fixed_all : (w : Word) (forms : List Form) (fields : List (List ℕ)) (call : Call) → shape_of w ≡ Fixed forms → take_arguments forms fields ≡ Some (arguments_of call, []) → word_of_call call ≡ w → (fields ≡ map spell (arguments_of call)) × (word_of_call call ≡ w) × (in_ranges call ≡ true)
+pub fixed_all : (w : Word) (forms : List Form) (fields : List (List ℕ)) (call : Call) → shape_of w ≡ Fixed forms → take_arguments forms fields ≡ Some (arguments_of call, []) → word_of_call call ≡ w → (fields ≡ map spell (arguments_of call)) × (word_of_call call ≡ w) × (in_ranges call ≡ true)
 fixed_all w forms fields call is taken word =
     let small : list_all small_form forms ≡ true = ap shape_small (sym is) ∙ word_small w in
     let spelled = row_spelled forms fields (arguments_of call) [] small taken in

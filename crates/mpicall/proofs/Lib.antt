@@ -19,3 +19,5 @@ pub mod LineLemmas
 pub mod BeginningLemmas
 pub mod GivesLemmas
 pub mod LintLemmas
+pub mod SpelledLemmas
+pub mod OneTraceLemmas

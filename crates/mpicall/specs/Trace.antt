@@ -1,6 +1,8 @@
 -- The trace that the bytes of a source hold: a list of records, and an end.
-use Rattle.std.specs.Prelude.{ℕ, ◌==◌, if◌then◌else◌, Result, Ok, Err, List, [], ◌∷◌}
-use Rattle.std.specs.List.{onto_first}
+use Rattle.std.specs.Prelude.{◌≡◌, ◌⊎◌, ℕ, true, MatchBool, if◌then◌else◌, Some, Result, Ok, Err, List, [], ◌∷◌}
+use Rattle.mpicall.specs.Limits.{in_ranges}
+use Rattle.mpicall.specs.Line.{fault_of_line}
+use Rattle.mpicall.specs.Spelling.{spelling}
 use Rattle.mpicall.specs.Lines.{lines_of}
 use Rattle.mpicall.specs.Reading.{record_of_line}
 use Rattle.mpicall.specs.declared.call.Call.{Call}
@@ -31,6 +33,16 @@ put_first call trace = record { records = call ∷ trace.records; end = trace.en
 -- a trace that ends here
 abbrev pub ends_here : End → Trace
 ends_here end = record { records = []; end = end }
+
+-- the trace of some lines, by spelling and first fault: a line is the spelling of a record, behind which
+-- either the list ends or the trace of the lines behind follows; or it has a first fault, which ends the
+-- trace. Each text has just one such trace, `trace_of`: `each_text_has_one_trace` says so
+abbrev pub IsTraceOf : List (List ℕ) → Trace → Type 0
+IsTraceOf [] trace = trace ≡ ends_here (Torn NoFinalize)
+IsTraceOf (line ∷ behind) trace =
+    ((call : Call) × (rest : Trace) × (in_ranges call ≡ true) × (line ≡ spelling call) × (trace ≡ put_first call rest)
+    × MatchBool (ends_list call) (rest ≡ ends_here (end_after_finalize behind)) (IsTraceOf behind rest))
+    ⊎ ((fault : LineFault) × (fault_of_line line ≡ Some fault) × (trace ≡ ends_here (Torn (Line fault))))
 
 -- the trace of the next line's reading, the lines behind it, and the trace of these
 abbrev pub trace_with : Result Call LineFault → List (List ℕ) → Trace → Trace

@@ -11,8 +11,9 @@
 //!   `spelling::write_line` writes the spelling, or after a fault of the output a beginning of it. No
 //!   spelling begins another one.
 //! - The records that `source::Source::next` gives, and its end, are those of the input's bytes, however
-//!   the input cuts them into pieces. A fault is answered for good, and so is the end. Where a read fails,
-//!   the bytes that came and were given as no record hold no whole line.
+//!   the input cuts them into pieces: each text has one trace, by the spellings and the first fault of its
+//!   lines. A fault is answered for good, and so is the end. Where a read fails, the bytes that came and
+//!   were given as no record hold no whole line.
 //! - `lint::lint` reads a source to its end and tells the number of its records, or the place and the
 //!   fault of that end.
 //! - A device's fault is answered only where the device's count of failures rose.

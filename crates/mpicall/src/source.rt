@@ -1,7 +1,9 @@
 //! A source of records: the lines of an input, read one by one.
 
 ghost use Rattle.mpicall.specs.Stage.{is_own, stage_behind};
-ghost use Rattle.std.specs.Prelude.{◌≡◌, ◌≢◌, ◌≤◌, ◌<◌, ℕ, true, Some, None, Ok, Err, length, option_map, IsTrue, IfOk, IfErr, IfSome, MatchResult};
+ghost use Rattle.mpicall.specs.Lines.{lines_of};
+ghost use Rattle.mpicall.specs.Trace.{Trace, IsTraceOf, trace_of};
+ghost use Rattle.std.specs.Prelude.{◌≡◌, ◌↔◌, List, ◌≢◌, ◌≤◌, ◌<◌, ℕ, true, Some, None, Ok, Err, length, option_map, IsTrue, IfOk, IfErr, IfSome, MatchResult};
 
 use crate::call::Call;
 use crate::device::Input;
@@ -35,7 +37,6 @@ pub struct Source<I> {
 }
 
 impl<I: Input> Source<I> {
-    ghost use Rattle.mpicall.specs.Trace.{trace_of};
     ghost use Rattle.mpicall.specs.declared.call.Call.{Call as CallValue};
     ghost use Rattle.mpicall.specs.declared.source.Stage.TheVariants.{Reading, Finalized};
     ghost use Rattle.mpicall.specs.Limits.{in_ranges};
@@ -168,6 +169,11 @@ impl<I: Input> Source<I> {
         }
     }
 }
+
+/// Each text has one trace, by the spellings and the first fault of its lines.
+pub fn each_text_has_one_trace()
+    ensures { (bytes : List ℕ) (trace : Trace) → IsTraceOf (lines_of bytes) trace ↔ (trace ≡ trace_of bytes) }
+{}
 
 /// How far a source is behind a record.
 fn stage_behind(call: &Call) -> Stage

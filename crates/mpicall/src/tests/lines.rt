@@ -2,113 +2,112 @@ use crate::fault::{LineFault, SourceFault};
 use crate::line::read_line;
 use crate::memory::MemoryOutput;
 use crate::spelling::write_line;
+use std::process::Abort;
 use std::test::Fail;
+
+/// Lines at the ends of the ranges.
+const SPELLINGS: &[u8] = b"send 0 1 5\n\
+    split 0 undefined -3 none\n\
+    barrier 255\n\
+    send 0 63 2147483647\n\
+    isend 2147483647 0 0 0\n\
+    bcast 0 63\n\
+    wait 2147483647\n\
+    waitany 0 7\n\
+    dup 255 255\n\
+    split 0 2147483647 2147483647 255\n\
+    split 0 0 -2147483648 0\n";
+
+/// Lines with a field past its range, with a leading zero, or in another form.
+const OUT_OF_FORM: &[u8] = b"send 00 1 5\n\
+    send 0 1 -1\n\
+    send 0 1 2147483648\n\
+    send 0 64 5\n\
+    send 256 1 5\n\
+    send 0 any 7\n\
+    waitany 2 5 6\n\
+    split 0 1 -0 2\n\
+    barrier 256\n\
+    barrier 00\n\
+    send 0 01 0\n\
+    send 0 Null 0\n\
+    recv 0 0 2147483648\n\
+    recv 0 0 01\n\
+    irecv 2147483648 0 0 0\n\
+    irecv any 0 0 0\n\
+    sendrecv 0 any 0 0 0\n\
+    sendrecv 0 1 any 0 0\n\
+    bcast 0 64\n\
+    ibcast 0 0 00\n\
+    wait 2147483648\n\
+    wait 00\n\
+    waitall 0 00\n\
+    waitany 1 7\n\
+    waitany 00 7\n\
+    dup 0 256\n\
+    split 0 2147483648 0 0\n\
+    split 0 00 0 0\n\
+    split 0 0 2147483648 0\n\
+    split 0 0 -2147483649 0\n\
+    split 0 0 00 0\n\
+    split 0 0 -01 0\n\
+    split 0 0 +1 0\n\
+    split 0 0 - 0\n\
+    split 0 none 0 0\n\
+    split 0 0 0 undefined\n\
+    split 0 0 0 256\n";
+
+/// Lines with a field too few or too many, by shape.
+const WRONG_COUNTS: &[u8] = b"send 0 1\n\
+    waitany 0\n\
+    waitall\n\
+    wait 5 6\n\
+    barrier\n\
+    barrier 0 0\n\
+    isend 0 0 0\n\
+    isend 0 0 0 0 0\n\
+    sendrecv 0 1 0 any\n\
+    bcast 0\n\
+    ibcast 0 0\n\
+    wait\n\
+    dup 0\n\
+    split 0 0 0\n\
+    finalize 0\n";
+
+/// Lines with a wildcard where MPI allows one.
+const WILDCARDS: &[u8] = b"recv 0 any 7\n\
+    recv 0 any x\n\
+    recv 0 null any\n\
+    irecv 1 0 any 0\n\
+    irecv 1 0 0 any\n\
+    sendrecv 0 1 0 any 0\n\
+    sendrecv 0 1 0 0 any\n";
+
+/// Asserts that each line of a text has this first fault, or none.
+fn each_has(rt: &impl Abort, text: &[u8], fault: Option<LineFault>) {
+    for line in text.split_inclusive(|byte| *byte == b'\n') {
+        assert_eq!(rt; read_line(line).err(), fault, "{line:?}");
+    }
+}
 
 #[test]
 fn each_line_has_its_first_fault(rt: HostRuntime) {
-    let rows: [(&[u8], Option<LineFault>); 25] = [
-        (b"send 0 1 5\n", None),
-        (b"send 00 1 5\n", Some(LineFault::FieldForm)),
-        (b"send 0 1 -1\n", Some(LineFault::FieldForm)),
-        (b"send 0 1 2147483648\n", Some(LineFault::FieldForm)),
-        (b"send 0 64 5\n", Some(LineFault::FieldForm)),
-        (b"send 256 1 5\n", Some(LineFault::FieldForm)),
-        (b"send 0 1\n", Some(LineFault::FieldCount)),
-        (b"send  0 1 5\n", Some(LineFault::EmptyField)),
-        (b"Send 0 1 5\n", Some(LineFault::UnknownWord)),
-        (b"\n", Some(LineFault::EmptyField)),
-        (b"", Some(LineFault::NoLineFeed)),
-        (b"finalize", Some(LineFault::NoLineFeed)),
-        (b"finalize\r\n", Some(LineFault::UnknownWord)),
-        (b"finalize \n", Some(LineFault::EmptyField)),
-        (b"recv 0 any 7\n", Some(LineFault::Wildcard)),
-        (b"recv 0 any x\n", Some(LineFault::Wildcard)),
-        (b"send 0 any 7\n", Some(LineFault::FieldForm)),
-        (b"recv 0 null any\n", Some(LineFault::Wildcard)),
-        (b"waitany 2 5 6\n", Some(LineFault::FieldForm)),
-        (b"waitany 0\n", Some(LineFault::FieldCount)),
-        (b"waitall\n", Some(LineFault::FieldCount)),
-        (b"split 0 undefined -3 none\n", None),
-        (b"split 0 1 -0 2\n", Some(LineFault::FieldForm)),
-        (b"foo \n", Some(LineFault::EmptyField)),
-        (b"wait 5 6\n", Some(LineFault::FieldCount)),
-    ];
-    for (line, fault) in rows {
-        assert_eq!(rt; read_line(line).err(), fault, "{line:?}");
-    }
-}
-
-#[test]
-fn messages_and_collectives_have_their_ranges(rt: HostRuntime) {
-    let rows: [(&[u8], Option<LineFault>); 29] = [
-        (b"barrier 255\n", None),
-        (b"barrier 256\n", Some(LineFault::FieldForm)),
-        (b"barrier 00\n", Some(LineFault::FieldForm)),
-        (b"barrier\n", Some(LineFault::FieldCount)),
-        (b"barrier 0 0\n", Some(LineFault::FieldCount)),
-        (b"send 0 63 2147483647\n", None),
-        (b"send 0 01 0\n", Some(LineFault::FieldForm)),
-        (b"send 0 Null 0\n", Some(LineFault::FieldForm)),
-        (b"recv 0 0 2147483648\n", Some(LineFault::FieldForm)),
-        (b"recv 0 0 01\n", Some(LineFault::FieldForm)),
-        (b"isend 2147483647 0 0 0\n", None),
-        (b"isend 0 0 0\n", Some(LineFault::FieldCount)),
-        (b"isend 0 0 0 0 0\n", Some(LineFault::FieldCount)),
-        (b"irecv 2147483648 0 0 0\n", Some(LineFault::FieldForm)),
-        (b"irecv any 0 0 0\n", Some(LineFault::FieldForm)),
-        (b"irecv 1 0 any 0\n", Some(LineFault::Wildcard)),
-        (b"irecv 1 0 0 any\n", Some(LineFault::Wildcard)),
-        (b"sendrecv 0 1 0 any\n", Some(LineFault::FieldCount)),
-        (b"sendrecv 0 1 0 any 0\n", Some(LineFault::Wildcard)),
-        (b"sendrecv 0 1 0 0 any\n", Some(LineFault::Wildcard)),
-        (b"sendrecv 0 any 0 0 0\n", Some(LineFault::FieldForm)),
-        (b"sendrecv 0 1 any 0 0\n", Some(LineFault::FieldForm)),
-        (b"bcast 0 63\n", None),
-        (b"bcast 0 64\n", Some(LineFault::FieldForm)),
-        (b"bcast 0\n", Some(LineFault::FieldCount)),
-        (b"ibcast 0 0 00\n", Some(LineFault::FieldForm)),
-        (b"ibcast 0 0\n", Some(LineFault::FieldCount)),
-        (b"ifinalize\n", Some(LineFault::UnknownWord)),
-        (b"i\n", Some(LineFault::UnknownWord)),
-    ];
-    for (line, fault) in rows {
-        assert_eq!(rt; read_line(line).err(), fault, "{line:?}");
-    }
-}
-
-#[test]
-fn waits_and_communicators_have_their_ranges(rt: HostRuntime) {
-    let rows: [(&[u8], Option<LineFault>); 26] = [
-        (b"wait 2147483647\n", None),
-        (b"wait 2147483648\n", Some(LineFault::FieldForm)),
-        (b"wait 00\n", Some(LineFault::FieldForm)),
-        (b"wait\n", Some(LineFault::FieldCount)),
-        (b"waitall 0 00\n", Some(LineFault::FieldForm)),
-        (b"waitany 0 7\n", None),
-        (b"waitany 1 7\n", Some(LineFault::FieldForm)),
-        (b"waitany 00 7\n", Some(LineFault::FieldForm)),
-        (b"dup 255 255\n", None),
-        (b"dup 0 256\n", Some(LineFault::FieldForm)),
-        (b"dup 0\n", Some(LineFault::FieldCount)),
-        (b"split 0 2147483647 2147483647 255\n", None),
-        (b"split 0 0 -2147483648 0\n", None),
-        (b"split 0 2147483648 0 0\n", Some(LineFault::FieldForm)),
-        (b"split 0 00 0 0\n", Some(LineFault::FieldForm)),
-        (b"split 0 0 2147483648 0\n", Some(LineFault::FieldForm)),
-        (b"split 0 0 -2147483649 0\n", Some(LineFault::FieldForm)),
-        (b"split 0 0 00 0\n", Some(LineFault::FieldForm)),
-        (b"split 0 0 -01 0\n", Some(LineFault::FieldForm)),
-        (b"split 0 0 +1 0\n", Some(LineFault::FieldForm)),
-        (b"split 0 0 - 0\n", Some(LineFault::FieldForm)),
-        (b"split 0 none 0 0\n", Some(LineFault::FieldForm)),
-        (b"split 0 0 0 undefined\n", Some(LineFault::FieldForm)),
-        (b"split 0 0 0 256\n", Some(LineFault::FieldForm)),
-        (b"split 0 0 0\n", Some(LineFault::FieldCount)),
-        (b"finalize 0\n", Some(LineFault::FieldCount)),
-    ];
-    for (line, fault) in rows {
-        assert_eq!(rt; read_line(line).err(), fault, "{line:?}");
-    }
+    each_has(&rt, SPELLINGS, None);
+    each_has(&rt, OUT_OF_FORM, Some(LineFault::FieldForm));
+    each_has(&rt, WRONG_COUNTS, Some(LineFault::FieldCount));
+    each_has(
+        &rt,
+        b"send  0 1 5\n\nfinalize \nfoo \n",
+        Some(LineFault::EmptyField),
+    );
+    each_has(
+        &rt,
+        b"Send 0 1 5\nfinalize\r\nifinalize\ni\n",
+        Some(LineFault::UnknownWord),
+    );
+    each_has(&rt, WILDCARDS, Some(LineFault::Wildcard));
+    assert_eq!(rt; read_line(b""), Err(LineFault::NoLineFeed));
+    assert_eq!(rt; read_line(b"finalize"), Err(LineFault::NoLineFeed));
 }
 
 #[test]
