@@ -84,8 +84,8 @@ static void *room(size_t size) {
 typedef enum { WAITS, PARTNERS } Meaning;
 
 static const char *const meanings[] = {
-    [WAITS] = "left out with all that waits for it; a `hang` stays one, a `free` doesn't speak of it:",
-    [PARTNERS] = "left out or doubtful, and other calls may be its partners; trust neither verdict:",
+    [WAITS] = "not recorded, ranks summed up; a `hang` stays one, but a `free` says nothing of these waits:",
+    [PARTNERS] = "not recorded rightly, and recorded calls may be partners of these; trust neither verdict:",
 };
 
 /* Counted where they happen, by hand. */
@@ -821,15 +821,34 @@ static void name_file(char path[PATH_ROOM], const char *name, int number) {
         snprintf(path, PATH_ROOM, "%s/%s%d", folder, name, number);
 }
 
-/* An older run's head, and traces of ranks that this run hasn't, would be taken for this run's. */
+/* Traces of an older run with more ranks would be taken for this run's. */
 static void remove_older(void) {
     char path[PATH_ROOM];
-    name_file(path, "head", -1);
-    remove(path);
     for (int older = ranks; older < MAX_RANKS; older++) {
         name_file(path, "r", older);
         remove(path);
     }
+}
+
+/* The head is there from the beginning, without communicators, so that a run that is cut off is refused
+ * for its traces. */
+static void write_head(const Comm *comms, int total) {
+    char path[PATH_ROOM];
+    name_file(path, "head", -1);
+    FILE *head = fopen(path, "w");
+    if (!head) {
+        say("the head can't be written", "");
+        return;
+    }
+    fprintf(head, "ranks %d\n", ranks);
+    for (int i = 0; i < total; i++) {
+        fputs("comm", head);
+        for (int j = 0; j < comms[i].size; j++)
+            fprintf(head, " %d", comms[i].ranks[j]);
+        putc('\n', head);
+    }
+    if (fclose(head) != 0)
+        say("the head can't be written", "");
 }
 
 /* Why this rank can't record, or NULL. */
@@ -873,6 +892,8 @@ static void start(void) {
     for (int i = 0; i <= MAX_COMMS; i++)
         leaders[i] = -1;
     recording = true;
+    if (rank == 0)
+        write_head(NULL, 0);
 }
 
 int MPI_Init(int *argc, char ***argv) {
@@ -908,25 +929,6 @@ static Comm *gather_comms(int *total) {
     PMPI_Allgatherv(led, mine, MPI_INT, comms, sizes, starts, MPI_INT, own);
     qsort(comms, *total, sizeof *comms, compare_comms);
     return comms;
-}
-
-static void write_head(const Comm *comms, int total) {
-    char path[PATH_ROOM];
-    name_file(path, "head", -1);
-    FILE *head = fopen(path, "w");
-    if (!head) {
-        say("the head can't be written", "");
-        return;
-    }
-    fprintf(head, "ranks %d\n", ranks);
-    for (int i = 0; i < total; i++) {
-        fputs("comm", head);
-        for (int j = 0; j < comms[i].size; j++)
-            fprintf(head, " %d", comms[i].ranks[j]);
-        putc('\n', head);
-    }
-    if (fclose(head) != 0)
-        say("the head can't be written", "");
 }
 
 /* Whether a field of a line names a communicator. */
@@ -1017,7 +1019,7 @@ static void tell_end(bool whole) {
     if (whole)
         fprintf(stderr, "mpiwait-record: recorded %d ranks in %s\n", ranks, folder);
     else
-        say("this run can't be judged: a trace isn't whole, and there is no head", "");
+        say("a trace isn't whole, so this run can't be judged", "");
     tell_left(all, WAITS);
     tell_left(all, PARTNERS);
 }
