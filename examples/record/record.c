@@ -10,7 +10,6 @@
  * can't hang a program by itself.
  */
 #define _POSIX_C_SOURCE 200809L
-#include <errno.h>
 #include <limits.h>
 #include <mpi.h>
 #include <pthread.h>
@@ -99,8 +98,7 @@ static const char *const meanings[] = {
     X(OTHER_REQUEST, WAITS, "waits for a request of a call that isn't recorded") \
     X(CANCEL, PARTNERS, "MPI_Cancel") \
     X(NEVER_TOLD, PARTNERS, "receives with a wildcard that no call completed") \
-    X(OTHER_THREAD, PARTNERS, "calls of another thread than that of MPI_Init") \
-    X(FAILED, PARTNERS, "calls that answered an error")
+    X(OTHER_THREAD, PARTNERS, "calls of another thread than that of MPI_Init")
 
 /* Only counted: name, meaning, parameters, arguments. */
 #define COUNTED(X) \
@@ -228,12 +226,6 @@ COUNTED(X)
 COUNTED_COLLECTIVES(X)
 #undef X
 
-static int checked(int result) {
-    if (result != MPI_SUCCESS)
-        left[LEFT_FAILED]++;
-    return result;
-}
-
 /* ---- Lines ------------------------------------------------------------------------------------- */
 
 static Line *first_line, **lines_end = &first_line;
@@ -243,6 +235,13 @@ static void stop(const char *why) {
     if (!stopped)
         fprintf(stderr, "mpiwait-record: rank %d stops recording: %s\n", rank, why);
     stopped = true;
+}
+
+/* A call that failed may stand in the trace already, and what it did isn't known. */
+static int checked(int result) {
+    if (recording && result != MPI_SUCCESS)
+        stop("a call answered an error");
+    return result;
 }
 
 static void print_field(Field field) {
@@ -536,12 +535,13 @@ static void finish(Request *request, const MPI_Status *status, bool waited) {
     forget(request);
 }
 
-/* The recorded ones of some requests, each in its place, NULL for others. */
-static Request **find_all(int count, const MPI_Request handles[]) {
+/* The recorded ones of some requests, each in its place, NULL for others; a test is counted. */
+static Request **find_all(int count, const MPI_Request handles[], bool is_test) {
     Request **found = room((count + 1) * sizeof *found);
+    left[LEFT_TEST] += is_test;
     for (int i = 0; recording && i < count; i++) {
         found[i] = find(handles[i]);
-        left[LEFT_OTHER_REQUEST] += !found[i] && handles[i] != MPI_REQUEST_NULL;
+        left[LEFT_OTHER_REQUEST] += !is_test && !found[i] && handles[i] != MPI_REQUEST_NULL;
     }
     return found;
 }
@@ -580,11 +580,11 @@ static bool put_waitany(Request **found, int count, int chosen) {
     return true;
 }
 
-/* Each completion exists as a wait and as a test, which has `done`. A test isn't written, and what it
- * completed stays without a wait in the trace. */
+/* One, all or any of some requests: a wait, or where there is `done` a test. A test isn't written, and
+ * what it completed stays without a wait in the trace. */
 static int complete_one(MPI_Request *handle, int *done, MPI_Status *status) {
     MPI_Status mine, *told = status == MPI_STATUS_IGNORE ? &mine : status;
-    Request **found = find_all(1, handle);
+    Request **found = find_all(1, handle, done != NULL);
     if (!done && found[0] && !found[0]->cancelled)
         PUT("wait", found[0]->number);
     int result = checked(done ? PMPI_Test(handle, done, told) : PMPI_Wait(handle, told));
@@ -597,7 +597,7 @@ static int complete_one(MPI_Request *handle, int *done, MPI_Status *status) {
 static int complete_all(int count, MPI_Request handles[], int *done, MPI_Status statuses[]) {
     MPI_Status *mine = room((count + 1) * sizeof *mine);
     MPI_Status *told = statuses == MPI_STATUSES_IGNORE ? mine : statuses;
-    Request **found = find_all(count, handles);
+    Request **found = find_all(count, handles, done != NULL);
     if (!done)
         put_waitall(found, count);
     int result = checked(done ? PMPI_Testall(count, handles, done, told) : PMPI_Waitall(count, handles, told));
@@ -610,10 +610,10 @@ static int complete_all(int count, MPI_Request handles[], int *done, MPI_Status 
 
 static int complete_any(int count, MPI_Request handles[], int *chosen, int *done, MPI_Status *status) {
     MPI_Status mine, *told = status == MPI_STATUS_IGNORE ? &mine : status;
-    Request **found = find_all(count, handles);
+    Request **found = find_all(count, handles, done != NULL);
     int result = checked(done ? PMPI_Testany(count, handles, chosen, done, told)
                               : PMPI_Waitany(count, handles, chosen, told));
-    if ((!done || *done) && *chosen != MPI_UNDEFINED) {
+    if (result == MPI_SUCCESS && (!done || *done) && *chosen != MPI_UNDEFINED) {
         bool waited = !done && put_waitany(found, count, *chosen);
         finish(found[*chosen], told, waited);
     }
@@ -621,34 +621,15 @@ static int complete_any(int count, MPI_Request handles[], int *chosen, int *done
     return result;
 }
 
-typedef int CompleteSome(int, MPI_Request[], int *, int[], MPI_Status[]);
-
-static int complete_some(CompleteSome complete, int count, MPI_Request handles[], int *done, int places[],
-                         MPI_Status statuses[]) {
-    MPI_Status *mine = room((count + 1) * sizeof *mine);
-    MPI_Status *told = statuses == MPI_STATUSES_IGNORE ? mine : statuses;
-    Request **found = find_all(count, handles);
-    int result = checked(complete(count, handles, done, places, told));
-    for (int i = 0; *done != MPI_UNDEFINED && i < *done; i++)
-        finish(found[places[i]], &told[i], false);
-    free(found);
-    free(mine);
-    return result;
-}
-
 int MPI_Wait(MPI_Request *handle, MPI_Status *status) { return complete_one(handle, NULL, status); }
 
-int MPI_Test(MPI_Request *handle, int *done, MPI_Status *status) {
-    left[LEFT_TEST]++;
-    return complete_one(handle, done, status);
-}
+int MPI_Test(MPI_Request *handle, int *done, MPI_Status *status) { return complete_one(handle, done, status); }
 
 int MPI_Waitall(int count, MPI_Request handles[], MPI_Status statuses[]) {
     return complete_all(count, handles, NULL, statuses);
 }
 
 int MPI_Testall(int count, MPI_Request handles[], int *done, MPI_Status statuses[]) {
-    left[LEFT_TEST]++;
     return complete_all(count, handles, done, statuses);
 }
 
@@ -657,19 +638,26 @@ int MPI_Waitany(int count, MPI_Request handles[], int *chosen, MPI_Status *statu
 }
 
 int MPI_Testany(int count, MPI_Request handles[], int *chosen, int *done, MPI_Status *status) {
-    left[LEFT_TEST]++;
     return complete_any(count, handles, chosen, done, status);
 }
 
-int MPI_Waitsome(int count, MPI_Request handles[], int *done, int places[], MPI_Status statuses[]) {
-    left[LEFT_WAITSOME]++;
-    return complete_some(PMPI_Waitsome, count, handles, done, places, statuses);
-}
+/* No line says "some", so the wait is left out like a test. */
+#define SOME(Name, is_test) \
+    int MPI_##Name(int count, MPI_Request handles[], int *done, int places[], MPI_Status statuses[]) { \
+        MPI_Status *mine = room((count + 1) * sizeof *mine); \
+        MPI_Status *told = statuses == MPI_STATUSES_IGNORE ? mine : statuses; \
+        Request **found = find_all(count, handles, is_test); \
+        left[LEFT_WAITSOME] += !is_test; \
+        int result = checked(PMPI_##Name(count, handles, done, places, told)); \
+        for (int i = 0; result == MPI_SUCCESS && *done != MPI_UNDEFINED && i < *done; i++) \
+            finish(found[places[i]], &told[i], false); \
+        free(found); \
+        free(mine); \
+        return result; \
+    }
 
-int MPI_Testsome(int count, MPI_Request handles[], int *done, int places[], MPI_Status statuses[]) {
-    left[LEFT_TEST]++;
-    return complete_some(PMPI_Testsome, count, handles, done, places, statuses);
-}
+SOME(Waitsome, false)
+SOME(Testsome, true)
 
 int MPI_Request_free(MPI_Request *handle) {
     Request *found = find(*handle);
