@@ -281,7 +281,8 @@ static void print_lines(void) {
 static Line *put(bool held, const char *word, int count, const Field *fields) {
     Line *line = room(sizeof *line + count * sizeof *fields);
     *line = (Line){.word = word, .held = held, .count = count};
-    memcpy(line->fields, fields, count * sizeof *fields);
+    for (int i = 0; i < count; i++)
+        line->fields[i] = fields[i];
     *lines_end = line;
     lines_end = &line->next;
     print_lines();
@@ -1005,7 +1006,7 @@ static void tell_end(bool whole) {
     if (rank != 0)
         return;
     if (whole)
-        fprintf(stderr, "mpiwait-record: recorded %d ranks in %s\n", ranks, folder);
+        fprintf(stderr, "mpiwait-record: recorded %d rank%s in %s\n", ranks, ranks > 1 ? "s" : "", folder);
     else
         say("a trace isn't whole, so this run can't be judged", "");
     tell_left(all, WAITS);
