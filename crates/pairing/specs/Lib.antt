@@ -7,4 +7,5 @@ pub mod Requests
 pub mod Waves
 pub mod Communicators
 pub mod Faults
+pub mod Pairs
 pub mod Codes

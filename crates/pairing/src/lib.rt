@@ -26,14 +26,17 @@
 //! ```
 #![tactic(auto)]
 
+pub mod added;
 pub mod comm;
 pub mod envelope;
 pub mod fault;
 pub mod limits;
+pub mod pairs;
 pub mod partner;
 mod places;
 pub mod recording;
 pub mod request;
+pub mod stored;
 #[cfg(test)]
 mod tests;
 pub mod wave;

@@ -1,0 +1,60 @@
+-- What `Pairs` keeps and what it tells of a call that it adds.
+use Rattle.std.specs.Prelude.{◌≡◌, ℕ, Option, Some, None, option_map, option_and_then, slice_get}
+use Rattle.mpicall.specs.declared.call.Mode.{Mode}
+use Rattle.mpicall.specs.declared.call.Call.{Call}
+use Rattle.mpicall.specs.declared.call.Call.TheVariants.{Send, Isend}
+use Rattle.mpigroup.specs.Groups.{Groups}
+use Rattle.pairing.specs.declared.envelope.Half.TheVariants.{Send as SendHalf, Recv as RecvHalf}
+use Rattle.pairing.specs.declared.added.Added.{Added}
+use Rattle.pairing.specs.declared.added.Joined.{Joined}
+use Rattle.pairing.specs.declared.added.PairFault.{PairFault}
+use Rattle.pairing.specs.declared.added.PairFault.TheVariants.{Refused, Memory}
+use Rattle.pairing.specs.declared.fault.CallFault.{CallFault}
+use Rattle.pairing.specs.Recordings.{Lists, calls_of, appended}
+use Rattle.pairing.specs.Partners.{partner_of}
+use Rattle.pairing.specs.Requests.{completes, started_before}
+use Rattle.pairing.specs.Waves.{wave_of, is_full}
+
+-- the groups of a run's communicators, and the calls of each rank that were added
+pub record Paired : Type 0 where
+  pub groups : Groups
+  pub recording : Lists
+
+-- the same with one more call of a rank
+abbrev pub with_call : Paired → ℕ → Call → Paired
+with_call pairs rank call = record { groups = pairs.groups; recording = appended pairs.recording rank call }
+
+-- the mode of a call that sends, blocking or not
+abbrev pub mode_of : Call → Option Mode
+mode_of (Send mode comm dest tag) = Some mode
+mode_of (Isend req mode comm dest tag) = Some mode
+mode_of _ = None
+
+-- the wave that a call joins, and whether each member has its call of it
+abbrev pub joined_at : Paired → ℕ → ℕ → Option Joined
+joined_at pairs rank place =
+    option_map (λ wave. record { comm = wave.0; wave = wave.1; is_full = is_full pairs.groups pairs.recording wave.0 wave.1 })
+    (wave_of pairs.recording rank place)
+
+-- what is told of the call at a place, over what was added: the partners of its halves, and its wave
+abbrev pub added_at : Paired → ℕ → ℕ → Added
+added_at pairs rank place = record {
+  send = partner_of pairs.groups pairs.recording rank place SendHalf;
+  recv = partner_of pairs.groups pairs.recording rank place RecvHalf;
+  wave = joined_at pairs rank place;
+}
+
+-- a refusal tells the first fault of the call, or that memory was wanted for a call without a fault
+abbrev pub TellsFault : Option CallFault → PairFault → Type 0
+TellsFault first (Refused fault) = first ≡ Some fault
+TellsFault first Memory = first ≡ None
+
+-- the request with that index, from 0, among those that the wait at the place completes
+abbrev pub completed_req : Lists → ℕ → ℕ → ℕ → Option ℕ
+completed_req recording rank place index =
+    option_and_then (λ call. slice_get (completes call) index) (slice_get (calls_of recording rank) place)
+
+-- the place that started that request
+abbrev pub completed_of : Lists → ℕ → ℕ → ℕ → Option ℕ
+completed_of recording rank place index =
+    option_and_then (started_before recording rank place) (completed_req recording rank place index)
