@@ -5,3 +5,5 @@ pub mod RecordingLemmas
 pub mod WaveLemmas
 pub mod RequestLemmas
 pub mod RequestLaws
+pub mod NoteLemmas
+pub mod KeptLemmas
