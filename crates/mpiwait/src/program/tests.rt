@@ -44,8 +44,15 @@ fn told_of(
 
 #[test]
 fn reports_runs(rt: HostRuntime) -> Result<(), Fail> {
-    let rows: [(&str, &str, &str, &str, u8); 12] = [
+    let rows: [(&str, &str, &str, &str, u8); 13] = [
         ("ranks 1\n", "finalize\n", "", "verdict free\n", 0),
+        (
+            "ranks 1\n",
+            "finalize\nsend 0 0 0\n",
+            "",
+            "refused rank 0 call 1 L8 text after finalize\n",
+            2,
+        ),
         (
             "ranks 2\n",
             "send 0 1 0\nrecv 0 1 0\nfinalize\n",
@@ -340,6 +347,42 @@ fn reports_runs_of_every_kind(rt: HostRuntime) -> Result<(), Fail> {
         let shown = told_of(&rt, &Shelf::of(&files), &words[..given], status)?;
         assert_eq!(rt; shown.as_str(), told, "of {texts:?}");
     }
+    Ok(())
+}
+
+/// A line so many times, and then Finalize.
+fn repeated(alloc: Global, line: &str, times: u32) -> Result<String, Fail> {
+    let mut text = String::new(alloc);
+    for _ in 0..times {
+        text.push_str(line)?;
+    }
+    text.push_str("finalize\n")?;
+    Ok(text)
+}
+
+#[test]
+fn reports_a_run_of_many_calls(rt: HostRuntime) -> Result<(), Fail> {
+    let sends = repeated(rt.alloc(), "send 0 1 0\n", 1000)?;
+    let recvs = repeated(rt.alloc(), "recv 0 0 0\n", 1000)?;
+    let files = [
+        ("head", "ranks 2\n"),
+        ("r0", sends.as_str()),
+        ("r1", recvs.as_str()),
+    ];
+    let shown = told_of(&rt, &Shelf::of(&files), &["check", "head", "r0", "r1"], 0)?;
+    assert_eq!(rt; shown.as_str(), "verdict free\n");
+    Ok(())
+}
+
+/// Each of 64 ranks has the same trace.
+#[test]
+fn reports_a_run_of_many_ranks(rt: HostRuntime) -> Result<(), Fail> {
+    let files = [("head", "ranks 64\n"), ("r0", "barrier 0\nfinalize\n")];
+    let mut words = ["r0"; 66];
+    words[0] = "check";
+    words[1] = "head";
+    let shown = told_of(&rt, &Shelf::of(&files), &words, 0)?;
+    assert_eq!(rt; shown.as_str(), "verdict free\n");
     Ok(())
 }
 
