@@ -1,21 +1,20 @@
 -- What the readers of the fields behind a word say of these fields.
-use Rattle.std.proofs.Common.{◌≡◌, ℕ, ◌+◌, ◌-◌, ◌<◌, ◌≤◌, Bool, true, false, List, [], ◌∷◌, ◌++◌, length, sym, ap, ◌∙◌, refl, arith, Option, Some, None, option_map, ◌&&◌, ◌==◌, map, is_some, nat_le, cond, MatchOption, MatchBool, length-append, append_assoc, suc}
+use Rattle.std.proofs.Common.{◌≡◌, ℕ, ◌+◌, ◌-◌, ◌<◌, ◌≤◌, Bool, true, false, List, [], ◌∷◌, ◌++◌, length, sym, ap, ◌∙◌, refl, arith, Option, Some, None, option_map, ◌&&◌, ◌==◌, map, is_some, nat_le, cond, length-append, append_assoc, suc}
 use Rattle.std.specs.Fmt.{decimal}
 use Rattle.std.specs.List.{list_all}
 use Rattle.std.proofs.lemmas.Bool.Decides.{nat_tests}
 use Rattle.std.proofs.lemmas.List.{length-map, map-append, append-nil}
 use Rattle.std.proofs.lemmas.List.Folds.{list_all-append}
-use Rattle.mpicall.specs.Argument.{Argument, Form, NumberUpTo, Number, spell, is_in_range, form_of, is_in_form, request_form, request_argument, index_form, index_argument, read_argument}
-use Rattle.mpicall.specs.Limits.{in_ranges, names_enough, few_enough}
-use Rattle.mpicall.specs.Line.{Shape, Fixed, Requests, Chosen, shape_of, root_forms, operation_forms, takes_count, each_in_form, all_requests, all_in_form, fits, fits_line}
-use Rattle.mpicall.specs.Lines.{is_empty}
+use Rattle.mpicall.specs.Argument.{Argument, Form, NumberUpTo, Number, spell, is_in_range, is_in_form, request_form, request_argument, index_form, read_argument}
+use Rattle.mpicall.specs.Limits.{in_ranges, names_enough}
+use Rattle.mpicall.specs.Line.{Shape, Fixed, Chosen, shape_of, root_forms, operation_forms, takes_count, each_in_form, all_requests, all_in_form, fits, fits_line}
 use Rattle.mpicall.specs.Number.{number_up_to, is_canonical, value_of}
 use Rattle.mpicall.specs.Reading.{with_behind, next_argument, take_arguments, all_taken, ReadsWhole, ReadsBehind, ReadsFields, requests_fit, SpellsRequests}
 use Rattle.mpicall.specs.Spelling.{word_of_call, arguments_of, fields_of}
 use Rattle.mpicall.specs.Word.{word_of, text_of}
 use Rattle.mpicall.proofs.WordLemmas.{word_has}
 use Rattle.mpicall.proofs.DecimalLemmas.{number-decimal}
-use Rattle.mpicall.proofs.ArgumentLemmas.{small_form, and_true, le_to, le_from, argument_spelled, false_unless}
+use Rattle.mpicall.proofs.ArgumentLemmas.{small_form, and_true, le_to, le_from, argument_spelled}
 use Rattle.mpicall.proofs.RowLemmas.{row_spelled, row_length, row_none}
 use Rattle.mpicall.specs.declared.call.Call.{Call}
 use Rattle.mpicall.specs.declared.call.Call.TheVariants.{Send, Recv, Isend, Irecv, Sendrecv, Wait, Waitall, Waitany, Coll, Icoll, Dup, Split, Finalize}

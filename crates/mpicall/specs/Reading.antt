@@ -1,11 +1,11 @@
 -- How the fields of a line are read, and the record that a line without a fault spells. Nobody has to
 -- believe this: `read_line` promises that `record_of_line` gives a record exactly where the line is its
 -- spelling, and else the line's first fault.
-use Rattle.std.specs.Prelude.{◌≡◌, ◌<◌, ◌++◌, ℕ, ℤ, pos, Bool, true, false, ◌&&◌, nat_le, MatchBool, Option, Some, None, option_map, Result, Ok, Err, MatchResult, MatchOption, List, [], ◌∷◌, length, map, get_or, drop}
+use Rattle.std.specs.Prelude.{◌≡◌, ◌<◌, ◌++◌, ℕ, ℤ, pos, Bool, true, false, ◌&&◌, nat_le, MatchBool, Option, Some, None, Result, Ok, Err, MatchResult, MatchOption, List, [], ◌∷◌, length, map, get_or, drop}
 use Rattle.std.specs.List.{list_all}
 use Rattle.mpicall.specs.declared.limits.TheConstants.{MOST_REQUESTS}
 use Rattle.mpicall.specs.Limits.{in_ranges, few_enough}
-use Rattle.mpicall.specs.Argument.{is_in_range, spell, Argument, Number, PeerOf, Colour, Key, New, Form, request_form, request_argument, index_argument, read_argument}
+use Rattle.mpicall.specs.Argument.{is_in_range, spell, Argument, Number, PeerOf, Colour, Key, New, Form, request_argument, index_argument, read_argument}
 use Rattle.mpicall.specs.Number.{value_of}
 use Rattle.mpicall.specs.Word.{word_of}
 use Rattle.mpicall.specs.Spelling.{arguments_of, word_of_call, fields_of, spelling, line_feed}
@@ -19,7 +19,6 @@ use Rattle.mpicall.specs.declared.call.Call.{Call}
 use Rattle.mpicall.specs.declared.call.Call.TheVariants.{Send, Recv, Isend, Irecv, Sendrecv, Wait, Waitall, Waitany, Coll, Icoll, Dup, Split, Finalize}
 use Rattle.mpicall.specs.declared.word.Collective.{Collective}
 use Rattle.mpicall.specs.declared.word.Collective.TheVariants.{Barrier as BarrierName, Bcast as BcastName, Gather as GatherName, Scatter as ScatterName, Reduce as ReduceName, Allgather as AllgatherName, Alltoall as AlltoallName, Allreduce as AllreduceName, Scan as ScanName, Exscan as ExscanName}
-use Rattle.mpicall.specs.declared.word.Operation.{Operation}
 use Rattle.mpicall.specs.declared.word.Operation.TheVariants.{Send as SendOperation, Recv as RecvOperation, Coll as CollOperation}
 use Rattle.mpicall.specs.declared.word.Word.{Word}
 use Rattle.mpicall.specs.declared.word.Word.TheVariants.{Blocking, Started, Sendrecv as SendrecvWord, Wait as WaitWord, Waitall as WaitallWord, Waitany as WaitanyWord, Dup as DupWord, Split as SplitWord, Finalize as FinalizeWord}

@@ -8,8 +8,8 @@ returns-in_default c = (index_missing _ c.in_default.ensures.value, refl)
 
 pub returns-then-chosen-count : goal.returns-then-chosen-count
 returns-then-chosen-count c = (
-    index_unfit _ _ _ _ (index_read _ _ _ c.in-Some.ensures.value) c.in-Some-read_requests.ensures (rw c.count.ensures at c.if-chosen-count.true),
-    refl,
+  index_unfit _ _ _ _ (index_read _ _ _ c.in-Some.ensures.value) c.in-Some-read_requests.ensures (rw c.count.ensures at c.if-chosen-count.true),
+  refl,
 )
 
 pub returns : goal.returns
