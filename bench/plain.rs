@@ -1,9 +1,9 @@
 //! The reading of a trace in plain Rust, as a measure for the proved one: the same structure, with no
 //! contract. It reads a file into a window of bytes, finds the end of each line by `memchr`, reads the
-//! line field by field into one place of a `Call`, and looks at a line that has a fault once more.
+//! line field by field into one place of a `Record`, and looks at a line that has a fault once more.
 //!
-//! Build with `rustc -O`. `plain lint FILE` prints how many records the file has. `plain next FILE` is
-//! handed each record by value, and prints the sum of their tags and requests too.
+//! Build with `rustc -O`. `plain lint FILE` prints how many records the file has. `plain records FILE`
+//! looks at each record, and prints the sum of their tags and requests too.
 
 // Not each field that is read is looked at here.
 #![allow(dead_code)]
@@ -104,6 +104,12 @@ enum Call {
 #[derive(Clone, Copy, Debug)]
 struct Record {
     call: Call,
+}
+
+impl Record {
+    fn finalize() -> Record {
+        Record { call: Call::Finalize }
+    }
 }
 
 #[derive(Clone, Copy, Debug)]
@@ -279,8 +285,9 @@ impl<'a> Fields<'a> {
         Fields { rest: Some(body) }
     }
 
-    fn is_at_end(&self) -> bool {
-        self.rest.is_none()
+    /// No more, where all the fields have come.
+    fn end(&self) -> Option<()> {
+        self.rest.is_none().then_some(())
     }
 
     fn next_number(&mut self, greatest: u32) -> Option<u32> {
@@ -381,49 +388,56 @@ impl<'a> Iterator for Fields<'a> {
     }
 }
 
-fn read_blocking(operation: Operation, fields: &mut Fields<'_>, into: &mut Call) -> Option<()> {
+fn read_blocking(operation: Operation, mut fields: Fields<'_>, into: &mut Call) -> Option<()> {
     match operation {
         Operation::Send(mode) => {
             let (comm, dest, tag) = fields.next_message()?;
+            fields.end()?;
             *into = Call::Send { mode, comm, dest, tag };
         }
         Operation::Recv => {
             let (comm, source, tag) = fields.next_message()?;
+            fields.end()?;
             *into = Call::Recv { comm, source, tag };
         }
         Operation::Coll(collective) => {
             let comm = fields.next_comm()?;
             let kind = fields.next_kind(collective)?;
+            fields.end()?;
             *into = Call::Coll { comm, kind };
         }
     }
     Some(())
 }
 
-fn read_started(operation: Operation, fields: &mut Fields<'_>, into: &mut Call) -> Option<()> {
+fn read_started(operation: Operation, mut fields: Fields<'_>, into: &mut Call) -> Option<()> {
     let req = fields.next_request()?;
     match operation {
         Operation::Send(mode) => {
             let (comm, dest, tag) = fields.next_message()?;
+            fields.end()?;
             *into = Call::Isend { req, mode, comm, dest, tag };
         }
         Operation::Recv => {
             let (comm, source, tag) = fields.next_message()?;
+            fields.end()?;
             *into = Call::Irecv { req, comm, source, tag };
         }
         Operation::Coll(collective) => {
             let comm = fields.next_comm()?;
             let kind = fields.next_kind(collective)?;
+            fields.end()?;
             *into = Call::Icoll { req, comm, kind };
         }
     }
     Some(())
 }
 
-fn read_sendrecv(fields: &mut Fields<'_>, into: &mut Call) -> Option<()> {
+fn read_sendrecv(mut fields: Fields<'_>, into: &mut Call) -> Option<()> {
     let (comm, dest, send_tag) = fields.next_message()?;
     let source = fields.next_peer()?;
     let recv_tag = fields.next_tag()?;
+    fields.end()?;
     *into = Call::Sendrecv { comm, dest, send_tag, source, recv_tag };
     Some(())
 }
@@ -444,42 +458,50 @@ fn read_waitany(mut fields: Fields<'_>, into: &mut Call) -> Option<()> {
     Some(())
 }
 
-fn read_wait(fields: &mut Fields<'_>, into: &mut Call) -> Option<()> {
+fn read_wait(mut fields: Fields<'_>, into: &mut Call) -> Option<()> {
     let req = fields.next_request()?;
+    fields.end()?;
     *into = Call::Wait { req };
     Some(())
 }
 
-fn read_dup(fields: &mut Fields<'_>, into: &mut Call) -> Option<()> {
+fn read_dup(mut fields: Fields<'_>, into: &mut Call) -> Option<()> {
     let comm = fields.next_comm()?;
     let new = fields.next_comm()?;
+    fields.end()?;
     *into = Call::Dup { comm, new };
     Some(())
 }
 
-fn read_split(fields: &mut Fields<'_>, into: &mut Call) -> Option<()> {
+fn read_split(mut fields: Fields<'_>, into: &mut Call) -> Option<()> {
     let comm = fields.next_comm()?;
     let colour = fields.next_colour()?;
     let key = fields.next_key()?;
     let new = fields.next_new()?;
+    fields.end()?;
     *into = Call::Split { comm, colour, key, new };
     Some(())
 }
 
-/// Reads the call of a word and the fields behind it, if there is one.
-fn read_behind(word: Word, mut fields: Fields<'_>, into: &mut Call) -> Option<()> {
+fn read_finalize(fields: Fields<'_>, into: &mut Call) -> Option<()> {
+    fields.end()?;
+    *into = Call::Finalize;
+    Some(())
+}
+
+/// Reads the call of a word and the fields behind it, if there is one, and else leaves the place alone.
+fn read_behind(word: Word, fields: Fields<'_>, into: &mut Call) -> Option<()> {
     match word {
-        Word::Blocking(operation) => read_blocking(operation, &mut fields, into)?,
-        Word::Started(operation) => read_started(operation, &mut fields, into)?,
-        Word::Waitall => return read_waitall(fields, into),
-        Word::Wait => read_wait(&mut fields, into)?,
-        Word::Waitany => return read_waitany(fields, into),
-        Word::Sendrecv => read_sendrecv(&mut fields, into)?,
-        Word::Dup => read_dup(&mut fields, into)?,
-        Word::Split => read_split(&mut fields, into)?,
-        Word::Finalize => *into = Call::Finalize,
+        Word::Blocking(operation) => read_blocking(operation, fields, into),
+        Word::Started(operation) => read_started(operation, fields, into),
+        Word::Waitall => read_waitall(fields, into),
+        Word::Wait => read_wait(fields, into),
+        Word::Waitany => read_waitany(fields, into),
+        Word::Sendrecv => read_sendrecv(fields, into),
+        Word::Dup => read_dup(fields, into),
+        Word::Split => read_split(fields, into),
+        Word::Finalize => read_finalize(fields, into),
     }
-    fields.is_at_end().then_some(())
 }
 
 /// Reads the call of the fields of a line, its word first, if there is one.
@@ -551,10 +573,10 @@ fn body_of(line: &[u8]) -> Result<&[u8], LineFault> {
     }
 }
 
-/// Reads the call of a line into one place, which keeps any call where the line has a fault.
-fn read_into(line: &[u8], into: &mut Call) -> Result<(), LineFault> {
+/// Reads the record of a line into one place, which a line with a fault leaves alone.
+fn read_into(line: &[u8], into: &mut Record) -> Result<(), LineFault> {
     let body = body_of(line)?;
-    read_fields(Fields::of(body), into).ok_or_else(|| fault_of_fields(Fields::of(body)))
+    read_fields(Fields::of(body), &mut into.call).ok_or_else(|| fault_of_fields(Fields::of(body)))
 }
 
 /// The C library's search for a byte, which stands here for the crate `memchr` of the proved reader.
@@ -647,18 +669,8 @@ impl<I: Read> Source<I> {
         Source { input, window: Window::new(), stage: Stage::Reading }
     }
 
-    /// The next line's record; None once the bytes end behind `finalize`.
-    fn next(&mut self) -> Result<Option<Record>, SourceFault> {
-        let mut call = Call::Finalize;
-        if self.next_into(&mut call)? {
-            Ok(Some(Record { call }))
-        } else {
-            Ok(None)
-        }
-    }
-
     /// Reads the next record into one place, and says whether there was one.
-    fn next_into(&mut self, into: &mut Call) -> Result<bool, SourceFault> {
+    fn next_into(&mut self, into: &mut Record) -> Result<bool, SourceFault> {
         match self.stage {
             Stage::Reading => self.read_record(into).map(|()| true),
             Stage::Finalized => self.read_end().map(|()| false),
@@ -672,7 +684,7 @@ impl<I: Read> Source<I> {
         Err(fault)
     }
 
-    fn read_record(&mut self, into: &mut Call) -> Result<(), SourceFault> {
+    fn read_record(&mut self, into: &mut Record) -> Result<(), SourceFault> {
         let len = match self.window.line_end(&mut self.input) {
             Ok(0) => return self.fail(SourceFault::NoFinalize),
             Ok(len) => len,
@@ -682,7 +694,7 @@ impl<I: Read> Source<I> {
             return self.fail(SourceFault::Line(fault));
         }
         self.window.start += len;
-        if let Call::Finalize = into {
+        if let Call::Finalize = into.call {
             self.stage = Stage::Finalized;
         }
         Ok(())
@@ -704,9 +716,9 @@ impl<I: Read> Source<I> {
 /// Reads a source to its end: the number of its records, or the call and the fault with which it ends.
 fn lint<I: Read>(source: &mut Source<I>) -> Result<u64, (u64, SourceFault)> {
     let mut count: u64 = 0;
-    let mut call = Call::Finalize;
+    let mut record = Record::finalize();
     loop {
-        match source.next_into(&mut call) {
+        match source.next_into(&mut record) {
             Ok(true) => count = count.saturating_add(1),
             Ok(false) => return Ok(count),
             Err(fault) => return Err((count, fault)),
@@ -728,17 +740,18 @@ fn number_of(record: &Record) -> u64 {
     }
 }
 
-/// Is handed each record of a source: how many there are, and the sum of their tags and requests.
+/// Reads each record of a source: how many there are, and the sum of their tags and requests.
 fn add_up<I: Read>(source: &mut Source<I>) -> Result<(u64, u64), (u64, SourceFault)> {
     let mut count: u64 = 0;
     let mut sum: u64 = 0;
+    let mut record = Record::finalize();
     loop {
-        match source.next() {
-            Ok(Some(record)) => {
+        match source.next_into(&mut record) {
+            Ok(true) => {
                 count += 1;
                 sum = sum.wrapping_add(number_of(&record));
             }
-            Ok(None) => return Ok((count, sum)),
+            Ok(false) => return Ok((count, sum)),
             Err(fault) => return Err((count, fault)),
         }
     }
@@ -747,7 +760,7 @@ fn add_up<I: Read>(source: &mut Source<I>) -> Result<(u64, u64), (u64, SourceFau
 fn main() -> ExitCode {
     let words: Vec<String> = env::args().skip(1).collect();
     let [way, path] = words.as_slice() else {
-        eprintln!("usage: plain lint|next FILE");
+        eprintln!("usage: plain lint|records FILE");
         return ExitCode::from(3);
     };
     let Ok(file) = File::open(path) else {

@@ -6,6 +6,7 @@ ghost use Rattle.gather.specs.Ranks.{AcceptsRank, RefusesRank, failures_after};
 
 use crate::fault::{RankFault, Refusal, RunFault};
 use mpicall::device::Input;
+use mpicall::record::Record;
 use mpicall::source::Source;
 use mpigroup::head::Head;
 use pairing::fault::next_fault;
@@ -36,12 +37,13 @@ pub fn read_rank<I: Input>(
     ensures count { I.failures (input_of source.new) ≡ failures_after result (I.failures (input_of source.old)) }
 {
     let mut calls = Calls::new(alloc);
+    let mut entry = Record::finalize();
     loop {
-        let entry = match source.next() {
-            Ok(Some(entry)) => entry,
-            Ok(None) => return Ok(calls),
+        match source.next_into(&mut entry) {
+            Ok(true) => {}
+            Ok(false) => return Ok(calls),
             Err(fault) => return Err(refused_behind(rank, &calls, RankFault::OfSource(fault))),
-        };
+        }
         if let Some(fault) = next_fault(head, rank, calls.records(), &entry) {
             return Err(refused_behind(rank, &calls, RankFault::OfCall(fault)));
         }

@@ -1,21 +1,20 @@
 -- What the readers of the fields behind a word say of these fields.
-use Rattle.std.proofs.Common.{◌≡◌, ℕ, ◌+◌, ◌-◌, ◌<◌, ◌≤◌, Bool, true, false, List, [], ◌∷◌, ◌++◌, length, sym, ap, ◌∙◌, refl, arith, Option, Some, None, option_map, ◌&&◌, ◌==◌, map, is_some, nat_le, cond, MatchOption, MatchBool, length-append, append_assoc, suc}
+use Rattle.std.proofs.Common.{◌≡◌, ℕ, ◌+◌, ◌-◌, ◌<◌, ◌≤◌, Bool, true, false, List, [], ◌∷◌, ◌++◌, length, sym, ap, ◌∙◌, refl, arith, Option, Some, None, option_map, ◌&&◌, ◌==◌, map, is_some, nat_le, cond, length-append, append_assoc, suc}
 use Rattle.std.specs.Fmt.{decimal}
 use Rattle.std.specs.List.{list_all}
 use Rattle.std.proofs.lemmas.Bool.Decides.{nat_tests}
 use Rattle.std.proofs.lemmas.List.{length-map, map-append, append-nil}
 use Rattle.std.proofs.lemmas.List.Folds.{list_all-append}
-use Rattle.mpicall.specs.Argument.{Argument, Form, NumberUpTo, Number, spell, is_in_range, form_of, is_in_form, request_form, request_argument, index_form, index_argument, read_argument}
-use Rattle.mpicall.specs.Limits.{in_ranges, names_enough, few_enough}
-use Rattle.mpicall.specs.Line.{Shape, Fixed, Requests, Chosen, shape_of, root_forms, operation_forms, takes_count, each_in_form, all_requests, all_in_form, fits, fits_line}
-use Rattle.mpicall.specs.Lines.{is_empty}
+use Rattle.mpicall.specs.Argument.{Argument, Form, NumberUpTo, Number, spell, is_in_range, is_in_form, request_form, request_argument, index_form, read_argument}
+use Rattle.mpicall.specs.Limits.{in_ranges, names_enough}
+use Rattle.mpicall.specs.Line.{Shape, Fixed, Chosen, shape_of, root_forms, operation_forms, takes_count, each_in_form, all_requests, all_in_form, fits, fits_line}
 use Rattle.mpicall.specs.Number.{number_up_to, is_canonical, value_of}
-use Rattle.mpicall.specs.Reading.{with_behind, next_argument, take_arguments, ReadsCall, ReadsBehind, ReadsFields, requests_fit, SpellsRequests}
+use Rattle.mpicall.specs.Reading.{with_behind, next_argument, take_arguments, all_taken, ReadsWhole, ReadsBehind, ReadsFields, requests_fit, SpellsRequests}
 use Rattle.mpicall.specs.Spelling.{word_of_call, arguments_of, fields_of}
 use Rattle.mpicall.specs.Word.{word_of, text_of}
 use Rattle.mpicall.proofs.WordLemmas.{word_has}
 use Rattle.mpicall.proofs.DecimalLemmas.{number-decimal}
-use Rattle.mpicall.proofs.ArgumentLemmas.{small_form, and_true, le_to, le_from, argument_spelled, false_unless}
+use Rattle.mpicall.proofs.ArgumentLemmas.{small_form, and_true, le_to, le_from, argument_spelled}
 use Rattle.mpicall.proofs.RowLemmas.{row_spelled, row_length, row_none}
 use Rattle.mpicall.specs.declared.call.Call.{Call}
 use Rattle.mpicall.specs.declared.call.Call.TheVariants.{Send, Recv, Isend, Irecv, Sendrecv, Wait, Waitall, Waitany, Coll, Icoll, Dup, Split, Finalize}
@@ -105,10 +104,23 @@ fixed_none w forms fields is taken =
     rw is (not_both (length forms == length fields) (each_in_form forms fields)
     (λ same. let e : length forms ≡ length fields = grind (arith, nat_tests, same) in row_none forms fields e taken))
 
-pub fixed_reads : (w : Word) (forms : List Form) (fields behind : List (List ℕ)) (answer : Option (Unit {0})) (call : Call) (read : Bool) → shape_of w ≡ Fixed forms → ReadsCall w forms fields answer call behind → read ≡ (is_some answer && is_empty behind) → ReadsBehind w fields read call
-fixed_reads w forms fields behind None call read is reads e = rw e (fixed_none w forms fields is reads)
-fixed_reads w forms fields [] (Some u) call read is reads e = rw e (fixed_all w forms fields call is reads.0 reads.1)
-fixed_reads w forms fields (field ∷ behind) (Some u) call read is reads e = rw e (fixed_more w forms fields (arguments_of call) field behind is reads.0)
+taken_whole : (w : Word) (forms : List Form) (fields : List (List ℕ)) (call : Call) (taken : Option (List Argument × List (List ℕ))) → taken ≡ take_arguments forms fields → shape_of w ≡ Fixed forms → all_taken taken ≡ Some (arguments_of call) → word_of_call call ≡ w → (fields ≡ map spell (arguments_of call)) × (word_of_call call ≡ w) × (in_ranges call ≡ true)
+taken_whole w forms fields call None e is all word = cc
+taken_whole w forms fields call (Some (args, [])) e is all word =
+    let same : args ≡ arguments_of call = cc in
+    fixed_all w forms fields call is (sym e ∙ ap (λ (a : List Argument). Some (a, [])) same) word
+taken_whole w forms fields call (Some (args, field ∷ behind)) e is all word = cc
+
+taken_unfit : (w : Word) (forms : List Form) (fields : List (List ℕ)) (taken : Option (List Argument × List (List ℕ))) → taken ≡ take_arguments forms fields → shape_of w ≡ Fixed forms → all_taken taken ≡ None → fits w fields ≡ false
+taken_unfit w forms fields None e is all = fixed_none w forms fields is (sym e)
+taken_unfit w forms fields (Some (args, [])) e is all = cc
+taken_unfit w forms fields (Some (args, field ∷ behind)) e is all = fixed_more w forms fields args field behind is (sym e)
+
+pub fixed_reads : (w : Word) (forms : List Form) (fields : List (List ℕ)) (answer : Option (Unit {0})) (old new : Call) (read : Bool) → shape_of w ≡ Fixed forms → ReadsWhole w forms fields answer old new → read ≡ is_some answer → ReadsBehind w fields read old new
+fixed_reads w forms fields None old new read is reads e =
+    rw e (taken_unfit w forms fields (take_arguments forms fields) refl is reads.0, reads.1)
+fixed_reads w forms fields (Some u) old new read is reads e =
+    rw e (taken_whole w forms fields new (take_arguments forms fields) refl is reads.0 reads.1)
 
 -- Lists of requests.
 
@@ -303,8 +315,8 @@ index_fits all chosen left reqs i s below =
 whole : (text : List ℕ) (fields : List (List ℕ)) (w : Word) (call : Call) → text ≡ text_of w → fields ≡ map spell (arguments_of call) → word_of_call call ≡ w → text ∷ fields ≡ fields_of call
 whole text fields w call p q r = rw (p, q, sym r) refl
 
-pub line_reads : (text : List ℕ) (fields all : List (List ℕ)) (w : Word) (answer : Bool) (call : Call) → all ≡ text ∷ fields → word_of text ≡ Some w → ReadsBehind w fields answer call → ReadsFields all answer call
+pub line_reads : (text : List ℕ) (fields all : List (List ℕ)) (w : Word) (answer : Bool) (old new : Call) → all ≡ text ∷ fields → word_of text ≡ Some w → ReadsBehind w fields answer old new → ReadsFields all answer old new
 unfolding fits_line
-line_reads text fields all w true call is found reads =
-    (is ∙ whole text fields w call (word_has text w found) reads.0 reads.1, reads.2)
-line_reads text fields all w false call is found reads = rw (is, found) reads
+line_reads text fields all w true old new is found reads =
+    (is ∙ whole text fields w new (word_has text w found) reads.0 reads.1, reads.2)
+line_reads text fields all w false old new is found reads = (rw (is, found) reads.0, reads.1)

@@ -1,11 +1,11 @@
 -- How the fields of a line are read, and the record that a line without a fault spells. Nobody has to
 -- believe this: `read_line` promises that `record_of_line` gives a record exactly where the line is its
 -- spelling, and else the line's first fault.
-use Rattle.std.specs.Prelude.{◌≡◌, ◌<◌, ◌++◌, ℕ, ℤ, pos, Bool, true, false, ◌&&◌, nat_le, MatchBool, Option, Some, None, option_map, Result, Ok, Err, MatchResult, MatchOption, List, [], ◌∷◌, length, map, get_or, drop}
+use Rattle.std.specs.Prelude.{◌≡◌, ◌<◌, ◌++◌, ℕ, ℤ, pos, Bool, true, false, ◌&&◌, nat_le, MatchBool, Option, Some, None, Result, Ok, Err, MatchResult, MatchOption, List, [], ◌∷◌, length, map, get_or, drop}
 use Rattle.std.specs.List.{list_all}
 use Rattle.mpicall.specs.declared.limits.TheConstants.{MOST_REQUESTS}
 use Rattle.mpicall.specs.Limits.{in_ranges, few_enough}
-use Rattle.mpicall.specs.Argument.{is_in_range, spell, Argument, Number, PeerOf, Colour, Key, New, Form, request_form, request_argument, index_argument, read_argument}
+use Rattle.mpicall.specs.Argument.{is_in_range, spell, Argument, Number, PeerOf, Colour, Key, New, Form, request_argument, index_argument, read_argument}
 use Rattle.mpicall.specs.Number.{value_of}
 use Rattle.mpicall.specs.Word.{word_of}
 use Rattle.mpicall.specs.Spelling.{arguments_of, word_of_call, fields_of, spelling, line_feed}
@@ -19,7 +19,6 @@ use Rattle.mpicall.specs.declared.call.Call.{Call}
 use Rattle.mpicall.specs.declared.call.Call.TheVariants.{Send, Recv, Isend, Irecv, Sendrecv, Wait, Waitall, Waitany, Coll, Icoll, Dup, Split, Finalize}
 use Rattle.mpicall.specs.declared.word.Collective.{Collective}
 use Rattle.mpicall.specs.declared.word.Collective.TheVariants.{Barrier as BarrierName, Bcast as BcastName, Gather as GatherName, Scatter as ScatterName, Reduce as ReduceName, Allgather as AllgatherName, Alltoall as AlltoallName, Allreduce as AllreduceName, Scan as ScanName, Exscan as ExscanName}
-use Rattle.mpicall.specs.declared.word.Operation.{Operation}
 use Rattle.mpicall.specs.declared.word.Operation.TheVariants.{Send as SendOperation, Recv as RecvOperation, Coll as CollOperation}
 use Rattle.mpicall.specs.declared.word.Word.{Word}
 use Rattle.mpicall.specs.declared.word.Word.TheVariants.{Blocking, Started, Sendrecv as SendrecvWord, Wait as WaitWord, Waitall as WaitallWord, Waitany as WaitanyWord, Dup as DupWord, Split as SplitWord, Finalize as FinalizeWord}
@@ -50,11 +49,17 @@ abbrev pub take_arguments : List Form → List (List ℕ) → Option (List Argum
 take_arguments [] fields = Some ([], fields)
 take_arguments (form ∷ forms) fields = take_behind (next_argument form fields) (λ behind. take_arguments forms behind)
 
--- what a reader answers, the call that it leaves and the fields behind are those of a word and its forms
-abbrev pub ReadsCall : Word → List Form → List (List ℕ) → Option (Unit {0}) → Call → List (List ℕ) → Type 0
-ReadsCall word forms fields answer call behind =
-    MatchOption answer (take_arguments forms fields ≡ None)
-    (λ _. (take_arguments forms fields ≡ Some (arguments_of call, behind)) × (word_of_call call ≡ word))
+-- the arguments that were taken, where no fields are left
+abbrev pub all_taken : Option (List Argument × List (List ℕ)) → Option (List Argument)
+all_taken None = None
+all_taken (Some (arguments, [])) = Some arguments
+all_taken (Some (arguments, field ∷ fields)) = None
+
+-- a reader leaves the call of a word that all the fields spell by its forms, or leaves its place alone
+abbrev pub ReadsWhole : Word → List Form → List (List ℕ) → Option (Unit {0}) → Call → Call → Type 0
+ReadsWhole word forms fields answer old new =
+    MatchOption answer ((all_taken (take_arguments forms fields) ≡ None) × (new ≡ old))
+    (λ _. (all_taken (take_arguments forms fields) ≡ Some (arguments_of new)) × (word_of_call new ≡ word))
 
 -- the number, the peer and so on of an argument that is one
 abbrev pub number_in : Argument → ℕ
@@ -139,19 +144,23 @@ call_unless (Some fault) call = Err fault
 unfoldable pub record_of_line : List ℕ → Result Call LineFault
 record_of_line line = call_unless (fault_of_line line) (call_of_fields (split_fields (body_of line)))
 
--- what a reader answers, and the call that it leaves at Ok, are those of a reading
-abbrev pub ReadsInto : Result (Unit {0}) LineFault → Call → Result Call LineFault → Type 0
-ReadsInto answer call reading = MatchResult answer (λ _. reading ≡ Ok call) (λ fault. reading ≡ Err fault)
+-- what a reader answers, and the call that it leaves, are those of a reading; a fault leaves the place alone
+abbrev pub ReadsInto : Result (Unit {0}) LineFault → Call → Call → Result Call LineFault → Type 0
+ReadsInto answer old new reading =
+    MatchResult answer (λ _. reading ≡ Ok new) (λ fault. (reading ≡ Err fault) × (new ≡ old))
 
--- a reader of the fields behind a word leaves the call that they spell, or they don't fit the word
-abbrev pub ReadsBehind : Word → List (List ℕ) → Bool → Call → Type 0
-ReadsBehind word fields answer call =
-    MatchBool answer ((fields ≡ map spell (arguments_of call)) × (word_of_call call ≡ word) × (in_ranges call ≡ true)) (fits word fields ≡ false)
+-- a reader of the fields behind a word leaves the call that they spell, or they don't fit the word and it
+-- leaves its place alone
+abbrev pub ReadsBehind : Word → List (List ℕ) → Bool → Call → Call → Type 0
+ReadsBehind word fields answer old new =
+    MatchBool answer
+    ((fields ≡ map spell (arguments_of new)) × (word_of_call new ≡ word) × (in_ranges new ≡ true))
+    ((fits word fields ≡ false) × (new ≡ old))
 
 -- the same of all the fields of a line
-abbrev pub ReadsFields : List (List ℕ) → Bool → Call → Type 0
-ReadsFields fields answer call =
-    MatchBool answer ((fields ≡ fields_of call) × (in_ranges call ≡ true)) (fits_line fields ≡ false)
+abbrev pub ReadsFields : List (List ℕ) → Bool → Call → Call → Type 0
+ReadsFields fields answer old new =
+    MatchBool answer ((fields ≡ fields_of new) × (in_ranges new ≡ true)) ((fits_line fields ≡ false) × (new ≡ old))
 
 -- fields that are requests, as many as one wait may name
 abbrev pub requests_fit : List (List ℕ) → Bool

@@ -1,9 +1,8 @@
 //! The fields of a whole line: a word, and what its shape wants behind it.
 
-ghost use Rattle.std.specs.Prelude.{◌≡◌, ◌≤◌, ◌&&◌, [], ◌∷◌, true, false, is_some, List, ℕ, length, MatchOption, MatchBool};
-ghost use Rattle.mpicall.specs.Lines.{is_empty};
+ghost use Rattle.std.specs.Prelude.{◌≡◌, ◌≤◌, [], ◌∷◌, true, false, List, ℕ, length, MatchOption, MatchBool};
 ghost use Rattle.mpicall.specs.Reading.{ReadsBehind, ReadsFields, requests_fit, SpellsRequests};
-ghost use Rattle.mpicall.specs.declared.word.Word.TheVariants.{Waitall, Waitany};
+ghost use Rattle.mpicall.specs.declared.word.Word.TheVariants.{Waitall, Waitany, Finalize};
 
 use crate::call::Call;
 use crate::fields::Fields;
@@ -31,7 +30,7 @@ fn read_requests(mut fields: Fields<'_>) -> Option<Reqs>
 }
 
 fn read_waitall(fields: Fields<'_>, into: &mut Call) -> bool
-    ensures { ReadsBehind Waitall fields.entry result into.new }
+    ensures { ReadsBehind Waitall fields.entry result into.old into.new }
 {
     match read_requests(fields) {
         Some(reqs) => {
@@ -43,7 +42,7 @@ fn read_waitall(fields: Fields<'_>, into: &mut Call) -> bool
 }
 
 fn read_waitany(mut fields: Fields<'_>, into: &mut Call) -> bool
-    ensures { ReadsBehind Waitany fields.entry result into.new }
+    ensures { ReadsBehind Waitany fields.entry result into.old into.new }
 {
     let Some(chosen) = next_number(MOST_REQUESTS as u32 - 1, &mut fields) else {
         return false;
@@ -61,55 +60,39 @@ fn read_waitany(mut fields: Fields<'_>, into: &mut Call) -> bool
     true
 }
 
-/// Whether a call was read, and its fields were all.
-fn ends(read: Option<()>, mut fields: Fields<'_>) -> bool
-    ensures { result ≡ (is_some read && is_empty fields.entry) }
+fn read_finalize(mut fields: Fields<'_>, into: &mut Call) -> bool
+    ensures { ReadsBehind Finalize fields.entry result into.old into.new }
 {
-    read.is_some() && fields.next_field().is_none()
+    if fields.next_field().is_some() {
+        return false;
+    }
+    *into = Call::Finalize;
+    true
 }
 
-/// Reads the call of a word and the fields behind it; says whether there is one.
-fn read_behind(word: Word, mut fields: Fields<'_>, into: &mut Call) -> bool
-    ensures { ReadsBehind word fields.entry result into.new }
+/// Reads the call of a word and the fields behind it; says whether there is one, and else leaves the
+/// place alone.
+fn read_behind(word: Word, fields: Fields<'_>, into: &mut Call) -> bool
+    ensures { ReadsBehind word fields.entry result into.old into.new }
 {
     match word {
-        Word::Blocking(operation) => {
-            let read = read_blocking(operation, &mut fields, into);
-            ends(read, fields)
-        }
-        Word::Started(operation) => {
-            let read = read_started(operation, &mut fields, into);
-            ends(read, fields)
-        }
+        Word::Blocking(operation) => read_blocking(operation, fields, into).is_some(),
+        Word::Started(operation) => read_started(operation, fields, into).is_some(),
         Word::Waitall => read_waitall(fields, into),
-        Word::Wait => {
-            let read = read_wait(&mut fields, into);
-            ends(read, fields)
-        }
+        Word::Wait => read_wait(fields, into).is_some(),
         Word::Waitany => read_waitany(fields, into),
-        Word::Sendrecv => {
-            let read = read_sendrecv(&mut fields, into);
-            ends(read, fields)
-        }
-        Word::Dup => {
-            let read = read_dup(&mut fields, into);
-            ends(read, fields)
-        }
-        Word::Split => {
-            let read = read_split(&mut fields, into);
-            ends(read, fields)
-        }
-        Word::Finalize => {
-            *into = Call::Finalize;
-            ends(Some(()), fields)
-        }
+        Word::Sendrecv => read_sendrecv(fields, into).is_some(),
+        Word::Dup => read_dup(fields, into).is_some(),
+        Word::Split => read_split(fields, into).is_some(),
+        Word::Finalize => read_finalize(fields, into),
     }
 }
 
-/// Reads the call of the fields of a line, its word first; says whether there is one.
+/// Reads the call of the fields of a line, its word first; says whether there is one, and else leaves the
+/// place alone.
 #[tactic(auto, unfolding(crate::specs::Line::fits_line))]
 pub(crate) fn read_fields(mut fields: Fields<'_>, into: &mut Call) -> bool
-    ensures { ReadsFields fields.entry result into.new }
+    ensures { ReadsFields fields.entry result into.old into.new }
 {
     let Some(field) = fields.next_field() else {
         return false;

@@ -8,8 +8,6 @@ ghost use Rattle.mpicall.specs.Line.{fault_of_line};
 ghost use Rattle.mpicall.specs.Reading.{IsBody, Spells, record_of_line, ReadsInto};
 ghost use Rattle.mpicall.specs.declared.fault.LineFault.{LineFault as FaultValue};
 
-use crate::body::read_fields;
-use crate::call::Call;
 use crate::fault::LineFault;
 use crate::fields::Fields;
 use crate::first_fault::fault_of_fields;
@@ -35,16 +33,16 @@ fn body_of(line: &[u8]) -> Result<&[u8], LineFault>
     Ok(body)
 }
 
-/// Reads the call of a line into one place, which keeps any call where the line has a fault.
-pub(crate) fn read_into(line: &[u8], into: &mut Call) -> Result<(), LineFault>
-    ensures reading { ReadsInto result into.new (record_of_line line.now) }
+/// Reads the record of a line into one place, which a line with a fault leaves alone.
+pub(crate) fn read_into(line: &[u8], into: &mut Record) -> Result<(), LineFault>
+    ensures reading { ReadsInto result into.old into.new (record_of_line line.now) }
     ensures ok { IfOk result (λ _. Spells line.now into.new) }
 {
     let body = match body_of(line) {
         Ok(body) => body,
         Err(fault) => return Err(fault),
     };
-    if read_fields(Fields::of(body), into) {
+    if into.read_fields(Fields::of(body)) {
         Ok(())
     } else {
         Err(fault_of_fields(Fields::of(body)))
@@ -57,9 +55,9 @@ pub fn read_line(line: &[u8]) -> Result<Record, LineFault>
     ensures fault { (fault : FaultValue) → (result ≡ Err fault) ↔ (fault_of_line line.now ≡ Some fault) }
     ensures value { result ≡ record_of_line line.now }
 {
-    let mut call = Call::Finalize;
-    match read_into(line, &mut call) {
-        Ok(()) => Ok(Record::of_ranged(call)),
+    let mut record = Record::finalize();
+    match read_into(line, &mut record) {
+        Ok(()) => Ok(record),
         Err(fault) => Err(fault),
     }
 }

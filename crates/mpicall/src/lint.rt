@@ -4,9 +4,9 @@ ghost use Rattle.std.specs.Prelude.{◌≡◌, Some, IfErr};
 ghost use Rattle.mpicall.specs.Lint.{TellsTrace, last_answer};
 ghost use Rattle.mpicall.specs.Source.{coming, ended, input_of, end_of_answer, count_after, IsOwnFault};
 
-use crate::call::Call;
 use crate::device::Input;
 use crate::fault::SourceFault;
+use crate::record::Record;
 use crate::source::Source;
 use std::sync::Wait;
 
@@ -27,9 +27,9 @@ pub fn lint<I: Input>(source: &mut Source<I>, wait: &impl Wait) -> Result<u64, L
     ensures own { IfErr result (λ told. IsOwnFault told.fault) }
 {
     let mut count: u64 = 0;
-    let mut call = Call::Finalize;
+    let mut record = Record::finalize();
     for _ in wait.forever() {
-        match source.next_into(&mut call) {
+        match source.next_into(&mut record) {
             Ok(true) => count = count.saturating_add(1),
             Ok(false) => return Ok(count),
             Err(fault) => return Err(LintFault { call: count, fault }),

@@ -1,11 +1,13 @@
 //! The fields of a line, read one by one: a small function for each form of field. A call is read into
-//! one place; a line that has a fault is looked at again, by `fault_of_fields`.
+//! one place, which is written once all the fields have come; a line that has a fault leaves it alone, and is
+//! looked at again, by `fault_of_fields`.
 
-ghost use Rattle.std.specs.Prelude.{◌≡◌, ◌≤◌, [], ◌∷◌, Some, None, IfSome, MatchOption};
+ghost use Rattle.std.specs.Prelude.{◌≡◌, ◌≤◌, [], ◌∷◌, Some, None, false, IfSome, MatchOption};
 ghost use Rattle.mpicall.specs.Argument.{NumberUpTo, PeerForm, ColourForm, KeyForm, NewForm, Number, PeerOf, Colour, Key, New, comm_form, tag_form, request_form, root_form, comm_argument, tag_argument, request_argument, root_argument};
+ghost use Rattle.mpicall.specs.Lines.{is_empty};
 ghost use Rattle.mpicall.specs.Spelling.{name_of, root_of, root_arguments};
 ghost use Rattle.mpicall.specs.Line.{root_forms, operation_forms};
-ghost use Rattle.mpicall.specs.Reading.{next_argument, take_arguments, ReadsCall};
+ghost use Rattle.mpicall.specs.Reading.{next_argument, take_arguments, ReadsWhole};
 ghost use Rattle.mpicall.specs.declared.word.Word.TheVariants.{Blocking, Started, Sendrecv, Wait, Dup, Split};
 
 use crate::call::{Call, Kind, Peer};
@@ -143,17 +145,28 @@ fn next_kind(collective: Collective, fields: &mut Fields<'_>) -> Option<Kind>
     Some(kind)
 }
 
+/// No more, where all the fields have come.
+fn end_of(fields: &mut Fields<'_>) -> Option<()>
+    ensures { MatchOption result (is_empty fields.old ≡ false) (λ _. fields.old ≡ []) }
+{
+    match fields.next_field() {
+        Some(_) => None,
+        None => Some(()),
+    }
+}
+
 /// Reads a call that does an operation at once.
 pub(crate) fn read_blocking(
     operation: Operation,
-    fields: &mut Fields<'_>,
+    mut fields: Fields<'_>,
     into: &mut Call,
 ) -> Option<()>
-    ensures { ReadsCall (Blocking operation) (operation_forms operation) fields.old result into.new fields.new }
+    ensures { ReadsWhole (Blocking operation) (operation_forms operation) fields.entry result into.old into.new }
 {
     match operation {
         Operation::Send(mode) => {
-            let (comm, dest, tag) = next_message(fields)?;
+            let (comm, dest, tag) = next_message(&mut fields)?;
+            end_of(&mut fields)?;
             *into = Call::Send {
                 mode,
                 comm,
@@ -162,12 +175,14 @@ pub(crate) fn read_blocking(
             };
         }
         Operation::Recv => {
-            let (comm, source, tag) = next_message(fields)?;
+            let (comm, source, tag) = next_message(&mut fields)?;
+            end_of(&mut fields)?;
             *into = Call::Recv { comm, source, tag };
         }
         Operation::Coll(collective) => {
-            let comm = next_comm(fields)?;
-            let kind = next_kind(collective, fields)?;
+            let comm = next_comm(&mut fields)?;
+            let kind = next_kind(collective, &mut fields)?;
+            end_of(&mut fields)?;
             *into = Call::Coll { comm, kind };
         }
     }
@@ -177,15 +192,16 @@ pub(crate) fn read_blocking(
 /// Reads a call that starts an operation.
 pub(crate) fn read_started(
     operation: Operation,
-    fields: &mut Fields<'_>,
+    mut fields: Fields<'_>,
     into: &mut Call,
 ) -> Option<()>
-    ensures { ReadsCall (Started operation) (request_form ∷ operation_forms operation) fields.old result into.new fields.new }
+    ensures { ReadsWhole (Started operation) (request_form ∷ operation_forms operation) fields.entry result into.old into.new }
 {
-    let req = next_request(fields)?;
+    let req = next_request(&mut fields)?;
     match operation {
         Operation::Send(mode) => {
-            let (comm, dest, tag) = next_message(fields)?;
+            let (comm, dest, tag) = next_message(&mut fields)?;
+            end_of(&mut fields)?;
             *into = Call::Isend {
                 req,
                 mode,
@@ -195,7 +211,8 @@ pub(crate) fn read_started(
             };
         }
         Operation::Recv => {
-            let (comm, source, tag) = next_message(fields)?;
+            let (comm, source, tag) = next_message(&mut fields)?;
+            end_of(&mut fields)?;
             *into = Call::Irecv {
                 req,
                 comm,
@@ -204,20 +221,22 @@ pub(crate) fn read_started(
             };
         }
         Operation::Coll(collective) => {
-            let comm = next_comm(fields)?;
-            let kind = next_kind(collective, fields)?;
+            let comm = next_comm(&mut fields)?;
+            let kind = next_kind(collective, &mut fields)?;
+            end_of(&mut fields)?;
             *into = Call::Icoll { req, comm, kind };
         }
     }
     Some(())
 }
 
-pub(crate) fn read_sendrecv(fields: &mut Fields<'_>, into: &mut Call) -> Option<()>
-    ensures { ReadsCall Sendrecv (comm_form ∷ PeerForm ∷ tag_form ∷ PeerForm ∷ tag_form ∷ []) fields.old result into.new fields.new }
+pub(crate) fn read_sendrecv(mut fields: Fields<'_>, into: &mut Call) -> Option<()>
+    ensures { ReadsWhole Sendrecv (comm_form ∷ PeerForm ∷ tag_form ∷ PeerForm ∷ tag_form ∷ []) fields.entry result into.old into.new }
 {
-    let (comm, dest, send_tag) = next_message(fields)?;
-    let source = next_peer(fields)?;
-    let recv_tag = next_tag(fields)?;
+    let (comm, dest, send_tag) = next_message(&mut fields)?;
+    let source = next_peer(&mut fields)?;
+    let recv_tag = next_tag(&mut fields)?;
+    end_of(&mut fields)?;
     *into = Call::Sendrecv {
         comm,
         dest,
@@ -228,30 +247,33 @@ pub(crate) fn read_sendrecv(fields: &mut Fields<'_>, into: &mut Call) -> Option<
     Some(())
 }
 
-pub(crate) fn read_wait(fields: &mut Fields<'_>, into: &mut Call) -> Option<()>
-    ensures { ReadsCall Wait (request_form ∷ []) fields.old result into.new fields.new }
+pub(crate) fn read_wait(mut fields: Fields<'_>, into: &mut Call) -> Option<()>
+    ensures { ReadsWhole Wait (request_form ∷ []) fields.entry result into.old into.new }
 {
-    let req = next_request(fields)?;
+    let req = next_request(&mut fields)?;
+    end_of(&mut fields)?;
     *into = Call::Wait { req };
     Some(())
 }
 
-pub(crate) fn read_dup(fields: &mut Fields<'_>, into: &mut Call) -> Option<()>
-    ensures { ReadsCall Dup (comm_form ∷ comm_form ∷ []) fields.old result into.new fields.new }
+pub(crate) fn read_dup(mut fields: Fields<'_>, into: &mut Call) -> Option<()>
+    ensures { ReadsWhole Dup (comm_form ∷ comm_form ∷ []) fields.entry result into.old into.new }
 {
-    let comm = next_comm(fields)?;
-    let new = next_comm(fields)?;
+    let comm = next_comm(&mut fields)?;
+    let new = next_comm(&mut fields)?;
+    end_of(&mut fields)?;
     *into = Call::Dup { comm, new };
     Some(())
 }
 
-pub(crate) fn read_split(fields: &mut Fields<'_>, into: &mut Call) -> Option<()>
-    ensures { ReadsCall Split (comm_form ∷ ColourForm ∷ KeyForm ∷ NewForm ∷ []) fields.old result into.new fields.new }
+pub(crate) fn read_split(mut fields: Fields<'_>, into: &mut Call) -> Option<()>
+    ensures { ReadsWhole Split (comm_form ∷ ColourForm ∷ KeyForm ∷ NewForm ∷ []) fields.entry result into.old into.new }
 {
-    let comm = next_comm(fields)?;
-    let colour = next_colour(fields)?;
-    let key = next_key(fields)?;
-    let new = next_new(fields)?;
+    let comm = next_comm(&mut fields)?;
+    let colour = next_colour(&mut fields)?;
+    let key = next_key(&mut fields)?;
+    let new = next_new(&mut fields)?;
+    end_of(&mut fields)?;
     *into = Call::Split {
         comm,
         colour,

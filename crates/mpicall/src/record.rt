@@ -5,9 +5,13 @@ ghost use Rattle.std.specs.List.{list_all};
 ghost use Rattle.mpicall.specs.Argument.{PeerOf, comm_argument, tag_argument, request_argument, is_in_range, peer_in_range, key_in_range, none_or_up_to};
 ghost use Rattle.mpicall.specs.Ending.{ends_list};
 ghost use Rattle.mpicall.specs.Limits.{in_ranges};
+ghost use Rattle.mpicall.specs.Reading.{ReadsFields};
 ghost use Rattle.mpicall.specs.Spelling.{root_of, root_arguments};
+ghost use Rattle.mpicall.specs.declared.call.Call.TheVariants.{Finalize};
 
+use crate::body::read_fields;
 use crate::call::{Call, Kind, Peer};
+use crate::fields::Fields;
 use crate::limits::{
     GREATEST_COLOUR, GREATEST_COMM, GREATEST_RANK, GREATEST_REQUEST, GREATEST_TAG,
 };
@@ -161,12 +165,21 @@ impl Record {
         }
     }
 
-    /// The record of a call that was read, or made, in its ranges.
-    pub(crate) fn of_ranged(call: Call) -> Record
-        requires { IsTrue (in_ranges call) }
-        ensures { result ≡ call }
+    /// The record with which each trace ends.
+    pub fn finalize() -> Record
+        ensures { result ≡ Finalize }
     {
-        Record { call }
+        Record {
+            call: Call::Finalize,
+        }
+    }
+
+    /// Reads the record of the fields of a line, its word first; says whether there is one, and else
+    /// leaves this one alone.
+    pub(crate) fn read_fields(&mut self, fields: Fields<'_>) -> bool
+        ensures { ReadsFields fields.entry result self.old self.new }
+    {
+        read_fields(fields, &mut self.call)
     }
 
     /// The call in its place, for those that only look at it: a record takes some 264 bytes.

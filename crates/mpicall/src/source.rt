@@ -5,7 +5,6 @@ ghost use Rattle.mpicall.specs.Lines.{lines_of};
 ghost use Rattle.mpicall.specs.Trace.{Trace, IsTraceOf, trace_of};
 ghost use Rattle.std.specs.Prelude.{◌≡◌, ◌↔◌, List, ◌≢◌, ◌≤◌, ◌<◌, ℕ, true, Some, None, Ok, Err, length, option_map, IsTrue, IfOk, IfErr, IfSome, MatchResult};
 
-use crate::call::Call;
 use crate::device::Input;
 use crate::fault::SourceFault;
 use crate::limits::MOST_LINE_BYTES;
@@ -39,7 +38,6 @@ pub struct Source<I> {
 impl<I: Input> Source<I> {
     ghost use Rattle.mpicall.specs.declared.call.Call.{Call as CallValue};
     ghost use Rattle.mpicall.specs.declared.source.Stage.TheVariants.{Reading, Finalized};
-    ghost use Rattle.mpicall.specs.Limits.{in_ranges};
     ghost use Rattle.mpicall.specs.Source.{coming, ended, input_of, Gives, end_of_answer, answer_of, answer_into, count_after, IsOwnFault, unread, IsCutOff};
     ghost use Rattle.mpicall.specs.Spelling.{spelling};
     ghost use Rattle.mpicall.specs.declared.fault.SourceFault.TheVariants.{ReadFailed};
@@ -73,23 +71,25 @@ impl<I: Input> Source<I> {
         ensures cut { ended self.old ≡ None → result ≡ Err ReadFailed
             → IsCutOff (unread I.left self.old) (I.left (input_of self.new)) }
     {
-        let mut call = Call::Finalize;
-        match self.next_into(&mut call) {
-            Ok(true) => Ok(Some(Record::of_ranged(call))),
+        let mut record = Record::finalize();
+        match self.next_into(&mut record) {
+            Ok(true) => Ok(Some(record)),
             Ok(false) => Ok(None),
             Err(fault) => Err(fault),
         }
     }
 
-    /// Reads the next record into one place, and says whether there was one.
-    pub(crate) fn next_into(&mut self, into: &mut Call) -> Result<bool, SourceFault>
+    /// Reads the next line's record into one place, for those that read many: a record takes some 264
+    /// bytes. False once the bytes end behind `finalize`. Only a true answer changes the place. A fault is
+    /// answered for good, and so is false.
+    pub fn next_into(&mut self, into: &mut Record) -> Result<bool, SourceFault>
         ensures trace { Gives (coming I.left self.old) (coming I.left self.new) (answer_into result into.new) }
         ensures end { ended self.new ≡ end_of_answer (answer_into result into.new) }
         ensures repeats { IfSome (ended self.old) (λ end. (answer_into result into.new ≡ answer_of end) × (self.new ≡ self.old)) }
         ensures count { I.failures (input_of self.new)
             ≡ count_after (ended self.old) (answer_into result into.new) (I.failures (input_of self.old)) }
         ensures own { IfErr result IsOwnFault }
-        ensures in_ranges { result ≡ Ok true → IsTrue (in_ranges into.new) }
+        ensures kept { result ≢ Ok true → into.new ≡ into.old }
         ensures line { result ≡ Ok true
             → Consumes (unread I.left self.old) (unread I.left self.new) (spelling into.new) }
         ensures cut { ended self.old ≡ None → result ≡ Err ReadFailed
@@ -104,14 +104,14 @@ impl<I: Input> Source<I> {
     }
 
     /// Reads the next line, where no `finalize` came so far.
-    fn read_record(&mut self, into: &mut Call) -> Result<bool, SourceFault>
+    fn read_record(&mut self, into: &mut Record) -> Result<bool, SourceFault>
         requires { self.old.stage ≡ Reading }
         ensures trace { Gives (coming I.left self.old) (coming I.left self.new) (answer_into result into.new) }
         ensures end { ended self.new ≡ end_of_answer (answer_into result into.new) }
         ensures count { I.failures (input_of self.new)
             ≡ count_after None (answer_into result into.new) (I.failures (input_of self.old)) }
         ensures own { IfErr result IsOwnFault }
-        ensures in_ranges { result ≡ Ok true → IsTrue (in_ranges into.new) }
+        ensures kept { result ≢ Ok true → into.new ≡ into.old }
         ensures line { result ≡ Ok true
             → Consumes (unread I.left self.old) (unread I.left self.new) (spelling into.new) }
         ensures cut { result ≡ Err ReadFailed
@@ -176,10 +176,10 @@ pub fn each_text_has_one_trace()
 {}
 
 /// How far a source is behind a record.
-fn stage_behind(call: &Call) -> Stage
-    ensures { result ≡ stage_behind call.now }
+fn stage_behind(entry: &Record) -> Stage
+    ensures { result ≡ stage_behind entry.now }
 {
-    if call.ends_list() {
+    if entry.ends_list() {
         Stage::Finalized
     } else {
         Stage::Reading

@@ -120,3 +120,14 @@ fn a_failed_write_leaves_a_beginning(rt: HostRuntime) -> Result<(), Fail> {
     }
     Ok(())
 }
+
+#[test]
+fn records_are_read_into_one_place_that_a_fault_leaves_alone(rt: HostRuntime) {
+    let mut source = Source::new(MemoryInput::new(b"wait 7\nfinalize 7\n"));
+    let mut entry = Record::finalize();
+    assert_eq!(rt; source.next_into(&mut entry), Ok(true));
+    assert_eq!(rt; entry.call(), Call::Wait { req: 7 });
+    let fault = SourceFault::Line(LineFault::FieldCount);
+    assert_eq!(rt; source.next_into(&mut entry), Err(fault));
+    assert_eq!(rt; entry.call(), Call::Wait { req: 7 });
+}

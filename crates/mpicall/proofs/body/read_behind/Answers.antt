@@ -4,19 +4,19 @@ use Rattle.mpicall.proofs.BodyLemmas.{fixed_reads}
 use Rattle.mpicall.proofs.body.read_behind.Goals as goal
 
 pub returns-in-Blocking : goal.returns-in-Blocking
-returns-in-Blocking c = rw c.in-Blocking.is (fixed_reads _ _ _ _ _ _ _ refl c.read_blocking-read.ensures c.ends.ensures)
+returns-in-Blocking c = rw c.in-Blocking.is (fixed_reads _ _ _ _ _ _ _ refl c.read_blocking.ensures c.is_some.ensures)
 
 pub returns-in-Started : goal.returns-in-Started
-returns-in-Started c = rw c.in-Started.is (fixed_reads _ _ _ _ _ _ _ refl c.read_started-read.ensures c.ends-in-Started.ensures)
+returns-in-Started c = rw c.in-Started.is (fixed_reads _ _ _ _ _ _ _ refl c.read_started.ensures c.is_some-in-Started.ensures)
 
 pub returns-in-Wait : goal.returns-in-Wait
-returns-in-Wait c = rw c.in-Wait.is (fixed_reads _ _ _ _ _ _ _ refl c.read_wait-read.ensures c.ends-in-Wait.ensures)
+returns-in-Wait c = rw c.in-Wait.is (fixed_reads _ _ _ _ _ _ _ refl c.read_wait.ensures c.is_some-in-Wait.ensures)
 
 pub returns-in-Sendrecv : goal.returns-in-Sendrecv
-returns-in-Sendrecv c = rw c.in-Sendrecv.is (fixed_reads _ _ _ _ _ _ _ refl c.read_sendrecv-read.ensures c.ends-in-Sendrecv.ensures)
+returns-in-Sendrecv c = rw c.in-Sendrecv.is (fixed_reads _ _ _ _ _ _ _ refl c.read_sendrecv.ensures c.is_some-in-Sendrecv.ensures)
 
 pub returns-in-Dup : goal.returns-in-Dup
-returns-in-Dup c = rw c.in-Dup.is (fixed_reads _ _ _ _ _ _ _ refl c.read_dup-read.ensures c.ends-in-Dup.ensures)
+returns-in-Dup c = rw c.in-Dup.is (fixed_reads _ _ _ _ _ _ _ refl c.read_dup.ensures c.is_some-in-Dup.ensures)
 
 pub returns-in-Split : goal.returns-in-Split
-returns-in-Split c = rw c.in-Split.is (fixed_reads _ _ _ _ _ _ _ refl c.read_split-read.ensures c.ends-in-Split.ensures)
+returns-in-Split c = rw c.in-Split.is (fixed_reads _ _ _ _ _ _ _ refl c.read_split.ensures c.is_some-in-Split.ensures)

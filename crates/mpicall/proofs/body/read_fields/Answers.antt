@@ -5,4 +5,4 @@ use Rattle.mpicall.proofs.body.read_fields.Goals as goal
 
 pub returns-in-Some-word_of : goal.returns-in-Some-word_of
 returns-in-Some-word_of c =
-    line_reads _ _ _ _ _ _ c.in-Some.ensures (sym c.word_of.ensures ∙ c.in-Some-word_of.is) c.read_behind.ensures
+    line_reads _ _ _ _ _ _ _ c.in-Some.ensures (sym c.word_of.ensures ∙ c.in-Some-word_of.is) c.read_behind.ensures

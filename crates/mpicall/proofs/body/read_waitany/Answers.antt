@@ -1,17 +1,21 @@
 -- An index and the requests behind it.
+use Rattle.std.proofs.Common.{refl}
 use Rattle.mpicall.proofs.BodyLemmas.{index_missing, index_read, list_unfit, index_unfit, index_fits}
 use Rattle.mpicall.proofs.body.read_waitany.Goals as goal
 
 pub returns-in_default : goal.returns-in_default
-returns-in_default c = index_missing _ c.in_default.ensures.value
+returns-in_default c = (index_missing _ c.in_default.ensures.value, refl)
 
 pub returns-then-chosen-count : goal.returns-then-chosen-count
-returns-then-chosen-count c =
-    index_unfit _ _ _ _ (index_read _ _ _ c.in-Some.ensures.value) c.in-Some-read_requests.ensures (rw c.count.ensures at c.if-chosen-count.true)
+returns-then-chosen-count c = (
+  index_unfit _ _ _ _ (index_read _ _ _ c.in-Some.ensures.value) c.in-Some-read_requests.ensures (rw c.count.ensures at c.if-chosen-count.true),
+  refl,
+)
 
 pub returns : goal.returns
 returns c =
     index_fits _ _ _ _ (index_read _ _ _ c.in-Some.ensures.value) c.in-Some-read_requests.ensures (rw c.count.ensures at c.if-chosen-count.false)
 
 pub returns-in_default-read_requests : goal.returns-in_default-read_requests
-returns-in_default-read_requests c = list_unfit _ _ _ (index_read _ _ _ c.in-Some.ensures.value) c.in_default-read_requests.ensures
+returns-in_default-read_requests c =
+    (list_unfit _ _ _ (index_read _ _ _ c.in-Some.ensures.value) c.in_default-read_requests.ensures, refl)

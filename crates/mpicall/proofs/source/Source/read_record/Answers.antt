@@ -24,7 +24,7 @@ returns-in-Ok-read_into-clause-trace g c =
 pub returns-in-Err-read_into-clause-trace : goal.returns-in-Err-read_into-clause-trace
 unfolding coming
 returns-in-Err-read_into-clause-trace g c =
-    let read = ap (λ (held : List ℕ). record_of_line (take c.in-Ok.len held)) (sym c.held.ensures) ∙ c.in-Err-read_into.ensures.reading in
+    let read = ap (λ (held : List ℕ). record_of_line (take c.in-Ok.len held)) (sym c.held.ensures) ∙ c.in-Err-read_into.ensures.reading.0 in
     rw c.requires
     (gives_line_fault _ _ c.line_end.new.window c.in-Ok.len c.in-Err-read_into.fault c.in-Ok.ensures.known c.in-Ok.ensures.ends c.if-len-eq0.false read)
 
