@@ -24,6 +24,7 @@
 #![tactic(auto)]
 
 pub mod arrival;
+mod met;
 pub mod need;
 pub mod run;
 pub mod stand;
