@@ -5,3 +5,5 @@ pub mod LookLemmas
 pub mod StandLemmas
 pub mod VerdictLemmas
 pub mod ArrivalLemmas
+pub mod AdvanceLemmas
+pub mod AnalyserLemmas

@@ -1,7 +1,7 @@
 -- Whether each need is met, told one by one.
-use Rattle.std.proofs.Common.{◌≡◌, ℕ, ◌+◌, ◌<◌, ◌&&◌, Bool, true, false, Some, List, [], ◌∷◌, length, map, flat_map, take, get_or, refl, sym, ap, ◌∙◌}
+use Rattle.std.proofs.Common.{◌≡◌, ℕ, ◌+◌, ◌&&◌, Bool, true, false, Some, List, [], ◌∷◌, flat_map, take, get_or, refl, ap, ◌∙◌}
 use Rattle.std.specs.List.{slice_get, list_all}
-use Rattle.std.proofs.lemmas.List.Folds.{list_all-append, list_all-map, list_all_more, list_all_at}
+use Rattle.std.proofs.lemmas.List.Folds.{list_all-append, list_all_more, list_all_at}
 use Rattle.std.proofs.lemmas.Option.{slice_get_within, get_or_from_slice_get}
 
 -- one more element that passes

@@ -23,6 +23,8 @@
 //! ```
 #![tactic(auto)]
 
+mod advance;
+pub mod analyser;
 pub mod arrival;
 mod met;
 pub mod need;

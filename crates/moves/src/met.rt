@@ -53,14 +53,7 @@ fn is_half_met(
 }
 
 /// Whether a member, by its rank in the group and its rank of the world, has reached its call of the wave.
-fn is_member_met(
-    pairs: &Pairs,
-    stands: &[u32],
-    comm: u16,
-    wave: u32,
-    g: u16,
-    member: u16,
-) -> bool
+fn is_member_met(pairs: &Pairs, stands: &[u32], comm: u16, wave: u32, g: u16, member: u16) -> bool
     requires { world_rank_of pairs.now.groups comm g ≡ Some member }
     ensures { result ≡ is_met stands.now (member_need pairs.now.recording comm wave member) }
 {
@@ -168,13 +161,7 @@ fn are_requests_met(
 }
 
 /// Whether the call at the place has what it needs: a call that starts a request needs nothing.
-fn is_call_met(
-    pairs: &Pairs,
-    stands: &[u32],
-    rank: u16,
-    place: u32,
-    call: &StoredCall<'_>,
-) -> bool
+fn is_call_met(pairs: &Pairs, stands: &[u32], rank: u16, place: u32, call: &StoredCall<'_>) -> bool
     requires { slice_get (calls_of pairs.now.recording rank) place ≡ Some call.now }
     ensures { result ≡ list_all (is_met stands.now) (needs_of_call pairs.now.groups pairs.now.recording rank place call.now) }
 {

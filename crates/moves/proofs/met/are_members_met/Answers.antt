@@ -1,11 +1,9 @@
-use Rattle.std.proofs.Common.{◌≡◌, ℕ, ◌<◌, ◌≤◌, Bool, true, false, Some, List, length, map, take, refl, sym, ap, ◌∙◌, arith}
-use Rattle.std.specs.List.{slice_get, list_all}
+use Rattle.std.proofs.Common.{◌≡◌, ℕ, ◌≤◌, Some, List, length, sym, ap, ◌∙◌, arith}
+use Rattle.std.specs.List.{list_all}
 use Rattle.std.proofs.lemmas.List.{take_all}
 use Rattle.std.proofs.lemmas.List.Folds.{list_all-map}
 use Rattle.std.proofs.lemmas.Option.{none-some, slice_get-get_or}
-use Rattle.mpigroup.specs.Groups.{Groups, group_of, world_rank_of}
-use Rattle.moves.specs.declared.need.Need.{Need}
-use Rattle.moves.specs.Runs.{State}
+use Rattle.mpigroup.specs.Groups.{group_of, world_rank_of}
 use Rattle.moves.specs.Needs.{member_need, is_met}
 use Rattle.moves.proofs.LookLemmas.{passes_more, fails_at}
 use Rattle.moves.proofs.met.are_members_met.Goals.{in-Some+else-not-is_member_met, in_default}
