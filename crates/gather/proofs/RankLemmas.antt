@@ -1,14 +1,19 @@
 -- How the trace of a source goes on behind the calls that were read of it.
-use Rattle.std.proofs.Common.{◌≡◌, ℕ, false, List, [], ◌∷◌, ◌++◌, length, sym, ap, ◌∙◌, refl, Option, Some, None, Ok, Err, append_assoc, append-nil, slice_get, zero, suc}
+use Rattle.std.proofs.Common.{◌≡◌, ◌≢◌, ℕ, ◌+◌, ◌-◌, ◌<◌, Bool, true, false, List, [], ◌∷◌, ◌++◌, length, sym, ap, subst, ◌∙◌, refl, arith, Option, Some, None, Ok, Err, append_assoc, append-nil, length-set}
+use Rattle.std.proofs.lemmas.List.{length_push}
 use Rattle.std.specs.Prelude.{⊤}
-use Rattle.mpicall.specs.Trace.{Trace, Sealed, Torn, put_first, ends_here}
-use Rattle.mpicall.specs.Source.{Gives}
+use Rattle.mpicall.specs.Trace.{Trace, End, Sealed, Torn, put_first, ends_here}
+use Rattle.mpicall.specs.Source.{Gives, answer_into, end_of_answer, count_after}
 use Rattle.mpicall.specs.declared.call.Call.{Call}
 use Rattle.mpicall.specs.declared.fault.SourceFault.{SourceFault}
 use Rattle.mpicall.specs.declared.fault.SourceFault.TheVariants.{Line, TextAfterFinalize, NoFinalize, ReadFailed, GateStopped, ThreadNotStarted}
 use Rattle.mpigroup.specs.Groups.{Groups}
-use Rattle.pairing.specs.Faults.{fault_of, IsLawfulList}
+use Rattle.pairing.specs.Faults.{fault_of}
 use Rattle.pairing.specs.declared.fault.CallFault.{CallFault}
+use Rattle.pairing.specs.Limits.{most_calls}
+use Rattle.pairing.specs.Recordings.{Lists, calls_of, appended}
+use Rattle.pairing.proofs.FaultLemmas.{fault_none}
+use Rattle.pairing.proofs.RecordingLemmas.{calls_of-appended, calls_of-appended_other}
 use Rattle.gather.specs.Answers.{fault_of_rank, fault_behind, or_behind}
 use Rattle.gather.specs.Told.{is_read_failure}
 use Rattle.gather.specs.Ranks.{AcceptsRank, RefusesRank}
@@ -33,13 +38,6 @@ at_first groups rank (Some whole) = (whole, refl, record { records = refl; fault
 pub begins : (groups : Groups) (rank : ℕ) (told : Option Trace) (calls : List Call) → calls ≡ [] → Continues groups rank told calls told
 begins groups rank told calls is = rw is (at_first groups rank told)
 
-none_at : (place : ℕ) (call : Call) → slice_get {X = Call} [] place ≡ Some call → ⊥
-none_at zero call e = cc
-none_at (suc place) call e = cc
-
-pub nothing_is_lawful : (groups : Groups) (rank : ℕ) (calls : List Call) → calls ≡ [] → IsLawfulList groups rank calls
-nothing_is_lawful groups rank calls is place call found = absurd (none_at place call (rw is at found))
-
 -- one more record was given, and has no fault
 pub one_further : (groups : Groups) (rank : ℕ) (told now next : Option Trace) (calls : List Call) (call : Call) → Continues groups rank told calls now → Gives now next (Ok (Some call)) → fault_of groups rank calls call ≡ None → Continues groups rank told (calls ++ call ∷ []) next
 one_further groups rank None now next calls call c gives lawful = tt
@@ -55,6 +53,41 @@ one_further groups rank (Some whole) (Some rest) next calls call c gives lawful 
             ∙ ap (λ fault. or_behind (length calls) fault (fault_behind groups rank (calls ++ call ∷ []) gives.0.records gives.0.end)) lawful;
       },
     )
+
+-- a true answer of a source that was open gives a record, leaves the source open and counts no failure
+pub gives_one : (now next : Option Trace) (is_there : Bool) (call : Call) → is_there ≡ true → Gives now next (answer_into (Ok is_there) call) → Gives now next (Ok (Some call))
+gives_one now next is_there call is gives = subst (λ (b : Bool). Gives now next (answer_into (Ok b) call)) is gives
+
+pub stays_open : (end : Option End) (is_there : Bool) (call : Call) → is_there ≡ true → end ≡ end_of_answer (answer_into (Ok is_there) call) → end ≡ None
+stays_open end is_there call is e = subst (λ (b : Bool). end ≡ end_of_answer (answer_into (Ok b) call)) is e
+
+pub counts_none : (end : Option End) (is_there : Bool) (call : Call) (before after : ℕ) → is_there ≡ true → end ≡ None → after ≡ count_after end (answer_into (Ok is_there) call) before → after ≡ before
+counts_none end is_there call before after is is_open e =
+    subst (λ (o : Option End). after ≡ count_after o (answer_into (Ok true) call) before) is_open
+    (subst (λ (b : Bool). after ≡ count_after end (answer_into (Ok b) call) before) is e)
+
+-- the same where that record is offered
+pub offered : (groups : Groups) (rank : ℕ) (old new : Lists) (call : Call) (told now next : Option Trace) → rank < length old → new ≡ appended old rank call → fault_of groups rank (calls_of old rank) call ≡ None → Continues groups rank told (calls_of old rank) now → Gives now next (Ok (Some call)) → Continues groups rank told (calls_of new rank) next
+offered groups rank old new call told now next is_rank is lawful c gives =
+    subst (λ (calls : List Call). Continues groups rank told calls next)
+    (sym (calls_of-appended old rank call is_rank) ∙ ap (λ (lists : Lists). calls_of lists rank) (sym is))
+    (one_further groups rank told now next (calls_of old rank) call c gives lawful)
+
+pub offered_others : (rank other : ℕ) (old new : Lists) (call : Call) → new ≡ appended old rank call → other ≢ rank → calls_of new other ≡ calls_of old other
+offered_others rank other old new call is differs =
+    ap (λ (lists : Lists). calls_of lists other) is ∙ calls_of-appended_other old rank other call differs
+
+pub offered_ranks : (rank : ℕ) (old new : Lists) (call : Call) → new ≡ appended old rank call → length new ≡ length old
+offered_ranks rank old new call is = ap (λ (lists : Lists). length lists) is ∙ length-set old rank (calls_of old rank ++ call ∷ [])
+
+pub fewer_left : (groups : Groups) (rank : ℕ) (old new : Lists) (call : Call) → rank < length old → new ≡ appended old rank call → fault_of groups rank (calls_of old rank) call ≡ None → most_calls - length (calls_of new rank) < most_calls - length (calls_of old rank)
+fewer_left groups rank old new call is_rank is lawful =
+    let room : length (calls_of old rank) < most_calls = (fault_none groups rank (calls_of old rank) call lawful).has_room in
+    let more : length (calls_of new rank) ≡ length (calls_of old rank) + 1 =
+    ap (λ (lists : Lists). length (calls_of lists rank)) is
+    ∙ ap (λ (calls : List Call). length calls) (calls_of-appended old rank call is_rank)
+    ∙ length_push (calls_of old rank) call in
+    omega (arith, room, more)
 
 -- a record was given that has a fault
 pub call_refused : (groups : Groups) (rank : ℕ) (told now next : Option Trace) (calls : List Call) (call : Call) (fault : CallFault) → Continues groups rank told calls now → Gives now next (Ok (Some call)) → fault_of groups rank calls call ≡ Some fault → RefusesRank groups rank told (Refused (record { rank = rank; call = length calls; fault = OfCall fault }))

@@ -1,54 +1,57 @@
-//! The records of one rank, read from its source up to the rank's first fault.
+//! The records of one rank, offered to the analyser up to the rank's first fault.
 
-ghost use Rattle.std.specs.Prelude.{◌≡◌, None, IfOk, IfErr, length};
+ghost use Rattle.std.specs.Prelude.{◌≡◌, ◌≢◌, ◌<◌, ℕ, [], None, length, OnOk, IfErr};
 ghost use Rattle.mpicall.specs.Source.{coming, ended, input_of};
+ghost use Rattle.pairing.specs.Recordings.{calls_of};
 ghost use Rattle.gather.specs.Ranks.{AcceptsRank, RefusesRank, failures_after};
 
 use crate::fault::{RankFault, Refusal, RunFault};
+use moves::analyser::{Analyser, OfferFault};
 use mpicall::device::Input;
 use mpicall::record::Record;
 use mpicall::source::Source;
-use mpigroup::head::Head;
-use pairing::fault::next_fault;
-use pairing::recording::Calls;
-use std::alloc::Global;
 
 /// The refusal of a rank behind its calls.
-fn refused_behind(rank: u16, calls: &Calls, fault: RankFault) -> RunFault
-    ensures { result ≡ RunFault.Refused (record { rank = rank; call = length calls.now; fault = fault }) }
+fn refused_behind(analyser: &Analyser, rank: u16, fault: RankFault) -> RunFault
+    ensures { result ≡ RunFault.Refused (record { rank = rank; call = length (calls_of analyser.now.recording rank); fault = fault }) }
 {
     RunFault::Refused(Refusal {
         rank,
-        call: calls.records().len() as u32,
+        call: analyser.accepted(rank).unwrap_or(0),
         fault,
     })
 }
 
-/// Reads the source of a rank to its end, or to the rank's first fault, and gives the rank's calls.
+/// Reads the source of a rank to its end, or to the rank's first fault, and offers the rank's records, of
+/// which none was offered before. The calls of the other ranks stay.
 pub fn read_rank<I: Input>(
-    alloc: Global,
-    head: &Head,
+    analyser: &mut Analyser,
     rank: u16,
     source: &mut Source<I>,
-) -> Result<Calls, RunFault>
-    requires { ended source.old ≡ None }
-    ensures ok { IfOk result (AcceptsRank head.now rank (coming I.left source.old)) }
-    ensures fault { IfErr result (RefusesRank head.now rank (coming I.left source.old)) }
+) -> Result<(), RunFault>
+    requires fresh { ended source.old ≡ None }
+    requires is_rank { rank < length analyser.old.recording }
+    requires none { calls_of analyser.old.recording rank ≡ [] }
+    ensures groups { analyser.new.groups ≡ analyser.old.groups }
+    ensures ranks { length analyser.new.recording ≡ length analyser.old.recording }
+    ensures others { (other : ℕ) → other ≢ rank → calls_of analyser.new.recording other ≡ calls_of analyser.old.recording other }
+    ensures ok { OnOk result (AcceptsRank analyser.old.groups rank (coming I.left source.old) (calls_of analyser.new.recording rank)) }
+    ensures fault { IfErr result (RefusesRank analyser.old.groups rank (coming I.left source.old)) }
     ensures count { I.failures (input_of source.new) ≡ failures_after result (I.failures (input_of source.old)) }
 {
-    let mut calls = Calls::new(alloc);
     let mut entry = Record::finalize();
     loop {
         match source.next_into(&mut entry) {
             Ok(true) => {}
-            Ok(false) => return Ok(calls),
-            Err(fault) => return Err(refused_behind(rank, &calls, RankFault::OfSource(fault))),
+            Ok(false) => return Ok(()),
+            Err(fault) => return Err(refused_behind(analyser, rank, RankFault::OfSource(fault))),
         }
-        if let Some(fault) = next_fault(head, rank, calls.records(), &entry) {
-            return Err(refused_behind(rank, &calls, RankFault::OfCall(fault)));
-        }
-        if calls.push(&entry).is_err() {
-            return Err(RunFault::Memory);
+        match analyser.offer(rank, &entry) {
+            Ok(()) => {}
+            Err(OfferFault::Refused(fault)) => {
+                return Err(refused_behind(analyser, rank, RankFault::OfCall(fault)));
+            }
+            Err(OfferFault::Memory) => return Err(RunFault::Memory),
         }
     }
 }

@@ -1,13 +1,41 @@
--- At first no call was read, and all is to come.
-use Rattle.std.proofs.Common.{refl}
+-- At first no call was read, and all is to come; each record that is accepted leaves one call less to come.
+use Rattle.std.proofs.Common.{◌≡◌, ◌<◌, None, length, refl, sym, subst, ◌∙◌, arith}
 use Rattle.mpicall.specs.Source.{coming}
-use Rattle.gather.proofs.RankLemmas.{begins, nothing_is_lawful}
+use Rattle.pairing.specs.Recordings.{calls_of}
+use Rattle.pairing.specs.Faults.{fault_of}
+use Rattle.gather.proofs.RankLemmas.{begins, gives_one, stays_open, counts_none, offered, offered_others, offered_ranks, fewer_left}
 use Rattle.gather.proofs.rank.read_rank.Goals as goal
 
-pub loop-calls-init : goal.loop-calls-init
-loop-calls-init g c = record {
-  lawful = nothing_is_lawful _ c.args.rank _ c.new-calls.ensures;
-  fresh = c.requires;
-  told = begins _ c.args.rank (coming g.I.Input.left c.args.source.now) _ c.new-calls.ensures;
+pub loop-fault-init : goal.loop-fault-init
+loop-fault-init g c = record {
+  groups = refl;
+  ranks = refl;
+  others = λ other differs. refl;
+  fresh = c.requires.fresh;
+  told = begins _ c.args.rank (coming g.I.Input.left c.args.source.now) _ c.requires.none;
   count = refl;
 }
+
+pub loop-fault-smaller : goal.loop-fault-smaller
+loop-fault-smaller g c =
+    fewer_left c.loop-fault.analyser.groups c.args.rank c.loop-fault.analyser.recording c.offer.new.self.recording c.next_into.new.into
+    (omega (arith, c.requires.is_rank, c.loop-fault.invariant.ranks)) c.in-Ok.ensures.ok c.in-Ok.ensures.lawful
+
+pub loop-fault-preserved : goal.loop-fault-preserved
+loop-fault-preserved g c =
+    let old = c.loop-fault.invariant in
+    let lists = c.loop-fault.analyser.recording in
+    let call = c.next_into.new.into in
+    let lawful : fault_of c.args.analyser.now.groups c.args.rank (calls_of lists c.args.rank) call ≡ None =
+    subst (λ groups. fault_of groups c.args.rank (calls_of lists c.args.rank) call ≡ None) old.groups c.in-Ok.ensures.lawful in
+    record {
+      groups = c.in-Ok.ensures.groups ∙ old.groups;
+      ranks = offered_ranks c.args.rank lists c.offer.new.self.recording call c.in-Ok.ensures.ok ∙ old.ranks;
+      others = λ other differs. offered_others c.args.rank other lists c.offer.new.self.recording call c.in-Ok.ensures.ok differs ∙ old.others other differs;
+      fresh = stays_open _ c.in-Ok-true.field-0 call c.in-Ok-true.field-0-test c.in-Ok-true.ensures.end;
+      told = offered c.args.analyser.now.groups c.args.rank lists c.offer.new.self.recording call
+          (coming g.I.Input.left c.args.source.now) (coming g.I.Input.left c.loop-fault.source) (coming g.I.Input.left c.next_into.new.self)
+          (omega (arith, c.requires.is_rank, old.ranks)) c.in-Ok.ensures.ok lawful old.told
+          (gives_one (coming g.I.Input.left c.loop-fault.source) (coming g.I.Input.left c.next_into.new.self) c.in-Ok-true.field-0 call c.in-Ok-true.field-0-test c.in-Ok-true.ensures.trace);
+      count = counts_none _ c.in-Ok-true.field-0 call _ _ c.in-Ok-true.field-0-test old.fresh c.in-Ok-true.ensures.count ∙ old.count;
+    }
