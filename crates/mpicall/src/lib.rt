@@ -13,7 +13,8 @@
 //! - The records that `source::Source::next` gives, and its end, are those of the input's bytes, however
 //!   the input cuts them into pieces: each text has one trace, by the spellings and the first fault of its
 //!   lines. A fault is answered for good, and so is the end. Where a read fails, the bytes that came and
-//!   were given as no record hold no whole line.
+//!   were given as no record hold no whole line. `Source::next_into` promises the same of a record that is
+//!   read into a place of the caller's, and changes that place only where it gives one.
 //! - `lint::lint` reads a source to its end and tells the number of its records, or the place and the
 //!   fault of that end.
 //! - A device's fault is answered only where the device's count of failures rose.
@@ -26,7 +27,8 @@
 //!
 //! ```text
 //! let mut source = Source::new(MemoryInput::new(b"recv 0 1 5\nfinalize\n"));
-//! while let Some(entry) = source.next()? {
+//! let mut entry = Record::finalize();
+//! while source.next_into(&mut entry)? {
 //!     write_line(&entry, &mut output)?;
 //! }
 //! ```

@@ -3,7 +3,7 @@
 ghost use Rattle.mpicall.specs.Stage.{is_own, stage_behind};
 ghost use Rattle.mpicall.specs.Lines.{lines_of};
 ghost use Rattle.mpicall.specs.Trace.{Trace, IsTraceOf, trace_of};
-ghost use Rattle.std.specs.Prelude.{◌≡◌, ◌↔◌, List, ◌≢◌, ◌≤◌, ◌<◌, ℕ, true, Some, None, Ok, Err, length, option_map, IsTrue, IfOk, IfErr, IfSome, MatchResult};
+ghost use Rattle.std.specs.Prelude.{◌≡◌, ◌↔◌, List, ◌≢◌, ℕ, true, Some, None, Ok, Err, option_map, IfErr, IfSome};
 
 use crate::device::Input;
 use crate::fault::SourceFault;
