@@ -198,29 +198,6 @@ maximal_runs_end_alike can calls persistent bounded =
           maximal.is_stuck,
     )
 
--- a search for the first number of a range, by what is known of the numbers before
-first_in : (p : ℕ → Bool) (a n r : ℕ) → a ≤ r → r < a + n → p r ≡ true → ((k : ℕ) → a ≤ k → k < r → p k ≡ false) → find p (range_with_len a n) ≡ Some r
-first_in p a zero r from to here before = absurd (omega arith)
-first_in p a (suc n) r from to here before =
-    ⊎_elim
-    (λ (e : a ≡ r). let first : p a ≡ true = rw e here in rw first (ap (λ (m : ℕ). Some m) e))
-    (λ (e : a ≢ r).
-    let fails : p a ≡ false = before a (omega arith) (omega arith) in
-    rw fails (first_in p (a + 1) n r (omega arith) (omega arith) here (λ k h. before k (omega arith))))
-    (cases_eq a r)
-
-nowhere_in : (p : ℕ → Bool) (a n : ℕ) → ((k : ℕ) → a ≤ k → k < a + n → p k ≡ false) → find p (range_with_len a n) ≡ None
-nowhere_in p a zero none = refl
-nowhere_in p a (suc n) none =
-    let fails : p a ≡ false = none a (omega arith) (omega arith) in
-    rw fails (nowhere_in p (a + 1) n (λ k h l. none k (omega arith) (omega arith)))
-
-pub lowest_is : (can : Rule) (s : State) (rank : ℕ) → rank < length s → can s rank ≡ true → ((k : ℕ) → k < rank → can s k ≡ false) → lowest can s ≡ Some rank
-lowest_is can s rank is_rank here before = first_in (can s) 0 (length s) rank (omega arith) (omega arith) here (λ k h. before k)
-
-pub lowest_is_none : (can : Rule) (s : State) → ((k : ℕ) → k < length s → can s k ≡ false) → lowest can s ≡ None
-lowest_is_none can s none = nowhere_in (can s) 0 (length s) (λ k h l. none k (omega arith))
-
 -- one step on from what is reached
 last_push : (s t : State) (states : List State) → last_of s (states ++ t ∷ []) ≡ t
 last_push s t [] = refl

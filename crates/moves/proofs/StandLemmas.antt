@@ -119,27 +119,3 @@ reached_within groups recording s reached =
     (cases_Bool (can_move groups recording (map length recording) rank)))
     (same_ranks recording)
     reached
-
-pub calls_left : (groups : Groups) (recording : Lists) (s : State) (rank : ℕ) → IsReached (can_move groups recording) (length recording) s → lowest (can_move groups recording) s ≡ Some rank → calls_in recording - total (moved s rank) < calls_in recording - total s
-calls_left groups recording s rank reached found =
-    let f = lowest_found (can_move groups recording) s rank found in
-    let within = reached_within groups recording s reached in
-    omega (
-      arith,
-      total_moved s rank f.1,
-      total_less s (map length recording) rank within.ranks within.stands (can_move_is_bounded groups recording s rank f.0),
-    )
-
-pub step_lowest : (groups : Groups) (recording : Lists) (s : State) (rank : ℕ) → IsReached (can_move groups recording) (length recording) s → lowest (can_move groups recording) s ≡ Some rank → IsReached (can_move groups recording) (length recording) (moved s rank)
-step_lowest groups recording s rank reached found =
-    let f = lowest_found (can_move groups recording) s rank found in
-    reached_step (can_move groups recording) (length recording) s (moved s rank) reached
-    (record { rank = rank; is_rank = f.1; can_move = f.0; moves_on = refl })
-
-pub reached_end : (groups : Groups) (recording : Lists) (s : State) → IsReached (can_move groups recording) (length recording) s → lowest (can_move groups recording) s ≡ None → IsTheEnd (can_move groups recording) (length recording) s
-reached_end groups recording s reached none =
-    any_end_is_the_end (can_move groups recording) (length recording) s (can_move_is_persistent groups recording) reached (lowest_none (can_move groups recording) s none)
-
-pub reached_stands : (groups : Groups) (recording : Lists) (s : State) → IsReached (can_move groups recording) (length recording) s → lowest (can_move groups recording) s ≡ None → s ≡ stands_of groups recording
-reached_stands groups recording s reached none =
-    sym ((reached_end groups recording s reached none).of_all (lowest_run_over groups recording) (every_maximal_run_ends_at_the_stands groups recording).0)

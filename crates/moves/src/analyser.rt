@@ -109,6 +109,8 @@ impl Analyser {
         ensures value { result.now ≡ self.now.groups }
         ensures ranks { length self.now.recording ≡ ranks_of self.now.groups }
         ensures lawful { IsLawful self.now.groups self.now.recording }
+        ensures end { IsTheEnd (can_move self.now.groups self.now.recording) (length self.now.recording) self.now.stands }
+        ensures stands { self.now.stands ≡ stands_of self.now.groups self.now.recording }
     {
         self.pairs.head()
     }

@@ -1,6 +1,6 @@
 //! Arrivals: records of many ranks as they are read, in any mix.
 
-ghost use Rattle.moves.specs.Arrivals.{KeptIsLawful, MixesAreKeptAlike};
+ghost use Rattle.moves.specs.Arrivals.{KeptIsLawful, MixesAreKeptAlike, MixesStandAlike};
 
 /// What is kept of arrivals is lawful: no call that is kept has a fault after those kept before it.
 pub fn kept_is_lawful()
@@ -11,4 +11,10 @@ pub fn kept_is_lawful()
 /// records arrive in the same order.
 pub fn mixes_are_kept_alike()
     ensures { MixesAreKeptAlike }
+{}
+
+/// However the ranks' records are mixed, the ranks come to stand alike. Its premise is that each rank's
+/// records arrive in the same order.
+pub fn mixes_stand_alike()
+    ensures { MixesStandAlike }
 {}

@@ -1,15 +1,11 @@
 //! Whether a run can hang.
 
-ghost use Rattle.std.specs.Prelude.{◌≡◌, ◌↔◌, IfOk, length};
+ghost use Rattle.std.specs.Prelude.{◌≡◌, ◌↔◌, length};
 ghost use Rattle.std.specs.List.{list_all, range_with_len};
-ghost use Rattle.moves.specs.Stands.{is_at_finalize};
+ghost use Rattle.moves.specs.Stands.{stands_of, is_at_finalize};
 ghost use Rattle.moves.specs.Verdicts.{verdict_of, SomeRankIsStuck};
 
-use crate::need::{is_finalize, stand_of};
-use crate::stand::stands;
-use mpigroup::head::Head;
-use pairing::recording::Recording;
-use std::alloc::{AllocError, Global};
+use crate::analyser::Analyser;
 
 /// What is said of a run.
 #[derive(Clone, Copy, Debug, PartialEq, Eq)]
@@ -20,31 +16,29 @@ pub enum Verdict {
     Hang,
 }
 
-/// Whether the rank's present call is its Finalize.
-pub fn is_at_finalize(recording: &Recording, stands: &[u32], rank: u16) -> bool
-    ensures { result ≡ is_at_finalize recording.now stands.now rank }
+/// Whether each of the first ranks stands at its Finalize.
+fn are_ended(analyser: &Analyser, ranks: u16) -> bool
+    ensures { result ≡ list_all (is_at_finalize analyser.now.recording analyser.now.stands) (range_with_len 0 ranks) }
 {
-    match recording.of_rank(rank).get(stand_of(stands, rank) as usize) {
-        Some(call) => is_finalize(call),
-        None => false,
-    }
+    (0..ranks).all(|rank| analyser.is_ended(rank))
 }
 
-fn are_all_at_finalize(recording: &Recording, stands: &[u32]) -> bool
-    ensures { result ≡ list_all (is_at_finalize recording.now stands.now) (range_with_len 0 (length recording.now)) }
+/// Whether each rank stands at its Finalize.
+fn are_all_ended(analyser: &Analyser) -> bool
+    ensures { result ≡ list_all (is_at_finalize analyser.now.recording (stands_of analyser.now.groups analyser.now.recording)) (range_with_len 0 (length analyser.now.recording)) }
 {
-    (0..recording.ranks()).all(|rank| is_at_finalize(recording, stands, rank))
+    are_ended(analyser, analyser.head().ranks())
 }
 
-/// Whether the run can hang: exactly if some rank does not come to stand at its Finalize.
-pub fn verdict_of(alloc: Global, head: &Head, recording: &Recording) -> Result<Verdict, AllocError>
-    ensures value { IfOk result (λ verdict. verdict ≡ verdict_of head.now recording.now) }
-    ensures hang { IfOk result (λ verdict. (verdict ≡ Verdict.Hang) ↔ SomeRankIsStuck head.now recording.now) }
+/// Whether the run can hang by its calls so far: exactly if some rank does not stand at its Finalize. It
+/// takes no memory.
+pub fn verdict_of(analyser: &Analyser) -> Verdict
+    ensures value { result ≡ verdict_of analyser.now.groups analyser.now.recording }
+    ensures hang { (result ≡ Verdict.Hang) ↔ SomeRankIsStuck analyser.now.groups analyser.now.recording }
 {
-    let stands = stands(alloc, head, recording)?;
-    if are_all_at_finalize(recording, &stands) {
-        Ok(Verdict::Free)
+    if are_all_ended(analyser) {
+        Verdict::Free
     } else {
-        Ok(Verdict::Hang)
+        Verdict::Hang
     }
 }
