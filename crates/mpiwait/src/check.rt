@@ -120,7 +120,7 @@ pub fn check<'a, P: Opener, O: Output>(
         });
     }
     let mut sources = open_sources(alloc, opener, files)?;
-    match run(alloc, &head, sources.as_mut_slice(), out) {
+    match run(alloc, head, sources.as_mut_slice(), out) {
         Ok(verdict) => Ok(verdict),
         Err(fault) => Err(Fault::from(fault)),
     }
