@@ -9,3 +9,5 @@ pub mod Communicators
 pub mod Faults
 pub mod Pairs
 pub mod Codes
+pub mod Notes
+pub mod Packed

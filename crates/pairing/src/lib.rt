@@ -31,6 +31,8 @@ pub mod comm;
 pub mod envelope;
 pub mod fault;
 pub mod limits;
+mod packed;
+mod packing;
 pub mod pairs;
 pub mod partner;
 mod places;

@@ -1,0 +1,73 @@
+-- Notes: the calls of each rank, each with three numbers and, at a wait, the places that started the
+-- requests which it names.
+use Rattle.std.specs.Prelude.{ℕ, ◌≤◌, ◌==◌, Option, unwrap_or, option_and_then, List, [], ◌∷◌, ◌++◌, length, take, drop, slice_get, slice_set}
+use Rattle.std.specs.List.{position}
+use Rattle.mpicall.specs.declared.call.Call.{Call}
+use Rattle.mpicall.specs.declared.call.Call.TheVariants.{Waitall, Waitany}
+use Rattle.pairing.specs.Requests.{waits_for}
+
+-- a call, the numbers kept with it, and the places that started the requests which it names: one place
+-- for each request, in its order
+pub record Noted : Type 0 where
+  pub call : Call
+  pub sent : ℕ
+  pub received : ℕ
+  pub joined : ℕ
+  pub starts : List ℕ
+
+-- how many more calls of a rank can be noted without memory, and how many more requests and starts of
+-- waits for several requests
+pub record Room : Type 0 where
+  pub calls : ℕ
+  pub reqs : ℕ
+  pub starts : ℕ
+
+-- the noted calls of one rank
+pub record NotedList : Type 0 where
+  pub calls : List Noted
+  pub room : Room
+
+-- the noted calls of each rank
+pub record Notebook : Type 0 where
+  pub lists : List (List Noted)
+  pub rooms : List Room
+
+-- the noted calls of a rank; none where there is no such rank
+abbrev pub notes_of : List (List Noted) → ℕ → List Noted
+notes_of lists rank = unwrap_or (slice_get lists rank) []
+
+-- the notes with one more noted call at the end of the rank's list
+abbrev pub with_note : List (List Noted) → ℕ → Noted → List (List Noted)
+with_note lists rank note = slice_set lists rank (notes_of lists rank ++ note ∷ [])
+
+-- the requests of a wait that may name several
+abbrev pub listed : Call → List ℕ
+listed (Waitall reqs) = reqs
+listed (Waitany chosen reqs) = reqs
+listed _ = []
+
+-- the call can be noted without memory
+pub record Holds (room : Room) (call : Call) : Type 0 where
+  pub calls : 1 ≤ room.calls
+  pub reqs : length (listed call) ≤ room.reqs
+  pub starts : length (listed call) ≤ room.starts
+
+abbrev pub no_room : Room
+no_room = record { calls = 0; reqs = 0; starts = 0 }
+
+-- and so can the rank's call
+abbrev pub HasRoom : Notebook → ℕ → Call → Type 0
+HasRoom notes rank call = Holds (unwrap_or (slice_get notes.rooms rank) no_room) call
+
+-- what stands beside the requests that a wait completes, of what stands beside those that it names
+abbrev pub completed_among : Call → List ℕ → List ℕ
+completed_among (Waitany chosen reqs) beside = take 1 (drop chosen beside)
+completed_among _ beside = beside
+
+-- the places that started the requests which a wait completes
+abbrev pub completed_starts : Noted → List ℕ
+completed_starts note = completed_among note.call note.starts
+
+-- the place that started a request which a wait names: it stands beside the first such number
+abbrev pub start_of : Noted → ℕ → Option ℕ
+start_of note req = option_and_then (slice_get note.starts) (position (λ other. other == req) (waits_for note.call))
