@@ -31,6 +31,7 @@ pub mod comm;
 pub mod envelope;
 pub mod fault;
 pub mod limits;
+mod note;
 mod packed;
 mod packing;
 pub mod pairs;
