@@ -37,6 +37,7 @@ mod packing;
 pub mod pairs;
 pub mod partner;
 mod places;
+mod rank_notes;
 pub mod recording;
 pub mod request;
 pub mod stored;
