@@ -8,12 +8,14 @@ ghost use Rattle.pairing.specs.Packed.{part, unpack, unpack_starts, end_of, list
 
 use crate::packed::Packed;
 use mpicall::call::Call;
+use mpicall::limits::MOST_REQUESTS;
 use mpicall::reqs::Reqs;
 use std::slice::from_ref;
 
 /// The requests of a wait that may name several.
 pub(crate) fn listed(call: &Call) -> &[u32]
-    ensures { result.now ≡ listed call.now }
+    ensures value { result.now ≡ listed call.now }
+    ensures most { length result.now ≤ MOST_REQUESTS }
 {
     match call {
         Call::Waitall { reqs } | Call::Waitany { reqs, .. } => reqs.as_slice(),
