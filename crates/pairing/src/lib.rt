@@ -32,6 +32,7 @@ pub mod envelope;
 pub mod fault;
 pub mod limits;
 mod note;
+mod notes;
 mod packed;
 mod packing;
 pub mod pairs;
