@@ -17,8 +17,8 @@ room_set lists rank list is_rank =
 pub with_note_set : (lists : List NotedList) (rank : ℕ) (old new : NotedList) (note : Noted) → rank < length lists → old ≡ get_or lists rank old → new.calls ≡ old.calls ++ note ∷ [] → map (λ (it : NotedList). it.calls) (set lists rank new) ≡ with_note (map (λ (it : NotedList). it.calls) lists) rank note
 with_note_set lists rank old new note is_rank read more =
     let before : notes_of (map (λ (it : NotedList). it.calls) lists) rank ≡ old.calls =
-        unwrap_or-slice_get (map (λ (it : NotedList). it.calls) lists) rank []
-        ∙ get_or-map (λ (it : NotedList). it.calls) lists rank old [] is_rank
-        ∙ ap (λ (it : NotedList). it.calls) (sym read) in
+    unwrap_or-slice_get (map (λ (it : NotedList). it.calls) lists) rank []
+    ∙ get_or-map (λ (it : NotedList). it.calls) lists rank old [] is_rank
+    ∙ ap (λ (it : NotedList). it.calls) (sym read) in
     map-set (λ (it : NotedList). it.calls) lists rank new
     ∙ ap (λ (calls : List Noted). set (map (λ (it : NotedList). it.calls) lists) rank calls) (more ∙ ap (λ (calls : List Noted). calls ++ note ∷ []) (sym before))

@@ -77,7 +77,7 @@ pub notes_push : (reqs starts reqs' starts' : List ℕ) (entries : List Entry) (
 notes_push reqs starts reqs' starts' entries entry stored =
     map-append (noted_of (reqs ++ reqs') (starts ++ starts')) entries (entry ∷ [])
     ∙ ap (λ (notes : List Noted). notes ++ noted_of (reqs ++ reqs') (starts ++ starts') entry ∷ [])
-        (map_same (noted_of (reqs ++ reqs') (starts ++ starts')) (noted_of reqs starts) (IsStored reqs starts) entries (noted_more reqs starts reqs' starts') stored.each)
+    (map_same (noted_of (reqs ++ reqs') (starts ++ starts')) (noted_of reqs starts) (IsStored reqs starts) entries (noted_more reqs starts reqs' starts') stored.each)
 
 pub stored_push : (reqs starts reqs' starts' : List ℕ) (entries : List Entry) (entry : Entry) → AreStored entries reqs starts → IsStored (reqs ++ reqs') (starts ++ starts') entry → length reqs' ≡ length starts' → length reqs' ≤ MOST_REQUESTS → length entries < most_calls → AreStored (entries ++ entry ∷ []) (reqs ++ reqs') (starts ++ starts')
 stored_push reqs starts reqs' starts' entries entry stored added same short few = record {

@@ -33,6 +33,8 @@ pub mod fault;
 pub mod limits;
 mod note;
 mod notes;
+#[cfg(test)]
+mod notes_tests;
 mod packed;
 mod packing;
 pub mod pairs;

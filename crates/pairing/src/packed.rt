@@ -101,7 +101,7 @@ pub(crate) struct Entry {
     pub numbers: Numbers,
 }
 
-const _: () = prove!(size_of::<Entry>() <= 40);
+const _: () = prove!(size_of::<Entry>() <= 32);
 
 impl Packed {
     /// The message that the call sends.

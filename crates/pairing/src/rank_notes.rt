@@ -108,9 +108,7 @@ impl RankNotes {
         ensures starts { IfSome result (λ note. length note.starts ≡ length (waits_for note.call)) }
     {
         match self.entries.get(place as usize) {
-            Some(entry) => {
-                Some(Note::of(entry, self.reqs.as_slice(), self.starts.as_slice()))
-            }
+            Some(entry) => { Some(Note::of(entry, self.reqs.as_slice(), self.starts.as_slice())) }
             None => None,
         }
     }

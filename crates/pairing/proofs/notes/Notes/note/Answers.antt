@@ -8,7 +8,7 @@ use Rattle.pairing.proofs.notes.Notes.note.Goals as goal
 pub returns : goal.returns
 returns c =
     let ranks : length c.args.self.now.lists ≡ length c.self.inside.lists.items =
-        ap (λ (notes : Notebook). length notes.lists) (sym c.self.view_is) ∙ length-map c.self.inside.lists.items (λ (list : NotedList). list.calls) in
+    ap (λ (notes : Notebook). length notes.lists) (sym c.self.view_is) ∙ length-map c.self.inside.lists.items (λ (list : NotedList). list.calls) in
     let is_rank : c.args.rank < length c.self.inside.lists.items = omega (arith, c.requires.is_rank) in
     let note = noted c.args.call.now c.args.numbers c.args.starts.now in
     rw c.from.ensures

@@ -18,8 +18,8 @@ returns-clause-lists c =
 pub returns-clause-ok : goal.returns-clause-ok
 returns-clause-ok c =
     let ranks : length c.args.self.now.lists ≡ length c.self.inside.lists.items =
-        ap (λ (notes : Notebook). length notes.lists) (sym c.self.view_is) ∙ length-map c.self.inside.lists.items (λ (list : NotedList). list.calls) in
+    ap (λ (notes : Notebook). length notes.lists) (sym c.self.view_is) ∙ length-map c.self.inside.lists.items (λ (list : NotedList). list.calls) in
     let is_rank : c.args.rank < length c.self.inside.lists.items = omega (arith, c.requires) in
     let is : unwrap_or (slice_get (map (λ (list : NotedList). list.room) (set c.self.inside.lists.items c.from.result c.reserve.new.self)) c.args.rank) no_room ≡ c.reserve.new.self.room =
-        rw c.from.ensures (room_set c.self.inside.lists.items c.args.rank c.reserve.new.self is_rank) in
+    rw c.from.ensures (room_set c.self.inside.lists.items c.args.rank c.reserve.new.self is_rank) in
     subst (λ (room : Room). OnOk c.reserve.result (Holds room c.args.call.now)) (sym is) c.reserve.ensures.ok

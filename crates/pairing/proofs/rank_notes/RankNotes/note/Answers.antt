@@ -17,12 +17,12 @@ invariant_of-self c =
     let named : length c.args.starts.now ≡ length (waits_for call) = cc in
     let short : length (listed call) ≤ MOST_REQUESTS = rw c.listed.ensures.value at c.listed.ensures.most in
     let same : length c.args.self.now.calls ≡ length c.self.inside.entries.items =
-        ap (λ (list : NotedList). length list.calls) (sym c.self.view_is) ∙ length-map c.self.inside.entries.items (noted_of c.self.inside.reqs.items c.self.inside.starts.items) in
+    ap (λ (list : NotedList). length list.calls) (sym c.self.view_is) ∙ length-map c.self.inside.entries.items (noted_of c.self.inside.reqs.items c.self.inside.starts.items) in
     let few : length c.self.inside.entries.items < most_calls = omega (arith, c.requires.few) in
     rw (c.push_reserved.ensures.items, c.push_all.ensures, c.push_all-2.ensures, c.listed.ensures.value, c.listed_starts.ensures)
     (stored_push c.self.inside.reqs.items c.self.inside.starts.items (listed call) (listed_starts call c.args.starts.now) c.self.inside.entries.items _ c.self.invariant
-      (packed_stored c.self.inside.reqs.items c.self.inside.starts.items c.args.starts.now call c.len.result _ c.as_call-call.ensures.in_ranges named c.self.invariant.same first (c.pack-packed.ensures.call c.self.inside.reqs.items first) c.pack-packed.ensures.end)
-      (as_many call c.args.starts.now named) short few)
+    (packed_stored c.self.inside.reqs.items c.self.inside.starts.items c.args.starts.now call c.len.result _ c.as_call-call.ensures.in_ranges named c.self.invariant.same first (c.pack-packed.ensures.call c.self.inside.reqs.items first) c.pack-packed.ensures.end)
+    (as_many call c.args.starts.now named) short few)
 
 pub returns : goal.returns
 returns c =
