@@ -1,5 +1,5 @@
-//! Calls stored compactly: a call with its numbers takes at most 40 bytes, and each request that a wait
-//! for several names 8 more.
+//! Calls stored compactly: a call with its numbers takes 32 bytes, and each request that a wait for
+//! several names 8 more.
 
 ghost use Rattle.std.specs.Prelude.{◌≡◌, List, ℕ};
 ghost use Rattle.mpicall.specs.Ending.{ends_list};

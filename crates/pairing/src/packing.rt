@@ -40,6 +40,28 @@ fn count(reqs: &Reqs) -> u8
     reqs.as_slice().len() as u8
 }
 
+/// The other of `Call` and `Packed`, at the variants whose fields are the same in both. The arms of the
+/// waits are given.
+macro_rules! converted {
+    ($call:expr, $from:ident => $to:ident, $($waits:tt)*) => {
+        match $call {
+            $from::Send { mode, comm, dest, tag } => $to::Send { mode, comm, dest, tag },
+            $from::Recv { comm, source, tag } => $to::Recv { comm, source, tag },
+            $from::Isend { req, mode, comm, dest, tag } => $to::Isend { req, mode, comm, dest, tag },
+            $from::Irecv { req, comm, source, tag } => $to::Irecv { req, comm, source, tag },
+            $from::Sendrecv { comm, dest, send_tag, source, recv_tag } => {
+                $to::Sendrecv { comm, dest, send_tag, source, recv_tag }
+            }
+            $from::Coll { comm, kind } => $to::Coll { comm, kind },
+            $from::Icoll { req, comm, kind } => $to::Icoll { req, comm, kind },
+            $from::Dup { comm, new } => $to::Dup { comm, new },
+            $from::Split { comm, colour, key, new } => $to::Split { comm, colour, key, new },
+            $from::Finalize => $to::Finalize,
+            $($waits)*
+        }
+    };
+}
+
 /// The call packed. The places that started the requests which it names are given beside it, and those
 /// that are listed come to stand from `first` on.
 pub(crate) fn pack(call: &Call, first: u32, starts: &[u32]) -> Packed
@@ -48,85 +70,11 @@ pub(crate) fn pack(call: &Call, first: u32, starts: &[u32]) -> Packed
     ensures starts { (before : List ℕ) → length before ≡ first → unpack_starts (before ++ listed_starts call.now starts.now) result ≡ starts.now }
     ensures end { end_of result ≤ first + length (listed call.now) }
 {
-    match *call {
-        Call::Send {
-            mode,
-            comm,
-            dest,
-            tag,
-        } => Packed::Send {
-            mode,
-            comm,
-            dest,
-            tag,
-        },
-        Call::Recv { comm, source, tag } => Packed::Recv { comm, source, tag },
-        Call::Isend {
-            req,
-            mode,
-            comm,
-            dest,
-            tag,
-        } => Packed::Isend {
-            req,
-            mode,
-            comm,
-            dest,
-            tag,
-        },
-        Call::Irecv {
-            req,
-            comm,
-            source,
-            tag,
-        } => Packed::Irecv {
-            req,
-            comm,
-            source,
-            tag,
-        },
-        Call::Sendrecv {
-            comm,
-            dest,
-            send_tag,
-            source,
-            recv_tag,
-        } => Packed::Sendrecv {
-            comm,
-            dest,
-            send_tag,
-            source,
-            recv_tag,
-        },
-        Call::Wait { req } => Packed::Wait {
-            req,
-            start: starts[0],
-        },
-        Call::Waitall { ref reqs } => Packed::Waitall {
-            first,
-            count: count(reqs),
-        },
-        Call::Waitany { chosen, ref reqs } => Packed::Waitany {
-            chosen,
-            first,
-            count: count(reqs),
-        },
-        Call::Coll { comm, kind } => Packed::Coll { comm, kind },
-        Call::Icoll { req, comm, kind } => Packed::Icoll { req, comm, kind },
-        Call::Dup { comm, new } => Packed::Dup { comm, new },
-        Call::Split {
-            comm,
-            colour,
-            key,
-            new,
-        } => Packed::Split {
-            comm,
-            colour,
-            key,
-            new,
-        },
-        Call::Finalize => Packed::Finalize,
-    }
+    converted!(*call, Call => Packed,
+        Call::Wait { req } => Packed::Wait { req, start: starts[0] },
+        Call::Waitall { ref reqs } => Packed::Waitall { first, count: count(reqs) },
+        Call::Waitany { chosen, ref reqs } => Packed::Waitany { chosen, first, count: count(reqs) },
+    )
 }
 
 /// So many of the numbers, from the first on.
@@ -181,82 +129,11 @@ pub(crate) fn unpack(packed: &Packed, reqs: &[u32]) -> Call
     requires few { IsTrue (names_enough (unpack reqs.now packed.now)) }
     ensures { result ≡ unpack reqs.now packed.now }
 {
-    match *packed {
-        Packed::Send {
-            mode,
-            comm,
-            dest,
-            tag,
-        } => Call::Send {
-            mode,
-            comm,
-            dest,
-            tag,
-        },
-        Packed::Recv { comm, source, tag } => Call::Recv { comm, source, tag },
-        Packed::Isend {
-            req,
-            mode,
-            comm,
-            dest,
-            tag,
-        } => Call::Isend {
-            req,
-            mode,
-            comm,
-            dest,
-            tag,
-        },
-        Packed::Irecv {
-            req,
-            comm,
-            source,
-            tag,
-        } => Call::Irecv {
-            req,
-            comm,
-            source,
-            tag,
-        },
-        Packed::Sendrecv {
-            comm,
-            dest,
-            send_tag,
-            source,
-            recv_tag,
-        } => Call::Sendrecv {
-            comm,
-            dest,
-            send_tag,
-            source,
-            recv_tag,
-        },
+    converted!(*packed, Packed => Call,
         Packed::Wait { req, .. } => Call::Wait { req },
-        Packed::Waitall { first, count } => Call::Waitall {
-            reqs: reqs_at(reqs, first, count),
-        },
-        Packed::Waitany {
-            chosen,
-            first,
-            count,
-        } => Call::Waitany {
-            chosen,
-            reqs: reqs_at(reqs, first, count),
-        },
-        Packed::Coll { comm, kind } => Call::Coll { comm, kind },
-        Packed::Icoll { req, comm, kind } => Call::Icoll { req, comm, kind },
-        Packed::Dup { comm, new } => Call::Dup { comm, new },
-        Packed::Split {
-            comm,
-            colour,
-            key,
-            new,
-        } => Call::Split {
-            comm,
-            colour,
-            key,
-            new,
-        },
-        Packed::Finalize => Call::Finalize,
-    }
+        Packed::Waitall { first, count } => Call::Waitall { reqs: reqs_at(reqs, first, count) },
+        Packed::Waitany { chosen, first, count } => {
+            Call::Waitany { chosen, reqs: reqs_at(reqs, first, count) }
+        }
+    )
 }
