@@ -10,8 +10,8 @@ use Rattle.mpicall.specs.declared.call.Call.{Call}
 use Rattle.mpigroup.specs.Groups.{Groups}
 use Rattle.pairing.specs.declared.envelope.Envelope.{Envelope}
 use Rattle.pairing.specs.declared.envelope.Half.{Half}
-use Rattle.pairing.specs.Notes.{Noted, notes_of, completed_among, completed_starts, start_of}
-use Rattle.pairing.specs.Kept.{calls_among, recorded_in, number_by, IsNoted, AreNoted}
+use Rattle.pairing.specs.Notes.{Noted, notes_of, completed_among, completed_starts, start_of, calls_in, recording_of}
+use Rattle.pairing.specs.Kept.{number_by, IsNoted, AreNoted}
 use Rattle.pairing.specs.Recordings.{Lists, calls_of}
 use Rattle.pairing.specs.Places.{count_before}
 use Rattle.pairing.specs.Envelopes.{envelope_of, has_envelope, other_half}
@@ -19,46 +19,46 @@ use Rattle.pairing.specs.Partners.{number_of, numbered, partner_of}
 use Rattle.pairing.specs.Requests.{waits_for, completes, started_in, started_of}
 use Rattle.pairing.specs.Waves.{joins, does_join, wave_of}
 use Rattle.pairing.specs.Pairs.{completed_of}
-use Rattle.pairing.proofs.NoteLemmas.{calls_of-recorded}
+use Rattle.pairing.proofs.NotedLemmas.{calls_of-recorded}
 
 -- the call at a place is the one that is noted there
-pub call_noted : (notes : List (List Noted)) (rank place : ℕ) → slice_get (calls_of (recorded_in notes) rank) place ≡ option_map (λ n. n.call) (slice_get (notes_of notes rank) place)
+pub call_noted : (notes : List (List Noted)) (rank place : ℕ) → slice_get (calls_of (recording_of notes) rank) place ≡ option_map (λ n. n.call) (slice_get (notes_of notes rank) place)
 call_noted notes rank place =
     ap (λ (calls : List Call). slice_get calls place) (calls_of-recorded notes rank)
     ∙ slice_get-map (λ (n : Noted). n.call) (notes_of notes rank) place
 
 -- where nothing is noted no call stands
-pub no_call : (notes : List (List Noted)) (rank place : ℕ) → slice_get (notes_of notes rank) place ≡ None → slice_get (calls_of (recorded_in notes) rank) place ≡ None
+pub no_call : (notes : List (List Noted)) (rank place : ℕ) → slice_get (notes_of notes rank) place ≡ None → slice_get (calls_of (recording_of notes) rank) place ≡ None
 no_call notes rank place h = call_noted notes rank place ∙ ap (option_map (λ (n : Noted). n.call)) h
 
-pub its_call : (notes : List (List Noted)) (rank place : ℕ) (noted : Noted) → slice_get (notes_of notes rank) place ≡ Some noted → slice_get (calls_of (recorded_in notes) rank) place ≡ Some noted.call
+pub its_call : (notes : List (List Noted)) (rank place : ℕ) (noted : Noted) → slice_get (notes_of notes rank) place ≡ Some noted → slice_get (calls_of (recording_of notes) rank) place ≡ Some noted.call
 its_call notes rank place noted h = call_noted notes rank place ∙ ap (option_map (λ (n : Noted). n.call)) h
 
 -- what is noted is right over the calls before
-its_note : (groups : Groups) (notes : List (List Noted)) (rank place : ℕ) (noted : Noted) → AreNoted groups notes → slice_get (notes_of notes rank) place ≡ Some noted → IsNoted groups rank (take place (calls_of (recorded_in notes) rank)) noted
+its_note : (groups : Groups) (notes : List (List Noted)) (rank place : ℕ) (noted : Noted) → AreNoted groups notes → slice_get (notes_of notes rank) place ≡ Some noted → IsNoted groups rank (take place (calls_of (recording_of notes) rank)) noted
 its_note groups notes rank place noted are_noted h =
     subst (λ (calls : List Call). IsNoted groups rank (take place calls) noted) (sym (calls_of-recorded notes rank)) (are_noted rank place noted h)
 
-pub partner_noted : (groups : Groups) (notes : List (List Noted)) (rank place : ℕ) (half : Half) (noted : Noted) (e : Envelope) → AreNoted groups notes → slice_get (notes_of notes rank) place ≡ Some noted → envelope_of groups rank half noted.call ≡ Some e → partner_of groups (recorded_in notes) rank place half ≡ numbered groups (recorded_in notes) (other_half half) e (number_by half noted)
+pub partner_noted : (groups : Groups) (notes : List (List Noted)) (rank place : ℕ) (half : Half) (noted : Noted) (e : Envelope) → AreNoted groups notes → slice_get (notes_of notes rank) place ≡ Some noted → envelope_of groups rank half noted.call ≡ Some e → partner_of groups (recording_of notes) rank place half ≡ numbered groups (recording_of notes) (other_half half) e (number_by half noted)
 partner_noted groups notes rank place half noted e are_noted h at_envelope =
-    let number : number_by half noted ≡ number_of groups (recorded_in notes) rank half e place = (its_note groups notes rank place noted are_noted h).numbers half e at_envelope in
-    rw (its_call notes rank place noted h, at_envelope) (ap (numbered groups (recorded_in notes) (other_half half) e) (sym number))
+    let number : number_by half noted ≡ number_of groups (recording_of notes) rank half e place = (its_note groups notes rank place noted are_noted h).numbers half e at_envelope in
+    rw (its_call notes rank place noted h, at_envelope) (ap (numbered groups (recording_of notes) (other_half half) e) (sym number))
 
-pub no_partner : (groups : Groups) (notes : List (List Noted)) (rank place : ℕ) (half : Half) (noted : Noted) → slice_get (notes_of notes rank) place ≡ Some noted → envelope_of groups rank half noted.call ≡ None → partner_of groups (recorded_in notes) rank place half ≡ None
+pub no_partner : (groups : Groups) (notes : List (List Noted)) (rank place : ℕ) (half : Half) (noted : Noted) → slice_get (notes_of notes rank) place ≡ Some noted → envelope_of groups rank half noted.call ≡ None → partner_of groups (recording_of notes) rank place half ≡ None
 no_partner groups notes rank place half noted h at_envelope = rw (its_call notes rank place noted h, at_envelope) refl
 
-pub no_partner_past : (groups : Groups) (notes : List (List Noted)) (rank place : ℕ) (half : Half) → slice_get (notes_of notes rank) place ≡ None → partner_of groups (recorded_in notes) rank place half ≡ None
+pub no_partner_past : (groups : Groups) (notes : List (List Noted)) (rank place : ℕ) (half : Half) → slice_get (notes_of notes rank) place ≡ None → partner_of groups (recording_of notes) rank place half ≡ None
 no_partner_past groups notes rank place half h = rw (no_call notes rank place h) refl
 
-pub wave_noted : (groups : Groups) (notes : List (List Noted)) (rank place comm : ℕ) (noted : Noted) → AreNoted groups notes → slice_get (notes_of notes rank) place ≡ Some noted → joins noted.call ≡ Some comm → wave_of (recorded_in notes) rank place ≡ Some (comm, noted.joined)
+pub wave_noted : (groups : Groups) (notes : List (List Noted)) (rank place comm : ℕ) (noted : Noted) → AreNoted groups notes → slice_get (notes_of notes rank) place ≡ Some noted → joins noted.call ≡ Some comm → wave_of (recording_of notes) rank place ≡ Some (comm, noted.joined)
 wave_noted groups notes rank place comm noted are_noted h at_comm =
-    let number : noted.joined ≡ count_before (does_join comm) (calls_of (recorded_in notes) rank) place = (its_note groups notes rank place noted are_noted h).wave comm at_comm in
+    let number : noted.joined ≡ count_before (does_join comm) (calls_of (recording_of notes) rank) place = (its_note groups notes rank place noted are_noted h).wave comm at_comm in
     rw (its_call notes rank place noted h, at_comm) (ap (λ (wave : ℕ). Some (comm, wave)) (sym number))
 
-pub no_wave : (notes : List (List Noted)) (rank place : ℕ) (noted : Noted) → slice_get (notes_of notes rank) place ≡ Some noted → joins noted.call ≡ None → wave_of (recorded_in notes) rank place ≡ None
+pub no_wave : (notes : List (List Noted)) (rank place : ℕ) (noted : Noted) → slice_get (notes_of notes rank) place ≡ Some noted → joins noted.call ≡ None → wave_of (recording_of notes) rank place ≡ None
 no_wave notes rank place noted h at_comm = rw (its_call notes rank place noted h, at_comm) refl
 
-pub no_wave_past : (notes : List (List Noted)) (rank place : ℕ) → slice_get (notes_of notes rank) place ≡ None → wave_of (recorded_in notes) rank place ≡ None
+pub no_wave_past : (notes : List (List Noted)) (rank place : ℕ) → slice_get (notes_of notes rank) place ≡ None → wave_of (recording_of notes) rank place ≡ None
 no_wave_past notes rank place h = rw (no_call notes rank place h) refl
 
 -- what is picked of a list by the requests that a wait completes
@@ -104,9 +104,9 @@ among_maps f (Dup comm new) numbers = refl
 among_maps f (Split comm colour key new) numbers = refl
 among_maps f Finalize numbers = refl
 
-pub completed_noted : (groups : Groups) (notes : List (List Noted)) (rank place index : ℕ) (noted : Noted) → AreNoted groups notes → slice_get (notes_of notes rank) place ≡ Some noted → completed_of (recorded_in notes) rank place index ≡ slice_get (completed_starts noted) index
+pub completed_noted : (groups : Groups) (notes : List (List Noted)) (rank place index : ℕ) (noted : Noted) → AreNoted groups notes → slice_get (notes_of notes rank) place ≡ Some noted → completed_of (recording_of notes) rank place index ≡ slice_get (completed_starts noted) index
 completed_noted groups notes rank place index noted are_noted h =
-    let before : List Call = take place (calls_of (recorded_in notes) rank) in
+    let before : List Call = take place (calls_of (recording_of notes) rank) in
     let started = (its_note groups notes rank place noted are_noted h).started in
     let same : map (λ start. Some start) (completed_starts noted) ≡ map (started_in before) (completes noted.call) =
     among_maps (λ start. Some start) noted.call noted.starts
@@ -136,7 +136,7 @@ at_position f (start ∷ starts) (r ∷ reqs) req h =
         (λ (past : length reqs ≤ n). rw (is, le-ltb (suc n) (suc (length reqs)) (omega (arith, past))) (rw (le-ltb n (length reqs) past) at rest))
         (cases_lt n (length reqs))
 
-pub started_noted : (groups : Groups) (notes : List (List Noted)) (rank place req : ℕ) (noted : Noted) → AreNoted groups notes → slice_get (notes_of notes rank) place ≡ Some noted → started_of (recorded_in notes) rank place req ≡ start_of noted req
+pub started_noted : (groups : Groups) (notes : List (List Noted)) (rank place req : ℕ) (noted : Noted) → AreNoted groups notes → slice_get (notes_of notes rank) place ≡ Some noted → started_of (recording_of notes) rank place req ≡ start_of noted req
 started_noted groups notes rank place req noted are_noted h =
     rw (its_call notes rank place noted h)
-    (sym (at_position (started_in (take place (calls_of (recorded_in notes) rank))) noted.starts (waits_for noted.call) req (its_note groups notes rank place noted are_noted h).started))
+    (sym (at_position (started_in (take place (calls_of (recording_of notes) rank))) noted.starts (waits_for noted.call) req (its_note groups notes rank place noted are_noted h).started))

@@ -6,4 +6,6 @@ pub mod WaveLemmas
 pub mod RequestLemmas
 pub mod RequestLaws
 pub mod NoteLemmas
+pub mod NotedLemmas
 pub mod KeptLemmas
+pub mod PackedLemmas

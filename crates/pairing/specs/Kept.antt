@@ -6,20 +6,12 @@ use Rattle.mpigroup.specs.Groups.{Groups}
 use Rattle.pairing.specs.declared.envelope.Envelope.{Envelope}
 use Rattle.pairing.specs.declared.envelope.Half.{Half}
 use Rattle.pairing.specs.declared.envelope.Half.TheVariants.{Send as SendHalf, Recv as RecvHalf}
-use Rattle.pairing.specs.Notes.{Noted, notes_of}
+use Rattle.pairing.specs.Notes.{Noted, notes_of, calls_in}
 use Rattle.pairing.specs.Recordings.{Lists}
 use Rattle.pairing.specs.Places.{places}
 use Rattle.pairing.specs.Envelopes.{envelope_of, has_envelope}
 use Rattle.pairing.specs.Requests.{waits_for, started_in}
 use Rattle.pairing.specs.Waves.{joins, does_join}
-
--- the calls alone
-abbrev pub calls_among : List Noted → List Call
-calls_among noted = map (λ n. n.call) noted
-
--- the recording that the notes are of
-abbrev pub recorded_in : List (List Noted) → Lists
-recorded_in notes = map calls_among notes
 
 -- the number that is kept for a half of the call
 abbrev pub number_by : Half → Noted → ℕ
@@ -38,4 +30,4 @@ pub record IsNoted (groups : Groups) (rank : ℕ) (before : List Call) (noted : 
 abbrev pub AreNoted : Groups → List (List Noted) → Type 0
 AreNoted groups notes =
     (rank place : ℕ) (noted : Noted) → slice_get (notes_of notes rank) place ≡ Some noted →
-    IsNoted groups rank (take place (calls_among (notes_of notes rank))) noted
+    IsNoted groups rank (take place (calls_in (notes_of notes rank))) noted

@@ -11,3 +11,4 @@ pub mod Pairs
 pub mod Codes
 pub mod Notes
 pub mod Kept
+pub mod Packed

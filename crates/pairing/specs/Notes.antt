@@ -1,9 +1,10 @@
 -- Notes: the calls of each rank, each with three numbers and, at a wait, the places that started the
 -- requests which it names.
-use Rattle.std.specs.Prelude.{ℕ, ◌≤◌, ◌==◌, Option, unwrap_or, option_and_then, List, [], ◌∷◌, ◌++◌, length, take, drop, slice_get, slice_set}
+use Rattle.std.specs.Prelude.{ℕ, ◌≤◌, ◌==◌, Option, unwrap_or, option_and_then, List, [], ◌∷◌, ◌++◌, map, length, take, drop, slice_get, slice_set}
 use Rattle.std.specs.List.{position}
 use Rattle.mpicall.specs.declared.call.Call.{Call}
 use Rattle.mpicall.specs.declared.call.Call.TheVariants.{Waitall, Waitany}
+use Rattle.pairing.specs.Recordings.{Lists}
 use Rattle.pairing.specs.Requests.{waits_for}
 
 -- a call, the numbers kept with it, and the places that started the requests which it names: one place
@@ -39,6 +40,13 @@ notes_of lists rank = unwrap_or (slice_get lists rank) []
 -- the notes with one more noted call at the end of the rank's list
 abbrev pub with_note : List (List Noted) → ℕ → Noted → List (List Noted)
 with_note lists rank note = slice_set lists rank (notes_of lists rank ++ note ∷ [])
+
+-- the calls that were noted, as a recording
+abbrev pub calls_in : List Noted → List Call
+calls_in notes = map (λ note. note.call) notes
+
+abbrev pub recording_of : List (List Noted) → Lists
+recording_of lists = map calls_in lists
 
 -- the requests of a wait that may name several
 abbrev pub listed : Call → List ℕ

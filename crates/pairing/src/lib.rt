@@ -31,9 +31,16 @@ pub mod comm;
 pub mod envelope;
 pub mod fault;
 pub mod limits;
+mod note;
+mod notes;
+#[cfg(test)]
+mod notes_tests;
+mod packed;
+mod packing;
 pub mod pairs;
 pub mod partner;
 mod places;
+mod rank_notes;
 pub mod recording;
 pub mod request;
 pub mod stored;

@@ -1,0 +1,82 @@
+-- The calls that are noted, and one more.
+use Rattle.std.proofs.Common.{inl, inr, ◌≡◌, ◌≢◌, ℕ, zero, suc, ◌+◌, ◌<◌, ◌≤◌, ◌⊎◌, eqb, true, false, Option, Some, None, List, [], ◌∷◌, ◌++◌, length, take, map, get_or, refl, sym, ap, subst, ◌∙◌, ⊎_elim, arith, length-append, get_or-set_same, get_or-set_other}
+use Rattle.std.specs.Prelude.{unwrap_or, option_map, option_and_then, slice_set}
+use Rattle.std.specs.List.{slice_get}
+use Rattle.std.proofs.lemmas.List.{take-append-le, take_all, map_push, length-map, length_push}
+use Rattle.std.proofs.lemmas.Option.{slice_get_within, slice_get_past, none-some, same_Some, unwrap_or-slice_get, slice_get-map}
+use Rattle.std.proofs.lemmas.Bool.{cases_eq, cases_lt}
+use Rattle.mpicall.specs.declared.call.Call.{Call}
+use Rattle.mpigroup.specs.Groups.{Groups}
+use Rattle.pairing.specs.Notes.{Noted, notes_of, with_note, calls_in, recording_of}
+use Rattle.pairing.specs.Kept.{IsNoted, AreNoted}
+use Rattle.pairing.specs.Recordings.{Lists, calls_of, appended}
+use Rattle.pairing.proofs.PlaceLemmas.{slice_get-front}
+
+-- the rank's calls in the recording are those noted of it
+pub calls_of-recorded : (notes : List (List Noted)) (rank : ℕ) → calls_of (recording_of notes) rank ≡ calls_in (notes_of notes rank)
+calls_of-recorded [] rank = refl
+calls_of-recorded (first ∷ notes) zero = refl
+calls_of-recorded (first ∷ notes) (suc rank) = calls_of-recorded notes rank
+
+map_set : (notes : List (List Noted)) (rank : ℕ) (list : List Noted) → recording_of (slice_set notes rank list) ≡ slice_set (recording_of notes) rank (calls_in list)
+map_set [] rank list = refl
+map_set (first ∷ notes) zero list = refl
+map_set (first ∷ notes) (suc rank) list = ap (λ (lists : List (List Call)). calls_in first ∷ lists) (map_set notes rank list)
+
+pub recording_of-more : (notes : List (List Noted)) (rank : ℕ) (noted : Noted) → recording_of (with_note notes rank noted) ≡ appended (recording_of notes) rank noted.call
+recording_of-more notes rank noted =
+    map_set notes rank (notes_of notes rank ++ noted ∷ [])
+    ∙ ap (λ (list : List Call). slice_set (recording_of notes) rank list)
+    (map_push (λ n. n.call) (notes_of notes rank) noted ∙ ap (λ (calls : List Call). calls ++ noted.call ∷ []) (sym (calls_of-recorded notes rank)))
+
+notes_of-same : (notes : List (List Noted)) (rank : ℕ) (noted : Noted) → rank < length notes → notes_of (with_note notes rank noted) rank ≡ notes_of notes rank ++ noted ∷ []
+notes_of-same notes rank noted is_rank =
+    unwrap_or-slice_get (with_note notes rank noted) rank [] ∙ get_or-set_same notes rank (notes_of notes rank ++ noted ∷ []) [] is_rank
+
+notes_of-other : (notes : List (List Noted)) (rank other : ℕ) (noted : Noted) → other ≢ rank → notes_of (with_note notes rank noted) other ≡ notes_of notes other
+notes_of-other notes rank other noted differs =
+    unwrap_or-slice_get (with_note notes rank noted) other []
+    ∙ get_or-set_other notes rank other (notes_of notes rank ++ noted ∷ []) [] differs
+    ∙ sym (unwrap_or-slice_get notes other [])
+
+-- what stands before a place of a list stays as one more is added
+before_stays : (list : List Noted) (noted : Noted) (place : ℕ) → place ≤ length list → take place (calls_in (list ++ noted ∷ [])) ≡ take place (calls_in list)
+before_stays list noted place within =
+    ap (take place) (map_push (λ n. n.call) list noted)
+    ∙ take-append-le place (calls_in list) (noted.call ∷ []) (omega (arith, within, length-map list (λ (n : Noted). n.call)))
+
+get_last : (list : List Noted) (noted : Noted) (place : ℕ) → length list ≤ place → (found : Noted) → slice_get (list ++ noted ∷ []) place ≡ Some found → (place ≡ length list) × (noted ≡ found)
+get_last [] noted zero behind found h = (refl, same_Some noted found h)
+get_last [] noted (suc place) behind found h = absurd (none-some found h)
+get_last (x ∷ list) noted zero behind found h = absurd (omega arith)
+get_last (x ∷ list) noted (suc place) behind found h =
+    let rest = get_last list noted place (omega (arith, behind)) found h in (ap (λ m. suc m) rest.0, rest.1)
+
+among_more : (groups : Groups) (rank : ℕ) (list : List Noted) (noted : Noted) → ((place : ℕ) (found : Noted) → slice_get list place ≡ Some found → IsNoted groups rank (take place (calls_in list)) found) → IsNoted groups rank (calls_in list) noted → (place : ℕ) (found : Noted) → slice_get (list ++ noted ∷ []) place ≡ Some found → IsNoted groups rank (take place (calls_in (list ++ noted ∷ []))) found
+among_more groups rank list noted are_noted is_noted place found h =
+    ⊎_elim
+    (λ (within : place < length list).
+    subst (λ (before : List Call). IsNoted groups rank before found) (sym (before_stays list noted place (omega (arith, within))))
+        (are_noted place found (sym (slice_get-front list (noted ∷ []) place within) ∙ h)))
+    (λ (behind : length list ≤ place).
+    let last = get_last list noted place behind found h in
+    let all : take place (calls_in (list ++ noted ∷ [])) ≡ calls_in list =
+    before_stays list noted place (omega (arith, last.0)) ∙ take_all place (calls_in list) (omega (arith, last.0, length-map list (λ (n : Noted). n.call))) in
+    subst (λ (before : List Call). IsNoted groups rank before found) (sym all)
+        (subst (λ (n : Noted). IsNoted groups rank (calls_in list) n) last.1 is_noted))
+    (cases_lt place (length list))
+
+-- one more note that is right leaves all right
+pub are_noted-more : (groups : Groups) (notes : List (List Noted)) (rank : ℕ) (noted : Noted) → rank < length notes → AreNoted groups notes → IsNoted groups rank (calls_in (notes_of notes rank)) noted → AreNoted groups (with_note notes rank noted)
+are_noted-more groups notes rank noted is_rank are_noted is_noted other place found h =
+    ⊎_elim
+    (λ (same : other ≡ rank).
+    subst (λ (r : ℕ). slice_get (notes_of (with_note notes rank noted) r) place ≡ Some found → IsNoted groups r (take place (calls_in (notes_of (with_note notes rank noted) r))) found) (sym same)
+        (λ h'.
+        subst (λ (list : List Noted). IsNoted groups rank (take place (calls_in list)) found) (sym (notes_of-same notes rank noted is_rank))
+        (among_more groups rank (notes_of notes rank) noted (are_noted rank) is_noted place found
+        (subst (λ (list : List Noted). slice_get list place ≡ Some found) (notes_of-same notes rank noted is_rank) h'))) h)
+    (λ (differs : other ≢ rank).
+    subst (λ (list : List Noted). IsNoted groups other (take place (calls_in list)) found) (sym (notes_of-other notes rank other noted differs))
+        (are_noted other place found (subst (λ (list : List Noted). slice_get list place ≡ Some found) (notes_of-other notes rank other noted differs) h)))
+    (cases_eq other rank)

@@ -1,0 +1,189 @@
+//! A noted call, seen in place.
+
+ghost use Rattle.std.specs.Prelude.{◌≡◌, ◌==◌, length, slice_get, position};
+ghost use Rattle.mpicall.specs.Ending.{ends_list};
+ghost use Rattle.pairing.specs.Recordings.{is_finalize};
+ghost use Rattle.pairing.specs.Envelopes.{message_of};
+ghost use Rattle.pairing.specs.Requests.{starts, completes, waits_for};
+ghost use Rattle.pairing.specs.Waves.{joins};
+ghost use Rattle.pairing.specs.Pairs.{mode_of};
+ghost use Rattle.pairing.specs.Notes.{completed_among, completed_starts, start_of};
+ghost use Rattle.pairing.specs.Packed.{IsStored, noted_of};
+
+use crate::envelope::{Half, Message};
+use crate::packed::{Entry, Packed};
+use crate::packing::{named, named_starts, unpack};
+use mpicall::call::Mode;
+use mpicall::record::Record;
+use std::marker::Model;
+use std::slice::from_ref;
+
+/// The index of the first such number.
+fn index_of(number: u32, numbers: &[u32]) -> Option<usize>
+    ensures { result ≡ position (λ other. other == number) numbers.now }
+{
+    numbers.iter().position(|other| *other == number)
+}
+
+/// A noted call. Contracts see the call with what is kept beside it.
+#[derive(Drop)]
+pub(crate) struct Note<'a> {
+    entry: &'a Entry,
+    reqs: &'a [u32],
+    starts: &'a [u32],
+}
+
+impl<'a> Model for Note<'a> {
+    ghost use Rattle.pairing.specs.Notes.{Noted};
+    ghost use Rattle.pairing.specs.Packed.{IsStored, noted_of};
+
+    ghost Value = { Noted };
+
+    ghost view = { λ n. noted_of n.reqs.now n.starts.now n.entry.now };
+
+    ghost invariant = { λ n. IsStored n.reqs.now n.starts.now n.entry.now };
+}
+
+impl<'a> Note<'a> {
+    /// The note of an entry, with the lists of its rank.
+    pub(crate) fn of(entry: &'a Entry, reqs: &'a [u32], starts: &'a [u32]) -> Note<'a>
+        requires { IsStored reqs.now starts.now entry.now }
+        ensures { result ≡ noted_of reqs.now starts.now entry.now }
+    {
+        Note {
+            entry,
+            reqs,
+            starts,
+        }
+    }
+
+    /// The call as a record.
+    pub(crate) fn record(&self) -> Record
+        ensures { result ≡ self.now.call }
+    {
+        Record::new(unpack(&self.entry.call, self.reqs)).unwrap()
+    }
+
+    /// The message that a half of the call sends or receives. None where the call has no such half, and
+    /// where its peer is MPI_PROC_NULL.
+    pub(crate) fn message(&self, half: Half) -> Option<Message>
+        ensures { result ≡ message_of half self.now.call }
+    {
+        self.entry.call.message(half)
+    }
+
+    /// The mode of a call that sends, blocking or not; None for every other call, MPI_Sendrecv too.
+    pub(crate) fn mode(&self) -> Option<Mode>
+        ensures { result ≡ mode_of self.now.call }
+    {
+        self.entry.call.mode()
+    }
+
+    /// The request that the call starts, if it starts one.
+    pub(crate) fn starts_request(&self) -> Option<u32>
+        ensures { result ≡ starts self.now.call }
+    {
+        self.entry.call.starts()
+    }
+
+    /// The communicator whose members all make the call, if there is one.
+    pub(crate) fn joins(&self) -> Option<u16>
+        ensures { result ≡ joins self.now.call }
+    {
+        self.entry.call.joins()
+    }
+
+    /// Whether the call is MPI_Finalize.
+    pub(crate) fn is_finalize(&self) -> bool
+        ensures { result ≡ is_finalize self.now.call }
+    {
+        self.entry.call.is_finalize()
+    }
+
+    /// Whether no call of the rank comes behind this one.
+    pub(crate) fn ends_list(&self) -> bool
+        ensures { result ≡ ends_list self.now.call }
+    {
+        self.entry.call.ends_list()
+    }
+
+    /// How many sends of its envelope its rank made before.
+    pub(crate) fn sent(&self) -> u32
+        ensures { result ≡ self.now.sent }
+    {
+        self.entry.numbers.sent
+    }
+
+    /// How many receives of its envelope its rank made before.
+    pub(crate) fn received(&self) -> u32
+        ensures { result ≡ self.now.received }
+    {
+        self.entry.numbers.received
+    }
+
+    /// How many collectives of its communicator its rank made before.
+    pub(crate) fn joined(&self) -> u32
+        ensures { result ≡ self.now.joined }
+    {
+        self.entry.numbers.joined
+    }
+
+    /// The requests that the call names as a wait, in its order; none where it is no wait.
+    fn named(&self) -> &[u32]
+        ensures { result.now ≡ waits_for self.now.call }
+    {
+        named(&self.entry.call, self.reqs)
+    }
+
+    /// The places that started those requests, one beside each.
+    fn starts(&self) -> &[u32]
+        ensures { result.now ≡ self.now.starts }
+    {
+        named_starts(&self.entry.call, self.starts)
+    }
+
+    /// What stands beside the requests that the wait completes, of what stands beside those it names.
+    fn completed_among<'b>(&self, beside: &'b [u32]) -> &'b [u32]
+        ensures { result.now ≡ completed_among self.now.call beside.now }
+    {
+        match self.entry.call {
+            Packed::Waitany { chosen, .. } => match beside.get(usize::from(chosen)) {
+                Some(number) => from_ref(number),
+                None => &[],
+            },
+            _ => beside,
+        }
+    }
+
+    /// How many requests the call completes.
+    pub(crate) fn completed_count(&self) -> usize
+        ensures { result ≡ length (completes self.now.call) }
+    {
+        self.completed_among(self.named()).len()
+    }
+
+    /// The request with that index, from 0, among those that the call completes.
+    pub(crate) fn completed_req(&self, index: usize) -> Option<u32>
+        ensures { result ≡ slice_get (completes self.now.call) index }
+    {
+        self.completed_among(self.named()).get(index).copied()
+    }
+
+    /// The place that started the request with that index among those that the call completes.
+    pub(crate) fn completed_start(&self, index: usize) -> Option<u32>
+        ensures { result ≡ slice_get (completed_starts self.now) index }
+    {
+        self.completed_among(self.starts()).get(index).copied()
+    }
+
+    /// The place that started a request which the call names: that beside the first such number. None
+    /// where the call names no such request.
+    pub(crate) fn start_of(&self, req: u32) -> Option<u32>
+        ensures { result ≡ start_of self.now req }
+    {
+        match index_of(req, self.named()) {
+            Some(index) => self.starts().get(index).copied(),
+            None => None,
+        }
+    }
+}

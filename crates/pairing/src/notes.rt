@@ -1,0 +1,101 @@
+//! The noted calls of all ranks.
+
+ghost use Rattle.std.specs.Prelude.{◌≡◌, ◌<◌, ◌≤◌, [], length, replicate, slice_get, IfOk, IfSome, OnOk};
+ghost use Rattle.pairing.specs.Limits.{most_calls};
+ghost use Rattle.pairing.specs.Requests.{waits_for};
+ghost use Rattle.pairing.specs.Notes.{notes_of, with_note, HasRoom};
+ghost use Rattle.pairing.specs.Packed.{noted};
+
+use crate::note::Note;
+use crate::packed::Numbers;
+use crate::rank_notes::RankNotes;
+use mpicall::record::Record;
+use std::alloc::{AllocError, Global};
+use std::marker::Model;
+
+/// The noted calls of all ranks. Contracts see each rank's list, rank 0 first, and for how many more calls
+/// it has room.
+#[derive(Drop)]
+pub(crate) struct Notes {
+    lists: Vec<RankNotes>,
+}
+
+impl Model for Notes {
+    ghost use Rattle.std.specs.Prelude.{◌<◌, ◌^◌, length, map};
+    ghost use Rattle.pairing.specs.Notes.{Notebook};
+
+    ghost Value = { Notebook };
+
+    ghost view = { λ n. record {
+      lists = map (λ list. list.calls) n.lists.items;
+      rooms = map (λ list. list.room) n.lists.items;
+    } };
+
+    ghost invariant = { λ n. length n.lists.items < 2 ^ 16 };
+}
+
+impl Notes {
+    /// No calls yet, of so many ranks.
+    pub(crate) fn new(alloc: Global, ranks: u16) -> Result<Notes, AllocError>
+        ensures { IfOk result (λ notes. notes.lists ≡ replicate ranks []) }
+    {
+        let mut lists = Vec::new(alloc);
+        for _rank in 0..ranks {
+            lists.push(RankNotes::new(alloc))?;
+        }
+        Ok(Notes { lists })
+    }
+
+    /// How many ranks there are.
+    pub(crate) fn ranks(&self) -> u16
+        ensures { result ≡ length self.now.lists }
+    {
+        self.lists.len() as u16
+    }
+
+    /// How many calls of a rank were noted; 0 where there is no such rank.
+    pub(crate) fn count(&self, rank: u16) -> usize
+        ensures value { result ≡ length (notes_of self.now.lists rank) }
+        ensures most { result ≤ most_calls }
+    {
+        match self.lists.get(usize::from(rank)) {
+            Some(list) => list.count(),
+            None => 0,
+        }
+    }
+
+    /// Makes all room that noting the rank's call takes.
+    pub(crate) fn reserve(&mut self, rank: u16, call: &Record) -> Result<(), AllocError>
+        requires { rank < length self.old.lists }
+        ensures lists { self.new.lists ≡ self.old.lists }
+        ensures ok { OnOk result (HasRoom self.new rank call.now) }
+    {
+        let list = &mut self.lists[usize::from(rank)];
+        list.reserve(call)
+    }
+
+    /// Notes the rank's next call, with its numbers and the places that started the requests which it
+    /// names: one for each, in its order. This takes no memory.
+    pub(crate) fn note(&mut self, rank: u16, call: &Record, numbers: Numbers, starts: &[u32])
+        requires is_rank { rank < length self.old.lists }
+        requires room { HasRoom self.old rank call.now }
+        requires starts { length starts.now ≡ length (waits_for call.now) }
+        requires few { length (notes_of self.old.lists rank) < most_calls }
+        ensures { self.new.lists ≡ with_note self.old.lists rank (noted call.now numbers starts.now) }
+    {
+        let list = &mut self.lists[usize::from(rank)];
+        list.note(call, numbers, starts);
+    }
+
+    /// The noted call of a rank at a place; None where there is none. It has one start for each request
+    /// that it names.
+    pub(crate) fn get(&self, rank: u16, place: u32) -> Option<Note<'_>>
+        ensures value { result ≡ slice_get (notes_of self.now.lists rank) place }
+        ensures starts { IfSome result (λ note. length note.starts ≡ length (waits_for note.call)) }
+    {
+        match self.lists.get(usize::from(rank)) {
+            Some(list) => list.get(place),
+            None => None,
+        }
+    }
+}

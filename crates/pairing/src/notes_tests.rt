@@ -1,0 +1,130 @@
+use crate::envelope::{Half, Message};
+use crate::limits::MOST_CALLS;
+use crate::notes::Notes;
+use crate::packed::Numbers;
+use crate::request::waits_for;
+use mpicall::call::Mode;
+use mpicall::line::read_line;
+use mpicall::record::Record;
+use std::process::Abort;
+use std::test::Fail;
+
+// Notes the call that a line spells, as the next of rank 1.
+fn note_line(
+    rt: &impl Abort,
+    notes: &mut Notes,
+    line: &str,
+    starts: &[u32],
+) -> Result<Record, Fail> {
+    let call = read_line(line.as_bytes())?;
+    let numbers = Numbers {
+        sent: 7,
+        received: 8,
+        joined: 9,
+    };
+    assert!(rt; notes.ranks() == 2);
+    notes.reserve(1, &call)?;
+    assert!(rt; notes.count(1) < MOST_CALLS);
+    assert!(rt; waits_for(call.as_call()).len() == starts.len());
+    notes.note(1, &call, numbers, starts);
+    Ok(call)
+}
+
+#[test]
+fn gives_each_call_back(rt: HostRuntime) -> Result<(), Fail> {
+    let rows: [(&str, &[u32]); 20] = [
+        ("send 0 1 0\n", &[]),
+        ("ssend 255 63 2147483647\n", &[]),
+        ("bsend 0 null 1\n", &[]),
+        ("recv 0 1 5\n", &[]),
+        ("isend 5 0 1 0\n", &[]),
+        ("irecv 1 0 null 3\n", &[]),
+        ("sendrecv 0 1 0 null 0\n", &[]),
+        ("wait 5\n", &[4]),
+        ("waitall 1 2 3\n", &[6, 7, 8]),
+        ("waitany 1 5 6\n", &[9, 10]),
+        ("waitall 4\n", &[11]),
+        ("barrier 0\n", &[]),
+        ("bcast 0 1\n", &[]),
+        ("allreduce 3\n", &[]),
+        ("ibarrier 7 0\n", &[]),
+        ("igather 7 0 2\n", &[]),
+        ("dup 0 1\n", &[]),
+        ("split 0 undefined -3 none\n", &[]),
+        ("split 0 4 9 1\n", &[]),
+        ("finalize\n", &[]),
+    ];
+    let mut notes = Notes::new(rt.alloc(), 2)?;
+    for (line, starts) in rows {
+        let _call = note_line(&rt, &mut notes, line, starts)?;
+    }
+    for (place, (line, _)) in rows.iter().enumerate() {
+        let found = match notes.get(1, place as u32) {
+            Some(note) => Some(note.record()),
+            None => None,
+        };
+        assert_eq!(rt; found, Some(read_line(line.as_bytes())?), "of {line:?}");
+    }
+    assert_eq!(rt; notes.count(0), 0);
+    assert_eq!(rt; notes.count(1), 20);
+    assert_eq!(rt; notes.count(2), 0);
+    assert!(rt; notes.get(1, 20).is_none());
+    Ok(())
+}
+
+#[test]
+fn finds_starts_beside_requests(rt: HostRuntime) -> Result<(), Fail> {
+    let lines: [(&str, &[u32]); 6] = [
+        ("isend 5 0 1 0\n", &[]),
+        ("irecv 6 0 null 0\n", &[]),
+        ("waitany 1 5 6\n", &[0, 1]),
+        ("ibarrier 6 0\n", &[]),
+        ("wait 5\n", &[0]),
+        ("waitall 7 6\n", &[8, 3]),
+    ];
+    let mut notes = Notes::new(rt.alloc(), 2)?;
+    for (line, starts) in lines {
+        let _call = note_line(&rt, &mut notes, line, starts)?;
+    }
+    assert_eq!(rt; notes.count(1), 6);
+    let rows = [
+        (2, 1, Some(6), Some(1), Some(1)),
+        (3, 0, None, None, None),
+        (4, 1, Some(5), Some(0), None),
+        (5, 2, Some(7), Some(8), Some(3)),
+    ];
+    for (place, count, req, start, start_of_6) in rows {
+        if let Some(note) = notes.get(1, place) {
+            assert_eq!(rt; note.completed_count(), count, "of {place}");
+            assert_eq!(rt; note.completed_req(0), req, "of {place}");
+            assert_eq!(rt; note.completed_start(0), start, "of {place}");
+            assert_eq!(rt; note.start_of(6), start_of_6, "of {place}");
+        }
+    }
+    Ok(())
+}
+
+#[test]
+fn tells_of_a_call(rt: HostRuntime) -> Result<(), Fail> {
+    let mut notes = Notes::new(rt.alloc(), 2)?;
+    let _call = note_line(&rt, &mut notes, "issend 5 3 1 4\n", &[])?;
+    let _call = note_line(&rt, &mut notes, "finalize\n", &[])?;
+    assert_eq!(rt; notes.count(1), 2);
+    if let Some(note) = notes.get(1, 0) {
+        let message = Message {
+            comm: 3,
+            peer: 1,
+            tag: 4,
+        };
+        assert_eq!(rt; note.message(Half::Send), Some(message));
+        assert_eq!(rt; note.message(Half::Recv), None);
+        assert_eq!(rt; note.mode(), Some(Mode::Synchronous));
+        assert_eq!(rt; note.starts_request(), Some(5));
+        assert_eq!(rt; note.joins(), None);
+        assert_eq!(rt; (note.sent(), note.received(), note.joined()), (7, 8, 9));
+    }
+    if let Some(note) = notes.get(1, 1) {
+        assert!(rt; note.is_finalize() && note.ends_list());
+    }
+    Ok(())
+}

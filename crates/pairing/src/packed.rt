@@ -1,0 +1,219 @@
+//! Calls stored compactly: a call with its numbers takes 32 bytes, and each request that a wait for
+//! several names 8 more.
+
+ghost use Rattle.std.specs.Prelude.{◌≡◌, List, ℕ};
+ghost use Rattle.mpicall.specs.Ending.{ends_list};
+ghost use Rattle.pairing.specs.Recordings.{is_finalize};
+ghost use Rattle.pairing.specs.Envelopes.{message_of};
+ghost use Rattle.pairing.specs.Requests.{starts};
+ghost use Rattle.pairing.specs.Waves.{joins};
+ghost use Rattle.pairing.specs.Pairs.{mode_of};
+ghost use Rattle.pairing.specs.Packed.{unpack};
+
+use crate::envelope::{Half, Message};
+use mpicall::call::{Kind, Mode, Peer};
+use std::mem::size_of;
+
+/// A call, variant by variant as `Call`. A wait for several requests says where, in two lists of its rank,
+/// their numbers and the places that started them stand: `count` of them from `first` on. A wait for one
+/// has that place itself.
+#[derive(Clone, Copy, Debug)]
+pub(crate) enum Packed {
+    Send {
+        mode: Mode,
+        comm: u16,
+        dest: Peer,
+        tag: u32,
+    },
+    Recv {
+        comm: u16,
+        source: Peer,
+        tag: u32,
+    },
+    Isend {
+        req: u32,
+        mode: Mode,
+        comm: u16,
+        dest: Peer,
+        tag: u32,
+    },
+    Irecv {
+        req: u32,
+        comm: u16,
+        source: Peer,
+        tag: u32,
+    },
+    Sendrecv {
+        comm: u16,
+        dest: Peer,
+        send_tag: u32,
+        source: Peer,
+        recv_tag: u32,
+    },
+    Wait {
+        req: u32,
+        start: u32,
+    },
+    Waitall {
+        first: u32,
+        count: u8,
+    },
+    Waitany {
+        chosen: u8,
+        first: u32,
+        count: u8,
+    },
+    Coll {
+        comm: u16,
+        kind: Kind,
+    },
+    Icoll {
+        req: u32,
+        comm: u16,
+        kind: Kind,
+    },
+    Dup {
+        comm: u16,
+        new: u16,
+    },
+    Split {
+        comm: u16,
+        colour: Option<u32>,
+        key: i32,
+        new: Option<u16>,
+    },
+    Finalize,
+}
+
+/// Numbers kept with a call: how many sends and how many receives of its envelope, and how many
+/// collectives of its communicator, its rank made before.
+#[derive(Clone, Copy, Debug, PartialEq, Eq)]
+pub(crate) struct Numbers {
+    pub sent: u32,
+    pub received: u32,
+    pub joined: u32,
+}
+
+/// A call with its numbers.
+#[derive(Clone, Copy, Debug)]
+pub(crate) struct Entry {
+    pub call: Packed,
+    pub numbers: Numbers,
+}
+
+const _: () = prove!(size_of::<Entry>() <= 32);
+
+impl Packed {
+    /// The message that the call sends.
+    fn sent(&self) -> Option<Message>
+        ensures { (reqs : List ℕ) → result ≡ message_of Half.Send (unpack reqs self.now) }
+    {
+        match *self {
+            Packed::Send {
+                comm,
+                dest: Peer::Rank(peer),
+                tag,
+                ..
+            }
+            | Packed::Isend {
+                comm,
+                dest: Peer::Rank(peer),
+                tag,
+                ..
+            }
+            | Packed::Sendrecv {
+                comm,
+                dest: Peer::Rank(peer),
+                send_tag: tag,
+                ..
+            } => Some(Message { comm, peer, tag }),
+            _ => None,
+        }
+    }
+
+    /// The message that the call receives.
+    fn received(&self) -> Option<Message>
+        ensures { (reqs : List ℕ) → result ≡ message_of Half.Recv (unpack reqs self.now) }
+    {
+        match *self {
+            Packed::Recv {
+                comm,
+                source: Peer::Rank(peer),
+                tag,
+            }
+            | Packed::Irecv {
+                comm,
+                source: Peer::Rank(peer),
+                tag,
+                ..
+            }
+            | Packed::Sendrecv {
+                comm,
+                source: Peer::Rank(peer),
+                recv_tag: tag,
+                ..
+            } => Some(Message { comm, peer, tag }),
+            _ => None,
+        }
+    }
+
+    /// The message that a half of the call sends or receives. None where the call has no such half, and
+    /// where its peer is MPI_PROC_NULL.
+    pub(crate) fn message(&self, half: Half) -> Option<Message>
+        ensures { (reqs : List ℕ) → result ≡ message_of half (unpack reqs self.now) }
+    {
+        match half {
+            Half::Send => self.sent(),
+            Half::Recv => self.received(),
+        }
+    }
+
+    /// The mode of a call that sends, blocking or not; None for every other call, MPI_Sendrecv too.
+    pub(crate) fn mode(&self) -> Option<Mode>
+        ensures { (reqs : List ℕ) → result ≡ mode_of (unpack reqs self.now) }
+    {
+        match *self {
+            Packed::Send { mode, .. } | Packed::Isend { mode, .. } => Some(mode),
+            _ => None,
+        }
+    }
+
+    /// The request that the call starts, if it starts one.
+    pub(crate) fn starts(&self) -> Option<u32>
+        ensures { (reqs : List ℕ) → result ≡ starts (unpack reqs self.now) }
+    {
+        match *self {
+            Packed::Isend { req, .. } | Packed::Irecv { req, .. } | Packed::Icoll { req, .. } => {
+                Some(req)
+            }
+            _ => None,
+        }
+    }
+
+    /// The communicator whose members all make the call, if there is one.
+    pub(crate) fn joins(&self) -> Option<u16>
+        ensures { (reqs : List ℕ) → result ≡ joins (unpack reqs self.now) }
+    {
+        match *self {
+            Packed::Coll { comm, .. }
+            | Packed::Icoll { comm, .. }
+            | Packed::Dup { comm, .. }
+            | Packed::Split { comm, .. } => Some(comm),
+            _ => None,
+        }
+    }
+
+    /// Whether the call is MPI_Finalize.
+    pub(crate) fn is_finalize(&self) -> bool
+        ensures { (reqs : List ℕ) → result ≡ is_finalize (unpack reqs self.now) }
+    {
+        matches!(*self, Packed::Finalize)
+    }
+
+    /// Whether no call of the rank comes behind this one.
+    pub(crate) fn ends_list(&self) -> bool
+        ensures { (reqs : List ℕ) → result ≡ ends_list (unpack reqs self.now) }
+    {
+        matches!(*self, Packed::Finalize)
+    }
+}

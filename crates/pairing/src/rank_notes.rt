@@ -1,0 +1,115 @@
+//! The noted calls of one rank.
+
+ghost use Rattle.std.specs.Prelude.{◌≡◌, ◌+◌, ◌<◌, ◌≤◌, [], ◌∷◌, ◌++◌, length, slice_get, vec_len, vec_capacity, IfSome, OnOk};
+ghost use Rattle.pairing.specs.Limits.{most_calls};
+ghost use Rattle.pairing.specs.Requests.{waits_for};
+ghost use Rattle.pairing.specs.Notes.{Holds};
+ghost use Rattle.pairing.specs.Packed.{noted};
+
+use crate::note::Note;
+use crate::packed::{Entry, Numbers};
+use crate::packing::{listed, listed_starts, pack};
+use mpicall::record::Record;
+use std::alloc::{AllocError, Global};
+use std::marker::Model;
+
+/// Puts the numbers behind others, for which there is room.
+fn push_all(to: &mut Vec<u32>, numbers: &[u32])
+    requires { vec_len to.old + length numbers.now ≤ vec_capacity to.old }
+    ensures { to.new.items ≡ to.old.items ++ numbers.now }
+{
+    for number in numbers {
+        to.push_reserved(*number);
+    }
+}
+
+/// The noted calls of a rank, in its order. Contracts see each call with what is kept beside it, and for
+/// how many more there is room.
+#[derive(Drop)]
+pub(crate) struct RankNotes {
+    entries: Vec<Entry>,
+    // The requests that waits for several name, and the places that started them: one beside each.
+    reqs: Vec<u32>,
+    starts: Vec<u32>,
+}
+
+impl Model for RankNotes {
+    ghost use Rattle.std.specs.Prelude.{◌-◌, map, vec_len, vec_capacity};
+    ghost use Rattle.pairing.specs.Notes.{NotedList};
+    ghost use Rattle.pairing.specs.Packed.{AreStored, noted_of};
+
+    ghost Value = { NotedList };
+
+    ghost view = { λ r. record {
+      calls = map (noted_of r.reqs.items r.starts.items) r.entries.items;
+      room = record {
+        calls = vec_capacity r.entries - vec_len r.entries;
+        reqs = vec_capacity r.reqs - vec_len r.reqs;
+        starts = vec_capacity r.starts - vec_len r.starts;
+      };
+    } };
+
+    ghost invariant = { λ r. AreStored r.entries.items r.reqs.items r.starts.items };
+}
+
+impl RankNotes {
+    /// No calls yet. This takes no memory.
+    pub(crate) fn new(alloc: Global) -> RankNotes
+        ensures { result.calls ≡ [] }
+    {
+        RankNotes {
+            entries: Vec::new(alloc),
+            reqs: Vec::new(alloc),
+            starts: Vec::new(alloc),
+        }
+    }
+
+    /// How many calls were noted.
+    pub(crate) fn count(&self) -> usize
+        ensures value { result ≡ length self.now.calls }
+        ensures most { result ≤ most_calls }
+    {
+        self.entries.len()
+    }
+
+    /// Makes all room that noting the call takes.
+    pub(crate) fn reserve(&mut self, call: &Record) -> Result<(), AllocError>
+        ensures calls { self.new.calls ≡ self.old.calls }
+        ensures ok { OnOk result (Holds self.new.room call.now) }
+    {
+        let more = listed(call.as_call()).len();
+        self.entries.reserve(1)?;
+        self.reqs.reserve(more)?;
+        self.starts.reserve(more)?;
+        Ok(())
+    }
+
+    /// Notes the rank's next call, with its numbers and the places that started the requests which it
+    /// names.
+    pub(crate) fn note(&mut self, call: &Record, numbers: Numbers, starts: &[u32])
+        requires room { Holds self.old.room call.now }
+        requires starts { length starts.now ≡ length (waits_for call.now) }
+        requires few { length self.old.calls < most_calls }
+        ensures { self.new.calls ≡ self.old.calls ++ noted call.now numbers starts.now ∷ [] }
+    {
+        let call = call.as_call();
+        let packed = pack(call, self.reqs.len() as u32, starts);
+        push_all(&mut self.reqs, listed(call));
+        push_all(&mut self.starts, listed_starts(call, starts));
+        self.entries.push_reserved(Entry {
+            call: packed,
+            numbers,
+        });
+    }
+
+    /// The noted call at a place; None where there is none.
+    pub(crate) fn get(&self, place: u32) -> Option<Note<'_>>
+        ensures value { result ≡ slice_get self.now.calls place }
+        ensures starts { IfSome result (λ note. length note.starts ≡ length (waits_for note.call)) }
+    {
+        match self.entries.get(place as usize) {
+            Some(entry) => { Some(Note::of(entry, self.reqs.as_slice(), self.starts.as_slice())) }
+            None => None,
+        }
+    }
+}
