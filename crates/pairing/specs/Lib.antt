@@ -8,4 +8,5 @@ pub mod Waves
 pub mod Communicators
 pub mod Faults
 pub mod Pairs
+pub mod Filed
 pub mod Codes

@@ -37,7 +37,7 @@ pub struct Message {
 
 /// What a message carries beside its data. Source and destination are ranks of the communicator's
 /// group.
-#[derive(Clone, Copy, Debug, PartialEq, Eq)]
+#[derive(Clone, Copy, Debug, PartialEq, Eq, Hash)]
 pub struct Envelope {
     pub comm: u16,
     pub source: u16,

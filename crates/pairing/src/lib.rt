@@ -34,6 +34,7 @@ pub mod limits;
 pub mod pairs;
 pub mod partner;
 mod places;
+mod places_by;
 pub mod recording;
 pub mod request;
 pub mod stored;
