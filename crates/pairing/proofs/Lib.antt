@@ -6,3 +6,4 @@ pub mod WaveLemmas
 pub mod RequestLemmas
 pub mod RequestLaws
 pub mod FiledLemmas
+pub mod MatchedLemmas

@@ -9,4 +9,5 @@ pub mod Communicators
 pub mod Faults
 pub mod Pairs
 pub mod Filed
+pub mod Matched
 pub mod Codes

@@ -31,6 +31,7 @@ pub mod comm;
 pub mod envelope;
 pub mod fault;
 pub mod limits;
+mod matches;
 pub mod pairs;
 pub mod partner;
 mod places;
