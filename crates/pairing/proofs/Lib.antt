@@ -7,3 +7,4 @@ pub mod RequestLemmas
 pub mod RequestLaws
 pub mod FiledLemmas
 pub mod MatchedLemmas
+pub mod JoinedLemmas

@@ -104,11 +104,12 @@ equal_is_same = λ j e f. regrouped (e.comm == f.comm) (e.source == f.source) (e
 pub kept_under : (old new : Filed Envelope) → ((e : Envelope) → places_by equal_fields new e ≡ places_by equal_fields old e) → (e : Envelope) → places_by same_envelope new e ≡ places_by same_envelope old e
 kept_under old new kept = subst (λ eq. (e : Envelope) → places_by eq new e ≡ places_by eq old e) equal_is_same kept
 
-pub room_under : (table : Filed Envelope) (e : Envelope) → HasRoomBy equal_fields table e → HasRoomBy same_envelope table e
-room_under table e room = subst (λ eq. HasRoomBy eq table e) equal_is_same room
-
-pub room_of : (table : Filed Envelope) (e : Envelope) → HasRoomBy same_envelope table e → HasRoomBy equal_fields table e
-room_of table e room = subst (λ eq. HasRoomBy eq table e) (sym equal_is_same) room
+pub counted_under : (table own : Filed Envelope) (e : Envelope) (ns : List ℕ) (count : ℕ) → count ≡ length (places_by equal_fields table e) → table ≡ own → places_by same_envelope own e ≡ ns → count ≡ length ns
+counted_under table own e ns count is same places =
+    is
+    ∙ ap (λ eq. length (places_by eq table e)) equal_is_same
+    ∙ ap (λ t. length (places_by same_envelope t e)) same
+    ∙ ap (λ (xs : List ℕ). length xs) places
 
 -- a place put under an envelope comes for it alone
 pub put_under : (old new : Filed Envelope) (key : Envelope) (o : Option Envelope) (place : ℕ) (e : Envelope) → o ≡ Some key → places_by equal_fields new e ≡ with_place (equal_fields key e) (places_by equal_fields old e) place → places_by same_envelope new e ≡ with_place (option_map_or (same_envelope e) o false) (places_by same_envelope old e) place

@@ -10,4 +10,5 @@ pub mod Faults
 pub mod Pairs
 pub mod Filed
 pub mod Matched
+pub mod Joined
 pub mod Codes

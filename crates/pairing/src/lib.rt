@@ -30,6 +30,7 @@ pub mod added;
 pub mod comm;
 pub mod envelope;
 pub mod fault;
+mod joined;
 pub mod limits;
 mod matches;
 pub mod pairs;
