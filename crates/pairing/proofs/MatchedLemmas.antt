@@ -182,7 +182,7 @@ matched_new groups ranks new sends recvs = record { places = of_half }
   where
     none : (table : Filed Envelope) → ((e : Envelope) → places_by equal_fields table e ≡ []) → (e : Envelope) → places_by same_envelope table e ≡ []
     none table empty = subst (λ eq. (e : Envelope) → places_by eq table e ≡ []) equal_is_same empty
-    
+
     of_half : (half : Half) (e : Envelope) (rank : ℕ) → rank_of_half groups half e ≡ Some rank → places_by same_envelope (table_of new half) e ≡ places_of groups (replicate ranks []) rank half e
     of_half SendHalf e rank theirs = none new.sends sends e ∙ sym (ap (λ calls. places (has_envelope groups rank SendHalf e) calls) (no_calls ranks rank))
     of_half RecvHalf e rank theirs = none new.recvs recvs e ∙ sym (ap (λ calls. places (has_envelope groups rank RecvHalf e) calls) (no_calls ranks rank))
@@ -193,7 +193,7 @@ room_for groups rank call matches send recv send_is recv_is sends recvs = record
   where
     at_some : (table : Filed Envelope) (o : Option Envelope) (e : Envelope) → o ≡ Some e → IfSome o (λ f. HasRoomBy same_envelope table f) → HasRoomBy same_envelope table e
     at_some table o e is room = subst (λ (x : Option Envelope). IfSome x (λ f. HasRoomBy same_envelope table f)) is room
-    
+
     of_half : (half : Half) (e : Envelope) → envelope_of groups rank half call ≡ Some e → HasRoomBy same_envelope (table_of matches half) e
     of_half SendHalf e is = at_some matches.sends send e (send_is ∙ is) sends
     of_half RecvHalf e is = at_some matches.recvs recv e (recv_is ∙ is) recvs

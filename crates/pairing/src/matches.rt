@@ -37,8 +37,8 @@ fn put_half(table: &mut PlacesBy<Envelope>, envelope: Option<Envelope>, place: u
     requires { IfSome envelope (λ e. HasRoomBy same_envelope table.old e) }
     ensures { (other : Envelope) → places_by same_envelope table.new other
         ≡ (if option_map_or (same_envelope other) envelope false
-            then places_by same_envelope table.old other ++ place ∷ []
-            else places_by same_envelope table.old other) }
+        then places_by same_envelope table.old other ++ place ∷ []
+        else places_by same_envelope table.old other) }
 {
     if let Some(envelope) = envelope {
         table.push_reserved(&envelope, place);
