@@ -1,17 +1,16 @@
 -- Places filed by keys: a new key shows no places, and a list that is written shows for its own key alone.
-use Rattle.std.proofs.Common.{◌≡◌, ◌≢◌, ℕ, zero, suc, ◌+◌, ◌<◌, ◌≤◌, ◌⊎◌, inl, inr, Bool, true, false, cond, ltb, eqb, Option, Some, None, List, [], ◌∷◌, ◌++◌, length, set, get_or, refl, sym, ap, subst, ◌∙◌, ⊎_elim, arith, length-append, length-set, get_or-set_same, get_or-set_other}
+use Rattle.std.proofs.Common.{◌≡◌, ◌≢◌, ℕ, zero, suc, ◌+◌, ◌<◌, ◌≤◌, ◌⊎◌, inl, inr, Bool, true, false, cond, ltb, eqb, Option, Some, None, List, [], ◌∷◌, ◌++◌, length, set, get_or, refl, sym, ap, ◌∙◌, ⊎_elim, arith, length-append, length-set, get_or-set_same}
 use Rattle.std.specs.Prelude.{if◌then◌else◌, option_and_then, not, position, Result, Ok, Err, OnOk}
-use Rattle.std.specs.List.{slice_get, list_any, position_or_len, prefix_len}
+use Rattle.std.specs.List.{slice_get, list_any, position_or_len}
 use Rattle.std.specs.Option.{option_map_or}
 use Rattle.std.specs.Cmp.{IsEquivalence}
 use Rattle.indexmap.specs.IndexSet.{insert_key}
-use Rattle.std.proofs.lemmas.List.{get_or_push}
 use Rattle.std.proofs.lemmas.List.Folds.{position_or_len_push}
 use Rattle.std.proofs.lemmas.List.Sums.{prefix_len-le-length}
 use Rattle.std.proofs.lemmas.List.Quantifiers.{position-Some}
 use Rattle.std.proofs.lemmas.Option.{none-some, same_Some, cond_some, slice_get_within, slice_get-get_or, slice_get_read}
-use Rattle.std.proofs.lemmas.Bool.{true≢false, not-true, cases_Bool, cases_eq, both_ways, ltb-true, ltb-false, lt-ltb, le-ltb, eq-eqb, ne_eqb}
-use Rattle.pairing.specs.Filed.{Listed, Filed, list_by, places_by, HasRoomBy}
+use Rattle.std.proofs.lemmas.Bool.{true≢false, not-true, cases_Bool, cases_eq, both_ways, ltb-true, ltb-false, lt-ltb, eq-eqb, ne_eqb}
+use Rattle.pairing.specs.Filed.{Listed, Filed, places_by, HasRoomBy}
 use Rattle.pairing.proofs.PlaceLemmas.{slice_get-front}
 
 -- the places of the list with a number

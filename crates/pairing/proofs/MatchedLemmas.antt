@@ -1,7 +1,6 @@
 -- Places filed by envelopes are those of a recording, and stay so as it goes on.
 use Rattle.std.proofs.Common.{◌≡◌, ◌≢◌, ℕ, zero, suc, ◌+◌, ◌<◌, ◌≤◌, ◌==◌, ◌&&◌, Bool, true, false, Option, Some, None, List, [], ◌∷◌, ◌++◌, length, take, replicate, refl, sym, ap, subst, ◌∙◌, ⊎_elim, arith}
-use Rattle.std.specs.Prelude.{if◌then◌else◌, IfSome, unwrap_or, option_and_then}
-use Rattle.std.specs.List.{slice_get}
+use Rattle.std.specs.Prelude.{if◌then◌else◌, IfSome, option_and_then}
 use Rattle.std.specs.Option.{option_map_or}
 use Rattle.std.proofs.lemmas.Bool.{true≢false, cases_Bool, cases_eq, both_ways}
 use Rattle.std.proofs.lemmas.Option.{same_Some}

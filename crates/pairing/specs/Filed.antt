@@ -1,5 +1,5 @@
 -- Places filed by keys: a table has a list of places for each key that has a number.
-use Rattle.std.specs.Prelude.{ℕ, ◌<◌, ◌≤◌, Bool, Option, option_and_then, List, [], length, slice_get, position}
+use Rattle.std.specs.Prelude.{ℕ, ◌<◌, Bool, Option, option_and_then, List, [], length, slice_get, position}
 use Rattle.std.specs.Option.{option_map_or}
 
 -- places in the order in which they came, and how many there is room for

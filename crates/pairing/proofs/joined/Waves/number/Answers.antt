@@ -1,4 +1,4 @@
-use Rattle.std.proofs.Common.{◌≡◌, ◌≤◌, ◌∙◌, ℕ, List, length, ap, arith}
+use Rattle.std.proofs.Common.{◌≡◌, ◌∙◌, ℕ, List, length, ap, arith}
 use Rattle.pairing.specs.Places.{places}
 use Rattle.pairing.specs.Recordings.{calls_of}
 use Rattle.pairing.specs.Waves.{does_join}

@@ -1,4 +1,4 @@
-use Rattle.std.proofs.Common.{◌≡◌, ◌≤◌, length, arith}
+use Rattle.std.proofs.Common.{◌≡◌, length, arith}
 use Rattle.pairing.specs.Envelopes.{has_envelope}
 use Rattle.pairing.specs.Partners.{places_of}
 use Rattle.pairing.specs.Recordings.{calls_of}

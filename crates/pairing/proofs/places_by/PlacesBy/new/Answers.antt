@@ -1,4 +1,4 @@
-use Rattle.std.proofs.Common.{sym, ap, List}
+use Rattle.std.proofs.Common.{sym, ap}
 use Rattle.std.specs.Prelude.{position}
 use Rattle.pairing.proofs.FiledLemmas.{read_none}
 use Rattle.pairing.proofs.places_by.PlacesBy.new.Goals as goal

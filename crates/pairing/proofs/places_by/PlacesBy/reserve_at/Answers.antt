@@ -1,4 +1,4 @@
-use Rattle.std.proofs.Common.{◌≡◌, ◌<◌, length, refl}
+use Rattle.std.proofs.Common.{◌<◌, length, refl}
 use Rattle.std.proofs.lemmas.Option.{slice_get_read}
 use Rattle.pairing.proofs.FiledLemmas.{room_made, list_kept, on_ok_then}
 use Rattle.pairing.proofs.places_by.PlacesBy.reserve_at.Goals as goal
