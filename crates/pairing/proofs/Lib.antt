@@ -9,3 +9,6 @@ pub mod NoteLemmas
 pub mod NotedLemmas
 pub mod KeptLemmas
 pub mod PackedLemmas
+pub mod FiledLemmas
+pub mod MatchedLemmas
+pub mod JoinedLemmas

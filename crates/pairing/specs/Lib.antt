@@ -8,6 +8,9 @@ pub mod Waves
 pub mod Communicators
 pub mod Faults
 pub mod Pairs
+pub mod Filed
+pub mod Matched
+pub mod Joined
 pub mod Codes
 pub mod Notes
 pub mod Kept

@@ -1,7 +1,7 @@
 //! Envelopes of messages, and the halves of calls that send and receive them.
 
 ghost use Rattle.std.specs.Prelude.{◌≡◌, Some};
-ghost use Rattle.pairing.specs.Envelopes.{other_half, message_of, envelope_by, same_envelope, envelope_of, rank_of_half, has_envelope};
+ghost use Rattle.pairing.specs.Envelopes.{other_half, message_of, envelope_by, envelope_of, rank_of_half, has_envelope};
 
 use mpicall::call::{Call, Peer};
 use mpicall::record::Record;
@@ -37,19 +37,12 @@ pub struct Message {
 
 /// What a message carries beside its data. Source and destination are ranks of the communicator's
 /// group.
-#[derive(Clone, Copy, Debug, PartialEq, Eq)]
+#[derive(Clone, Copy, Debug, PartialEq, Eq, Hash)]
 pub struct Envelope {
     pub comm: u16,
     pub source: u16,
     pub dest: u16,
     pub tag: u32,
-}
-
-/// Whether the two envelopes are the same.
-pub fn is_same(a: &Envelope, b: &Envelope) -> bool
-    ensures { result ≡ same_envelope a.now b.now }
-{
-    a.comm == b.comm && a.source == b.source && a.dest == b.dest && a.tag == b.tag
 }
 
 /// The message that the call sends.
@@ -162,7 +155,7 @@ pub fn has_envelope(head: &Head, rank: u16, half: Half, wanted: &Envelope, call:
     ensures { result ≡ has_envelope head.now rank half wanted.now call.now }
 {
     match envelope_of(head, rank, half, call) {
-        Some(envelope) => is_same(wanted, &envelope),
+        Some(envelope) => *wanted == envelope,
         None => false,
     }
 }

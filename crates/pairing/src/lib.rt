@@ -30,6 +30,7 @@ pub mod added;
 pub mod comm;
 pub mod envelope;
 pub mod fault;
+mod joined;
 pub mod limits;
 mod note;
 mod notes;
@@ -41,9 +42,16 @@ pub mod pairs;
 pub mod partner;
 mod places;
 mod rank_notes;
+mod matches;
+pub mod pairs;
+pub mod partner;
+mod places;
+mod places_by;
 pub mod recording;
 pub mod request;
 pub mod stored;
+#[cfg(test)]
+mod table_tests;
 #[cfg(test)]
 mod tests;
 pub mod wave;
