@@ -5,3 +5,4 @@ pub mod RecordingLemmas
 pub mod WaveLemmas
 pub mod RequestLemmas
 pub mod RequestLaws
+pub mod HoldingLemmas

@@ -30,6 +30,7 @@ pub mod added;
 pub mod comm;
 pub mod envelope;
 pub mod fault;
+mod held;
 pub mod limits;
 pub mod pairs;
 pub mod partner;
