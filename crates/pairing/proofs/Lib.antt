@@ -6,3 +6,5 @@ pub mod WaveLemmas
 pub mod RequestLemmas
 pub mod RequestLaws
 pub mod HoldingLemmas
+pub mod ActiveLemmas
+pub mod FrontLemmas

@@ -7,6 +7,7 @@ pub mod Requests
 pub mod Waves
 pub mod Communicators
 pub mod Holdings
+pub mod Starts
 pub mod Faults
 pub mod Pairs
 pub mod Codes

@@ -26,6 +26,7 @@
 //! ```
 #![tactic(auto)]
 
+mod active;
 pub mod added;
 pub mod comm;
 pub mod envelope;
