@@ -1,11 +1,12 @@
 -- What one more call changes about the active requests of ranks.
 use Rattle.std.proofs.Common.{◌≡◌, ℕ, ◌<◌, ◌==◌, ◌&&◌, Bool, true, false, if◌then◌else◌, Option, Some, None, List, [], ◌∷◌, ◌++◌, length, refl, sym, ap, ◌∙◌, ⊎_elim, arith}
+use Rattle.std.specs.List.{list_all}
 use Rattle.std.proofs.lemmas.Bool.{cases_eq, cases_Bool}
 use Rattle.std.proofs.lemmas.Grind.{common_steps}
 use Rattle.mpicall.specs.declared.call.Call.{Call}
 use Rattle.pairing.specs.Recordings.{Lists, calls_of, appended}
-use Rattle.pairing.specs.Requests.{completes, does_start, does_complete, started_in, is_among}
-use Rattle.pairing.specs.Starts.{place_in, IsActive}
+use Rattle.pairing.specs.Requests.{completes, does_start, does_complete, started_in, is_active}
+use Rattle.pairing.specs.Starts.{place_in, has_place, IsActive}
 use Rattle.pairing.specs.declared.active.Active.{Active}
 use Rattle.pairing.proofs.RecordingLemmas.{calls_of-appended, calls_of-appended_other}
 use Rattle.pairing.proofs.RequestLemmas.{starts_it, completes_it, leaves_it}
@@ -40,3 +41,9 @@ active_more recording old less more rank call taken given is_rank is_active r re
     let got = given r req in
     rw (other, got, lost, before) (grind (arith, common_steps)))
     (cases_eq r rank)
+
+-- a list of requests is in the table where all are active
+pub all_active : (recording : Lists) (active : Active) (rank : ℕ) (reqs : List ℕ) → IsActive recording active → list_all (has_place active rank) reqs ≡ list_all (is_active (calls_of recording rank)) reqs
+all_active recording active rank [] is_table = refl
+all_active recording active rank (req ∷ reqs) is_table =
+    rw (is_table rank req, all_active recording active rank reqs is_table) refl

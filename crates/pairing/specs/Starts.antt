@@ -1,5 +1,5 @@
 -- The table of the active requests with the places that started them.
-use Rattle.std.specs.Prelude.{◌≡◌, ◌<◌, ℕ, Bool, Option, None, Some, IsSome, List, [], ◌∷◌}
+use Rattle.std.specs.Prelude.{◌≡◌, ◌<◌, ℕ, Bool, Option, None, Some, IsSome, is_some, List, [], ◌∷◌}
 use Rattle.mpicall.specs.declared.call.Call.{Call}
 use Rattle.indexmap.specs.IndexMap.{get, spare}
 use Rattle.pairing.specs.Recordings.{Lists, calls_of}
@@ -15,6 +15,10 @@ is_same_request = (request_eq.ghosts).eq
 -- the place that the table has for the rank's request
 abbrev pub place_in : Active → ℕ → ℕ → Option ℕ
 place_in active rank req = get is_same_request active.starts (record { rank = rank; req = req })
+
+-- the table has the rank's request
+abbrev pub has_place : Active → ℕ → ℕ → Bool
+has_place active rank req = is_some (place_in active rank req)
 
 -- the table has just the requests that are active after the calls of each rank, with what started them
 abbrev pub IsActive : Lists → Active → Type 0

@@ -31,6 +31,7 @@ pub mod added;
 pub mod comm;
 pub mod envelope;
 pub mod fault;
+mod first_fault;
 mod held;
 pub mod limits;
 pub mod pairs;
