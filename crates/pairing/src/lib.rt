@@ -41,5 +41,7 @@ pub mod recording;
 pub mod request;
 pub mod stored;
 #[cfg(test)]
+mod table_tests;
+#[cfg(test)]
 mod tests;
 pub mod wave;

@@ -6,5 +6,5 @@ use Rattle.pairing.proofs.active.Active.write_starts.Given as goal
 abbrev pub invariant-loop-i : goal.invariant-loop-i
 invariant-loop-i l = record {
   written : map Some (take l.i l.into) ≡ map (place_in l.self l.rank) (take l.i l.reqs);
-  others : drop l.i l.into ≡ drop l.i l.fn.into
+  others : drop l.i l.into ≡ drop l.i l.fn.into;
 }
