@@ -1,11 +1,11 @@
 -- What one more call changes about the active requests of ranks.
-use Rattle.std.proofs.Common.{◌≡◌, ℕ, ◌<◌, ◌==◌, ◌&&◌, Bool, true, false, if◌then◌else◌, Option, Some, None, List, [], ◌∷◌, ◌++◌, length, refl, sym, ap, ◌∙◌, ⊎_elim, arith}
+use Rattle.std.proofs.Common.{◌≡◌, ℕ, ◌<◌, ◌==◌, ◌&&◌, true, false, if◌then◌else◌, Some, None, List, [], ◌∷◌, ◌++◌, length, refl, ⊎_elim, arith}
 use Rattle.std.specs.List.{list_all}
 use Rattle.std.proofs.lemmas.Bool.{cases_eq, cases_Bool}
 use Rattle.std.proofs.lemmas.Grind.{common_steps}
 use Rattle.mpicall.specs.declared.call.Call.{Call}
 use Rattle.pairing.specs.Recordings.{Lists, calls_of, appended}
-use Rattle.pairing.specs.Requests.{completes, does_start, does_complete, started_in, is_active}
+use Rattle.pairing.specs.Requests.{does_start, does_complete, started_in, is_active}
 use Rattle.pairing.specs.Starts.{place_in, has_place, IsActive}
 use Rattle.pairing.specs.declared.active.Active.{Active}
 use Rattle.pairing.proofs.RecordingLemmas.{calls_of-appended, calls_of-appended_other}

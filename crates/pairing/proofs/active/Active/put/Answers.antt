@@ -1,7 +1,5 @@
-use Rattle.std.proofs.Common.{◌≡◌, ◌==◌, ◌&&◌, None, Some, Option, ap, sym, ◌∙◌, length, ℕ, if◌then◌else◌}
-use Rattle.pairing.specs.Recordings.{calls_of}
-use Rattle.pairing.specs.Requests.{completes, does_start, is_among}
-use Rattle.pairing.specs.Starts.{place_in}
+use Rattle.std.proofs.Common.{◌≡◌}
+use Rattle.pairing.specs.Requests.{completes}
 use Rattle.pairing.proofs.ActiveLemmas.{active_more}
 use Rattle.pairing.proofs.active.Active.put.Goals as goal
 

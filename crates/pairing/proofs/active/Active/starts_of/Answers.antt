@@ -1,4 +1,4 @@
-use Rattle.std.proofs.Common.{◌≡◌, ◌∙◌, Option, ℕ, List, map, take, length, ap, arith, length-take-le}
+use Rattle.std.proofs.Common.{◌≡◌, ◌∙◌, Option, ℕ, List, take, length, ap, arith, length-take-le}
 use Rattle.pairing.specs.Recordings.{calls_of}
 use Rattle.pairing.specs.Requests.{started_in}
 use Rattle.pairing.specs.Starts.{known_front, place_in}

@@ -1,4 +1,4 @@
-use Rattle.std.proofs.Common.{◌≡◌, ◌<◌, ◌∙◌, None, Some, ℕ, map, take, length, get_or, ap, arith}
+use Rattle.std.proofs.Common.{◌≡◌, take, length, arith}
 use Rattle.std.proofs.lemmas.List.{take_all}
 use Rattle.pairing.specs.Starts.{place_in}
 use Rattle.pairing.proofs.FrontLemmas.{front_stops, front_whole}
