@@ -12,3 +12,6 @@ pub mod PackedLemmas
 pub mod FiledLemmas
 pub mod MatchedLemmas
 pub mod JoinedLemmas
+pub mod HoldingLemmas
+pub mod ActiveLemmas
+pub mod FrontLemmas

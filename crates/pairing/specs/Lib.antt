@@ -6,6 +6,8 @@ pub mod Partners
 pub mod Requests
 pub mod Waves
 pub mod Communicators
+pub mod Holdings
+pub mod Starts
 pub mod Faults
 pub mod Pairs
 pub mod Filed

@@ -65,7 +65,7 @@ fn has_end(calls: &[Record]) -> bool
 }
 
 /// The communicator over which the call is made, if it names one.
-fn comm_of(call: &Call) -> Option<u16>
+pub(crate) fn comm_of(call: &Call) -> Option<u16>
     ensures { result ≡ comm_of call.now }
 {
     match *call {
@@ -125,14 +125,14 @@ fn is_root(head: &Head, comm: u16, kind: Kind) -> bool
 }
 
 /// Whether the rank of the world is in the communicator's group.
-fn is_member(head: &Head, rank: u16, comm: u16) -> bool
+pub(crate) fn is_member(head: &Head, rank: u16, comm: u16) -> bool
     ensures { result ≡ is_member head.now rank comm }
 {
     head.group_rank(comm, rank).is_some()
 }
 
 /// Whether the communicator that the call names exists.
-fn comm_exists(head: &Head, call: &Call) -> bool
+pub(crate) fn comm_exists(head: &Head, call: &Call) -> bool
     ensures { result ≡ comm_exists head.now call.now }
 {
     match comm_of(call) {
@@ -152,7 +152,7 @@ fn holds_comm(head: &Head, rank: u16, calls: &[Record], call: &Call) -> bool
 }
 
 /// Whether each peer and root that the call names is a rank of its communicator's group.
-fn peers_exist(head: &Head, call: &Call) -> bool
+pub(crate) fn peers_exist(head: &Head, call: &Call) -> bool
     ensures { result ≡ peers_exist head.now call.now }
 {
     match *call {
@@ -183,7 +183,7 @@ fn starts_afresh(calls: &[Record], call: &Call) -> bool
 }
 
 /// Whether no number stands twice.
-fn are_distinct(numbers: &[u32]) -> bool
+pub(crate) fn are_distinct(numbers: &[u32]) -> bool
     ensures { result ≡ are_distinct numbers.now }
 {
     match numbers.split_first() {

@@ -26,11 +26,14 @@
 //! ```
 #![tactic(auto)]
 
+mod active;
 pub mod added;
 pub mod comm;
 pub mod envelope;
 pub mod fault;
 mod joined;
+mod first_fault;
+mod held;
 pub mod limits;
 mod note;
 mod notes;

@@ -1,0 +1,49 @@
+-- What one more call changes about the active requests of ranks.
+use Rattle.std.proofs.Common.{◌≡◌, ℕ, ◌<◌, ◌==◌, ◌&&◌, true, false, if◌then◌else◌, Some, None, List, [], ◌∷◌, ◌++◌, length, refl, ⊎_elim, arith}
+use Rattle.std.specs.List.{list_all}
+use Rattle.std.proofs.lemmas.Bool.{cases_eq, cases_Bool}
+use Rattle.std.proofs.lemmas.Grind.{common_steps}
+use Rattle.mpicall.specs.declared.call.Call.{Call}
+use Rattle.pairing.specs.Recordings.{Lists, calls_of, appended}
+use Rattle.pairing.specs.Requests.{does_start, does_complete, started_in, is_active}
+use Rattle.pairing.specs.Starts.{place_in, has_place, IsActive}
+use Rattle.pairing.specs.declared.active.Active.{Active}
+use Rattle.pairing.proofs.RecordingLemmas.{calls_of-appended, calls_of-appended_other}
+use Rattle.pairing.proofs.RequestLemmas.{starts_it, completes_it, leaves_it}
+
+-- what started a request once one more call is made
+pub started-push : (calls : List Call) (call : Call) (req : ℕ) → started_in (calls ++ call ∷ []) req ≡ (if does_start req call then Some (length calls) else if does_complete req call then None else started_in calls req)
+started-push calls call req =
+    ⊎_elim
+    (λ (here : does_start req call ≡ true). rw here (starts_it calls call req here))
+    (λ (fails : does_start req call ≡ false).
+    ⊎_elim
+    (λ (passes : does_complete req call ≡ true). rw (fails, passes) (completes_it calls call req fails passes))
+    (λ (stays : does_complete req call ≡ false). rw (fails, stays) (leaves_it calls call req fails stays))
+    (cases_Bool (does_complete req call)))
+    (cases_Bool (does_start req call))
+
+-- a table that got what the call starts, once it lost what the call completes
+pub active_more : (recording : Lists) (old less more : Active) (rank : ℕ) (call : Call) → ((r req : ℕ) → place_in less r req ≡ (if r == rank && does_complete req call then None else place_in old r req)) → ((r req : ℕ) → place_in more r req ≡ (if r == rank && does_start req call then Some (length (calls_of recording rank)) else place_in less r req)) → rank < length recording → IsActive recording old → IsActive (appended recording rank call) more
+active_more recording old less more rank call taken given is_rank is_active r req =
+    ⊎_elim
+    (λ (same : r ≡ rank).
+    let own = calls_of-appended recording rank call is_rank in
+    let push = started-push (calls_of recording rank) call req in
+    let before = is_active rank req in
+    let lost = taken rank req in
+    let got = given rank req in
+    rw same (rw (own, push, got, lost, before) (grind (arith, common_steps))))
+    (λ (differs : r ≡ rank → ⊥).
+    let other = calls_of-appended_other recording rank r call differs in
+    let before = is_active r req in
+    let lost = taken r req in
+    let got = given r req in
+    rw (other, got, lost, before) (grind (arith, common_steps)))
+    (cases_eq r rank)
+
+-- a list of requests is in the table where all are active
+pub all_active : (recording : Lists) (active : Active) (rank : ℕ) (reqs : List ℕ) → IsActive recording active → list_all (has_place active rank) reqs ≡ list_all (is_active (calls_of recording rank)) reqs
+all_active recording active rank [] is_table = refl
+all_active recording active rank (req ∷ reqs) is_table =
+    rw (is_table rank req, all_active recording active rank reqs is_table) refl

@@ -1,0 +1,55 @@
+-- What one more call changes about the communicators that ranks have made.
+use Rattle.std.proofs.Common.{◌≡◌, ℕ, ◌<◌, ◌==◌, ◌||◌, ◌&&◌, true, cond, Some, None, List, [], ◌∷◌, ◌++◌, length, ap, ◌∙◌, ⊎_elim, arith}
+use Rattle.std.specs.List.{list_any}
+use Rattle.std.proofs.lemmas.List.Folds.{list_any-append}
+use Rattle.std.proofs.lemmas.Bool.{cases_eq}
+use Rattle.std.proofs.lemmas.Grind.{common_steps}
+use Rattle.mpicall.specs.declared.call.Call.{Call}
+use Rattle.pairing.specs.Recordings.{Lists, calls_of, appended}
+use Rattle.pairing.specs.Communicators.{makes, does_make}
+use Rattle.pairing.specs.Holdings.{has_holding, IsHeld}
+use Rattle.pairing.specs.declared.held.Held.{Held}
+use Rattle.pairing.proofs.RecordingLemmas.{calls_of-appended, calls_of-appended_other}
+
+-- the list with one more call at its end
+any_push : (calls : List Call) (comm : ℕ) (call : Call) → list_any (does_make comm) (calls ++ call ∷ []) ≡ (list_any (does_make comm) calls || does_make comm call)
+any_push calls comm call = rw (list_any-append (does_make comm) calls (call ∷ [])) (grind arith)
+
+-- whether a call of the rank has made the communicator, once a call is appended
+made_by_own : (recording : Lists) (rank comm : ℕ) (call : Call) → rank < length recording → list_any (does_make comm) (calls_of (appended recording rank call) rank) ≡ (list_any (does_make comm) (calls_of recording rank) || does_make comm call)
+made_by_own recording rank comm call is_rank =
+    ap (λ (calls : List Call). list_any (does_make comm) calls) (calls_of-appended recording rank call is_rank)
+    ∙ any_push (calls_of recording rank) comm call
+
+made_by_other : (recording : Lists) (rank other comm : ℕ) (call : Call) → (other ≡ rank → ⊥) → list_any (does_make comm) (calls_of (appended recording rank call) other) ≡ list_any (does_make comm) (calls_of recording other)
+made_by_other recording rank other comm call differs =
+    ap (λ (calls : List Call). list_any (does_make comm) calls) (calls_of-appended_other recording rank other call differs)
+
+-- a table that got what the call makes
+pub held_more : (recording : Lists) (held more : Held) (rank made : ℕ) (call : Call) → makes call ≡ Some made → ((r comm : ℕ) → has_holding more r comm ≡ cond (rank == r && made == comm) true (has_holding held r comm)) → rank < length recording → IsHeld recording held → IsHeld (appended recording rank call) more
+held_more recording held more rank made call makes_it updates is_rank is_held r comm =
+    ⊎_elim
+    (λ (same : r ≡ rank).
+    let own = made_by_own recording rank comm call is_rank in
+    let before = is_held rank comm in
+    let after = updates rank comm in
+    rw same (rw (own, makes_it, ← before, after) (grind (arith, common_steps))))
+    (λ (differs : r ≡ rank → ⊥).
+    let other = made_by_other recording rank r comm call differs in
+    let before = is_held r comm in
+    let after = updates r comm in
+    rw (other, ← before, after) (grind (arith, common_steps)))
+    (cases_eq r rank)
+
+-- a call that makes nothing leaves the table as it should be
+pub held_same : (recording : Lists) (held : Held) (rank : ℕ) (call : Call) → makes call ≡ None → rank < length recording → IsHeld recording held → IsHeld (appended recording rank call) held
+held_same recording held rank call makes_none is_rank is_held r comm =
+    ⊎_elim
+    (λ (same : r ≡ rank).
+    let own = made_by_own recording rank comm call is_rank in
+    let before = is_held rank comm in
+    rw same (rw (own, makes_none, ← before) (grind (arith, common_steps))))
+    (λ (differs : r ≡ rank → ⊥).
+    let other = made_by_other recording rank r comm call differs in
+    rw (other) (is_held r comm))
+    (cases_eq r rank)

@@ -1,0 +1,12 @@
+use Rattle.std.proofs.Common.{◌≡◌, ◌≤◌, ◌==◌, ◌&&◌, None, take, ℕ, if◌then◌else◌}
+use Rattle.indexmap.specs.IndexMap.{spare}
+use Rattle.pairing.specs.Requests.{is_among}
+use Rattle.pairing.specs.Starts.{place_in}
+use Rattle.pairing.proofs.active.Active.complete.Given as goal
+
+-- the requests so far are taken out
+abbrev pub invariant-loop-req : goal.invariant-loop-req
+invariant-loop-req l = record {
+  taken : (r req : ℕ) → place_in l.self r req ≡ (if r == l.rank && is_among req (take l.req-index l.reqs) then None else place_in l.fn.self r req);
+  room : spare l.fn.self.starts ≤ spare l.self.starts;
+}

@@ -1,0 +1,12 @@
+use Rattle.std.proofs.Common.{◌≡◌}
+use Rattle.pairing.specs.Requests.{completes}
+use Rattle.pairing.proofs.ActiveLemmas.{active_more}
+use Rattle.pairing.proofs.active.Active.put.Goals as goal
+
+pub returns : goal.returns
+returns c recording is_active is_rank is_next =
+    let completed : c.completes.result.now ≡ completes c.args.call.now = cc in
+    active_more recording c.args.self.now c.complete.new.self c.start.new.self c.args.rank c.args.call.now
+    (λ r req. rw completed at (c.complete.ensures.taken r req))
+    (λ r req. rw is_next at (c.start.ensures r req))
+    is_rank is_active

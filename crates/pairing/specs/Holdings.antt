@@ -1,0 +1,27 @@
+-- The table of the communicators that ranks have made.
+use Rattle.std.specs.Prelude.{◌≡◌, ◌<◌, ℕ, Bool, IsSome}
+use Rattle.std.specs.List.{list_any}
+use Rattle.mpicall.specs.declared.call.Call.{Call}
+use Rattle.indexmap.specs.IndexSet.{contains, spare}
+use Rattle.pairing.specs.Recordings.{Lists, calls_of}
+use Rattle.pairing.specs.Communicators.{makes, does_make}
+use Rattle.pairing.specs.declared.held.Holding.{Holding}
+use Rattle.pairing.specs.declared.held.Held.{Held}
+use Rattle.pairing.specs.contracts.held.HoldingPartialEq.TheImpl as holding_eq
+
+-- two holdings are the same
+abbrev pub is_same_holding : Holding → Holding → Bool
+is_same_holding = (holding_eq.ghosts).eq
+
+-- the table has the communicator under the rank
+abbrev pub has_holding : Held → ℕ → ℕ → Bool
+has_holding held rank comm = contains is_same_holding held.pairs (record { rank = rank; comm = comm })
+
+-- the table has just what the calls of each rank have made
+abbrev pub IsHeld : Lists → Held → Type 0
+IsHeld recording held =
+    (rank comm : ℕ) → has_holding held rank comm ≡ list_any (does_make comm) (calls_of recording rank)
+
+-- what the call makes can be put into the table without memory
+abbrev pub HasRoomToHold : Held → Call → Type 0
+HasRoomToHold held call = IsSome (makes call) → 0 < spare held.pairs

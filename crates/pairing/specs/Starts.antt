@@ -1,0 +1,36 @@
+-- The table of the active requests with the places that started them.
+use Rattle.std.specs.Prelude.{◌≡◌, ◌<◌, ℕ, Bool, Option, None, Some, IsSome, is_some, List, [], ◌∷◌}
+use Rattle.mpicall.specs.declared.call.Call.{Call}
+use Rattle.indexmap.specs.IndexMap.{get, spare}
+use Rattle.pairing.specs.Recordings.{Lists, calls_of}
+use Rattle.pairing.specs.Requests.{starts, started_in}
+use Rattle.pairing.specs.declared.active.Request.{Request}
+use Rattle.pairing.specs.declared.active.Active.{Active}
+use Rattle.pairing.specs.contracts.active.RequestPartialEq.TheImpl as request_eq
+
+-- two requests are the same
+abbrev pub is_same_request : Request → Request → Bool
+is_same_request = (request_eq.ghosts).eq
+
+-- the place that the table has for the rank's request
+abbrev pub place_in : Active → ℕ → ℕ → Option ℕ
+place_in active rank req = get is_same_request active.starts (record { rank = rank; req = req })
+
+-- the table has the rank's request
+abbrev pub has_place : Active → ℕ → ℕ → Bool
+has_place active rank req = is_some (place_in active rank req)
+
+-- the table has just the requests that are active after the calls of each rank, with what started them
+abbrev pub IsActive : Lists → Active → Type 0
+IsActive recording active =
+    (rank req : ℕ) → place_in active rank req ≡ started_in (calls_of recording rank) req
+
+-- what the call starts can be put into the table without memory
+abbrev pub HasRoomToStart : Active → Call → Type 0
+HasRoomToStart active call = IsSome (starts call) → 0 < spare active.starts
+
+-- the values of the list's front, up to the first that is none
+abbrev pub known_front : List (Option ℕ) → List ℕ
+known_front [] = []
+known_front (None ∷ _) = []
+known_front (Some x ∷ xs) = x ∷ known_front xs

@@ -1,0 +1,116 @@
+//! The first fault of a call, by look-ups in the tables of what its rank's calls before have done.
+
+ghost use Rattle.std.specs.Prelude.{◌≡◌, ◌<◌, length, IfNone};
+ghost use Rattle.std.specs.List.{list_all};
+ghost use Rattle.pairing.specs.Limits.{most_calls};
+ghost use Rattle.pairing.specs.Recordings.{Lists, calls_of, has_end};
+ghost use Rattle.pairing.specs.Faults.{holds_comm, starts_afresh, waits_for_active, is_fresh_comm, makes_afresh, fault_of};
+ghost use Rattle.pairing.specs.Holdings.{IsHeld};
+ghost use Rattle.pairing.specs.Starts.{has_place, IsActive};
+
+use crate::active::Active;
+use crate::fault::{CallFault, are_distinct, comm_exists, comm_of, is_member, peers_exist};
+use crate::held::Held;
+use crate::limits::MOST_CALLS;
+use crate::request::{starts, waits_for};
+use mpicall::call::Call;
+use mpigroup::head::Head;
+
+/// Whether the rank is in the group of the communicator that the call names, and holds it.
+fn holds_comm(head: &Head, held: &Held, rank: u16, call: &Call) -> bool
+    ensures { (recording : Lists) → IsHeld recording held.now → result ≡ holds_comm head.now rank (calls_of recording rank) call.now }
+{
+    match comm_of(call) {
+        Some(comm) => is_member(head, rank, comm) && held.holds(rank, comm),
+        None => true,
+    }
+}
+
+/// Whether the request that the call starts isn't active before.
+fn starts_afresh(active: &Active, rank: u16, call: &Call) -> bool
+    ensures { (recording : Lists) → IsActive recording active.now → result ≡ starts_afresh (calls_of recording rank) call.now }
+{
+    match starts(call) {
+        Some(req) => active.start_of(rank, req).is_none(),
+        None => true,
+    }
+}
+
+/// Whether each of the rank's requests of these numbers is in the table.
+fn are_in(active: &Active, rank: u16, reqs: &[u32]) -> bool
+    ensures { result ≡ list_all (has_place active.now rank) reqs.now }
+{
+    reqs.iter().all(|req| active.start_of(rank, *req).is_some())
+}
+
+/// Whether each request that the wait names is active.
+fn waits_for_active(active: &Active, rank: u16, call: &Call) -> bool
+    ensures { (recording : Lists) → IsActive recording active.now → result ≡ waits_for_active (calls_of recording rank) call.now }
+{
+    are_in(active, rank, waits_for(call))
+}
+
+/// Whether the rank may come to hold the communicator: not the world, with the rank in its group, and not
+/// held before.
+fn is_fresh_comm(head: &Head, held: &Held, rank: u16, comm: u16) -> bool
+    ensures { (recording : Lists) → IsHeld recording held.now → result ≡ is_fresh_comm head.now rank (calls_of recording rank) comm }
+{
+    comm != 0 && is_member(head, rank, comm) && !held.holds(rank, comm)
+}
+
+/// Whether what the call makes is such a communicator; a split makes one just where it has a colour.
+fn makes_afresh(head: &Head, held: &Held, rank: u16, call: &Call) -> bool
+    ensures { (recording : Lists) → IsHeld recording held.now → result ≡ makes_afresh head.now rank (calls_of recording rank) call.now }
+{
+    match *call {
+        Call::Dup { new, .. } => is_fresh_comm(head, held, rank, new),
+        Call::Split { colour, new, .. } => match (colour, new) {
+            (None, None) => true,
+            (Some(_), Some(new)) => is_fresh_comm(head, held, rank, new),
+            _ => false,
+        },
+        _ => true,
+    }
+}
+
+/// The first fault of the rank's next call, in the order of the variants of `CallFault`; None where it has
+/// no fault, and then there is room for it in a recording. `held` and `active` are the tables of the calls
+/// before, `count` says how many of those are the rank's own, and `is_over` whether one of these ended its
+/// list.
+#[tactic(auto, unfolding(crate::specs::Faults::fault_of))]
+pub(crate) fn first_fault(
+    head: &Head,
+    held: &Held,
+    active: &Active,
+    rank: u16,
+    count: usize,
+    is_over: bool,
+    call: &Call,
+) -> Option<CallFault>
+    ensures value { (recording : Lists) → IsHeld recording held.now → IsActive recording active.now →
+        count ≡ length (calls_of recording rank) → is_over ≡ has_end (calls_of recording rank) →
+        result ≡ fault_of head.now rank (calls_of recording rank) call.now }
+    ensures room { IfNone result (count < most_calls) }
+{
+    if is_over {
+        Some(CallFault::CallAfterFinalize)
+    } else if count >= MOST_CALLS {
+        Some(CallFault::TooManyCalls)
+    } else if !comm_exists(head, call) {
+        Some(CallFault::UnknownCommunicator)
+    } else if !holds_comm(head, held, rank, call) {
+        Some(CallFault::CommunicatorNotHeld)
+    } else if !peers_exist(head, call) {
+        Some(CallFault::PeerOutOfGroup)
+    } else if !starts_afresh(active, rank, call) {
+        Some(CallFault::RequestInUse)
+    } else if !are_distinct(waits_for(call)) {
+        Some(CallFault::RequestRepeated)
+    } else if !waits_for_active(active, rank, call) {
+        Some(CallFault::RequestNotActive)
+    } else if !makes_afresh(head, held, rank, call) {
+        Some(CallFault::WrongNewCommunicator)
+    } else {
+        None
+    }
+}

@@ -1,0 +1,65 @@
+//! Which communicators the ranks of a recording hold, by look-up.
+
+ghost use Rattle.std.specs.Prelude.{◌≡◌, ◌<◌, [], length, replicate, ℕ, OnOk, ◌||◌, ◌==◌};
+ghost use Rattle.pairing.specs.Recordings.{Lists, calls_of, appended};
+ghost use Rattle.pairing.specs.Communicators.{holds, makes};
+ghost use Rattle.pairing.specs.Holdings.{has_holding, IsHeld, HasRoomToHold};
+
+use crate::comm::makes;
+use indexmap::IndexSet;
+use mpicall::record::Record;
+use std::alloc::{AllocError, Global};
+
+/// A communicator that a rank has made.
+#[derive(Clone, Copy, Debug, PartialEq, Eq, Hash)]
+pub(crate) struct Holding {
+    rank: u16,
+    comm: u16,
+}
+
+/// The communicators that each rank has made by its calls. A look-up takes the same time however many
+/// calls there were, on average.
+#[derive(Drop)]
+pub(crate) struct Held {
+    pairs: IndexSet<Holding>,
+}
+
+impl Held {
+    /// Nothing made yet: the table of each recording without calls.
+    pub(crate) fn new(alloc: Global) -> Held
+        ensures { (ranks : ℕ) → IsHeld (replicate ranks []) result }
+    {
+        Held {
+            pairs: IndexSet::new(alloc),
+        }
+    }
+
+    /// Makes room for what the call makes, if it makes something. The table says the same after it.
+    pub(crate) fn reserve(&mut self, call: &Record) -> Result<(), AllocError>
+        ensures kept { (recording : Lists) → IsHeld recording self.old → IsHeld recording self.new }
+        ensures ok { OnOk result (HasRoomToHold self.new call.now) }
+    {
+        match makes(call.as_call()) {
+            Some(_) => self.pairs.reserve(1),
+            None => Ok(()),
+        }
+    }
+
+    /// Puts in what the rank's next call makes, if it makes something. It takes no memory.
+    pub(crate) fn put(&mut self, rank: u16, call: &Record)
+        requires { HasRoomToHold self.old call.now }
+        ensures { (recording : Lists) → IsHeld recording self.old → rank < length recording →
+            IsHeld (appended recording rank call.now) self.new }
+    {
+        if let Some(comm) = makes(call.as_call()) {
+            self.pairs.insert(Holding { rank, comm }).unwrap();
+        }
+    }
+
+    /// Whether the rank holds the communicator: each holds the world.
+    pub(crate) fn holds(&self, rank: u16, comm: u16) -> bool
+        ensures { (recording : Lists) → IsHeld recording self.now → result ≡ holds (calls_of recording rank) comm }
+    {
+        comm == 0 || self.pairs.contains(&Holding { rank, comm })
+    }
+}
