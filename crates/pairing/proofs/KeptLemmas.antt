@@ -1,25 +1,30 @@
 -- What is told from the notes is what the definitions say.
-use Rattle.std.proofs.Common.{◌≡◌, ℕ, zero, suc, ◌+◌, ◌<◌, ◌≤◌, true, false, cond, eqb, ltb, Option, Some, None, List, [], ◌∷◌, length, take, drop, map, refl, sym, ap, subst, ◌∙◌, ⊎_elim, arith}
+use Rattle.std.proofs.Common.{◌≡◌, ◌≢◌, ℕ, zero, suc, ◌+◌, ◌<◌, ◌≤◌, true, false, cond, eqb, ltb, Option, Some, None, List, [], ◌∷◌, ◌++◌, replicate, length, length-set, take, drop, map, refl, sym, ap, subst, ◌∙◌, ⊎_elim, arith}
 use Rattle.std.specs.Prelude.{option_map, option_and_then}
 use Rattle.std.specs.List.{slice_get, list_any, position, position_or_len}
-use Rattle.std.proofs.lemmas.List.{take-map, drop-map}
-use Rattle.std.proofs.lemmas.Option.{slice_get-map}
-use Rattle.std.proofs.lemmas.Bool.{cases_Bool, cases_lt, eqb-true, lt-ltb, le-ltb}
+use Rattle.std.proofs.lemmas.List.{take-map, drop-map, length-map, length-replicate}
+use Rattle.std.proofs.lemmas.Option.{slice_get-map, none-some}
+use Rattle.std.proofs.lemmas.Bool.{cases_Bool, cases_eq, cases_lt, eqb-true, lt-ltb, le-ltb}
 use Rattle.mpicall.specs.declared.call.Call.TheVariants.{Send, Recv, Isend, Irecv, Sendrecv, Wait, Waitall, Waitany, Coll, Icoll, Dup, Split, Finalize}
 use Rattle.mpicall.specs.declared.call.Call.{Call}
-use Rattle.mpigroup.specs.Groups.{Groups}
+use Rattle.mpigroup.specs.Groups.{Groups, ranks_of}
 use Rattle.pairing.specs.declared.envelope.Envelope.{Envelope}
 use Rattle.pairing.specs.declared.envelope.Half.{Half}
 use Rattle.pairing.specs.Notes.{Noted, notes_of, completed_among, completed_starts, start_of, calls_in, recording_of}
 use Rattle.pairing.specs.Kept.{number_by, IsNoted, AreNoted}
-use Rattle.pairing.specs.Recordings.{Lists, calls_of}
+use Rattle.pairing.specs.Recordings.{Lists, calls_of, appended, has_end, is_ended}
 use Rattle.pairing.specs.Places.{count_before}
 use Rattle.pairing.specs.Envelopes.{envelope_of, has_envelope, other_half}
 use Rattle.pairing.specs.Partners.{number_of, numbered, partner_of}
 use Rattle.pairing.specs.Requests.{waits_for, completes, started_in, started_of}
 use Rattle.pairing.specs.Waves.{joins, does_join, wave_of}
 use Rattle.pairing.specs.Pairs.{completed_of}
-use Rattle.pairing.proofs.NotedLemmas.{calls_of-recorded}
+use Rattle.pairing.specs.Faults.{fault_of, IsLawfulList, IsLawful}
+use Rattle.pairing.specs.Tables.{AreTables, GoOnBy, IsKept}
+use Rattle.pairing.specs.declared.tables.Tables.{Tables}
+use Rattle.pairing.proofs.FaultLemmas.{lawful_push, lawful_end}
+use Rattle.pairing.proofs.RecordingLemmas.{calls_of-appended, calls_of-appended_other}
+use Rattle.pairing.proofs.NotedLemmas.{calls_of-recorded, recording_of-more, are_noted-more}
 
 -- the call at a place is the one that is noted there
 pub call_noted : (notes : List (List Noted)) (rank place : ℕ) → slice_get (calls_of (recording_of notes) rank) place ≡ option_map (λ n. n.call) (slice_get (notes_of notes rank) place)
@@ -140,3 +145,79 @@ pub started_noted : (groups : Groups) (notes : List (List Noted)) (rank place re
 started_noted groups notes rank place req noted are_noted h =
     rw (its_call notes rank place noted h)
     (sym (at_position (started_in (take place (calls_of (recording_of notes) rank))) noted.starts (waits_for noted.call) req (its_note groups notes rank place noted are_noted h).started))
+
+pub no_start_past : (notes : List (List Noted)) (rank place req : ℕ) → slice_get (notes_of notes rank) place ≡ None → started_of (recording_of notes) rank place req ≡ None
+no_start_past notes rank place req h = rw (no_call notes rank place h) refl
+
+pub none_completed_past : (notes : List (List Noted)) (rank place index : ℕ) → slice_get (notes_of notes rank) place ≡ None → completed_of (recording_of notes) rank place index ≡ None
+none_completed_past notes rank place index h = rw (no_call notes rank place h) refl
+
+-- as many calls as notes
+pub count_noted : (notes : List (List Noted)) (rank : ℕ) → length (calls_of (recording_of notes) rank) ≡ length (notes_of notes rank)
+count_noted notes rank = ap (λ (calls : List Call). length calls) (calls_of-recorded notes rank) ∙ length-map (notes_of notes rank) (λ (n : Noted). n.call)
+
+pub ranks_noted : (notes : List (List Noted)) → length (recording_of notes) ≡ length notes
+ranks_noted notes = length-map notes calls_in
+
+-- one more call that has no fault leaves a recording lawful
+pub lawful_on : (groups : Groups) (recording : Lists) (rank : ℕ) (call : Call) → rank < length recording → IsLawful groups recording → fault_of groups rank (calls_of recording rank) call ≡ None → IsLawful groups (appended recording rank call)
+lawful_on groups recording rank call is_rank lawful fine other there =
+    let within : other < length recording = omega (arith, there, length-set recording rank (calls_of recording rank ++ call ∷ [])) in
+    ⊎_elim
+    (λ (same : other ≡ rank).
+    subst (λ (r : ℕ). IsLawfulList groups r (calls_of (appended recording rank call) r)) (sym same)
+        (subst (λ (calls : List Call). IsLawfulList groups rank calls) (sym (calls_of-appended recording rank call is_rank))
+        (lawful_push groups rank (calls_of recording rank) call (lawful rank is_rank) fine)))
+    (λ (differs : other ≢ rank).
+    subst (λ (calls : List Call). IsLawfulList groups other calls) (sym (calls_of-appended_other recording rank other call differs)) (lawful other within))
+    (cases_eq other rank)
+
+-- what goes on by a call without a fault is kept, with tables of the call too
+pub goes_on_as : (groups : Groups) (old new : List (List Noted)) (rank : ℕ) (call : Call) → GoOnBy groups old new rank call → recording_of new ≡ appended (recording_of old) rank call
+goes_on_as groups old new rank call goes =
+    ap (λ (notes : List (List Noted)). recording_of notes) goes.added
+    ∙ recording_of-more old rank goes.noted
+    ∙ ap (λ (c : Call). appended (recording_of old) rank c) goes.is_call
+
+pub kept_on : (groups : Groups) (old new : List (List Noted)) (before after : Tables) (rank : ℕ) (call : Call) → rank < length old → IsKept groups old before → fault_of groups rank (calls_of (recording_of old) rank) call ≡ None → GoOnBy groups old new rank call → AreTables groups (appended (recording_of old) rank call) after → IsKept groups new after
+kept_on groups old new before after rank call is_rank kept fine goes tables =
+    let is : recording_of new ≡ appended (recording_of old) rank call = goes_on_as groups old new rank call goes in
+    record {
+      ranks = ap (λ (notes : List (List Noted)). length notes) goes.added ∙ length-set old rank (notes_of old rank ++ goes.noted ∷ []) ∙ kept.ranks;
+      lawful = subst (λ (lists : Lists). IsLawful groups lists) (sym is)
+          (lawful_on groups (recording_of old) rank call (omega (arith, is_rank, ranks_noted old)) kept.lawful fine);
+      noted = subst (λ (notes : List (List Noted)). AreNoted groups notes) (sym goes.added)
+          (are_noted-more groups old rank goes.noted is_rank kept.noted goes.is_noted);
+      tables = subst (λ (lists : Lists). AreTables groups lists after) (sym is) tables;
+    }
+
+-- whether a list is over is told by its last call, where it is lawful
+pub is_over_by : (groups : Groups) (notes : List (List Noted)) (tables : Tables) (rank : ℕ) → rank < length notes → IsKept groups notes tables → is_ended (calls_of (recording_of notes) rank) ≡ has_end (calls_of (recording_of notes) rank)
+is_over_by groups notes tables rank is_rank kept =
+    lawful_end groups rank (calls_of (recording_of notes) rank) (kept.lawful rank (omega (arith, is_rank, ranks_noted notes)))
+
+-- without notes nothing is wrong
+pub nothing_kept : (groups : Groups) (notes : List (List Noted)) (tables : Tables) → notes ≡ replicate (ranks_of groups) [] → ((ranks : ℕ) → AreTables groups (replicate ranks []) tables) → IsKept groups notes tables
+nothing_kept groups notes tables is are_tables =
+    rw is
+    (record {
+      ranks = length-replicate (ranks_of groups) [];
+      lawful = λ rank there place call found. absurd (no_calls (ranks_of groups) rank place call found);
+      noted = λ rank place noted found. absurd (no_notes (ranks_of groups) rank place noted found);
+      tables = subst (λ (lists : Lists). AreTables groups lists tables) (sym (recording_of-none (ranks_of groups))) (are_tables (ranks_of groups));
+    })
+  where
+    none_noted : (n rank : ℕ) → notes_of (replicate n []) rank ≡ []
+    none_noted zero rank = refl
+    none_noted (suc n) zero = refl
+    none_noted (suc n) (suc rank) = none_noted n rank
+    no_notes : (n rank place : ℕ) (noted : Noted) → slice_get (notes_of (replicate n []) rank) place ≡ Some noted → ⊥
+    no_notes n rank place noted found = none-some noted (subst (λ (list : List Noted). slice_get list place ≡ Some noted) (none_noted n rank) found)
+    no_calls : (n rank place : ℕ) (call : Call) → slice_get (calls_of (recording_of (replicate n [])) rank) place ≡ Some call → ⊥
+    no_calls n rank place call found =
+        none-some call
+        (subst (λ (calls : List Call). slice_get calls place ≡ Some call)
+        (calls_of-recorded (replicate n []) rank ∙ ap (λ (list : List Noted). calls_in list) (none_noted n rank)) found)
+    recording_of-none : (n : ℕ) → recording_of (replicate n []) ≡ replicate n []
+    recording_of-none zero = refl
+    recording_of-none (suc n) = ap (λ (lists : Lists). [] ∷ lists) (recording_of-none n)

@@ -17,3 +17,4 @@ pub mod Codes
 pub mod Notes
 pub mod Kept
 pub mod Packed
+pub mod Tables

@@ -110,7 +110,7 @@ pub fn message_of(half: Half, call: &Call) -> Option<Message>
 }
 
 /// The envelope of a message by the half that the member with that rank in the group has of it.
-fn envelope_by(half: Half, message: Message, own: u16) -> Envelope
+pub(crate) fn envelope_by(half: Half, message: Message, own: u16) -> Envelope
     ensures { result ≡ envelope_by half message own }
 {
     let Message { comm, peer, tag } = message;

@@ -31,10 +31,11 @@ pub mod added;
 pub mod comm;
 pub mod envelope;
 pub mod fault;
-mod joined;
 mod first_fault;
 mod held;
+mod joined;
 pub mod limits;
+mod matches;
 mod note;
 mod notes;
 #[cfg(test)]
@@ -43,18 +44,17 @@ mod packed;
 mod packing;
 pub mod pairs;
 pub mod partner;
-mod places;
-mod rank_notes;
-mod matches;
-pub mod pairs;
-pub mod partner;
+#[cfg(test)]
+mod place_tests;
 mod places;
 mod places_by;
+mod rank_notes;
 pub mod recording;
 pub mod request;
 pub mod stored;
 #[cfg(test)]
 mod table_tests;
+mod tables;
 #[cfg(test)]
 mod tests;
 pub mod wave;

@@ -1,49 +1,252 @@
 //! Calls of all ranks, added one by one, with what each means for the others.
 
-ghost use Rattle.std.specs.Prelude.{◌≡◌, ◌<◌, ◌≤◌, ℕ, [], ◌∷◌, ◌++◌, length, replicate, slice_get, None, Some, Err, IfOk, IfErr, IfSome, OnOk, OnErr};
+ghost use Rattle.std.specs.Prelude.{◌≡◌, ◌<◌, ◌≤◌, ℕ, [], length, replicate, slice_get, option_map, None, Err, IfOk, IfErr, IfNone, IfSome, OnOk, OnErr, true};
 ghost use Rattle.mpigroup.specs.Groups.{ranks_of};
 ghost use Rattle.pairing.specs.Limits.{most_calls};
-ghost use Rattle.pairing.specs.Recordings.{calls_of, IsClosedList, is_ended};
+ghost use Rattle.pairing.specs.Recordings.{Lists, calls_of, appended, is_ended, has_end};
 ghost use Rattle.pairing.specs.Partners.{partner_of};
 ghost use Rattle.pairing.specs.Requests.{started_of};
 ghost use Rattle.pairing.specs.Waves.{wave_of, member_of};
-ghost use Rattle.pairing.specs.Faults.{fault_of, IsLawful};
-ghost use Rattle.std.specs.Prelude.{option_map};
+ghost use Rattle.pairing.specs.Faults.{fault_of, waits_for_active, IsLawful};
 ghost use Rattle.pairing.specs.Pairs.{with_call, joined_at, added_at, TellsFault, completed_of};
+ghost use Rattle.pairing.specs.Envelopes.{envelope_of};
+ghost use Rattle.pairing.specs.Kept.{number_by, AreNoted};
+ghost use Rattle.pairing.specs.Notes.{notes_of, recording_of, HasRoom};
+ghost use Rattle.pairing.specs.Tables.{AreTables, HaveRoom, GoOnBy, IsKept};
 ghost use Rattle.pairing.specs.declared.added.PairFault.TheVariants.{Refused};
 
 use crate::added::{Added, Joined, PairFault};
-use crate::envelope::Half;
-use crate::fault::next_fault;
-use crate::partner::partner;
-use crate::recording::Recording;
-use crate::request::{started_before, started_of};
+use crate::envelope::{Envelope, Half, envelope_by};
+use crate::fault::CallFault;
+use crate::first_fault::first_fault;
+use crate::note::Note;
+use crate::notes::Notes;
+use crate::request::waits_for;
 use crate::stored::StoredCall;
-use crate::wave::{is_full, member_of, wave_of};
+use crate::tables::Tables;
+use mpicall::limits::MOST_REQUESTS;
 use mpicall::record::Record;
 use mpigroup::head::Head;
 use std::alloc::{AllocError, Global};
 use std::marker::Model;
 
 /// The calls of all ranks that were added so far, each after those of its rank before it. Contracts see
-/// the groups of the run's head, and each rank's list of calls.
+/// the groups of the run's head, and each rank's list of calls. A look-up takes the same time however many
+/// calls there are, on average.
 #[derive(Drop)]
 pub struct Pairs {
     head: Head,
-    recording: Recording,
+    notes: Notes,
+    tables: Tables,
 }
 
 impl Model for Pairs {
-    ghost use Rattle.std.specs.Prelude.{◌≡◌, length};
-    ghost use Rattle.mpigroup.specs.Groups.{ranks_of};
-    ghost use Rattle.pairing.specs.Faults.{IsLawful};
+    ghost use Rattle.pairing.specs.Notes.{recording_of};
     ghost use Rattle.pairing.specs.Pairs.{Paired};
+    ghost use Rattle.pairing.specs.Tables.{IsKept};
 
     ghost Value = { Paired };
 
-    ghost view = { λ p. record { groups = p.head; recording = p.recording } };
+    ghost view = { λ p. record { groups = p.head; recording = recording_of p.notes.lists } };
 
-    ghost invariant = { λ p. (length p.recording ≡ ranks_of p.head) × IsLawful p.head p.recording };
+    ghost invariant = { λ p. IsKept p.head p.notes.lists p.tables };
+}
+
+/// Whether the last call of a rank ends its list.
+fn is_over(notes: &Notes, rank: u16) -> bool
+    ensures { result ≡ is_ended (calls_of (recording_of notes.now.lists) rank) }
+{
+    let count = notes.count(rank);
+    if count == 0 {
+        return false;
+    }
+    match notes.get(rank, count as u32 - 1) {
+        Some(note) => note.ends_list(),
+        None => false,
+    }
+}
+
+/// The first fault of the rank's next call.
+#[tactic(auto, using(crate::proofs::KeptLemmas::is_over_by, crate::proofs::KeptLemmas::count_noted))]
+fn next_fault(
+    head: &Head,
+    notes: &Notes,
+    tables: &Tables,
+    rank: u16,
+    call: &Record,
+) -> Option<CallFault>
+    requires is_rank { rank < length notes.now.lists }
+    requires kept { IsKept head.now notes.now.lists tables.now }
+    ensures value { result ≡ fault_of head.now rank (calls_of (recording_of notes.now.lists) rank) call.now }
+{
+    let count = notes.count(rank);
+    let is_over = is_over(notes, rank);
+    first_fault(
+        head,
+        &tables.held,
+        &tables.active,
+        rank,
+        count,
+        is_over,
+        call.as_call(),
+    )
+}
+
+/// Makes all the room that the rank's next call takes. All is said as before.
+fn reserve(
+    head: &Head,
+    notes: &mut Notes,
+    tables: &mut Tables,
+    rank: u16,
+    call: &Record,
+) -> Result<(), AllocError>
+    requires { rank < length notes.old.lists }
+    ensures notes { notes.new.lists ≡ notes.old.lists }
+    ensures tables { (recording : Lists) → AreTables head.now recording tables.old → AreTables head.now recording tables.new }
+    ensures noted { OnOk result (HasRoom notes.new rank call.now) }
+    ensures room { OnOk result (HaveRoom head.now rank call.now tables.new) }
+{
+    notes.reserve(rank, call)?;
+    tables.reserve(head, rank, call)
+}
+
+/// Notes the rank's next call, with what the tables of the calls before it say of it.
+fn note_call(head: &Head, notes: &mut Notes, tables: &Tables, rank: u16, call: &Record)
+    requires is_rank { rank < length notes.old.lists }
+    requires room { HasRoom notes.old rank call.now }
+    requires few { length (notes_of notes.old.lists rank) < most_calls }
+    requires tables { AreTables head.now (recording_of notes.old.lists) tables.now }
+    requires active { waits_for_active (calls_of (recording_of notes.old.lists) rank) call.now ≡ true }
+    ensures { GoOnBy head.now notes.old.lists notes.new.lists rank call.now }
+{
+    let numbers = tables.numbers(head, rank, call);
+    let mut starts = [0; MOST_REQUESTS];
+    let count = tables
+        .active
+        .starts_of(rank, waits_for(call.as_call()), &mut starts);
+    notes.note(rank, call, numbers, &starts[..count]);
+}
+
+/// Puts in the rank's next call, which has no fault, at its place. It takes no memory.
+fn put(
+    head: &Head,
+    notes: &mut Notes,
+    tables: &mut Tables,
+    rank: u16,
+    place: u32,
+    call: &Record,
+)
+    requires is_rank { rank < length notes.old.lists }
+    requires noted { HasRoom notes.old rank call.now }
+    requires room { HaveRoom head.now rank call.now tables.old }
+    requires is_next { place ≡ length (calls_of (recording_of notes.old.lists) rank) }
+    requires lawful { fault_of head.now rank (calls_of (recording_of notes.old.lists) rank) call.now ≡ None }
+    requires kept { IsKept head.now notes.old.lists tables.old }
+    ensures recording { recording_of notes.new.lists ≡ appended (recording_of notes.old.lists) rank call.now }
+    ensures kept { IsKept head.now notes.new.lists tables.new }
+{
+    note_call(head, notes, tables, rank, call);
+    tables.put(head, rank, place, call);
+}
+
+/// The envelope of a half of the rank's noted call.
+fn envelope_of_note(head: &Head, rank: u16, half: Half, note: &Note<'_>) -> Option<Envelope>
+    ensures { result ≡ envelope_of head.now rank half note.now.call }
+{
+    let message = note.message(half)?;
+    let own = head.group_rank(message.comm, rank)?;
+    Some(envelope_by(half, message, own))
+}
+
+/// The number that is kept for a half.
+fn number_by(half: Half, note: &Note<'_>) -> u32
+    ensures { result ≡ number_by half note.now }
+{
+    match half {
+        Half::Send => note.sent(),
+        Half::Recv => note.received(),
+    }
+}
+
+/// The partner of a half of a call.
+#[tactic(auto, using(crate::proofs::KeptLemmas::partner_noted, crate::proofs::KeptLemmas::no_partner, crate::proofs::KeptLemmas::no_partner_past))]
+fn partner_of(
+    head: &Head,
+    notes: &Notes,
+    tables: &Tables,
+    rank: u16,
+    place: u32,
+    half: Half,
+) -> Option<(u16, u32)>
+    requires { IsKept head.now notes.now.lists tables.now }
+    ensures { result ≡ partner_of head.now (recording_of notes.now.lists) rank place half }
+{
+    let note = notes.get(rank, place)?;
+    let envelope = envelope_of_note(head, rank, half, &note)?;
+    tables
+        .matches
+        .partner(head, half, &envelope, number_by(half, &note))
+}
+
+/// The wave that a call joins.
+fn wave_of(head: &Head, notes: &Notes, rank: u16, place: u32) -> Option<(u16, u32)>
+    requires { AreNoted head.now notes.now.lists }
+    ensures { result ≡ wave_of (recording_of notes.now.lists) rank place }
+{
+    let note = notes.get(rank, place)?;
+    let comm = note.joins()?;
+    Some((comm, note.joined()))
+}
+
+/// The wave that a call joins, and whether it is full.
+fn joined_at(
+    head: &Head,
+    notes: &Notes,
+    tables: &Tables,
+    rank: u16,
+    place: u32,
+) -> Option<Joined>
+    requires { IsKept head.now notes.now.lists tables.now }
+    ensures { result ≡ joined_at (record { groups = head.now; recording = recording_of notes.now.lists }) rank place }
+{
+    let (comm, wave) = wave_of(head, notes, rank, place)?;
+    Some(Joined {
+        comm,
+        wave,
+        is_full: tables.waves.is_full(head, comm, wave),
+    })
+}
+
+/// What is told of the call at a place.
+fn added_at(head: &Head, notes: &Notes, tables: &Tables, rank: u16, place: u32) -> Added
+    requires { IsKept head.now notes.now.lists tables.now }
+    ensures { result ≡ added_at (record { groups = head.now; recording = recording_of notes.now.lists }) rank place }
+{
+    Added {
+        send: partner_of(head, notes, tables, rank, place, Half::Send),
+        recv: partner_of(head, notes, tables, rank, place, Half::Recv),
+        wave: joined_at(head, notes, tables, rank, place),
+    }
+}
+
+/// The place that started the request which a wait names.
+#[tactic(auto, using(crate::proofs::KeptLemmas::started_noted, crate::proofs::KeptLemmas::no_start_past))]
+fn started_of(head: &Head, notes: &Notes, rank: u16, place: u32, req: u32) -> Option<u32>
+    requires { AreNoted head.now notes.now.lists }
+    ensures { result ≡ started_of (recording_of notes.now.lists) rank place req }
+{
+    let note = notes.get(rank, place)?;
+    note.start_of(req)
+}
+
+/// The place that started the request with that index among those that a wait completes.
+#[tactic(auto, using(crate::proofs::KeptLemmas::completed_noted, crate::proofs::KeptLemmas::none_completed_past))]
+fn completed_of(head: &Head, notes: &Notes, rank: u16, place: u32, index: usize) -> Option<u32>
+    requires { AreNoted head.now notes.now.lists }
+    ensures { result ≡ completed_of (recording_of notes.now.lists) rank place index }
+{
+    let note = notes.get(rank, place)?;
+    note.completed_start(index)
 }
 
 impl Pairs {
@@ -52,8 +255,12 @@ impl Pairs {
         ensures groups { IfOk result (λ pairs. pairs.groups ≡ head) }
         ensures recording { IfOk result (λ pairs. pairs.recording ≡ replicate (ranks_of head) []) }
     {
-        let recording = Recording::new(alloc, head.ranks())?;
-        Ok(Pairs { head, recording })
+        let notes = Notes::new(alloc, head.ranks())?;
+        Ok(Pairs {
+            head,
+            notes,
+            tables: Tables::new(alloc),
+        })
     }
 
     /// Adds the next call of a rank, which comes to stand at `place`, and tells the partners that it has
@@ -69,13 +276,14 @@ impl Pairs {
         ensures fault { IfErr result (TellsFault (fault_of self.old.groups rank (calls_of self.old.recording rank) call.now)) }
         ensures err { OnErr result (self.new ≡ self.old) }
     {
-        match next_fault(&self.head, rank, self.recording.of_rank(rank), call) {
-            Some(fault) => Err(PairFault::Refused(fault)),
-            None => match self.recording.push(rank, call) {
-                Ok(()) => Ok(added_at(&self.head, &self.recording, rank, place)),
-                Err(_) => Err(PairFault::Memory),
-            },
+        if let Some(fault) = next_fault(&self.head, &self.notes, &self.tables, rank, call) {
+            return Err(PairFault::Refused(fault));
         }
+        if reserve(&self.head, &mut self.notes, &mut self.tables, rank, call).is_err() {
+            return Err(PairFault::Memory);
+        }
+        put(&self.head, &mut self.notes, &mut self.tables, rank, place, call);
+        Ok(added_at(&self.head, &self.notes, &self.tables, rank, place))
     }
 
     /// The head of the run.
@@ -92,8 +300,8 @@ impl Pairs {
         ensures value { result ≡ option_map length (slice_get self.now.recording rank) }
         ensures most { IfSome result (λ count. count ≤ most_calls) }
     {
-        if rank < self.recording.ranks() {
-            Some(self.recording.of_rank(rank).len() as u32)
+        if rank < self.notes.ranks() {
+            Some(self.notes.count(rank) as u32)
         } else {
             None
         }
@@ -103,18 +311,15 @@ impl Pairs {
     pub fn is_ended(&self, rank: u16) -> bool
         ensures { result ≡ is_ended (calls_of self.now.recording rank) }
     {
-        match self.recording.of_rank(rank).last() {
-            Some(last) => last.ends_list(),
-            None => false,
-        }
+        is_over(&self.notes, rank)
     }
 
     /// The call of a rank at a place; None where there is none.
     pub fn call(&self, rank: u16, place: u32) -> Option<StoredCall<'_>>
         ensures { result ≡ slice_get (calls_of self.now.recording rank) place }
     {
-        match self.recording.of_rank(rank).get(place as usize) {
-            Some(call) => Some(StoredCall::of(call)),
+        match self.notes.get(rank, place) {
+            Some(note) => Some(StoredCall::of(note)),
             None => None,
         }
     }
@@ -124,7 +329,7 @@ impl Pairs {
     pub fn partner(&self, rank: u16, place: u32, half: Half) -> Option<(u16, u32)>
         ensures { result ≡ partner_of self.now.groups self.now.recording rank place half }
     {
-        partner(&self.head, &self.recording, rank, place, half)
+        partner_of(&self.head, &self.notes, &self.tables, rank, place, half)
     }
 
     /// The communicator and the number of the wave that the call at the place joins; None where it joins
@@ -132,7 +337,7 @@ impl Pairs {
     pub fn wave_of(&self, rank: u16, place: u32) -> Option<(u16, u32)>
         ensures { result ≡ wave_of self.now.recording rank place }
     {
-        wave_of(&self.recording, rank, place)
+        wave_of(&self.head, &self.notes, rank, place)
     }
 
     /// The place of a wave's call of the member with rank `g` in the communicator's group; None where it
@@ -140,7 +345,7 @@ impl Pairs {
     pub fn member(&self, comm: u16, wave: u32, g: u16) -> Option<u32>
         ensures { result ≡ member_of self.now.groups self.now.recording comm wave g }
     {
-        member_of(&self.head, &self.recording, comm, wave, g)
+        self.tables.waves.member_of(&self.head, comm, wave, g)
     }
 
     /// The place that started the request which the wait at `place` names; None where no such wait stands
@@ -148,7 +353,7 @@ impl Pairs {
     pub fn started(&self, rank: u16, place: u32, req: u32) -> Option<u32>
         ensures { result ≡ started_of self.now.recording rank place req }
     {
-        started_of(&self.recording, rank, place, req)
+        started_of(&self.head, &self.notes, rank, place, req)
     }
 
     /// The place that started the request with that index, from 0, among those that the wait at `place`
@@ -156,30 +361,6 @@ impl Pairs {
     pub fn completed(&self, rank: u16, place: u32, index: usize) -> Option<u32>
         ensures { result ≡ completed_of self.now.recording rank place index }
     {
-        let req = self.call(rank, place)?.completed_req(index)?;
-        started_before(&self.recording, rank, place, req)
-    }
-}
-
-/// The wave that the call at the place joins.
-fn joined_at(head: &Head, recording: &Recording, rank: u16, place: u32) -> Option<Joined>
-    ensures { result ≡ joined_at (record { groups = head.now; recording = recording.now }) rank place }
-{
-    let (comm, wave) = wave_of(recording, rank, place)?;
-    Some(Joined {
-        comm,
-        wave,
-        is_full: is_full(head, recording, comm, wave),
-    })
-}
-
-/// What is told of the call at a place.
-fn added_at(head: &Head, recording: &Recording, rank: u16, place: u32) -> Added
-    ensures { result ≡ added_at (record { groups = head.now; recording = recording.now }) rank place }
-{
-    Added {
-        send: partner(head, recording, rank, place, Half::Send),
-        recv: partner(head, recording, rank, place, Half::Recv),
-        wave: joined_at(head, recording, rank, place),
+        completed_of(&self.head, &self.notes, rank, place, index)
     }
 }

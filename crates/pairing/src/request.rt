@@ -1,6 +1,7 @@
 //! Requests: which call of a rank started one, and which wait completes it.
 
 ghost use Rattle.std.specs.Prelude.{◌≡◌, ◌≤◌, length, IfSome, ◌<◌};
+ghost use Rattle.mpicall.specs.declared.limits.TheConstants.{MOST_REQUESTS};
 ghost use Rattle.pairing.specs.Limits.{most_calls};
 ghost use Rattle.pairing.specs.Requests.{starts, waits_for, completes, is_among, does_start, does_complete, started_in, is_active, started_before, is_named_at, started_of};
 
@@ -21,7 +22,8 @@ pub fn starts(call: &Call) -> Option<u32>
 
 /// The requests that a wait names, in its order; none where the call is no wait.
 pub fn waits_for(call: &Call) -> &[u32]
-    ensures { result.now ≡ waits_for call.now }
+    ensures value { result.now ≡ waits_for call.now }
+    ensures most { length result.now ≤ MOST_REQUESTS }
 {
     match call {
         Call::Wait { req } => from_ref(req),

@@ -7,17 +7,16 @@ ghost use Rattle.pairing.specs.Requests.{starts, completes};
 ghost use Rattle.pairing.specs.Waves.{joins};
 ghost use Rattle.pairing.specs.Pairs.{mode_of};
 
-use crate::envelope::{Half, Message, message_of};
-use crate::request::{completes, starts};
-use crate::wave::joins;
-use mpicall::call::{Call, Mode};
+use crate::envelope::{Half, Message};
+use crate::note::Note;
+use mpicall::call::Mode;
 use mpicall::record::Record;
 use std::marker::Model;
 
 /// A call that is kept. Contracts see the call.
 #[derive(Drop)]
 pub struct StoredCall<'a> {
-    call: &'a Record,
+    note: Note<'a>,
 }
 
 impl<'a> Model for StoredCall<'a> {
@@ -25,22 +24,22 @@ impl<'a> Model for StoredCall<'a> {
 
     ghost Value = { Call };
 
-    ghost view = { λ c. c.call.now };
+    ghost view = { λ c. c.note.call };
 }
 
 impl<'a> StoredCall<'a> {
-    /// The call that stands there.
-    pub(crate) fn of(call: &'a Record) -> StoredCall<'a>
-        ensures { result ≡ call.now }
+    /// The call that is noted there.
+    pub(crate) fn of(note: Note<'a>) -> StoredCall<'a>
+        ensures { result ≡ note.call }
     {
-        StoredCall { call }
+        StoredCall { note }
     }
 
     /// The call as a record.
     pub fn record(&self) -> Record
         ensures { result ≡ self.now }
     {
-        *self.call
+        self.note.record()
     }
 
     /// The message that a half of the call sends or receives. None where the call has no such half, and
@@ -48,51 +47,48 @@ impl<'a> StoredCall<'a> {
     pub fn message(&self, half: Half) -> Option<Message>
         ensures { result ≡ message_of half self.now }
     {
-        message_of(half, self.call.as_call())
+        self.note.message(half)
     }
 
     /// The mode of a call that sends, blocking or not; None for every other call, MPI_Sendrecv too.
     pub fn mode(&self) -> Option<Mode>
         ensures { result ≡ mode_of self.now }
     {
-        match *self.call.as_call() {
-            Call::Send { mode, .. } | Call::Isend { mode, .. } => Some(mode),
-            _ => None,
-        }
+        self.note.mode()
     }
 
     /// The request that the call starts, if it starts one.
     pub fn starts(&self) -> Option<u32>
         ensures { result ≡ starts self.now }
     {
-        starts(self.call.as_call())
+        self.note.starts_request()
     }
 
     /// The communicator whose members all make the call, if there is one.
     pub fn joins(&self) -> Option<u16>
         ensures { result ≡ joins self.now }
     {
-        joins(self.call.as_call())
+        self.note.joins()
     }
 
     /// How many requests the call completes.
     pub fn completed_count(&self) -> usize
         ensures { result ≡ length (completes self.now) }
     {
-        completes(self.call.as_call()).len()
+        self.note.completed_count()
     }
 
     /// The request with that index, from 0, among those that the call completes.
     pub fn completed_req(&self, index: usize) -> Option<u32>
         ensures { result ≡ slice_get (completes self.now) index }
     {
-        completes(self.call.as_call()).get(index).copied()
+        self.note.completed_req(index)
     }
 
     /// Whether the call is MPI_Finalize.
     pub fn is_finalize(&self) -> bool
         ensures { result ≡ is_finalize self.now }
     {
-        matches!(*self.call.as_call(), Call::Finalize)
+        self.note.is_finalize()
     }
 }
