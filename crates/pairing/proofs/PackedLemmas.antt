@@ -1,5 +1,5 @@
 -- Entries of a rank whose lists of requests and starts go on.
-use Rattle.std.proofs.Common.{◌≡◌, ℕ, ◌+◌, ◌*◌, ◌<◌, ◌≤◌, List, [], ◌∷◌, ◌++◌, length, map, take, drop, refl, sym, ap, ◌∙◌, true, arith, length-append}
+use Rattle.std.proofs.Common.{◌≡◌, ℕ, ◌+◌, ◌<◌, ◌≤◌, List, [], ◌∷◌, ◌++◌, length, map, drop, refl, sym, ap, ◌∙◌, true, arith, length-append}
 use Rattle.std.proofs.lemmas.List.{take-append-le, drop-append-le, map-append, length-drop}
 use Rattle.std.proofs.lemmas.List.Elements.{All-head, All-tail, All-push, All-weaker}
 use Rattle.std.specs.List.{All}
@@ -10,7 +10,6 @@ use Rattle.mpicall.specs.declared.call.Call.TheVariants as made
 use Rattle.pairing.specs.declared.packed.Packed.{Packed}
 use Rattle.pairing.specs.declared.packed.Packed.TheVariants.{Send, Recv, Isend, Irecv, Sendrecv, Wait, Waitall, Waitany, Coll, Icoll, Dup, Split, Finalize}
 use Rattle.pairing.specs.declared.packed.Entry.{Entry}
-use Rattle.pairing.specs.declared.packed.Numbers.{Numbers}
 use Rattle.pairing.specs.Limits.{most_calls}
 use Rattle.pairing.specs.Requests.{waits_for}
 use Rattle.pairing.specs.Notes.{Noted, listed}

@@ -1,6 +1,6 @@
-use Rattle.std.proofs.Common.{◌≡◌, ◌∙◌, ◌<◌, List, length, map, sym, ap, arith}
+use Rattle.std.proofs.Common.{◌≡◌, ◌∙◌, ◌<◌, length, sym, ap, arith}
 use Rattle.std.proofs.lemmas.List.{length-map}
-use Rattle.pairing.specs.Notes.{Noted, NotedList, Notebook, with_note}
+use Rattle.pairing.specs.Notes.{NotedList, Notebook, with_note}
 use Rattle.pairing.specs.Packed.{noted}
 use Rattle.pairing.proofs.NoteLemmas.{with_note_set}
 use Rattle.pairing.proofs.notes.Notes.note.Goals as goal

@@ -1,10 +1,10 @@
-use Rattle.std.proofs.Common.{◌≡◌, ◌∙◌, ◌<◌, ℕ, List, length, map, set, sym, ap, subst, arith}
+use Rattle.std.proofs.Common.{◌≡◌, ◌∙◌, ◌<◌, length, map, set, sym, ap, subst, arith}
 use Rattle.std.specs.Prelude.{OnOk}
 use Rattle.std.specs.Option.{unwrap_or}
 use Rattle.std.specs.List.{slice_get}
 use Rattle.std.proofs.Math.Seq.{map-set_same}
 use Rattle.std.proofs.lemmas.List.{length-map}
-use Rattle.pairing.specs.Notes.{Noted, NotedList, Notebook, Room, Holds, no_room}
+use Rattle.pairing.specs.Notes.{NotedList, Notebook, Room, Holds, no_room}
 use Rattle.pairing.proofs.NoteLemmas.{room_set}
 use Rattle.pairing.proofs.notes.Notes.reserve.Goals as goal
 
