@@ -14,7 +14,7 @@ use Rattle.pairing.specs.Notes.{Noted, notes_of, completed_among, completed_star
 use Rattle.pairing.specs.Kept.{number_by, IsNoted, AreNoted}
 use Rattle.pairing.specs.Recordings.{Lists, calls_of, appended, has_end, is_ended}
 use Rattle.pairing.specs.Places.{count_before}
-use Rattle.pairing.specs.Envelopes.{envelope_of, has_envelope, other_half}
+use Rattle.pairing.specs.Envelopes.{envelope_of, other_half}
 use Rattle.pairing.specs.Partners.{number_of, numbered, partner_of}
 use Rattle.pairing.specs.Requests.{waits_for, completes, started_in, started_of}
 use Rattle.pairing.specs.Waves.{joins, does_join, wave_of}
@@ -166,8 +166,8 @@ lawful_on groups recording rank call is_rank lawful fine other there =
     ⊎_elim
     (λ (same : other ≡ rank).
     subst (λ (r : ℕ). IsLawfulList groups r (calls_of (appended recording rank call) r)) (sym same)
-        (subst (λ (calls : List Call). IsLawfulList groups rank calls) (sym (calls_of-appended recording rank call is_rank))
-        (lawful_push groups rank (calls_of recording rank) call (lawful rank is_rank) fine)))
+    (subst (λ (calls : List Call). IsLawfulList groups rank calls) (sym (calls_of-appended recording rank call is_rank))
+    (lawful_push groups rank (calls_of recording rank) call (lawful rank is_rank) fine)))
     (λ (differs : other ≢ rank).
     subst (λ (calls : List Call). IsLawfulList groups other calls) (sym (calls_of-appended_other recording rank other call differs)) (lawful other within))
     (cases_eq other rank)
@@ -196,6 +196,10 @@ pub is_over_by : (groups : Groups) (notes : List (List Noted)) (tables : Tables)
 is_over_by groups notes tables rank is_rank kept =
     lawful_end groups rank (calls_of (recording_of notes) rank) (kept.lawful rank (omega (arith, is_rank, ranks_noted notes)))
 
+pub recording_of-none : (n : ℕ) → recording_of (replicate n []) ≡ replicate n []
+recording_of-none zero = refl
+recording_of-none (suc n) = ap (λ (lists : Lists). [] ∷ lists) (recording_of-none n)
+
 -- without notes nothing is wrong
 pub nothing_kept : (groups : Groups) (notes : List (List Noted)) (tables : Tables) → notes ≡ replicate (ranks_of groups) [] → ((ranks : ℕ) → AreTables groups (replicate ranks []) tables) → IsKept groups notes tables
 nothing_kept groups notes tables is are_tables =
@@ -211,13 +215,18 @@ nothing_kept groups notes tables is are_tables =
     none_noted zero rank = refl
     none_noted (suc n) zero = refl
     none_noted (suc n) (suc rank) = none_noted n rank
+
     no_notes : (n rank place : ℕ) (noted : Noted) → slice_get (notes_of (replicate n []) rank) place ≡ Some noted → ⊥
     no_notes n rank place noted found = none-some noted (subst (λ (list : List Noted). slice_get list place ≡ Some noted) (none_noted n rank) found)
+
     no_calls : (n rank place : ℕ) (call : Call) → slice_get (calls_of (recording_of (replicate n [])) rank) place ≡ Some call → ⊥
     no_calls n rank place call found =
         none-some call
         (subst (λ (calls : List Call). slice_get calls place ≡ Some call)
         (calls_of-recorded (replicate n []) rank ∙ ap (λ (list : List Noted). calls_in list) (none_noted n rank)) found)
-    recording_of-none : (n : ℕ) → recording_of (replicate n []) ≡ replicate n []
-    recording_of-none zero = refl
-    recording_of-none (suc n) = ap (λ (lists : Lists). [] ∷ lists) (recording_of-none n)
+
+-- with more room all is kept
+pub kept_still : (groups : Groups) (old new : List (List Noted)) (before after : Tables) → IsKept groups old before → new ≡ old → ((recording : Lists) → AreTables groups recording before → AreTables groups recording after) → IsKept groups new after
+kept_still groups old new before after kept is tables =
+    subst (λ (notes : List (List Noted)). IsKept groups notes after) (sym is)
+    (record { ranks = kept.ranks; lawful = kept.lawful; noted = kept.noted; tables = tables (recording_of old) kept.tables })

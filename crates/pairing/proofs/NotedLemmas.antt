@@ -1,15 +1,15 @@
 -- The calls that are noted, and one more.
-use Rattle.std.proofs.Common.{inl, inr, ◌≡◌, ◌≢◌, ℕ, zero, suc, ◌+◌, ◌<◌, ◌≤◌, ◌⊎◌, eqb, true, false, Option, Some, None, List, [], ◌∷◌, ◌++◌, length, take, map, get_or, refl, sym, ap, subst, ◌∙◌, ⊎_elim, arith, length-append, get_or-set_same, get_or-set_other}
-use Rattle.std.specs.Prelude.{unwrap_or, option_map, option_and_then, slice_set}
+use Rattle.std.proofs.Common.{◌≡◌, ◌≢◌, ℕ, zero, suc, ◌<◌, ◌≤◌, Some, List, [], ◌∷◌, ◌++◌, length, take, refl, sym, ap, subst, ◌∙◌, ⊎_elim, arith, get_or-set_same, get_or-set_other}
+use Rattle.std.specs.Prelude.{slice_set}
 use Rattle.std.specs.List.{slice_get}
-use Rattle.std.proofs.lemmas.List.{take-append-le, take_all, map_push, length-map, length_push}
-use Rattle.std.proofs.lemmas.Option.{slice_get_within, slice_get_past, none-some, same_Some, unwrap_or-slice_get, slice_get-map}
+use Rattle.std.proofs.lemmas.List.{take-append-le, take_all, map_push, length-map}
+use Rattle.std.proofs.lemmas.Option.{none-some, same_Some, unwrap_or-slice_get}
 use Rattle.std.proofs.lemmas.Bool.{cases_eq, cases_lt}
 use Rattle.mpicall.specs.declared.call.Call.{Call}
 use Rattle.mpigroup.specs.Groups.{Groups}
 use Rattle.pairing.specs.Notes.{Noted, notes_of, with_note, calls_in, recording_of}
 use Rattle.pairing.specs.Kept.{IsNoted, AreNoted}
-use Rattle.pairing.specs.Recordings.{Lists, calls_of, appended}
+use Rattle.pairing.specs.Recordings.{calls_of, appended}
 use Rattle.pairing.proofs.PlaceLemmas.{slice_get-front}
 
 -- the rank's calls in the recording are those noted of it
@@ -57,13 +57,13 @@ among_more groups rank list noted are_noted is_noted place found h =
     ⊎_elim
     (λ (within : place < length list).
     subst (λ (before : List Call). IsNoted groups rank before found) (sym (before_stays list noted place (omega (arith, within))))
-        (are_noted place found (sym (slice_get-front list (noted ∷ []) place within) ∙ h)))
+    (are_noted place found (sym (slice_get-front list (noted ∷ []) place within) ∙ h)))
     (λ (behind : length list ≤ place).
     let last = get_last list noted place behind found h in
     let all : take place (calls_in (list ++ noted ∷ [])) ≡ calls_in list =
     before_stays list noted place (omega (arith, last.0)) ∙ take_all place (calls_in list) (omega (arith, last.0, length-map list (λ (n : Noted). n.call))) in
     subst (λ (before : List Call). IsNoted groups rank before found) (sym all)
-        (subst (λ (n : Noted). IsNoted groups rank (calls_in list) n) last.1 is_noted))
+    (subst (λ (n : Noted). IsNoted groups rank (calls_in list) n) last.1 is_noted))
     (cases_lt place (length list))
 
 -- one more note that is right leaves all right
@@ -72,11 +72,11 @@ are_noted-more groups notes rank noted is_rank are_noted is_noted other place fo
     ⊎_elim
     (λ (same : other ≡ rank).
     subst (λ (r : ℕ). slice_get (notes_of (with_note notes rank noted) r) place ≡ Some found → IsNoted groups r (take place (calls_in (notes_of (with_note notes rank noted) r))) found) (sym same)
-        (λ h'.
-        subst (λ (list : List Noted). IsNoted groups rank (take place (calls_in list)) found) (sym (notes_of-same notes rank noted is_rank))
-        (among_more groups rank (notes_of notes rank) noted (are_noted rank) is_noted place found
-        (subst (λ (list : List Noted). slice_get list place ≡ Some found) (notes_of-same notes rank noted is_rank) h'))) h)
+    (λ h'.
+    subst (λ (list : List Noted). IsNoted groups rank (take place (calls_in list)) found) (sym (notes_of-same notes rank noted is_rank))
+    (among_more groups rank (notes_of notes rank) noted (are_noted rank) is_noted place found
+    (subst (λ (list : List Noted). slice_get list place ≡ Some found) (notes_of-same notes rank noted is_rank) h'))) h)
     (λ (differs : other ≢ rank).
     subst (λ (list : List Noted). IsNoted groups other (take place (calls_in list)) found) (sym (notes_of-other notes rank other noted differs))
-        (are_noted other place found (subst (λ (list : List Noted). slice_get list place ≡ Some found) (notes_of-other notes rank other noted differs) h)))
+    (are_noted other place found (subst (λ (list : List Noted). slice_get list place ≡ Some found) (notes_of-other notes rank other noted differs) h)))
     (cases_eq other rank)

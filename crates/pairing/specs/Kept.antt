@@ -1,13 +1,12 @@
 -- How `Pairs` keeps what it tells: beside each call stand the numbers that the definitions count, over the
 -- calls of its rank before it.
-use Rattle.std.specs.Prelude.{◌≡◌, ℕ, ◌<◌, Some, unwrap_or, List, [], ◌∷◌, ◌++◌, map, length, take, slice_get, slice_set}
+use Rattle.std.specs.Prelude.{◌≡◌, ℕ, Some, List, map, length, take, slice_get}
 use Rattle.mpicall.specs.declared.call.Call.{Call}
 use Rattle.mpigroup.specs.Groups.{Groups}
 use Rattle.pairing.specs.declared.envelope.Envelope.{Envelope}
 use Rattle.pairing.specs.declared.envelope.Half.{Half}
 use Rattle.pairing.specs.declared.envelope.Half.TheVariants.{Send as SendHalf, Recv as RecvHalf}
 use Rattle.pairing.specs.Notes.{Noted, notes_of, calls_in}
-use Rattle.pairing.specs.Recordings.{Lists}
 use Rattle.pairing.specs.Places.{places}
 use Rattle.pairing.specs.Envelopes.{envelope_of, has_envelope}
 use Rattle.pairing.specs.Requests.{waits_for, started_in}

@@ -128,14 +128,7 @@ fn note_call(head: &Head, notes: &mut Notes, tables: &Tables, rank: u16, call: &
 }
 
 /// Puts in the rank's next call, which has no fault, at its place. It takes no memory.
-fn put(
-    head: &Head,
-    notes: &mut Notes,
-    tables: &mut Tables,
-    rank: u16,
-    place: u32,
-    call: &Record,
-)
+fn put(head: &Head, notes: &mut Notes, tables: &mut Tables, rank: u16, place: u32, call: &Record)
     requires is_rank { rank < length notes.old.lists }
     requires noted { HasRoom notes.old rank call.now }
     requires room { HaveRoom head.now rank call.now tables.old }
@@ -199,13 +192,7 @@ fn wave_of(head: &Head, notes: &Notes, rank: u16, place: u32) -> Option<(u16, u3
 }
 
 /// The wave that a call joins, and whether it is full.
-fn joined_at(
-    head: &Head,
-    notes: &Notes,
-    tables: &Tables,
-    rank: u16,
-    place: u32,
-) -> Option<Joined>
+fn joined_at(head: &Head, notes: &Notes, tables: &Tables, rank: u16, place: u32) -> Option<Joined>
     requires { IsKept head.now notes.now.lists tables.now }
     ensures { result ≡ joined_at (record { groups = head.now; recording = recording_of notes.now.lists }) rank place }
 {
@@ -282,7 +269,14 @@ impl Pairs {
         if reserve(&self.head, &mut self.notes, &mut self.tables, rank, call).is_err() {
             return Err(PairFault::Memory);
         }
-        put(&self.head, &mut self.notes, &mut self.tables, rank, place, call);
+        put(
+            &self.head,
+            &mut self.notes,
+            &mut self.tables,
+            rank,
+            place,
+            call,
+        );
         Ok(added_at(&self.head, &self.notes, &self.tables, rank, place))
     }
 

@@ -30,7 +30,7 @@ impl<'a> Model for StoredCall<'a> {
 impl<'a> StoredCall<'a> {
     /// The call that is noted there.
     pub(crate) fn of(note: Note<'a>) -> StoredCall<'a>
-        ensures { result ≡ note.call }
+        ensures { result ≡ note.entry.call }
     {
         StoredCall { note }
     }

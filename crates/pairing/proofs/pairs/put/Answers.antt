@@ -1,5 +1,5 @@
 -- The call is noted and looked up as the call that it is.
-use Rattle.std.proofs.Common.{◌≡◌, ◌<◌, length, refl, sym, ap, ◌∙◌, arith}
+use Rattle.std.proofs.Common.{arith}
 use Rattle.pairing.specs.Recordings.{calls_of}
 use Rattle.pairing.specs.Notes.{recording_of}
 use Rattle.pairing.proofs.FaultLemmas.{fault_none}
@@ -8,8 +8,11 @@ use Rattle.pairing.proofs.pairs.put.Goals as goal
 
 pub note_call-requires-clause-few : goal.note_call-requires-clause-few
 note_call-requires-clause-few c =
-    omega (arith, count_noted c.args.notes.now.lists c.args.rank,
-    (fault_none c.args.head.now c.args.rank (calls_of (recording_of c.args.notes.now.lists) c.args.rank) c.args.call.now c.requires.lawful).has_room)
+    omega (
+      arith,
+      count_noted c.args.notes.now.lists c.args.rank,
+      (fault_none c.args.head.now c.args.rank (calls_of (recording_of c.args.notes.now.lists) c.args.rank) c.args.call.now c.requires.lawful).has_room,
+    )
 
 pub note_call-requires-clause-active : goal.note_call-requires-clause-active
 note_call-requires-clause-active c =

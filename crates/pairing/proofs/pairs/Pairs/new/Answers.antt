@@ -1,0 +1,17 @@
+-- Without notes nothing is wrong.
+use Rattle.std.proofs.Common.{ℕ, ap, ◌∙◌, List, [], replicate}
+use Rattle.mpigroup.specs.Groups.{ranks_of}
+use Rattle.pairing.specs.Notes.{Noted, recording_of}
+use Rattle.pairing.proofs.KeptLemmas.{nothing_kept, recording_of-none}
+use Rattle.pairing.proofs.pairs.Pairs.new.Goals as goal
+
+pub invariant_of-result : goal.invariant_of-result
+invariant_of-result c =
+    nothing_kept c.args.head c.in_ok-notes.notes.lists c.new-2.result
+    (c.in_ok-notes.ensures ∙ ap (λ (n : ℕ). replicate {A = List Noted} n []) c.ranks.ensures.value)
+    (c.new-2.ensures c.args.head)
+
+pub returns-clause-recording : goal.returns-clause-recording
+returns-clause-recording c =
+    ap (λ (notes : List (List Noted)). recording_of notes) (c.in_ok-notes.ensures ∙ ap (λ (n : ℕ). replicate {A = List Noted} n []) c.ranks.ensures.value)
+    ∙ recording_of-none (ranks_of c.args.head)
