@@ -407,16 +407,10 @@ fn verdict_of_turns(alloc: Global, turns: &[(u32, u32)]) -> Result<Verdict, Fail
         offer_next(&mut analyser, 0, *first)?;
         offer_next(&mut analyser, 1, *second)?;
     }
-    assert_closed(&analyser)?;
-    Ok(verdict_of(&analyser))
-}
-
-fn assert_closed(analyser: &Analyser) -> Result<(), Fail> {
-    if analyser.is_closed() {
-        Ok(())
-    } else {
-        Err("not closed".into())
+    if !analyser.is_closed() {
+        return Err("not closed".into());
     }
+    Ok(verdict_of(&analyser))
 }
 
 #[test]
