@@ -1,14 +1,17 @@
 -- Ranks that move on from a state that is reached.
-use Rattle.std.proofs.Common.{◌-◌, ◌≡◌, ℕ, ◌+◌, ◌<◌, ◌≢◌, Bool, true, false, length, map, get_or, refl, sym, subst, ⊎_elim, arith, get_or-set_same, get_or-set_other}
+use Rattle.std.proofs.Common.{Some, [], ◌∷◌, ◌-◌, ◌≡◌, ℕ, zero, suc, ◌+◌, ◌<◌, ◌≢◌, Bool, true, false, length, map, get_or, refl, sym, subst, ⊎_elim, arith, get_or-set_same, get_or-set_other}
+use Rattle.std.specs.List.{slice_get}
+use Rattle.std.proofs.lemmas.Option.{none-some}
 use Rattle.std.proofs.lemmas.List.{length-set}
 use Rattle.std.proofs.lemmas.Bool.{cases_eq, false≢true}
 use Rattle.mpigroup.specs.Groups.{Groups}
-use Rattle.pairing.specs.Recordings.{Lists}
+use Rattle.mpicall.specs.declared.call.Call.{Call}
+use Rattle.pairing.specs.Recordings.{Lists, calls_of}
 use Rattle.moves.specs.Runs.{State, Rule, moved, total, IsReached, IsStuck, IsTheEnd, StandsNoLater, IsReachedFrom}
 use Rattle.moves.specs.Needs.{can_move}
 use Rattle.moves.specs.Stands.{calls_in}
-use Rattle.moves.proofs.RunLemmas.{below_same, below_trans, reached_step, total_moved, total_most, any_end_is_the_end}
-use Rattle.moves.proofs.NeedLemmas.{can_move_is_persistent}
+use Rattle.moves.proofs.RunLemmas.{below_same, below_trans, reached_step, reached_ranks, total_moved, total_most, any_end_is_the_end}
+use Rattle.moves.proofs.NeedLemmas.{can_move_is_persistent, can_pass}
 use Rattle.moves.proofs.StandLemmas.{reached_within}
 
 moved_later : (s : State) (rank : ℕ) → rank < length s → StandsNoLater s (moved s rank)
@@ -54,6 +57,17 @@ pub left_less : (groups : Groups) (recording : Lists) (s t : State) → IsReache
 left_less groups recording s t reached less =
     let within = reached_within groups recording t reached in
     omega (arith, total_most t (map length recording) within.ranks within.stands)
+
+-- only a rank of the run can move
+call_of_rank : (recording : Lists) (rank place : ℕ) (call : Call) → slice_get (calls_of recording rank) place ≡ Some call → rank < length recording
+call_of_rank [] rank place call h = absurd (none-some call h)
+call_of_rank (calls ∷ recording) zero place call h = omega arith
+call_of_rank (calls ∷ recording) (suc rank) place call h = omega (arith, call_of_rank recording rank place call h)
+
+pub mover_is_rank : (groups : Groups) (recording : Lists) (s : State) (rank : ℕ) → IsReached (can_move groups recording) (length recording) s → can_move groups recording s rank ≡ true → rank < length s
+mover_is_rank groups recording s rank reached able =
+    let pass = can_pass groups recording s rank able in
+    omega (arith, call_of_rank recording rank (get_or s rank 0) pass.call pass.is_present, reached_ranks (can_move groups recording) (length recording) s reached)
 
 pub stuck_end : (groups : Groups) (recording : Lists) (s : State) → IsReached (can_move groups recording) (length recording) s → IsStuck (can_move groups recording) s → IsTheEnd (can_move groups recording) (length recording) s
 stuck_end groups recording s reached stuck =

@@ -1,5 +1,5 @@
 -- What the stands of a recording tell of its runs.
-use Rattle.std.proofs.Common.{◌-◌, ◌≡◌, ℕ, suc, ◌+◌, ◌<◌, ◌≤◌, ◌≢◌, true, false, Option, Some, None, List, [], ◌∷◌, length, map, get_or, refl, sym, ap, subst, ◌∙◌, ⊎_elim, arith, get_or-set_same, get_or-set_other}
+use Rattle.std.proofs.Common.{◌≡◌, ℕ, suc, ◌+◌, ◌<◌, ◌≤◌, ◌≢◌, true, false, Option, Some, None, List, [], ◌∷◌, length, map, get_or, refl, sym, ap, subst, ◌∙◌, ⊎_elim, arith, get_or-set_same, get_or-set_other}
 use Rattle.std.specs.List.{slice_get}
 use Rattle.std.specs.Option.{option_map_or}
 use Rattle.std.proofs.lemmas.Option.{same_Some}
@@ -8,10 +8,10 @@ use Rattle.mpicall.specs.declared.call.Call.{Call}
 use Rattle.mpicall.specs.declared.call.Call.TheVariants.{Finalize}
 use Rattle.mpigroup.specs.Groups.{Groups}
 use Rattle.pairing.specs.Recordings.{Lists, calls_of, is_finalize, GoesOn}
-use Rattle.moves.specs.Runs.{lowest, StandsNoLater, total, State, Rule, start, moved, Step, Steps, last_of, end_of, IsMaximal, IsReached, IsTheEnd, lowest_run}
+use Rattle.moves.specs.Runs.{StandsNoLater, State, Rule, start, moved, Step, Steps, last_of, end_of, IsMaximal, IsReached, IsTheEnd, lowest_run}
 use Rattle.moves.specs.Needs.{can_move}
 use Rattle.moves.specs.Stands.{calls_in, IsRunOver, end_over, lowest_run_over, stands_of, is_at_finalize, EveryMaximalRunEndsAtTheStands, NoRunBringsAStuckRankToFinalize, EveryMaximalRunBringsTheOthers, LongerRecordingsLowerNoStand, NoCallAfterFinalizeIsReached}
-use Rattle.moves.proofs.RunLemmas.{any_end_is_the_end, maximal_runs_end_alike, run_below, reached_below, reached_ranks, reached_step, get_start, lowest_found, lowest_none, total_moved, total_less}
+use Rattle.moves.proofs.RunLemmas.{maximal_runs_end_alike, run_below, reached_below, reached_ranks, get_start}
 use Rattle.moves.proofs.NeedLemmas.{can_move_is_persistent, can_move_is_bounded, can_pass, can_move_on}
 
 same_ranks : (recording : Lists) → length (map length recording) ≡ length recording

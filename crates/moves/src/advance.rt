@@ -18,9 +18,8 @@ fn move_on(stands: &mut Vec<u32>, rank: u16)
 }
 
 /// Moves the rank on until it can't move, and tells whether it moved.
-fn advance(pairs: &Pairs, stands: &mut Vec<u32>, rank: u16) -> bool
-    requires is_rank { rank < length stands.old.items }
-    requires is_reached { IsReached (can_move pairs.now.groups pairs.now.recording) (length pairs.now.recording) stands.old.items }
+pub(crate) fn advance(pairs: &Pairs, stands: &mut Vec<u32>, rank: u16) -> bool
+    requires { IsReached (can_move pairs.now.groups pairs.now.recording) (length pairs.now.recording) stands.old.items }
     ensures reached { IsReachedFrom (can_move pairs.now.groups pairs.now.recording) (length pairs.now.recording) stands.old.items stands.new.items result }
     ensures stuck { can_move pairs.now.groups pairs.now.recording stands.new.items rank ≡ false }
 {

@@ -2,24 +2,35 @@
 //!
 //! What it promises, as contracts that are proved:
 //!
-//! - `need::needs` answers what a call needs before its rank moves on: for each message the call with its
-//!   other half, for a collective each member's call of the wave, and for a wait what the calls need that
-//!   started the requests which it completes. A call that starts a request needs nothing, and neither does
-//!   what a buffered send sends.
+//! - `analyser::Analyser` takes the ranks' calls one by one, in any mix, and knows at any time where the
+//!   ranks stand. `offer` refuses a call exactly where it has a fault, with the first one, or where memory
+//!   is wanted, and then nothing has changed. After each offer the ranks stand where every maximal run over
+//!   the accepted calls ends, and no rank stands lower than before. No query takes memory.
+//! - `verdict::verdict_of` answers the verdict over the calls so far: `Hang` exactly if some rank does not
+//!   stand at its Finalize.
 //! - Every maximal run over a recording ends at the same stands, and there is one: the law
 //!   `stand::every_maximal_run_ends_at_the_stands`. No run brings a rank to its Finalize that isn't there at
 //!   the stands, every maximal run brings the others, and a longer recording lowers no stand.
-//! - `stand::stands` answers these stands, and `verdict::verdict_of` the verdict: `Hang` exactly if some
-//!   rank does not come to stand at its Finalize.
+//! - However the ranks' calls are mixed, the same calls are kept and the ranks come to stand alike: the laws
+//!   `arrival::mixes_are_kept_alike` and `arrival::mixes_stand_alike`.
 //!
-//! The definitions stand in `specs/`, to be read in the order of docs/DEFINITIONS.md. Which calls send,
-//! receive, start, complete and join is said by the tables of `pairing`, so a further call is a clause there.
-//! The plain functions look at whole lists again for each need: they are there to say what is meant.
+//! The definitions stand in `specs/`, to be read in the order of docs/DEFINITIONS.md: `Needs` says what a
+//! call needs before its rank moves on, `Runs` and `Stands` where runs end. Which calls send, receive, start,
+//! complete and join is said by the tables of `pairing`, so a further call is a clause there.
+//!
+//! After each accepted call all ranks are looked at until none moves. A look ends at the first need that is
+//! not met.
 //!
 //! ```text
 //! let head = Head::read(alloc, b"ranks 2\n")?;
-//! stands(alloc, &head, &recording)?                  // where each rank stands at last
-//! verdict_of(alloc, &head, &recording)? == Verdict::Free
+//! let mut analyser = Analyser::new(alloc, head)?;
+//! analyser.offer(0, &send)?;                         // rank 0: send 0 1 0
+//! analyser.stand(0) == Some(0)                       // its receive has not come yet
+//! analyser.offer(1, &recv)?;                         // rank 1: recv 0 0 0
+//! analyser.stand(0) == Some(1)
+//! analyser.offer(0, &finalize)?;
+//! analyser.offer(1, &finalize)?;
+//! verdict_of(&analyser) == Verdict::Free
 //! ```
 #![tactic(auto)]
 

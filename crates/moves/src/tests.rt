@@ -1,52 +1,67 @@
 //! Worked runs: where their ranks come to stand by the strict reading, taken by hand from its rules.
 
-use crate::stand::stands;
+use crate::analyser::{Analyser, OfferFault};
 use crate::verdict::{Verdict, verdict_of};
 use mpicall::line::read_line;
-use mpicall::record::Record;
 use mpigroup::head::Head;
-use pairing::fault::fault;
-use pairing::recording::Recording;
+use pairing::fault::CallFault;
 use std::alloc::Global;
 use std::test::Fail;
 
 /// A run: its head, each rank's calls, where the ranks come to stand, and the verdict.
 type Row<'a> = (&'a str, &'a [&'a str], &'a [u32], Verdict);
 
-fn add(recording: &mut Recording, head: &Head, rank: u16, call: &Record) -> Result<(), Fail> {
-    if rank >= recording.ranks() {
-        return Err("more files than ranks".into());
+fn analyser_of(alloc: Global, head: &str) -> Result<Analyser, Fail> {
+    let head = Head::read(alloc, head.as_bytes())?;
+    Ok(Analyser::new(alloc, head)?)
+}
+
+/// Offers the call of a line, and tells why it is refused, if it is.
+fn refusal(analyser: &mut Analyser, rank: u16, line: &str) -> Result<Option<OfferFault>, Fail> {
+    let call = read_line(line.as_bytes())?;
+    if rank >= analyser.head().ranks() {
+        return Err("no such rank".into());
     }
-    match fault(head, rank, recording.of_rank(rank), call) {
+    Ok(analyser.offer(rank, &call).err())
+}
+
+fn offer_line(analyser: &mut Analyser, rank: u16, line: &str) -> Result<(), Fail> {
+    match refusal(analyser, rank, line)? {
         Some(fault) => Err(fault.into()),
-        None => Ok(recording.push(rank, call)?),
+        None => Ok(()),
     }
 }
 
-/// The recording of the ranks' files.
-fn recording_of(alloc: Global, head: &Head, files: &[&str]) -> Result<Recording, Fail> {
-    let mut recording = Recording::new(alloc, head.ranks())?;
+/// Where the ranks stand.
+fn stands(alloc: Global, analyser: &Analyser) -> Result<Vec<u32>, Fail> {
+    let mut stands = Vec::new(alloc);
+    for rank in 0..analyser.head().ranks() {
+        stands.push(analyser.stand(rank).ok_or("no such rank")?)?;
+    }
+    Ok(stands)
+}
+
+/// What is told of a run whose files are offered one after another: where its ranks stand, and the verdict.
+fn told_of(alloc: Global, head: &str, files: &[&str]) -> Result<(Vec<u32>, Verdict), Fail> {
+    let mut analyser = analyser_of(alloc, head)?;
     for (rank, file) in files.iter().enumerate() {
         for line in file.split_inclusive('\n') {
-            let call = read_line(line.as_bytes())?;
-            add(&mut recording, head, u16::try_from(rank)?, &call)?;
+            offer_line(&mut analyser, u16::try_from(rank)?, line)?;
         }
     }
-    Ok(recording)
-}
-
-/// What is told of a run: where its ranks come to stand, and the verdict.
-fn told_of(alloc: Global, head: &str, files: &[&str]) -> Result<(Vec<u32>, Verdict), Fail> {
-    let head = Head::read(alloc, head.as_bytes())?;
-    let recording = recording_of(alloc, &head, files)?;
-    let stands = stands(alloc, &head, &recording)?;
-    Ok((stands, verdict_of(alloc, &head, &recording)?))
+    Ok((stands(alloc, &analyser)?, verdict_of(&analyser)))
 }
 
 #[test]
 fn tells_runs_of_messages(rt: HostRuntime) -> Result<(), Fail> {
-    let rows: [Row<'_>; 13] = [
+    let rows: [Row<'_>; 14] = [
         ("ranks 1\n", &["finalize\n"], &[0], Verdict::Free),
+        (
+            "ranks 1\n",
+            &["sendrecv 0 0 5 0 5\nfinalize\n"],
+            &[1],
+            Verdict::Free,
+        ),
         (
             "ranks 2\n",
             &["send 0 1 0\nfinalize\n", "recv 0 0 0\nfinalize\n"],
@@ -252,5 +267,161 @@ fn tells_runs_with_collectives(rt: HostRuntime) -> Result<(), Fail> {
         assert_eq!(rt; told.0.as_slice(), stands, "of {files:?}");
         assert_eq!(rt; told.1, verdict, "of {files:?}");
     }
+    Ok(())
+}
+
+#[test]
+fn stands_move_on_as_calls_come(rt: HostRuntime) -> Result<(), Fail> {
+    let mut analyser = analyser_of(rt.alloc(), "ranks 2\n")?;
+    let offers = [
+        (0, "irecv 7 0 1 0\n", 1, 0),
+        (0, "send 0 1 0\n", 1, 0),
+        (1, "irecv 7 0 0 0\n", 2, 1),
+        (1, "send 0 0 0\n", 2, 2),
+        (0, "wait 7\n", 3, 2),
+        (1, "wait 7\n", 3, 3),
+        (0, "finalize\n", 3, 3),
+        (1, "finalize\n", 3, 3),
+    ];
+    for (rank, line, first, second) in offers {
+        offer_line(&mut analyser, rank, line)?;
+        assert_eq!(rt; analyser.stand(0), Some(first), "after {line}");
+        assert_eq!(rt; analyser.stand(1), Some(second), "after {line}");
+    }
+    let refused = OfferFault::Refused(CallFault::CallAfterFinalize);
+    assert_eq!(rt; refusal(&mut analyser, 0, "barrier 9\n")?, Some(refused));
+    assert_eq!(rt; analyser.stand(0), Some(3));
+    assert_eq!(rt; analyser.stand(1), Some(3));
+    Ok(())
+}
+
+#[test]
+fn answers_of_its_calls(rt: HostRuntime) -> Result<(), Fail> {
+    let mut analyser = analyser_of(rt.alloc(), "ranks 2\n")?;
+    offer_line(&mut analyser, 0, "finalize\n")?;
+    offer_line(&mut analyser, 1, "barrier 0\n")?;
+    assert_eq!(rt; analyser.is_ended(0), true);
+    assert_eq!(rt; analyser.is_ended(1), false);
+    assert_eq!(rt; analyser.is_ended(2), false);
+    assert_eq!(rt; analyser.is_closed(), false);
+    assert_eq!(rt; analyser.record(1, 0), Some(read_line(b"barrier 0\n")?));
+    assert_eq!(rt; analyser.record(1, 1), None);
+    assert_eq!(rt; analyser.accepted(1), Some(1));
+    assert_eq!(rt; analyser.accepted(2), None);
+    assert_eq!(rt; analyser.stand(2), None);
+    assert_eq!(rt; analyser.pairs().wave_of(1, 0), Some((0, 0)));
+    offer_line(&mut analyser, 1, "finalize\n")?;
+    assert_eq!(rt; analyser.is_closed(), true);
+    assert_eq!(rt; verdict_of(&analyser), Verdict::Hang);
+    Ok(())
+}
+
+/// The mixes that begin as the given ones and have one call more, of a rank that has one left.
+fn longer_mixes(
+    alloc: Global,
+    mixes: &[Vec<u16>],
+    files: &[&[&str]],
+) -> Result<Vec<Vec<u16>>, Fail> {
+    let mut longer = Vec::new(alloc);
+    for mix in mixes {
+        for (rank, file) in files.iter().enumerate() {
+            let rank = u16::try_from(rank)?;
+            if mix.iter().filter(|other| **other == rank).count() < file.len() {
+                let mut next = mix.clone()?;
+                next.push(rank)?;
+                longer.push(next)?;
+            }
+        }
+    }
+    Ok(longer)
+}
+
+/// Where the ranks stand once their calls came in the order of the mix.
+fn stands_of_mix(alloc: Global, files: &[&[&str]], mix: &[u16]) -> Result<Vec<u32>, Fail> {
+    let mut analyser = analyser_of(alloc, "ranks 3\n")?;
+    for rank in mix {
+        let place = analyser.accepted(*rank).ok_or("no such rank")?;
+        let file = files.get(usize::from(*rank)).ok_or("no such file")?;
+        offer_line(
+            &mut analyser,
+            *rank,
+            file.get(place as usize).ok_or("no call left")?,
+        )?;
+    }
+    stands(alloc, &analyser)
+}
+
+#[test]
+fn ranks_stand_alike_after_each_mix(rt: HostRuntime) -> Result<(), Fail> {
+    let files: [&[&str]; 3] = [
+        &["recv 0 1 0\n", "finalize\n"],
+        &["recv 0 2 0\n", "send 0 0 0\n", "finalize\n"],
+        &["recv 0 0 3\n", "send 0 1 0\n", "finalize\n"],
+    ];
+    let mut mixes = vec![in rt.alloc(); Vec::new(rt.alloc())]?;
+    for _ in 0..8 {
+        mixes = longer_mixes(rt.alloc(), &mixes, &files)?;
+    }
+    assert_eq!(rt; mixes.len(), 560);
+    for mix in &mixes {
+        let stands = stands_of_mix(rt.alloc(), &files, mix)?;
+        assert_eq!(rt; stands.as_slice(), [0, 0, 0].as_slice(), "of {mix:?}");
+    }
+    Ok(())
+}
+
+#[test]
+fn a_barrier_of_many_ranks(rt: HostRuntime) -> Result<(), Fail> {
+    let mut analyser = analyser_of(rt.alloc(), "ranks 64\n")?;
+    for rank in (0..64).rev() {
+        offer_line(&mut analyser, rank, "barrier 0\n")?;
+        offer_line(&mut analyser, rank, "finalize\n")?;
+    }
+    for rank in 0..64 {
+        assert_eq!(rt; analyser.stand(rank), Some(1));
+    }
+    assert_eq!(rt; verdict_of(&analyser), Verdict::Free);
+    Ok(())
+}
+
+/// How many messages rank 0 sends to rank 1 in a long run.
+const MESSAGES: u32 = 1_000;
+
+/// Offers so many of a rank's next calls in a long run: messages, and then Finalize.
+fn offer_next(analyser: &mut Analyser, rank: u16, calls: u32) -> Result<(), Fail> {
+    for _ in 0..calls {
+        let line = match (analyser.accepted(rank), rank) {
+            (Some(MESSAGES), _) => "finalize\n",
+            (_, 0) => "send 0 1 0\n",
+            _ => "recv 0 0 0\n",
+        };
+        offer_line(analyser, rank, line)?;
+    }
+    Ok(())
+}
+
+/// The verdict over a long run whose calls come in turns of so many of rank 0 and so many of rank 1.
+fn verdict_of_turns(alloc: Global, turns: &[(u32, u32)]) -> Result<Verdict, Fail> {
+    let mut analyser = analyser_of(alloc, "ranks 2\n")?;
+    for (first, second) in turns {
+        offer_next(&mut analyser, 0, *first)?;
+        offer_next(&mut analyser, 1, *second)?;
+    }
+    if !analyser.is_closed() {
+        return Err("not closed".into());
+    }
+    Ok(verdict_of(&analyser))
+}
+
+#[test]
+fn long_runs_in_three_mixes(rt: HostRuntime) -> Result<(), Fail> {
+    let all = MESSAGES + 1;
+    let alternate = vec![in rt.alloc(); (1, 1); all as usize]?;
+    assert_eq!(rt; verdict_of_turns(rt.alloc(), &alternate)?, Verdict::Free);
+    assert_eq!(rt;
+        verdict_of_turns(rt.alloc(), &[(0, all), (all, 0)])?,
+        Verdict::Free
+    );
+    assert_eq!(rt; verdict_of_turns(rt.alloc(), &[(all, all)])?, Verdict::Free);
     Ok(())
 }

@@ -14,12 +14,6 @@ as_many : (groups head : Groups) (recording : Lists) (s : State) (ranks : ℕ) �
 as_many groups head recording s ranks of_head same lists reached =
     reached_ranks (can_move groups recording) (length recording) s reached ∙ lists ∙ sym (of_head ∙ ap ranks_of same)
 
-pub advance-requires-clause-is_rank : goal.advance-requires-clause-is_rank
-advance-requires-clause-is_rank c =
-    let p = c.args.pairs.now in
-    let many = as_many p.groups c.head.result.now p.recording c.loop-rank.stands.items c.ranks-rank-end.result c.ranks-rank-end.ensures.value c.head.ensures.value c.head.ensures.ranks c.loop-rank.invariant.reached.is_reached in
-    omega (arith, many, c.loop-rank-test.true)
-
 pub loop-rank-preserved : goal.loop-rank-preserved
 loop-rank-preserved c =
     let p = c.args.pairs.now in
