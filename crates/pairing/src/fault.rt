@@ -1,17 +1,12 @@
 //! The first fault of a call after the calls that its rank made before.
 
-ghost use Rattle.std.specs.Prelude.{◌≡◌, ◌<◌, ◌≤◌, ◌∷◌, [], ◌++◌, true, length, IfNone};
+ghost use Rattle.std.specs.Prelude.{◌≡◌, true};
 ghost use Rattle.std.specs.Option.{option_map_or};
-ghost use Rattle.pairing.specs.Limits.{most_calls};
-ghost use Rattle.pairing.specs.Recordings.{has_end, is_ended};
 ghost use Rattle.pairing.specs.Codes.{code_of_call};
-ghost use Rattle.pairing.specs.Faults.{comm_of, root_of, is_group_rank, is_peer, is_member, comm_exists, holds_comm, peers_exist, starts_afresh, are_distinct, waits_for_active, is_fresh_comm, makes_afresh, fault_of, IsLawfulList, AnEndedLawfulListIsClosed, EachWaitHasItsStarts, NoTwoStartsAreActive};
+ghost use Rattle.pairing.specs.Faults.{comm_of, root_of, is_group_rank, is_peer, is_member, comm_exists, peers_exist, are_distinct, AnEndedLawfulListIsClosed, EachWaitHasItsStarts, NoTwoStartsAreActive};
 
-use crate::comm::holds;
-use crate::limits::MOST_CALLS;
-use crate::request::{is_active, is_among, starts, waits_for};
+use crate::request::is_among;
 use mpicall::call::{Call, Kind, Peer};
-use mpicall::record::Record;
 use mpigroup::head::Head;
 use thiserror::Error;
 
@@ -55,13 +50,6 @@ impl CallFault {
             CallFault::WrongNewCommunicator => "C7",
         }
     }
-}
-
-/// Whether some call of the list ends it.
-fn has_end(calls: &[Record]) -> bool
-    ensures { result ≡ has_end calls.now }
-{
-    calls.iter().any(|call| call.ends_list())
 }
 
 /// The communicator over which the call is made, if it names one.
@@ -141,16 +129,6 @@ pub(crate) fn comm_exists(head: &Head, call: &Call) -> bool
     }
 }
 
-/// Whether the rank is in the group of the communicator that the call names, and holds it.
-fn holds_comm(head: &Head, rank: u16, calls: &[Record], call: &Call) -> bool
-    ensures { result ≡ holds_comm head.now rank calls.now call.now }
-{
-    match comm_of(call) {
-        Some(comm) => is_member(head, rank, comm) && holds(calls, comm),
-        None => true,
-    }
-}
-
 /// Whether each peer and root that the call names is a rank of its communicator's group.
 pub(crate) fn peers_exist(head: &Head, call: &Call) -> bool
     ensures { result ≡ peers_exist head.now call.now }
@@ -171,17 +149,6 @@ pub(crate) fn peers_exist(head: &Head, call: &Call) -> bool
     }
 }
 
-/// Whether the request that the call starts isn't active before.
-fn starts_afresh(calls: &[Record], call: &Call) -> bool
-    requires { length calls.now ≤ most_calls }
-    ensures { result ≡ starts_afresh calls.now call.now }
-{
-    match starts(call) {
-        Some(req) => !is_active(calls, req),
-        None => true,
-    }
-}
-
 /// Whether no number stands twice.
 pub(crate) fn are_distinct(numbers: &[u32]) -> bool
     ensures { result ≡ are_distinct numbers.now }
@@ -190,105 +157,6 @@ pub(crate) fn are_distinct(numbers: &[u32]) -> bool
         Some((number, others)) => !is_among(*number, others) && are_distinct(others),
         None => true,
     }
-}
-
-/// Whether each request that the wait names is active.
-fn waits_for_active(calls: &[Record], call: &Call) -> bool
-    requires { length calls.now ≤ most_calls }
-    ensures { result ≡ waits_for_active calls.now call.now }
-{
-    waits_for(call).iter().all(|req| is_active(calls, *req))
-}
-
-/// Whether the rank may come to hold the communicator: not the world, with the rank in its group, and not
-/// held before.
-fn is_fresh_comm(head: &Head, rank: u16, calls: &[Record], comm: u16) -> bool
-    ensures { result ≡ is_fresh_comm head.now rank calls.now comm }
-{
-    comm != 0 && is_member(head, rank, comm) && !holds(calls, comm)
-}
-
-/// Whether what the call makes is such a communicator; a split makes one just where it has a colour.
-fn makes_afresh(head: &Head, rank: u16, calls: &[Record], call: &Call) -> bool
-    ensures { result ≡ makes_afresh head.now rank calls.now call.now }
-{
-    match *call {
-        Call::Dup { new, .. } => is_fresh_comm(head, rank, calls, new),
-        Call::Split { colour, new, .. } => match (colour, new) {
-            (None, None) => true,
-            (Some(_), Some(new)) => is_fresh_comm(head, rank, calls, new),
-            _ => false,
-        },
-        _ => true,
-    }
-}
-
-/// What `fault` answers, where it is known whether one of the calls ended the list.
-#[tactic(auto, unfolding(crate::specs::Faults::fault_of))]
-fn first_fault(
-    head: &Head,
-    rank: u16,
-    is_over: bool,
-    calls: &[Record],
-    call: &Call,
-) -> Option<CallFault>
-    requires { is_over ≡ has_end calls.now }
-    ensures value { result ≡ fault_of head.now rank calls.now call.now }
-    ensures room { IfNone result (length calls.now < most_calls) }
-{
-    if is_over {
-        Some(CallFault::CallAfterFinalize)
-    } else if calls.len() >= MOST_CALLS {
-        Some(CallFault::TooManyCalls)
-    } else if !comm_exists(head, call) {
-        Some(CallFault::UnknownCommunicator)
-    } else if !holds_comm(head, rank, calls, call) {
-        Some(CallFault::CommunicatorNotHeld)
-    } else if !peers_exist(head, call) {
-        Some(CallFault::PeerOutOfGroup)
-    } else if !starts_afresh(calls, call) {
-        Some(CallFault::RequestInUse)
-    } else if !are_distinct(waits_for(call)) {
-        Some(CallFault::RequestRepeated)
-    } else if !waits_for_active(calls, call) {
-        Some(CallFault::RequestNotActive)
-    } else if !makes_afresh(head, rank, calls, call) {
-        Some(CallFault::WrongNewCommunicator)
-    } else {
-        None
-    }
-}
-
-/// Whether the last call of the list ends it.
-fn is_ended(calls: &[Record]) -> bool
-    ensures { result ≡ is_ended calls.now }
-{
-    match calls.last() {
-        Some(last) => last.ends_list(),
-        None => false,
-    }
-}
-
-/// The first fault of a call that the rank makes after the calls, in the order of the variants of
-/// `CallFault`; None where it has no fault, and then there is room for it in a recording. It looks at every
-/// call before.
-pub fn fault(head: &Head, rank: u16, calls: &[Record], call: &Record) -> Option<CallFault>
-    ensures value { result ≡ fault_of head.now rank calls.now call.now }
-    ensures room { IfNone result (length calls.now < most_calls) }
-{
-    first_fault(head, rank, has_end(calls), calls, call.as_call())
-}
-
-/// The first fault of a call after calls that have none: what `fault` answers, by a look at the last
-/// call before alone. Where there is none, there is room for the call in a recording, and the calls are
-/// lawful with it too.
-pub fn next_fault(head: &Head, rank: u16, calls: &[Record], call: &Record) -> Option<CallFault>
-    requires { IsLawfulList head.now rank calls.now }
-    ensures value { result ≡ fault_of head.now rank calls.now call.now }
-    ensures room { IfNone result (length calls.now < most_calls) }
-    ensures lawful { IfNone result (IsLawfulList head.now rank (calls.now ++ call.now ∷ [])) }
-{
-    first_fault(head, rank, is_ended(calls), calls, call.as_call())
 }
 
 /// A lawful list whose last call ends it is closed: no other call ends it.

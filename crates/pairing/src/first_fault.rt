@@ -1,10 +1,10 @@
 //! The first fault of a call, by look-ups in the tables of what its rank's calls before have done.
 
-ghost use Rattle.std.specs.Prelude.{◌≡◌, ◌<◌, ◌∷◌, [], ◌++◌, length, IfNone};
+ghost use Rattle.std.specs.Prelude.{◌≡◌, ◌<◌, length, IfNone};
 ghost use Rattle.std.specs.List.{list_all};
 ghost use Rattle.pairing.specs.Limits.{most_calls};
-ghost use Rattle.pairing.specs.Recordings.{Lists, calls_of, has_end, is_ended};
-ghost use Rattle.pairing.specs.Faults.{holds_comm, starts_afresh, waits_for_active, is_fresh_comm, makes_afresh, fault_of, IsLawfulList};
+ghost use Rattle.pairing.specs.Recordings.{Lists, calls_of, has_end};
+ghost use Rattle.pairing.specs.Faults.{holds_comm, starts_afresh, waits_for_active, is_fresh_comm, makes_afresh, fault_of};
 ghost use Rattle.pairing.specs.Holdings.{IsHeld};
 ghost use Rattle.pairing.specs.Starts.{has_place, IsActive};
 
@@ -113,29 +113,4 @@ pub(crate) fn first_fault(
     } else {
         None
     }
-}
-
-/// What `first_fault` answers where none of the rank's calls before has a fault: then `is_last_end`, whether
-/// the last of them ends their list, is enough. Where there is no fault, the calls are lawful with this one
-/// too.
-pub(crate) fn next_fault(
-    head: &Head,
-    held: &Held,
-    active: &Active,
-    rank: u16,
-    count: usize,
-    is_last_end: bool,
-    call: &Call,
-) -> Option<CallFault>
-    ensures value { (recording : Lists) → IsHeld recording held.now → IsActive recording active.now →
-        count ≡ length (calls_of recording rank) → is_last_end ≡ is_ended (calls_of recording rank) →
-        IsLawfulList head.now rank (calls_of recording rank) →
-        result ≡ fault_of head.now rank (calls_of recording rank) call.now }
-    ensures room { IfNone result (count < most_calls) }
-    ensures lawful { (recording : Lists) → IsHeld recording held.now → IsActive recording active.now →
-        count ≡ length (calls_of recording rank) → is_last_end ≡ is_ended (calls_of recording rank) →
-        IsLawfulList head.now rank (calls_of recording rank) →
-        IfNone result (IsLawfulList head.now rank (calls_of recording rank ++ call.now ∷ [])) }
-{
-    first_fault(head, held, active, rank, count, is_last_end, call)
 }

@@ -46,10 +46,8 @@ pub mod pairs;
 pub mod partner;
 #[cfg(test)]
 mod place_tests;
-mod places;
 mod places_by;
 mod rank_notes;
-pub mod recording;
 pub mod request;
 pub mod stored;
 #[cfg(test)]

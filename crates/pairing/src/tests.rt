@@ -1,49 +1,59 @@
-use crate::comm::holds;
+use crate::added::{Added, Joined, PairFault};
 use crate::envelope::Half;
-use crate::fault::{CallFault, fault};
-use crate::limits::MOST_CALLS;
-use crate::partner::partner;
-use crate::recording::{Calls, Recording};
-use crate::request::{is_active, started_of};
-use crate::wave::{is_full, member_of, wave_of};
+use crate::pairs::Pairs;
 use mpicall::line::read_line;
 use mpicall::record::Record;
 use mpigroup::head::Head;
 use std::alloc::Global;
 use std::test::Fail;
 
-// The calls that the lines of a text spell.
-fn read_calls(alloc: Global, text: &str) -> Result<Calls, Fail> {
-    let mut calls = Calls::new(alloc);
-    for line in text.as_bytes().split_inclusive(|byte| *byte == b'\n') {
-        let call = read_line(line)?;
-        if calls.records().len() < MOST_CALLS {
-            calls.push(&call)?;
-        }
+/// Adds the rank's next call.
+fn add(pairs: &mut Pairs, rank: u16, call: &Record) -> Result<Result<Added, PairFault>, Fail> {
+    if rank >= pairs.head().ranks() {
+        return Err("no such rank".into());
     }
-    Ok(calls)
+    let place = pairs.accepted(rank).unwrap_or(0);
+    Ok(pairs.add(rank, place, call))
 }
 
-// The recording of two ranks.
-fn read_two(alloc: Global, first: &str, second: &str) -> Result<Recording, Fail> {
-    let mut recording = Recording::without_ranks(alloc);
-    let first = read_calls(alloc, first)?;
-    let second = read_calls(alloc, second)?;
-    recording.add_rank(first)?;
-    if recording.ranks() < 65535 {
-        recording.add_rank(second)?;
-    }
-    Ok(recording)
-}
-
-// The first place of rank 0's calls that has a fault.
-fn first_fault(head: &Head, calls: &[Record]) -> Option<(usize, CallFault)> {
-    for place in 0..calls.len() {
-        if let Some(found) = fault(head, 0, &calls[..place], &calls[place]) {
-            return Some((place, found));
+/// Adds the calls that the lines of a text spell, up to the first that is refused.
+fn add_all(pairs: &mut Pairs, rank: u16, text: &str) -> Result<Option<PairFault>, Fail> {
+    for line in text.split_inclusive('\n') {
+        let call = read_line(line.as_bytes())?;
+        if let Err(fault) = add(pairs, rank, &call)? {
+            return Ok(Some(fault));
         }
     }
-    None
+    Ok(None)
+}
+
+fn pairs_of(alloc: Global, head: &str) -> Result<Pairs, Fail> {
+    let head = Head::read(alloc, head.as_bytes())?;
+    Ok(Pairs::new(alloc, head)?)
+}
+
+/// The pairs of two ranks, whose calls are all added.
+fn added_of(alloc: Global, head: &str, first: &str, second: &str) -> Result<Pairs, Fail> {
+    let mut pairs = pairs_of(alloc, head)?;
+    for (rank, text) in [(0, first), (1, second)] {
+        if let Some(fault) = add_all(&mut pairs, rank, text)? {
+            return Err(fault.into());
+        }
+    }
+    Ok(pairs)
+}
+
+/// The place, code and words of the first fault of rank 0's calls.
+fn told_of(alloc: Global, pairs: &mut Pairs, text: &str) -> Result<String, Fail> {
+    let told = match add_all(pairs, 0, text)? {
+        Some(PairFault::Refused(fault)) => {
+            let place = pairs.accepted(0).unwrap_or(0);
+            format!(in alloc; "{place} {} {fault}", fault.code())?
+        }
+        Some(PairFault::Memory) => format!(in alloc; "memory")?,
+        None => format!(in alloc; "none")?,
+    };
+    Ok(told)
 }
 
 #[test]
@@ -109,12 +119,8 @@ fn tells_the_first_fault_of_a_call(rt: HostRuntime) -> Result<(), Fail> {
         (one, "split 0 undefined 0 none\n", "none"),
     ];
     for (head, text, told) in rows {
-        let head = Head::read(rt.alloc(), head.as_bytes())?;
-        let calls = read_calls(rt.alloc(), text)?;
-        let words = match first_fault(&head, calls.records()) {
-            Some((place, found)) => format!(in rt.alloc(); "{place} {} {found}", found.code())?,
-            None => format!(in rt.alloc(); "none")?,
-        };
+        let mut pairs = pairs_of(rt.alloc(), head)?;
+        let words = told_of(rt.alloc(), &mut pairs, text)?;
         assert_eq!(rt; words.as_str(), told, "of {text:?}");
     }
     Ok(())
@@ -122,26 +128,26 @@ fn tells_the_first_fault_of_a_call(rt: HostRuntime) -> Result<(), Fail> {
 
 #[test]
 fn finds_partners(rt: HostRuntime) -> Result<(), Fail> {
-    let head = Head::read(rt.alloc(), b"ranks 2\ncomm 1 0\n")?;
-    let recording = read_two(
+    let pairs = added_of(
         rt.alloc(),
-        "sendrecv 0 0 5 0 5\nisend 7 0 1 6\nssend 0 1 6\nsend 1 0 3\nrecv 0 null 6\n",
-        "recv 0 0 6\nsendrecv 0 null 0 0 6\nirecv 8 1 1 3\n",
+        "ranks 2\ncomm 1 0\n",
+        "dup 0 1\nsendrecv 0 0 5 0 5\nisend 7 0 1 6\nssend 0 1 6\nsend 1 0 3\nrecv 0 null 6\n",
+        "dup 0 1\nrecv 0 0 6\nsendrecv 0 null 0 0 6\nirecv 8 1 1 3\n",
     )?;
     let rows = [
-        (0, 0, Half::Send, Some((0, 0))),
-        (0, 0, Half::Recv, Some((0, 0))),
-        (0, 1, Half::Send, Some((1, 0))),
+        (0, 1, Half::Send, Some((0, 1))),
+        (0, 1, Half::Recv, Some((0, 1))),
         (0, 2, Half::Send, Some((1, 1))),
         (0, 3, Half::Send, Some((1, 2))),
-        (0, 4, Half::Recv, None),
-        (1, 1, Half::Recv, Some((0, 2))),
-        (1, 1, Half::Send, None),
+        (0, 4, Half::Send, Some((1, 3))),
+        (0, 5, Half::Recv, None),
         (1, 2, Half::Recv, Some((0, 3))),
+        (1, 2, Half::Send, None),
+        (1, 3, Half::Recv, Some((0, 4))),
     ];
     for (rank, place, half, found) in rows {
         assert_eq!(rt;
-            partner(&head, &recording, rank, place, half),
+            pairs.partner(rank, place, half),
             found,
             "of {rank} {place}"
         );
@@ -149,11 +155,57 @@ fn finds_partners(rt: HostRuntime) -> Result<(), Fail> {
     Ok(())
 }
 
+/// What an added call is told: its partners, and its wave.
+#[test]
+fn tells_what_is_added(rt: HostRuntime) -> Result<(), Fail> {
+    let nothing = Added {
+        send: None,
+        recv: None,
+        wave: None,
+    };
+    let wave = |is_full| Added {
+        wave: Some(Joined {
+            comm: 0,
+            wave: 0,
+            is_full,
+        }),
+        ..nothing
+    };
+    let rows = [
+        (
+            0,
+            "sendrecv 0 0 5 0 5\n",
+            Added {
+                send: Some((0, 0)),
+                recv: Some((0, 0)),
+                wave: None,
+            },
+        ),
+        (0, "send 0 1 6\n", nothing),
+        (
+            1,
+            "recv 0 0 6\n",
+            Added {
+                recv: Some((0, 1)),
+                ..nothing
+            },
+        ),
+        (1, "ibarrier 2 0\n", wave(false)),
+        (0, "barrier 0\n", wave(true)),
+    ];
+    let mut pairs = pairs_of(rt.alloc(), "ranks 2\n")?;
+    for (rank, line, told) in rows {
+        let call = read_line(line.as_bytes())?;
+        assert_eq!(rt; add(&mut pairs, rank, &call)?, Ok(told), "of {line:?}");
+    }
+    Ok(())
+}
+
 #[test]
 fn counts_waves(rt: HostRuntime) -> Result<(), Fail> {
-    let head = Head::read(rt.alloc(), b"ranks 2\ncomm 1 0\n")?;
-    let recording = read_two(
+    let pairs = added_of(
         rt.alloc(),
+        "ranks 2\ncomm 1 0\n",
         "barrier 0\nibarrier 0 0\ndup 0 1\nbarrier 1\n",
         "iscan 0 0\nwait 0\nsplit 0 undefined 0 none\nbcast 0 0\n",
     )?;
@@ -165,21 +217,20 @@ fn counts_waves(rt: HostRuntime) -> Result<(), Fail> {
         (1, 3, Some((0, 2))),
     ];
     for (rank, place, wave) in rows {
-        assert_eq!(rt; wave_of(&recording, rank, place), wave, "of {rank} {place}");
+        assert_eq!(rt; pairs.wave_of(rank, place), wave, "of {rank} {place}");
     }
-    assert_eq!(rt; member_of(&head, &recording, 0, 2, 1), Some(3));
-    assert_eq!(rt; member_of(&head, &recording, 1, 0, 1), Some(3));
-    assert_eq!(rt; member_of(&head, &recording, 1, 0, 0), None);
-    assert!(rt; is_full(&head, &recording, 0, 2));
-    assert!(rt; !is_full(&head, &recording, 1, 0));
+    for (comm, wave, g, place) in [(0, 2, 1, Some(3)), (1, 0, 1, Some(3)), (1, 0, 0, None)] {
+        assert_eq!(rt; pairs.member(comm, wave, g), place, "of {comm} {wave} {g}");
+    }
     Ok(())
 }
 
 #[test]
-fn finds_starts_and_communicators(rt: HostRuntime) -> Result<(), Fail> {
-    let recording = read_two(
+fn finds_starts(rt: HostRuntime) -> Result<(), Fail> {
+    let pairs = added_of(
         rt.alloc(),
-        "irecv 0 0 1 9\nirecv 1 0 1 8\nwaitany 1 0 1\nisend 1 0 1 9\nwaitall 1 0\ndup 0 1\n",
+        "ranks 2\n",
+        "irecv 0 0 1 9\nirecv 1 0 1 8\nwaitany 1 0 1\nisend 1 0 1 9\nwaitall 1 0\n",
         "",
     )?;
     let rows = [
@@ -191,18 +242,20 @@ fn finds_starts_and_communicators(rt: HostRuntime) -> Result<(), Fail> {
         (3, 0, None),
     ];
     for (place, req, start) in rows {
+        assert_eq!(rt; pairs.started(0, place, req), start, "of {place} {req}");
+    }
+    let completed = [
+        (2, 0, Some(1)),
+        (2, 1, None),
+        (4, 0, Some(3)),
+        (4, 1, Some(0)),
+    ];
+    for (place, index, start) in completed {
         assert_eq!(rt;
-            started_of(&recording, 0, place, req),
+            pairs.completed(0, place, index),
             start,
-            "of {place} {req}"
+            "of {place} {index}"
         );
     }
-    let calls = recording.of_rank(0);
-    assert!(rt; calls.len() == 6);
-    assert!(rt; is_active(&calls[..3], 0));
-    assert!(rt; !is_active(&calls[..3], 1));
-    assert!(rt; holds(&calls[..5], 0));
-    assert!(rt; !holds(&calls[..5], 1));
-    assert!(rt; holds(calls, 1));
     Ok(())
 }
