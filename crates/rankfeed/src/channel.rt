@@ -5,10 +5,10 @@
 ghost use Rattle.std.specs.Prelude.{◌≡◌, ◌<◌, ◌^◌, ◌+◌, ◌≤◌, true, false, None, length};
 ghost use Rattle.crossbeam_channel.specs.Claims.{view, IsSeatAt};
 ghost use Rattle.crossbeam_channel.specs.Ends.{sends_on, receives_on, ruled_capacity};
-ghost use Rattle.rankfeed.specs.Items.{may_follow, last_item, are_in_order, end_with_finalize, end_of, are_ended};
+ghost use Rattle.rankfeed.specs.Items.{may_follow, last_item, are_in_order, end_the_list, end_of, are_ended};
 
 use crate::answer::{Met, Took, Unsealed};
-use crate::item::{Ending, Item, is_finalize};
+use crate::item::{Ending, Item};
 use crossbeam_channel::{Pass, RuledReceiver, RuledSender, TrySendError, bounded_with};
 use mpicall::fault::SourceFault;
 use mpicall::record::Record;
@@ -51,7 +51,7 @@ pub struct Feed {
     ghost on: { IsSeatAt (sends_on sender) pass },
     ghost puts: { (view pass).may_put ≡ true },
     ghost in_order: { are_in_order (view pass).put_items ≡ true },
-    ghost closed: { end_with_finalize (view pass).put_items ≡ done },
+    ghost closed: { end_the_list (view pass).put_items ≡ done },
     ghost unended: { end_of (view pass).put_items ≡ None },
     ghost counted: { count ≡ length (view pass).put_items },
     ghost countable: { count + 1 < 2 ^ 64 },
@@ -134,7 +134,7 @@ impl Feed {
 
     /// Whether Finalize was put, so that the feed takes no other record.
     pub fn is_done(&self) -> bool
-        ensures { result ≡ end_with_finalize (sent_by self.now) }
+        ensures { result ≡ end_the_list (sent_by self.now) }
     {
         self.done
     }
@@ -146,7 +146,7 @@ impl Feed {
         ensures same { SameFeed self.old self.new }
         ensures ok { OnOk result (sent_by self.new ≡ sent_by self.old ++ Entry call ∷ []) }
         ensures err { IfErr result (λ fault. (handed_back fault ≡ call) × (sent_by self.new ≡ sent_by self.old)) }
-        ensures closed { (result ≡ Err (Closed call)) ↔ IsTrue (end_with_finalize (sent_by self.old)) }
+        ensures closed { (result ≡ Err (Closed call)) ↔ IsTrue (end_the_list (sent_by self.old)) }
         ensures full { result ≡ Err (Full call) → feed_capacity self.old ≤ length (sent_by self.old) }
     {
         if self.done {
@@ -161,7 +161,7 @@ impl Feed {
         match sent {
             Ok(()) => {
                 self.count += 1;
-                self.done = is_finalize(&call);
+                self.done = call.ends_list();
                 Ok(())
             }
             Err(TrySendError::Full(_)) => Err(PutFault::Full(call)),
@@ -175,7 +175,7 @@ impl Feed {
         ensures same { SameFeed self.old self.new }
         ensures ok { OnOk result (sent_by self.new ≡ sent_by self.old ++ Entry call ∷ []) }
         ensures err { IfErr result (λ fault. (handed_back fault ≡ call) × (sent_by self.new ≡ sent_by self.old)) }
-        ensures closed { (result ≡ Err (Closed call)) ↔ IsTrue (end_with_finalize (sent_by self.old)) }
+        ensures closed { (result ≡ Err (Closed call)) ↔ IsTrue (end_the_list (sent_by self.old)) }
         ensures never_full { ¬ (result ≡ Err (Full call)) }
     {
         for _ in wait.forever() {
@@ -217,7 +217,7 @@ impl Feed {
     /// Puts the end mark of a feed whose records are all put.
     #[tactic(auto, using(crate::proofs::ItemLemmas::item_steps))]
     pub fn seal<R: Wait>(self, wait: &R) -> Result<Receipt, Unsealed>
-        requires { IsTrue (end_with_finalize (sent_by self)) }
+        requires { IsTrue (end_the_list (sent_by self)) }
         ensures receipt { IfOk result (λ receipt. IsReceiptOf self receipt) }
         ensures sent { IfOk result (λ receipt. sent_whole receipt ≡ sent_by self ++ Mark Sealed ∷ []) }
         ensures order { IfOk result (λ receipt. IsFeed (sent_whole receipt)) }

@@ -1,7 +1,7 @@
 use Rattle.std.proofs.Common.{◌≡◌, true, ap, sym, ◌∙◌, arith}
 use Rattle.rankfeed.specs.declared.item.Item.TheVariants.{Entry}
 use Rattle.crossbeam_channel.specs.Claims.{view}
-use Rattle.rankfeed.specs.Items.{may_follow, last_item, is_finalize_item, mark_in}
+use Rattle.rankfeed.specs.Items.{may_follow, last_item, item_ends_list, mark_in}
 use Rattle.rankfeed.proofs.ItemLemmas.{entry_may_follow}
 use Rattle.rankfeed.proofs.RelayLemmas.{puts, finds_full, has_put}
 use Rattle.rankfeed.proofs.channel.Feed.try_put.Goals as goal
@@ -19,7 +19,7 @@ invariant_of-self g c =
       on = c.in-Ok.ensures.channel.0;
       puts = has.puts;
       in_order = has.in_order;
-      closed = ap is_finalize_item has.last ∙ sym c.is_finalize-self.ensures;
+      closed = ap item_ends_list has.last ∙ sym c.ends_list-self.ensures;
       unended = ap mark_in has.last;
       counted = (let count = c.args.self.now.counted in let longer = has.longer in omega arith);
       countable = (let room = c.if-self-ge-MOST_RECORDS.false in omega arith);
