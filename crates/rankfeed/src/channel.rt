@@ -139,6 +139,30 @@ impl Feed {
         self.done
     }
 
+    /// Puts a record at the back, where the channel has a place for it.
+    fn push<R: Wait>(&mut self, call: &Record, wait: &R) -> Result<(), PutFault>
+        requires open { self.old.done ≡ false }
+        requires countable { self.old.count + 2 < 2 ^ 64 }
+        ensures same { SameFeed self.old self.new }
+        ensures ok { OnOk result (sent_by self.new ≡ sent_by self.old ++ Entry call.now ∷ []) }
+        ensures err { IfErr result (λ fault. (handed_back fault ≡ call.now) × (sent_by self.new ≡ sent_by self.old)) }
+        ensures never_closed { ¬ (result ≡ Err (Closed call.now)) }
+        ensures full { result ≡ Err (Full call.now) → feed_capacity self.old ≤ length (sent_by self.old) }
+    {
+        let sent = self
+            .sender
+            .try_send_as::<Puts, R>(wait, &mut self.pass, Item::Entry(*call));
+        match sent {
+            Ok(()) => {
+                self.count += 1;
+                self.done = call.ends_list();
+                Ok(())
+            }
+            Err(TrySendError::Full(_)) => Err(PutFault::Full(*call)),
+            Err(_) => Err(PutFault::Lost(*call)),
+        }
+    }
+
     /// Puts a record at the back. `Closed` comes first, `Full` only once as many records were put as the
     /// feed has room for; every refusal leaves the feed as it was.
     #[tactic(auto, using(crate::proofs::ItemLemmas::item_steps))]
@@ -155,18 +179,7 @@ impl Feed {
         if self.count >= MOST_RECORDS {
             return Err(PutFault::Full(call));
         }
-        let sent = self
-            .sender
-            .try_send_as::<Puts, R>(wait, &mut self.pass, Item::Entry(call));
-        match sent {
-            Ok(()) => {
-                self.count += 1;
-                self.done = call.ends_list();
-                Ok(())
-            }
-            Err(TrySendError::Full(_)) => Err(PutFault::Full(call)),
-            Err(_) => Err(PutFault::Lost(call)),
-        }
+        self.push(&call, wait)
     }
 
     /// Puts a record at the back, and waits for a place. It answers no other fault than `Closed` and
@@ -237,7 +250,7 @@ impl Feed {
 }
 
 impl Taker {
-    ghost use Rattle.std.specs.Prelude.{[], ◌∷◌, ◌++◌, ℕ};
+    ghost use Rattle.std.specs.Prelude.{[], ◌∷◌, ◌++◌, ℕ, IfSome};
     ghost use Rattle.rankfeed.specs.declared.answer.Took.TheVariants as Took;
     ghost use Rattle.rankfeed.specs.Items.{IsFeed};
     ghost use Rattle.rankfeed.specs.Answers.{Receives};
@@ -248,6 +261,24 @@ impl Taker {
         ensures { result ≡ taker_rank self.now }
     {
         self.rank
+    }
+
+    /// Takes the item at the front of the channel.
+    #[tactic(auto, using(crate::proofs::ItemLemmas::item_steps))]
+    fn pull<R: Wait>(&mut self, wait: &R) -> Option<Item>
+        requires { self.old.end ≡ None }
+        ensures same { SameTaker self.old self.new }
+        ensures none { result ≡ None → received_by self.new ≡ received_by self.old }
+        ensures some { IfSome result (λ item. received_by self.new ≡ received_by self.old ++ item ∷ []) }
+        ensures left { are_ended (received_by self.old ++ left_for self.old) ≡ true → received_by self.new ++ left_for self.new ≡ received_by self.old ++ left_for self.old }
+        ensures never_empty { are_ended (received_by self.old ++ left_for self.old) ≡ true → ¬ (result ≡ None) }
+    {
+        let Ok(item) = self.receiver.try_recv_as::<Takes, R>(wait, &mut self.pass) else {
+            return None;
+        };
+        self.count += 1;
+        self.end = item.mark();
+        Some(item)
     }
 
     /// Takes the item at the front.
@@ -262,16 +293,12 @@ impl Taker {
         if let Some(end) = self.end {
             return end.told();
         }
-        let Ok(item) = self.receiver.try_recv_as::<Takes, R>(wait, &mut self.pass) else {
+        let Some(item) = self.pull(wait) else {
             return Took::Empty;
         };
-        self.count += 1;
         match item {
             Item::Entry(call) => Took::Record(call),
-            Item::Mark(end) => {
-                self.end = Some(end);
-                end.told()
-            }
+            Item::Mark(end) => end.told(),
         }
     }
 

@@ -1,5 +1,8 @@
 //! What a feed carries: the records of its rank, and behind them one end mark.
 
+ghost use Rattle.std.specs.Prelude.{◌≡◌, Some};
+ghost use Rattle.rankfeed.specs.Items.{mark_in};
+
 use mpicall::fault::SourceFault;
 use mpicall::record::Record;
 
@@ -17,4 +20,16 @@ pub enum Ending {
 pub enum Item {
     Entry(Record),
     Mark(Ending),
+}
+
+impl Item {
+    /// The end mark, where the item is one.
+    pub(crate) fn mark(&self) -> Option<Ending>
+        ensures { result ≡ mark_in (Some self.now) }
+    {
+        match *self {
+            Item::Entry(_) => None,
+            Item::Mark(end) => Some(end),
+        }
+    }
 }
