@@ -4,11 +4,12 @@ use Rattle.std.proofs.lemmas.Bool.{false≢true}
 use Rattle.std.proofs.lemmas.Option.{none-some}
 use Rattle.mpicall.specs.declared.call.Call.{Call}
 use Rattle.mpicall.specs.declared.fault.SourceFault.{SourceFault}
+use Rattle.mpicall.specs.Ending.{ends_list}
 use Rattle.rankfeed.specs.declared.item.Ending.{Ending}
 use Rattle.rankfeed.specs.declared.item.Ending.TheVariants.{Sealed, Torn}
 use Rattle.rankfeed.specs.declared.item.Item.{Item}
 use Rattle.rankfeed.specs.declared.item.Item.TheVariants.{Entry, Mark}
-use Rattle.rankfeed.specs.Items.{is_finalize, may_follow, last_behind, last_item, follow_on, are_in_order, is_finalize_item, end_with_finalize, mark_in, end_of, calls_among, IsFeed}
+use Rattle.rankfeed.specs.Items.{may_follow, last_behind, last_item, follow_on, are_in_order, item_ends_list, end_the_list, mark_in, end_of, calls_among, IsFeed}
 
 pub last_behind-append : (before : Option Item) (xs ys : List Item) → last_behind before (xs ++ ys) ≡ last_behind (last_behind before xs) ys
 last_behind-append before [] ys = refl
@@ -37,22 +38,22 @@ follow_on-push before (y ∷ ys) x h k = both_parts _ _ (first_part _ _ h) (foll
 pub in_order_push : (xs : List Item) (x : Item) → are_in_order xs ≡ true → may_follow (last_item xs) x ≡ true → are_in_order (xs ++ x ∷ []) ≡ true
 in_order_push xs x h k = follow_on-push None xs x h k
 
-entry_follows : (before : Option Item) (call : Call) → is_finalize_item before ≡ false → mark_in before ≡ None → may_follow before (Entry call) ≡ true
+entry_follows : (before : Option Item) (call : Call) → item_ends_list before ≡ false → mark_in before ≡ None → may_follow before (Entry call) ≡ true
 entry_follows None call h k = refl
 entry_follows (Some (Entry earlier)) call h k = ap not h
 entry_follows (Some (Mark earlier)) call h k = absurd (none-some _ (sym k))
 
--- a record may follow where neither Finalize nor an end mark came
-pub entry_may_follow : (xs : List Item) (call : Call) → end_with_finalize xs ≡ false → end_of xs ≡ None → may_follow (last_item xs) (Entry call) ≡ true
+-- a record may follow where neither the record that ends the list nor an end mark came
+pub entry_may_follow : (xs : List Item) (call : Call) → end_the_list xs ≡ false → end_of xs ≡ None → may_follow (last_item xs) (Entry call) ≡ true
 entry_may_follow xs call h k = entry_follows (last_item xs) call h k
 
-sealed_follows : (before : Option Item) → is_finalize_item before ≡ true → may_follow before (Mark Sealed) ≡ true
+sealed_follows : (before : Option Item) → item_ends_list before ≡ true → may_follow before (Mark Sealed) ≡ true
 sealed_follows None h = absurd (false≢true h)
 sealed_follows (Some (Entry earlier)) h = h
 sealed_follows (Some (Mark earlier)) h = absurd (false≢true h)
 
--- Sealed may follow Finalize
-pub sealed_may_follow : (xs : List Item) → end_with_finalize xs ≡ true → may_follow (last_item xs) (Mark Sealed) ≡ true
+-- Sealed may follow the record that ends the list
+pub sealed_may_follow : (xs : List Item) → end_the_list xs ≡ true → may_follow (last_item xs) (Mark Sealed) ≡ true
 sealed_may_follow xs h = sealed_follows (last_item xs) h
 
 torn_follows : (before : Option Item) (fault : SourceFault) → mark_in before ≡ None → may_follow before (Mark (Torn fault)) ≡ true
@@ -76,24 +77,24 @@ none_behind_mark : (earlier : Ending) (after : List Item) → follow_on (Some (M
 none_behind_mark earlier [] h = refl
 none_behind_mark earlier (x ∷ xs) h = absurd (false≢true h)
 
-none_behind : (call : Call) (after : List Item) → follow_on (Some (Entry call)) after ≡ true → is_finalize call ≡ true → calls_among after ≡ []
+none_behind : (call : Call) (after : List Item) → follow_on (Some (Entry call)) after ≡ true → ends_list call ≡ true → calls_among after ≡ []
 none_behind call [] h f = refl
 none_behind call (Entry next ∷ xs) h f =
-    let k : not (is_finalize call) ≡ true = first_part (not (is_finalize call)) (follow_on (Some (Entry next)) xs) h in
+    let k : not (ends_list call) ≡ true = first_part (not (ends_list call)) (follow_on (Some (Entry next)) xs) h in
     absurd (false≢true (sym (ap not f) ∙ k))
 none_behind call (Mark end ∷ xs) h f = ap calls_among (none_behind_mark end xs (second_part _ _ h))
 
-finalize_before : (before : Option Item) → may_follow before (Mark Sealed) ≡ true → is_finalize_item before ≡ true
-finalize_before None h = absurd (false≢true h)
-finalize_before (Some (Entry earlier)) h = h
-finalize_before (Some (Mark earlier)) h = absurd (false≢true h)
+list_end_before : (before : Option Item) → may_follow before (Mark Sealed) ≡ true → item_ends_list before ≡ true
+list_end_before None h = absurd (false≢true h)
+list_end_before (Some (Entry earlier)) h = h
+list_end_before (Some (Mark earlier)) h = absurd (false≢true h)
 
 -- what order means
 pub is_feed : (items : List Item) → are_in_order items ≡ true → IsFeed items
 is_feed items h = record {
   mark_is_last = λ before after earlier e. none_behind_mark earlier after (second_part _ _ (follow_on-split None before (Mark earlier ∷ after) (rw e at h)));
-  none_behind_finalize = λ before after call e f. none_behind call after (second_part _ _ (follow_on-split None before (Entry call ∷ after) (rw e at h))) f;
-  sealed_behind_finalize = λ before after e. finalize_before (last_item before) (first_part _ _ (follow_on-split None before (Mark Sealed ∷ after) (rw e at h)));
+  none_behind_list_end = λ before after call e f. none_behind call after (second_part _ _ (follow_on-split None before (Entry call ∷ after) (rw e at h))) f;
+  sealed_behind_list_end = λ before after e. list_end_before (last_item before) (first_part _ _ (follow_on-split None before (Mark Sealed ∷ after) (rw e at h)));
 }
 
 -- what the two ends know of one more item

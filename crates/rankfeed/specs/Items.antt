@@ -1,24 +1,20 @@
 -- What a feed carries: records, and behind them one end mark.
 use Rattle.std.specs.Prelude.{◌≡◌, Bool, true, false, not, ◌&&◌, Option, Some, None, is_some, List, [], ◌∷◌, ◌++◌}
 use Rattle.mpicall.specs.declared.call.Call.{Call}
-use Rattle.mpicall.specs.declared.call.Call.TheVariants.{Finalize}
+use Rattle.mpicall.specs.Ending.{ends_list}
 use Rattle.rankfeed.specs.declared.item.Ending.{Ending}
 use Rattle.rankfeed.specs.declared.item.Ending.TheVariants.{Sealed, Torn}
 use Rattle.rankfeed.specs.declared.item.Item.{Item}
 use Rattle.rankfeed.specs.declared.item.Item.TheVariants.{Entry, Mark}
 
--- whether the call is MPI_Finalize, after which a rank makes no other call (MPI 4.0, section 11.2.2)
-abbrev pub is_finalize : Call → Bool
-is_finalize Finalize = true
-is_finalize _ = false
-
--- what may follow what: the item before, if there is one, and the item behind it
+-- what may follow what: the item before, if there is one, and the item behind it. The call that ends its
+-- rank's list is MPI_Finalize (MPI 4.0, section 11.2.2)
 abbrev pub may_follow : Option Item → Item → Bool
 may_follow None (Entry call) = true
 may_follow None (Mark Sealed) = false
 may_follow None (Mark (Torn fault)) = true
-may_follow (Some (Entry earlier)) (Entry call) = not (is_finalize earlier)
-may_follow (Some (Entry earlier)) (Mark Sealed) = is_finalize earlier
+may_follow (Some (Entry earlier)) (Entry call) = not (ends_list earlier)
+may_follow (Some (Entry earlier)) (Mark Sealed) = ends_list earlier
 may_follow (Some (Entry earlier)) (Mark (Torn fault)) = true
 may_follow (Some (Mark earlier)) next = false
 
@@ -39,14 +35,14 @@ follow_on before (next ∷ items) = may_follow before next && follow_on (Some ne
 abbrev pub are_in_order : List Item → Bool
 are_in_order items = follow_on None items
 
--- the last item is the record Finalize
-abbrev pub is_finalize_item : Option Item → Bool
-is_finalize_item (Some (Entry call)) = is_finalize call
-is_finalize_item (Some (Mark earlier)) = false
-is_finalize_item None = false
+-- the last item is the record that ends its rank's list
+abbrev pub item_ends_list : Option Item → Bool
+item_ends_list (Some (Entry call)) = ends_list call
+item_ends_list (Some (Mark earlier)) = false
+item_ends_list None = false
 
-abbrev pub end_with_finalize : List Item → Bool
-end_with_finalize items = is_finalize_item (last_item items)
+abbrev pub end_the_list : List Item → Bool
+end_the_list items = item_ends_list (last_item items)
 
 -- the end mark that is the last item, if it is one
 abbrev pub mark_in : Option Item → Option Ending
@@ -67,9 +63,9 @@ calls_among [] = []
 calls_among (Entry call ∷ items) = call ∷ calls_among items
 calls_among (Mark earlier ∷ items) = calls_among items
 
--- the order of a feed's items in plain words: an end mark is last, no record follows Finalize, and
--- Sealed stands only directly behind Finalize
+-- the order of a feed's items in plain words: an end mark is last, no record follows the one that
+-- ends the list (MPI_Finalize), and Sealed stands only directly behind it
 pub record IsFeed (items : List Item) : Type 0 where
   pub mark_is_last : (before after : List Item) (earlier : Ending) → items ≡ before ++ Mark earlier ∷ after → after ≡ []
-  pub none_behind_finalize : (before after : List Item) (call : Call) → items ≡ before ++ Entry call ∷ after → is_finalize call ≡ true → calls_among after ≡ []
-  pub sealed_behind_finalize : (before after : List Item) → items ≡ before ++ Mark Sealed ∷ after → end_with_finalize before ≡ true
+  pub none_behind_list_end : (before after : List Item) (call : Call) → items ≡ before ++ Entry call ∷ after → ends_list call ≡ true → calls_among after ≡ []
+  pub sealed_behind_list_end : (before after : List Item) → items ≡ before ++ Mark Sealed ∷ after → end_the_list before ≡ true

@@ -5,10 +5,10 @@
 ghost use Rattle.std.specs.Prelude.{◌≡◌, ◌<◌, ◌^◌, ◌+◌, ◌≤◌, true, false, None, length};
 ghost use Rattle.crossbeam_channel.specs.Claims.{view, IsSeatAt};
 ghost use Rattle.crossbeam_channel.specs.Ends.{sends_on, receives_on, ruled_capacity};
-ghost use Rattle.rankfeed.specs.Items.{may_follow, last_item, are_in_order, end_with_finalize, end_of, are_ended};
+ghost use Rattle.rankfeed.specs.Items.{may_follow, last_item, are_in_order, end_the_list, end_of, are_ended};
 
 use crate::answer::{Met, Took, Unsealed};
-use crate::item::{Ending, Item, is_finalize};
+use crate::item::{Ending, Item};
 use crossbeam_channel::{Pass, RuledReceiver, RuledSender, TrySendError, bounded_with};
 use mpicall::fault::SourceFault;
 use mpicall::record::Record;
@@ -51,7 +51,7 @@ pub struct Feed {
     ghost on: { IsSeatAt (sends_on sender) pass },
     ghost puts: { (view pass).may_put ≡ true },
     ghost in_order: { are_in_order (view pass).put_items ≡ true },
-    ghost closed: { end_with_finalize (view pass).put_items ≡ done },
+    ghost closed: { end_the_list (view pass).put_items ≡ done },
     ghost unended: { end_of (view pass).put_items ≡ None },
     ghost counted: { count ≡ length (view pass).put_items },
     ghost countable: { count + 1 < 2 ^ 64 },
@@ -134,9 +134,33 @@ impl Feed {
 
     /// Whether Finalize was put, so that the feed takes no other record.
     pub fn is_done(&self) -> bool
-        ensures { result ≡ end_with_finalize (sent_by self.now) }
+        ensures { result ≡ end_the_list (sent_by self.now) }
     {
         self.done
+    }
+
+    /// Puts a record at the back, where the channel has a place for it.
+    fn push<R: Wait>(&mut self, call: &Record, wait: &R) -> Result<(), PutFault>
+        requires open { self.old.done ≡ false }
+        requires countable { self.old.count + 2 < 2 ^ 64 }
+        ensures same { SameFeed self.old self.new }
+        ensures ok { OnOk result (sent_by self.new ≡ sent_by self.old ++ Entry call.now ∷ []) }
+        ensures err { IfErr result (λ fault. (handed_back fault ≡ call.now) × (sent_by self.new ≡ sent_by self.old)) }
+        ensures never_closed { ¬ (result ≡ Err (Closed call.now)) }
+        ensures full { result ≡ Err (Full call.now) → feed_capacity self.old ≤ length (sent_by self.old) }
+    {
+        let sent = self
+            .sender
+            .try_send_as::<Puts, R>(wait, &mut self.pass, Item::Entry(*call));
+        match sent {
+            Ok(()) => {
+                self.count += 1;
+                self.done = call.ends_list();
+                Ok(())
+            }
+            Err(TrySendError::Full(_)) => Err(PutFault::Full(*call)),
+            Err(_) => Err(PutFault::Lost(*call)),
+        }
     }
 
     /// Puts a record at the back. `Closed` comes first, `Full` only once as many records were put as the
@@ -146,7 +170,7 @@ impl Feed {
         ensures same { SameFeed self.old self.new }
         ensures ok { OnOk result (sent_by self.new ≡ sent_by self.old ++ Entry call ∷ []) }
         ensures err { IfErr result (λ fault. (handed_back fault ≡ call) × (sent_by self.new ≡ sent_by self.old)) }
-        ensures closed { (result ≡ Err (Closed call)) ↔ IsTrue (end_with_finalize (sent_by self.old)) }
+        ensures closed { (result ≡ Err (Closed call)) ↔ IsTrue (end_the_list (sent_by self.old)) }
         ensures full { result ≡ Err (Full call) → feed_capacity self.old ≤ length (sent_by self.old) }
     {
         if self.done {
@@ -155,18 +179,7 @@ impl Feed {
         if self.count >= MOST_RECORDS {
             return Err(PutFault::Full(call));
         }
-        let sent = self
-            .sender
-            .try_send_as::<Puts, R>(wait, &mut self.pass, Item::Entry(call));
-        match sent {
-            Ok(()) => {
-                self.count += 1;
-                self.done = is_finalize(&call);
-                Ok(())
-            }
-            Err(TrySendError::Full(_)) => Err(PutFault::Full(call)),
-            Err(_) => Err(PutFault::Lost(call)),
-        }
+        self.push(&call, wait)
     }
 
     /// Puts a record at the back, and waits for a place. It answers no other fault than `Closed` and
@@ -175,7 +188,7 @@ impl Feed {
         ensures same { SameFeed self.old self.new }
         ensures ok { OnOk result (sent_by self.new ≡ sent_by self.old ++ Entry call ∷ []) }
         ensures err { IfErr result (λ fault. (handed_back fault ≡ call) × (sent_by self.new ≡ sent_by self.old)) }
-        ensures closed { (result ≡ Err (Closed call)) ↔ IsTrue (end_with_finalize (sent_by self.old)) }
+        ensures closed { (result ≡ Err (Closed call)) ↔ IsTrue (end_the_list (sent_by self.old)) }
         ensures never_full { ¬ (result ≡ Err (Full call)) }
     {
         for _ in wait.forever() {
@@ -217,7 +230,7 @@ impl Feed {
     /// Puts the end mark of a feed whose records are all put.
     #[tactic(auto, using(crate::proofs::ItemLemmas::item_steps))]
     pub fn seal<R: Wait>(self, wait: &R) -> Result<Receipt, Unsealed>
-        requires { IsTrue (end_with_finalize (sent_by self)) }
+        requires { IsTrue (end_the_list (sent_by self)) }
         ensures receipt { IfOk result (λ receipt. IsReceiptOf self receipt) }
         ensures sent { IfOk result (λ receipt. sent_whole receipt ≡ sent_by self ++ Mark Sealed ∷ []) }
         ensures order { IfOk result (λ receipt. IsFeed (sent_whole receipt)) }
@@ -237,7 +250,7 @@ impl Feed {
 }
 
 impl Taker {
-    ghost use Rattle.std.specs.Prelude.{[], ◌∷◌, ◌++◌, ℕ};
+    ghost use Rattle.std.specs.Prelude.{[], ◌∷◌, ◌++◌, ℕ, IfSome};
     ghost use Rattle.rankfeed.specs.declared.answer.Took.TheVariants as Took;
     ghost use Rattle.rankfeed.specs.Items.{IsFeed};
     ghost use Rattle.rankfeed.specs.Answers.{Receives};
@@ -248,6 +261,24 @@ impl Taker {
         ensures { result ≡ taker_rank self.now }
     {
         self.rank
+    }
+
+    /// Takes the item at the front of the channel.
+    #[tactic(auto, using(crate::proofs::ItemLemmas::item_steps))]
+    fn pull<R: Wait>(&mut self, wait: &R) -> Option<Item>
+        requires { self.old.end ≡ None }
+        ensures same { SameTaker self.old self.new }
+        ensures none { result ≡ None → received_by self.new ≡ received_by self.old }
+        ensures some { IfSome result (λ item. received_by self.new ≡ received_by self.old ++ item ∷ []) }
+        ensures left { are_ended (received_by self.old ++ left_for self.old) ≡ true → received_by self.new ++ left_for self.new ≡ received_by self.old ++ left_for self.old }
+        ensures never_empty { are_ended (received_by self.old ++ left_for self.old) ≡ true → ¬ (result ≡ None) }
+    {
+        let Ok(item) = self.receiver.try_recv_as::<Takes, R>(wait, &mut self.pass) else {
+            return None;
+        };
+        self.count += 1;
+        self.end = item.mark();
+        Some(item)
     }
 
     /// Takes the item at the front.
@@ -262,16 +293,12 @@ impl Taker {
         if let Some(end) = self.end {
             return end.told();
         }
-        let Ok(item) = self.receiver.try_recv_as::<Takes, R>(wait, &mut self.pass) else {
+        let Some(item) = self.pull(wait) else {
             return Took::Empty;
         };
-        self.count += 1;
         match item {
             Item::Entry(call) => Took::Record(call),
-            Item::Mark(end) => {
-                self.end = Some(end);
-                end.told()
-            }
+            Item::Mark(end) => end.told(),
         }
     }
 

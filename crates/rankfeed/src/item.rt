@@ -1,9 +1,8 @@
 //! What a feed carries: the records of its rank, and behind them one end mark.
 
-ghost use Rattle.std.specs.Prelude.{◌≡◌};
-ghost use Rattle.rankfeed.specs.Items.{is_finalize};
+ghost use Rattle.std.specs.Prelude.{◌≡◌, Some};
+ghost use Rattle.rankfeed.specs.Items.{mark_in};
 
-use mpicall::call::Call;
 use mpicall::fault::SourceFault;
 use mpicall::record::Record;
 
@@ -23,9 +22,14 @@ pub enum Item {
     Mark(Ending),
 }
 
-/// Whether the record is Finalize, behind which a feed takes no other.
-pub(crate) fn is_finalize(call: &Record) -> bool
-    ensures { result ≡ is_finalize call.now }
-{
-    matches!(call.call(), Call::Finalize)
+impl Item {
+    /// The end mark, where the item is one.
+    pub(crate) fn mark(&self) -> Option<Ending>
+        ensures { result ≡ mark_in (Some self.now) }
+    {
+        match *self {
+            Item::Entry(_) => None,
+            Item::Mark(end) => Some(end),
+        }
+    }
 }

@@ -12,7 +12,8 @@
 //! - A put that is refused hands the record back and changes nothing. `Closed` comes exactly where
 //!   Finalize was put, `Full` never for a new feed's first `capacity` records.
 //! - The items are in order (`IsFeed` of `specs/Items.antt`): an end mark is last, no record follows
-//!   Finalize, and `Sealed` stands only directly behind Finalize.
+//!   the one that ends the list (`Call::ends_list`: MPI_Finalize), and `Sealed` stands only directly
+//!   behind it.
 //! - No call but `put` waits, and none but `open` takes memory. The end mark has a place of its own.
 //!
 //! It isn't promised that a full feed has room again, that an item comes to an empty one, or that there

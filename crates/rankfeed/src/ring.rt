@@ -2,10 +2,10 @@
 
 ghost use Rattle.std.specs.Prelude.{◌≡◌, ◌<◌, ◌+◌, ◌≤◌, true, false, None, length};
 ghost use Rattle.rtrb.specs.Ring.{sent, received, all_sent, known_free, producer_capacity};
-ghost use Rattle.rankfeed.specs.Items.{may_follow, last_item, are_in_order, end_with_finalize, end_of, are_ended};
+ghost use Rattle.rankfeed.specs.Items.{may_follow, last_item, are_in_order, end_the_list, end_of, are_ended};
 
 use crate::answer::{Met, PutFault, Took, Unsealed};
-use crate::item::{Ending, Item, is_finalize};
+use crate::item::{Ending, Item};
 use mpicall::fault::SourceFault;
 use mpicall::record::Record;
 use rtrb::{Consumer, Finished, Producer, Protocol, RingBuffer};
@@ -30,7 +30,7 @@ pub struct Feed {
     ring: Producer<Item, Global, InOrder>,
     done: bool,
     ghost in_order: { are_in_order (sent ring) ≡ true },
-    ghost closed: { end_with_finalize (sent ring) ≡ done },
+    ghost closed: { end_the_list (sent ring) ≡ done },
     ghost unended: { end_of (sent ring) ≡ None },
     // The end mark's place.
     ghost kept: { 0 < known_free ring },
@@ -61,7 +61,7 @@ impl Feed {
     ghost use Rattle.rankfeed.specs.declared.item.Ending.TheVariants.{Sealed, Torn};
     ghost use Rattle.rankfeed.specs.declared.item.Item.TheVariants.{Entry, Mark};
     ghost use Rattle.rankfeed.specs.declared.answer.PutFault.TheVariants.{Full, Closed};
-    ghost use Rattle.rankfeed.specs.Items.{is_finalize, IsFeed};
+    ghost use Rattle.rankfeed.specs.Items.{IsFeed};
     ghost use Rattle.rankfeed.specs.Answers.{handed_back};
     ghost use Rattle.rankfeed.specs.Rings.{feed_ring, feed_capacity, sent_by, receipt_ring, sent_whole, taker_ring, received_by};
 
@@ -97,7 +97,7 @@ impl Feed {
 
     /// Whether Finalize was put, so that the feed takes no other record.
     pub fn is_done(&self) -> bool
-        ensures { result ≡ end_with_finalize (sent_by self.now) }
+        ensures { result ≡ end_the_list (sent_by self.now) }
     {
         self.done
     }
@@ -123,7 +123,7 @@ impl Feed {
         ensures capacity { feed_capacity self.new ≡ feed_capacity self.old }
         ensures sent { sent_by self.new ≡ sent_by self.old ++ Entry call.now ∷ [] }
     {
-        self.done = is_finalize(call);
+        self.done = call.ends_list();
         self.ring.push_reserved(Item::Entry(*call));
     }
 
@@ -135,7 +135,7 @@ impl Feed {
         ensures capacity { feed_capacity self.new ≡ feed_capacity self.old }
         ensures ok { OnOk result (sent_by self.new ≡ sent_by self.old ++ Entry call ∷ []) }
         ensures err { IfErr result (λ fault. (handed_back fault ≡ call) × (sent_by self.new ≡ sent_by self.old)) }
-        ensures closed { (result ≡ Err (Closed call)) ↔ IsTrue (end_with_finalize (sent_by self.old)) }
+        ensures closed { (result ≡ Err (Closed call)) ↔ IsTrue (end_the_list (sent_by self.old)) }
         ensures full { result ≡ Err (Full call) → feed_capacity self.old ≤ length (sent_by self.old) }
     {
         if self.done {
@@ -155,7 +155,7 @@ impl Feed {
         ensures capacity { feed_capacity self.new ≡ feed_capacity self.old }
         ensures ok { OnOk result (sent_by self.new ≡ sent_by self.old ++ Entry call ∷ []) }
         ensures err { IfErr result (λ fault. (fault ≡ Closed call) × (sent_by self.new ≡ sent_by self.old)) }
-        ensures closed { IsErr result ↔ IsTrue (end_with_finalize (sent_by self.old)) }
+        ensures closed { IsErr result ↔ IsTrue (end_the_list (sent_by self.old)) }
     {
         if self.done {
             return Err(PutFault::Closed(call));
@@ -192,7 +192,7 @@ impl Feed {
     /// Puts the end mark of a feed whose records are all put.
     #[tactic(auto, using(crate::proofs::ItemLemmas::item_steps))]
     pub fn seal(self) -> Result<Receipt, Unsealed>
-        requires { IsTrue (end_with_finalize (sent_by self)) }
+        requires { IsTrue (end_the_list (sent_by self)) }
         ensures name { IfOk result (λ receipt. receipt_ring receipt ≡ feed_ring self) }
         ensures sent { IfOk result (λ receipt. sent_whole receipt ≡ sent_by self ++ Mark Sealed ∷ []) }
         ensures order { IfOk result (λ receipt. IsFeed (sent_whole receipt)) }

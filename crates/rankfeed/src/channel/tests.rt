@@ -9,15 +9,15 @@ use std::thread;
 
 #[test]
 fn a_feed_of_two_places(rt: HostRuntime) -> Result<(), Fail> {
-    let send = record(&rt, b"send 0 0 0\n");
+    let bsend = record(&rt, b"bsend 0 0 0\n");
     let finalize = record(&rt, b"finalize\n");
     let (mut feed, mut taker) = Feed::open(rt.alloc(), 3, 2)?;
     assert_eq!(rt; (feed.rank(), taker.rank()), (3, 3));
     assert_eq!(rt; taker.try_take(&rt), Took::Empty);
-    assert_eq!(rt; feed.try_put(send, &rt), Ok(()));
-    assert_eq!(rt; feed.try_put(send, &rt), Ok(()));
-    assert_eq!(rt; feed.try_put(send, &rt), Err(PutFault::Full(send)));
-    assert_eq!(rt; taker.try_take(&rt), Took::Record(send));
+    assert_eq!(rt; feed.try_put(bsend, &rt), Ok(()));
+    assert_eq!(rt; feed.try_put(bsend, &rt), Ok(()));
+    assert_eq!(rt; feed.try_put(bsend, &rt), Err(PutFault::Full(bsend)));
+    assert_eq!(rt; taker.try_take(&rt), Took::Record(bsend));
     assert_eq!(rt; feed.is_done(), false);
     assert_eq!(rt; feed.try_put(finalize, &rt), Ok(()));
     assert_eq!(rt; feed.is_done(), true);
@@ -25,7 +25,7 @@ fn a_feed_of_two_places(rt: HostRuntime) -> Result<(), Fail> {
         feed.try_put(finalize, &rt),
         Err(PutFault::Closed(finalize))
     );
-    assert_eq!(rt; feed.put(send, &rt), Err(PutFault::Closed(send)));
+    assert_eq!(rt; feed.put(bsend, &rt), Err(PutFault::Closed(bsend)));
     Ok(())
 }
 
