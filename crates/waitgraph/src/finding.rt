@@ -1,6 +1,16 @@
 //! What is wrong with a recorded run beside what makes it hang.
 
+ghost use Rattle.std.specs.Prelude.{◌≡◌, IfOk};
+ghost use Rattle.waitgraph.specs.Findings.{findings_of};
+
 use mpicall::word::Word;
+
+mod extent;
+pub mod kind;
+pub mod request;
+pub mod root;
+pub mod unreceived;
+mod wave;
 
 /// A finding over the whole recording, whether its calls are reached or not. Waves are numbered from 0 for
 /// each communicator; `member` is a rank of the communicator's group, and rank 0 of that group is what it is
