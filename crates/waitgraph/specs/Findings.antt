@@ -184,10 +184,14 @@ abbrev pub is_wrong_group : Groups → Lists → Call → ℕ × ℕ → Bool
 is_wrong_group groups recording call wave =
     not (makes_given groups recording wave.0 wave.1 call) && all_call_alike groups recording wave.0 wave.1 call
 
+-- the same of the call at a place
+abbrev pub is_wrong_at : Groups → Lists → ℕ → ℕ → Bool
+is_wrong_at groups recording rank place =
+    option_map_or (λ call. option_map_or (is_wrong_group groups recording call) (wave_of recording rank place) false)
+    (call_at recording rank place) false
+
 unfoldable pub group_at : Groups → Lists → ℕ → ℕ → List Finding
-group_at groups recording rank place =
-    option_map_or (λ call. option_map_or (λ wave. where_so (is_wrong_group groups recording call wave) (Group rank place)) (wave_of recording rank place) [])
-    (call_at recording rank place) []
+group_at groups recording rank place = where_so (is_wrong_at groups recording rank place) (Group rank place)
 
 unfoldable pub wrong_groups_of : Groups → Lists → List Finding
 wrong_groups_of groups recording = over_ranks (group_at groups recording) recording

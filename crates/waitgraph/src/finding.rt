@@ -6,6 +6,7 @@ ghost use Rattle.waitgraph.specs.Findings.{findings_of};
 use mpicall::word::Word;
 
 mod extent;
+pub mod group;
 pub mod kind;
 pub mod request;
 pub mod root;
