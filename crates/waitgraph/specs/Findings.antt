@@ -27,7 +27,7 @@ abbrev pub where_so : Bool → Finding → List Finding
 where_so is_so finding = if is_so then finding ∷ [] else []
 
 -- Kinds and roots. All members of a communicator make the same call in a wave, with the same root (MPI 4.0,
--- sections 6.2 and 6.13), so each member's call is compared with that of group rank 0.
+-- chapter 6), so each member's call is compared with that of group rank 0.
 
 -- what is found of the communicator, the wave, the member's group rank, the call of group rank 0 and the
 -- member's call
@@ -94,7 +94,7 @@ root_found comm wave g first call =
 unfoldable pub roots_of : Groups → Lists → List Finding
 roots_of groups recording = found_in_waves root_found groups recording
 
--- Messages that nobody receives (MPI 4.0, section 3.5).
+-- Messages that nobody receives (MPI 4.0, section 11.2.2: each has its receive before MPI_Finalize).
 
 -- the call sends a message, and that half has no partner
 abbrev pub is_unreceived : Groups → Lists → ℕ → ℕ → Bool
@@ -108,7 +108,8 @@ unreceived_at groups recording rank place = where_so (is_unreceived groups recor
 unfoldable pub unreceived_of : Groups → Lists → List Finding
 unreceived_of groups recording = over_ranks (unreceived_at groups recording) recording
 
--- Requests that no wait completes (MPI 4.0, section 3.7.3).
+-- Requests that no wait completes (MPI 4.0, section 11.2.2: who starts an operation completes it before
+-- MPI_Finalize).
 
 -- the wait at a place completes the request as the call at `start` started it
 abbrev pub completes_start : Lists → ℕ → ℕ → ℕ → ℕ → Bool

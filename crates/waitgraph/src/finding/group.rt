@@ -97,12 +97,7 @@ fn member(pairs: &Pairs, comm: u16, g: u16) -> u16
 }
 
 /// Members of the communicator as ranks of the world.
-fn in_world(
-    alloc: Global,
-    pairs: &Pairs,
-    comm: u16,
-    ranks: &[u16],
-) -> Result<Vec<u16>, AllocError>
+fn in_world(alloc: Global, pairs: &Pairs, comm: u16, ranks: &[u16]) -> Result<Vec<u16>, AllocError>
     ensures { IfOk result (λ group. group.items ≡ in_world pairs.now.groups comm ranks.now) }
 {
     let mut group = Vec::new(alloc);
@@ -195,7 +190,15 @@ fn is_split_given(
 {
     let ranks = split_ranks(alloc, pairs, comm, wave, colour)?;
     let group = in_world(alloc, pairs, comm, ranks.as_slice())?;
-    is_given(alloc, pairs, comm, wave, new, group.as_slice(), ranks.first().copied())
+    is_given(
+        alloc,
+        pairs,
+        comm,
+        wave,
+        new,
+        group.as_slice(),
+        ranks.first().copied(),
+    )
 }
 
 /// Whether what the call makes in the wave has the group that the wave gives; true of a call that makes
