@@ -1,5 +1,5 @@
 -- What is marked as completed is the request that was started there.
-use Rattle.std.proofs.Common.{◌≡◌, ℕ, zero, suc, ◌+◌, ◌<◌, ◌≤◌, Bool, true, false, eqb, ◌&&◌, ◌||◌, get_or, Option, Some, None, List, [], ◌∷◌, ◌++◌, length, take, refl, sym, ap, subst, ◌∙◌, ⊎_elim, arith}
+use Rattle.std.proofs.Common.{◌≡◌, ℕ, zero, suc, ◌+◌, ◌<◌, Bool, true, false, eqb, ◌&&◌, ◌||◌, get_or, Option, Some, None, List, [], ◌∷◌, length, take, refl, sym, ap, ◌∙◌, ⊎_elim, arith}
 use Rattle.std.specs.List.{slice_get, list_any, range_with_len}
 use Rattle.std.specs.Option.{option_map_or, option_and_then}
 use Rattle.std.proofs.lemmas.List.Folds.{list_any_more}
@@ -8,7 +8,7 @@ use Rattle.std.proofs.Math.Bool.{or_assoc}
 use Rattle.std.proofs.lemmas.Bool.{false≢true, cases_Bool, eqb-true, eq-eqb}
 use Rattle.mpicall.specs.declared.call.Call.{Call}
 use Rattle.pairing.specs.Recordings.{Lists, calls_of}
-use Rattle.pairing.specs.Requests.{starts, completes, does_start, does_complete, started_before}
+use Rattle.pairing.specs.Requests.{starts, completes, does_complete, started_before}
 use Rattle.pairing.proofs.RequestLaws.{started, get_take}
 use Rattle.pairing.specs.Pairs.{completed_of}
 use Rattle.waitgraph.specs.Places.{call_at}

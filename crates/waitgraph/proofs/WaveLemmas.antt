@@ -1,13 +1,11 @@
 -- The waves of a communicator that its first member has a call in.
-use Rattle.std.proofs.Common.{◌≡◌, ℕ, zero, suc, ◌+◌, ◌<◌, ◌≤◌, Bool, true, false, Option, Some, None, List, [], ◌∷◌, length, refl, sym, ap, ◌∙◌, ⊎_elim, arith}
-use Rattle.std.specs.List.{slice_get}
-use Rattle.std.specs.Option.{is_none, option_and_then, option_map_or}
-use Rattle.std.proofs.lemmas.Option.{none-some, slice_get_within, slice_get-get_or}
-use Rattle.std.proofs.lemmas.Bool.{false≢true, cases_Bool, cases_lt}
+use Rattle.std.proofs.Common.{◌≡◌, ℕ, ◌+◌, ◌≤◌, Bool, true, false, Option, Some, None, List, [], ◌∷◌, length, ⊎_elim, arith}
+use Rattle.std.specs.Option.{option_map_or}
+use Rattle.std.proofs.lemmas.Bool.{cases_Bool}
 use Rattle.mpigroup.specs.Groups.{Groups, world_rank_of}
 use Rattle.pairing.specs.Recordings.{Lists, calls_of}
 use Rattle.pairing.specs.Places.{places, places_from}
-use Rattle.pairing.specs.Waves.{does_join, place_in_wave, member_of}
+use Rattle.pairing.specs.Waves.{does_join}
 use Rattle.waitgraph.specs.Findings.{waves_in}
 
 no_more_places : {A : Type 0} (n : ℕ) (test : A → Bool) (xs : List A) → length (places_from n test xs) ≤ length xs

@@ -1,4 +1,4 @@
-use Rattle.std.proofs.Common.{◌≡◌, [], ◌∷◌, ◌++◌, ap, ◌∙◌, length, arith}
+use Rattle.std.proofs.Common.{arith}
 use Rattle.waitgraph.specs.Places.{call_of_member}
 use Rattle.waitgraph.specs.Findings.{choice_of}
 use Rattle.waitgraph.proofs.FindingLemmas.{one_mapped}
