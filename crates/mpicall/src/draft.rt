@@ -5,12 +5,12 @@ ghost use Rattle.std.specs.Fmt.{decimal, signed_decimal};
 ghost use Rattle.mpicall.specs.Argument.{PeerOf, comm_argument, tag_argument, request_argument, peer_field, number_or};
 ghost use Rattle.mpicall.specs.Draft.{line_with};
 ghost use Rattle.mpicall.specs.Limits.{in_ranges};
-ghost use Rattle.mpicall.specs.Spelling.{space, arguments_of, word_of_call, name_of, root_of, root_arguments, spelling};
+ghost use Rattle.mpicall.specs.Spelling.{space, arguments_of, root_of, root_arguments, spelling};
 ghost use Rattle.mpicall.specs.Word.{text_of};
 
 use crate::call::{Call, Kind, Peer};
 use crate::limits::MOST_LINE_BYTES;
-use crate::word::{Operation, Word, name_of, operation_text, root_of};
+use crate::word::{Word, operation_text, root_of};
 use itoa::Buffer;
 use std::marker::Model;
 
@@ -254,29 +254,8 @@ impl Draft {
         requires { self.old ≡ [] }
         ensures { self.new ≡ spelling call.now }
     {
-        self.push_word(word_of_call(call));
+        self.push_word(Word::of(call));
         self.push_arguments(call);
         self.push(b'\n');
-    }
-}
-
-/// The word of a call.
-fn word_of_call(call: &Call) -> Word
-    ensures { result ≡ word_of_call call.now }
-{
-    match *call {
-        Call::Send { mode, .. } => Word::Blocking(Operation::Send(mode)),
-        Call::Recv { .. } => Word::Blocking(Operation::Recv),
-        Call::Isend { mode, .. } => Word::Started(Operation::Send(mode)),
-        Call::Irecv { .. } => Word::Started(Operation::Recv),
-        Call::Sendrecv { .. } => Word::Sendrecv,
-        Call::Wait { .. } => Word::Wait,
-        Call::Waitall { .. } => Word::Waitall,
-        Call::Waitany { .. } => Word::Waitany,
-        Call::Coll { kind, .. } => Word::Blocking(Operation::Coll(name_of(kind))),
-        Call::Icoll { kind, .. } => Word::Started(Operation::Coll(name_of(kind))),
-        Call::Dup { .. } => Word::Dup,
-        Call::Split { .. } => Word::Split,
-        Call::Finalize => Word::Finalize,
     }
 }

@@ -56,4 +56,4 @@ pub mod spelling;
 #[cfg(test)]
 mod tests;
 mod window;
-mod word;
+pub mod word;

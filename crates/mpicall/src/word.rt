@@ -2,9 +2,9 @@
 
 ghost use Rattle.std.specs.Prelude.{◌≡◌, ◌≤◌, length};
 ghost use Rattle.mpicall.specs.Word.{collective_of, operation_of, started_of, word_of, with_text, other_words, collective_text, operation_text, text_of};
-ghost use Rattle.mpicall.specs.Spelling.{name_of, root_of};
+ghost use Rattle.mpicall.specs.Spelling.{name_of, root_of, word_of_call};
 
-use crate::call::{Kind, Mode};
+use crate::call::{Call, Kind, Mode};
 
 /// The collectives by name.
 #[derive(Clone, Copy, Debug, PartialEq, Eq)]
@@ -41,6 +41,29 @@ pub enum Word {
     Dup,
     Split,
     Finalize,
+}
+
+impl Word {
+    /// The word of a call.
+    pub fn of(call: &Call) -> Word
+        ensures { result ≡ word_of_call call.now }
+    {
+        match *call {
+            Call::Send { mode, .. } => Word::Blocking(Operation::Send(mode)),
+            Call::Recv { .. } => Word::Blocking(Operation::Recv),
+            Call::Isend { mode, .. } => Word::Started(Operation::Send(mode)),
+            Call::Irecv { .. } => Word::Started(Operation::Recv),
+            Call::Sendrecv { .. } => Word::Sendrecv,
+            Call::Wait { .. } => Word::Wait,
+            Call::Waitall { .. } => Word::Waitall,
+            Call::Waitany { .. } => Word::Waitany,
+            Call::Coll { kind, .. } => Word::Blocking(Operation::Coll(name_of(kind))),
+            Call::Icoll { kind, .. } => Word::Started(Operation::Coll(name_of(kind))),
+            Call::Dup { .. } => Word::Dup,
+            Call::Split { .. } => Word::Split,
+            Call::Finalize => Word::Finalize,
+        }
+    }
 }
 
 /// The collective that a field spells, if the format has it.
@@ -210,8 +233,8 @@ pub(crate) fn name_of(kind: Kind) -> Collective
     }
 }
 
-/// The root of a rooted collective.
-pub(crate) fn root_of(kind: Kind) -> Option<u16>
+/// The root of a rooted collective, as a rank of the communicator's group.
+pub fn root_of(kind: Kind) -> Option<u16>
     ensures { result ≡ root_of kind }
 {
     match kind {

@@ -3,7 +3,7 @@
 ghost use Rattle.std.specs.Prelude.{◌≡◌, ◌≤◌, ◌==◌, not, length, map, position, IfOk};
 ghost use Rattle.std.specs.List.{position_or_len};
 ghost use Rattle.std.specs.List.Sorted.{IsStrictlySortedBy};
-ghost use Rattle.mpigroup.specs.Splits.{members_from, members_in_order, member_cmp, ranks_with, colours_of, split_of};
+ghost use Rattle.mpigroup.specs.Splits.{members_from, members_in_order, member_cmp, ranks_with, colours_of, colour_group, split_of};
 
 use std::alloc::{AllocError, Global};
 
@@ -97,4 +97,22 @@ pub fn split_groups(
 {
     let members = members_in_order(alloc, choices)?;
     groups_of(alloc, &members)
+}
+
+/// The new group of one colour, of the colours and keys that the members of the old group give, as ranks
+/// in the old group; empty where no member gives the colour.
+pub fn colour_group(
+    alloc: Global,
+    choices: &[(Option<u32>, i32)],
+    colour: u32,
+) -> Result<Vec<u16>, AllocError>
+    requires { length choices.now ≤ 65536 }
+    ensures { IfOk result (λ group. group.items ≡ colour_group choices.now colour) }
+{
+    let members = members_in_order(alloc, choices)?;
+    members
+        .iter()
+        .filter(|member| member.colour == colour)
+        .map(|member| member.rank)
+        .collect(alloc)
 }

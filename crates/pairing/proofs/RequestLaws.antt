@@ -14,7 +14,7 @@ use Rattle.pairing.proofs.PlaceLemmas.{nth_place, place_nth, places_rise}
 use Rattle.pairing.proofs.FaultLemmas.{fault_none, not_true}
 
 -- an element of a list's front, or of what is left of it, is one of the list
-get_take : {A : Type 0} (n : ℕ) (xs : List A) (i : ℕ) (x : A) → slice_get (take n xs) i ≡ Some x → (i < n) × (slice_get xs i ≡ Some x)
+pub get_take : {A : Type 0} (n : ℕ) (xs : List A) (i : ℕ) (x : A) → slice_get (take n xs) i ≡ Some x → (i < n) × (slice_get xs i ≡ Some x)
 get_take zero xs i x h = absurd (none-some x h)
 get_take (suc n) [] i x h = absurd (none-some x h)
 get_take (suc n) (y ∷ ys) zero x h = (omega arith, h)
@@ -74,12 +74,12 @@ unless_parts calls req place start h =
     (cases_Bool (list_any (does_complete req) (drop (place + 1) calls)))
 
 -- what stands where an active request was started
-record Started (calls : List Call) (req start : ℕ) : Type 0 where
+pub record Started (calls : List Call) (req start : ℕ) : Type 0 where
   pub starter : Call
   pub stands_there : slice_get calls start ≡ Some starter
   pub starts_it : does_start req starter ≡ true
 
-started : (calls : List Call) (req start : ℕ) → started_in calls req ≡ Some start → Started calls req start
+pub started : (calls : List Call) (req start : ℕ) → started_in calls req ≡ Some start → Started calls req start
 started calls req start h =
     let parts = and_then_parts (unless_completed calls req) (last_of (places (does_start req) calls)) start h in
     let same = unless_parts calls req parts.0 start parts.2 in

@@ -1,0 +1,3 @@
+pub mod FindingLemmas
+pub mod WaveLemmas
+pub mod MarkLemmas

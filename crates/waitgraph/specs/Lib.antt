@@ -1,0 +1,4 @@
+pub mod Places
+pub mod Findings
+pub mod Comparisons
+pub mod Marks

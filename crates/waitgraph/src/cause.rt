@@ -1,0 +1,11 @@
+//! Why ranks can't move on.
+
+/// Why some ranks can't move on: ranks that wait for each other in a ring, or a call that a rank waits for
+/// and that its peer never makes.
+#[derive(Debug, PartialEq, Eq, Drop)]
+pub enum Cause {
+    /// The ranks, each of which waits for the next and the last for the first, from the lowest on.
+    Cycle(Vec<u16>),
+    /// `rank` waits for a call that `peer` lacks.
+    Missing { rank: u16, peer: u16 },
+}

@@ -1,0 +1,132 @@
+//! The calls of the members in each wave, compared with the first member's.
+
+ghost use Rattle.std.specs.Prelude.{◌≡◌, ◌<◌, ◌++◌, length, option_to_list, OnOk};
+ghost use Rattle.mpigroup.specs.Groups.{group_of};
+ghost use Rattle.waitgraph.specs.Places.{call_of_member};
+ghost use Rattle.waitgraph.specs.Findings.{found_of_member, found_in_wave, found_in_comm, found_in_waves};
+ghost use Rattle.waitgraph.specs.Comparisons.{comparison_of};
+
+use crate::finding::Finding;
+use crate::finding::extent::{comms, members, waves};
+use crate::finding::kind::kind_found;
+use crate::finding::root::root_found;
+use mpicall::call::Call;
+use mpicall::record::Record;
+use pairing::pairs::Pairs;
+use std::alloc::AllocError;
+
+/// What of two calls is compared.
+#[derive(Clone, Copy)]
+pub(crate) enum Compared {
+    Kinds,
+    Roots,
+}
+
+/// What the comparison finds of a member's call.
+fn difference(
+    compared: Compared,
+    comm: u16,
+    wave: u32,
+    member: u16,
+    first: &Call,
+    call: &Call,
+) -> Option<Finding>
+    ensures { option_to_list result ≡ comparison_of compared comm wave member first.now call.now }
+{
+    match compared {
+        Compared::Kinds => kind_found(comm, wave, member, first, call),
+        Compared::Roots => root_found(comm, wave, member, first, call),
+    }
+}
+
+/// The call in a wave of the member with rank `g` in the communicator's group.
+pub(crate) fn call_of_member(pairs: &Pairs, comm: u16, wave: u32, g: u16) -> Option<Record>
+    ensures { result ≡ call_of_member pairs.now.groups pairs.now.recording comm wave g }
+{
+    let rank = pairs.head().world_rank(comm, g)?;
+    let place = pairs.member(comm, wave, g)?;
+    Some(pairs.call(rank, place)?.record())
+}
+
+fn found_of_member(
+    pairs: &Pairs,
+    compared: Compared,
+    comm: u16,
+    wave: u32,
+    g: u16,
+) -> Option<Finding>
+    ensures { option_to_list result ≡ found_of_member (comparison_of compared) pairs.now.groups pairs.now.recording comm wave g }
+{
+    let first = call_of_member(pairs, comm, wave, 0)?;
+    let call = call_of_member(pairs, comm, wave, g)?;
+    difference(compared, comm, wave, g, first.as_call(), call.as_call())
+}
+
+fn add_of_member(
+    findings: &mut Vec<Finding>,
+    pairs: &Pairs,
+    compared: Compared,
+    comm: u16,
+    wave: u32,
+    g: u16,
+) -> Result<(), AllocError>
+    ensures { OnOk result (findings.new.items
+        ≡ findings.old.items ++ found_of_member (comparison_of compared) pairs.now.groups pairs.now.recording comm wave g) }
+{
+    match found_of_member(pairs, compared, comm, wave, g) {
+        Some(finding) => {
+            findings.push(finding)?;
+            Ok(())
+        }
+        None => Ok(()),
+    }
+}
+
+#[tactic(auto, using(crate::proofs::FindingLemmas::one_more))]
+fn add_in_wave(
+    findings: &mut Vec<Finding>,
+    pairs: &Pairs,
+    compared: Compared,
+    comm: u16,
+    wave: u32,
+) -> Result<(), AllocError>
+    ensures { OnOk result (findings.new.items
+        ≡ findings.old.items ++ found_in_wave (comparison_of compared) pairs.now.groups pairs.now.recording comm wave) }
+{
+    for g in 1..members(pairs, comm) {
+        add_of_member(findings, pairs, compared, comm, wave, g)?;
+    }
+    Ok(())
+}
+
+#[tactic(auto, using(crate::proofs::FindingLemmas::one_more))]
+fn add_in_comm(
+    findings: &mut Vec<Finding>,
+    pairs: &Pairs,
+    compared: Compared,
+    comm: u16,
+) -> Result<(), AllocError>
+    ensures { OnOk result (findings.new.items
+        ≡ findings.old.items ++ found_in_comm (comparison_of compared) pairs.now.groups pairs.now.recording comm) }
+{
+    for wave in 0..waves(pairs, comm) {
+        add_in_wave(findings, pairs, compared, comm, wave)?;
+    }
+    Ok(())
+}
+
+/// Adds what the comparison finds, by communicator, wave and member.
+#[tactic(auto, using(crate::proofs::FindingLemmas::one_more))]
+pub(crate) fn add_in_waves(
+    findings: &mut Vec<Finding>,
+    pairs: &Pairs,
+    compared: Compared,
+) -> Result<(), AllocError>
+    ensures { OnOk result (findings.new.items
+        ≡ findings.old.items ++ found_in_waves (comparison_of compared) pairs.now.groups pairs.now.recording) }
+{
+    for comm in 0..comms(pairs) {
+        add_in_comm(findings, pairs, compared, comm)?;
+    }
+    Ok(())
+}

@@ -1,0 +1,5 @@
+//! Who waits for whom in a run that was recorded whole, and why.
+#![tactic(auto)]
+
+pub mod cause;
+pub mod finding;
