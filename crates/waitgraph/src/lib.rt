@@ -3,3 +3,6 @@
 
 pub mod cause;
 pub mod finding;
+pub mod graph;
+pub mod unmet;
+pub mod walk;

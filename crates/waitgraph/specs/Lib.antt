@@ -1,0 +1,3 @@
+pub mod Stuck
+pub mod Causes
+pub mod Graphs
