@@ -53,7 +53,7 @@ lawful_from : (groups : Groups) (recording : Lists) (arrivals : List Arrival) �
 lawful_from groups recording [] lawful = lawful
 lawful_from groups recording (arrival ∷ rest) lawful = lawful_from groups (kept_one groups recording arrival) rest (lawful_one groups recording arrival lawful)
 
-no_calls : (n rank : ℕ) → calls_of (replicate n []) rank ≡ []
+pub no_calls : (n rank : ℕ) → calls_of (replicate n []) rank ≡ []
 no_calls zero rank = refl
 no_calls (suc n) zero = refl
 no_calls (suc n) (suc rank) = no_calls n rank

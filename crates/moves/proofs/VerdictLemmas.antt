@@ -15,7 +15,7 @@ record Fails (p : ℕ → Bool) (a n : ℕ) : Type 0 where
   to : number < a + n
   fails : p number ≡ false
 
-all_pass : (p : ℕ → Bool) (a n r : ℕ) → list_all p (range_with_len a n) ≡ true → a ≤ r → r < a + n → p r ≡ true
+pub all_pass : (p : ℕ → Bool) (a n r : ℕ) → list_all p (range_with_len a n) ≡ true → a ≤ r → r < a + n → p r ≡ true
 all_pass p a zero r h from to = absurd (omega arith)
 all_pass p a (suc n) r h from to =
     ⊎_elim

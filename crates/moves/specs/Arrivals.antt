@@ -1,10 +1,11 @@
 -- Arrivals: records of many ranks as they are read, in any mix. Those are kept that have no fault. How
 -- records are read is this project's own; MPI says nothing of it.
-use Rattle.std.specs.Prelude.{◌≡◌, ℕ, ◌==◌, is_none, List, [], ◌∷◌, replicate, if◌then◌else◌}
+use Rattle.std.specs.Prelude.{◌≡◌, ℕ, ◌==◌, is_none, List, [], ◌∷◌, ◌++◌, replicate, if◌then◌else◌}
 use Rattle.mpicall.specs.declared.call.Call.{Call}
 use Rattle.mpigroup.specs.Groups.{Groups, ranks_of}
 use Rattle.pairing.specs.Recordings.{Lists, calls_of, appended}
 use Rattle.pairing.specs.Faults.{fault_of, IsLawful}
+use Rattle.moves.specs.Stands.{stands_of}
 
 -- a call and the rank that made it
 abbrev pub Arrival : Type 0
@@ -26,6 +27,10 @@ kept_from groups recording (arrival ∷ rest) = kept_from groups (kept_one group
 abbrev pub kept : Groups → List Arrival → Lists
 kept groups arrivals = kept_from groups (replicate (ranks_of groups) []) arrivals
 
+-- the new recording is kept of the arrivals and one more, whatever arrivals the old one is kept of
+abbrev pub IsKeptOn : Groups → Lists → Lists → Arrival → Type 0
+IsKeptOn groups old new arrival = (arrivals : List Arrival) → old ≡ kept groups arrivals → new ≡ kept groups (arrivals ++ arrival ∷ [])
+
 -- the calls of one rank among the arrivals, in their order
 abbrev pub calls_by : ℕ → List Arrival → List Call
 calls_by rank [] = []
@@ -41,3 +46,10 @@ abbrev pub MixesAreKeptAlike : Type 0
 MixesAreKeptAlike =
     (groups : Groups) (a b : List Arrival) → ((rank : ℕ) → calls_by rank a ≡ calls_by rank b) →
     kept groups a ≡ kept groups b
+
+-- Law: however the ranks' records are mixed, the ranks come to stand alike. If each rank's calls arrive in
+-- the same order in both, the stands of what is kept of the two mixes are the same.
+abbrev pub MixesStandAlike : Type 0
+MixesStandAlike =
+    (groups : Groups) (a b : List Arrival) → ((rank : ℕ) → calls_by rank a ≡ calls_by rank b) →
+    stands_of groups (kept groups a) ≡ stands_of groups (kept groups b)

@@ -23,7 +23,10 @@
 //! ```
 #![tactic(auto)]
 
+mod advance;
+pub mod analyser;
 pub mod arrival;
+mod met;
 pub mod need;
 pub mod run;
 pub mod stand;

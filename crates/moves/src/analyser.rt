@@ -1,0 +1,167 @@
+//! The analyser: it takes records one by one, of any rank, and knows at any time where the ranks stand.
+
+ghost use Rattle.std.specs.Prelude.{◌≡◌, ◌≢◌, ◌<◌, ◌≤◌, ◌↔◌, [], ◌∷◌, length, true, replicate, slice_get, option_map, None, Some, Err, IfOk, IfErr, IfSome, OnOk, OnErr};
+ghost use Rattle.std.specs.List.{list_all, range_with_len};
+ghost use Rattle.mpigroup.specs.Groups.{ranks_of};
+ghost use Rattle.pairing.specs.Limits.{most_calls};
+ghost use Rattle.pairing.specs.Recordings.{calls_of, appended, is_ended, IsClosed};
+ghost use Rattle.pairing.specs.Faults.{fault_of, IsLawful};
+ghost use Rattle.pairing.specs.Pairs.{TellsFault};
+ghost use Rattle.pairing.specs.declared.added.PairFault.TheVariants.{Refused, Memory};
+ghost use Rattle.moves.specs.Runs.{start, IsTheEnd, StandsNoLater};
+ghost use Rattle.moves.specs.Needs.{can_move};
+ghost use Rattle.moves.specs.Stands.{stands_of, is_at_finalize};
+ghost use Rattle.moves.specs.Arrivals.{IsKeptOn};
+
+use crate::advance::advance_all;
+use crate::need::stand_of;
+use mpicall::record::Record;
+use mpigroup::head::Head;
+pub use pairing::added::PairFault as OfferFault;
+use pairing::pairs::Pairs;
+use std::alloc::{AllocError, Global};
+use std::marker::Model;
+
+/// The calls of all ranks that were accepted so far, and where the ranks stand. Contracts see the groups of
+/// the run's head, each rank's list of calls, and each rank's stand: the number of its calls that it has
+/// completed. At any time the ranks stand where every maximal run over these calls ends.
+#[derive(Drop)]
+pub struct Analyser {
+    pairs: Pairs,
+    stands: Vec<u32>,
+}
+
+impl Model for Analyser {
+    ghost use Rattle.std.specs.Prelude.{length};
+    ghost use Rattle.moves.specs.Runs.{IsTheEnd};
+    ghost use Rattle.moves.specs.Needs.{can_move};
+    ghost use Rattle.moves.specs.Analysed.{Analysed};
+
+    ghost Value = { Analysed };
+
+    ghost view = { λ a. record { groups = a.pairs.groups; recording = a.pairs.recording; stands = a.stands.items } };
+
+    ghost invariant = { λ a. IsTheEnd (can_move a.pairs.groups a.pairs.recording) (length a.pairs.recording) a.stands.items };
+}
+
+/// The place of the next call of a rank.
+fn next_place(pairs: &Pairs, rank: u16) -> u32
+    ensures { result ≡ length (calls_of pairs.now.recording rank) }
+{
+    pairs.accepted(rank).unwrap_or(0)
+}
+
+/// Whether the list of each rank is ended.
+fn are_ended(pairs: &Pairs, ranks: u16) -> bool
+    ensures { result ≡ list_all (λ rank. is_ended (calls_of pairs.now.recording rank)) (range_with_len 0 ranks) }
+{
+    (0..ranks).all(|rank| pairs.is_ended(rank))
+}
+
+/// Whether the list of each rank is closed.
+fn are_closed(pairs: &Pairs) -> bool
+    ensures { (result ≡ true) ↔ IsClosed pairs.now.recording }
+{
+    are_ended(pairs, pairs.head().ranks())
+}
+
+impl Analyser {
+    /// No calls yet, for the ranks of the head, each of which stands at 0.
+    pub fn new(alloc: Global, head: Head) -> Result<Analyser, AllocError>
+        ensures groups { IfOk result (λ analyser. analyser.groups ≡ head) }
+        ensures recording { IfOk result (λ analyser. analyser.recording ≡ replicate (ranks_of head) []) }
+        ensures stands { IfOk result (λ analyser. analyser.stands ≡ start (ranks_of head)) }
+        ensures end { IfOk result (λ analyser. IsTheEnd (can_move analyser.groups analyser.recording) (length analyser.recording) analyser.stands) }
+    {
+        let stands = vec![in alloc; 0u32; usize::from(head.ranks())]?;
+        let pairs = Pairs::new(alloc, head)?;
+        Ok(Analyser { pairs, stands })
+    }
+
+    /// Takes the next call of a rank, and moves the ranks on until none can move. The call is refused
+    /// exactly where it has a fault after its rank's calls so far, with the first one, or for want of
+    /// memory; and then all is as it was. Once the call is accepted, the rest takes no memory.
+    pub fn offer(&mut self, rank: u16, call: &Record) -> Result<(), OfferFault>
+        requires is_rank { rank < length self.old.recording }
+        ensures groups { self.new.groups ≡ self.old.groups }
+        ensures ok { OnOk result (self.new.recording ≡ appended self.old.recording rank call.now) }
+        ensures lawful { OnOk result (fault_of self.old.groups rank (calls_of self.old.recording rank) call.now ≡ None) }
+        ensures refused { IfSome (fault_of self.old.groups rank (calls_of self.old.recording rank) call.now) (λ fault. result ≡ Err (Refused fault)) }
+        ensures fault { IfErr result (TellsFault (fault_of self.old.groups rank (calls_of self.old.recording rank) call.now)) }
+        ensures err { OnErr result (self.new ≡ self.old) }
+        ensures kept { result ≢ Err Memory → IsKeptOn self.old.groups self.old.recording self.new.recording (rank, call.now) }
+        ensures end { IsTheEnd (can_move self.new.groups self.new.recording) (length self.new.recording) self.new.stands }
+        ensures stands { self.new.stands ≡ stands_of self.new.groups self.new.recording }
+        ensures no_lower { StandsNoLater self.old.stands self.new.stands }
+    {
+        let place = next_place(&self.pairs, rank);
+        match self.pairs.add(rank, place, call) {
+            Ok(_) => {
+                advance_all(&self.pairs, &mut self.stands);
+                Ok(())
+            }
+            Err(fault) => Err(fault),
+        }
+    }
+
+    /// The head of the run.
+    pub fn head(&self) -> &Head
+        ensures value { result.now ≡ self.now.groups }
+        ensures ranks { length self.now.recording ≡ ranks_of self.now.groups }
+        ensures lawful { IsLawful self.now.groups self.now.recording }
+    {
+        self.pairs.head()
+    }
+
+    /// The calls that were accepted, with what each means for the others.
+    pub fn pairs(&self) -> &Pairs
+        ensures groups { result.now.groups ≡ self.now.groups }
+        ensures recording { result.now.recording ≡ self.now.recording }
+    {
+        &self.pairs
+    }
+
+    /// Where a rank stands: how many of its calls it has completed. None where there is no such rank.
+    pub fn stand(&self, rank: u16) -> Option<u32>
+        ensures value { result ≡ slice_get self.now.stands rank }
+        ensures end { IsTheEnd (can_move self.now.groups self.now.recording) (length self.now.recording) self.now.stands }
+        ensures stands { self.now.stands ≡ stands_of self.now.groups self.now.recording }
+    {
+        self.stands.get(usize::from(rank)).copied()
+    }
+
+    /// Whether a rank stands at its Finalize; not where there is no such rank.
+    pub fn is_ended(&self, rank: u16) -> bool
+        ensures { result ≡ is_at_finalize self.now.recording self.now.stands rank }
+    {
+        match self.pairs.call(rank, stand_of(&self.stands, rank)) {
+            Some(call) => call.is_finalize(),
+            None => false,
+        }
+    }
+
+    /// Whether the Finalize of each rank was accepted.
+    pub fn is_closed(&self) -> bool
+        ensures { (result ≡ true) ↔ IsClosed self.now.recording }
+    {
+        are_closed(&self.pairs)
+    }
+
+    /// The call of a rank at a place; None where there is none.
+    pub fn record(&self, rank: u16, place: u32) -> Option<Record>
+        ensures { result ≡ slice_get (calls_of self.now.recording rank) place }
+    {
+        match self.pairs.call(rank, place) {
+            Some(call) => Some(call.record()),
+            None => None,
+        }
+    }
+
+    /// How many calls of a rank were accepted; None where there is no such rank.
+    pub fn accepted(&self, rank: u16) -> Option<u32>
+        ensures value { result ≡ option_map length (slice_get self.now.recording rank) }
+        ensures most { IfSome result (λ count. count ≤ most_calls) }
+    {
+        self.pairs.accepted(rank)
+    }
+}
