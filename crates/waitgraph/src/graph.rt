@@ -1,6 +1,7 @@
 //! Who waits for whom where the ranks stand, and why.
 
-ghost use Rattle.std.specs.Prelude.{◌≡◌, ◌<◌, length, map, IfOk, OnOk};
+ghost use Rattle.std.specs.Prelude.{◌≡◌, ◌<◌, ℕ, length, map, IfOk, OnOk};
+ghost use Rattle.pairing.specs.Recordings.{IsClosed};
 ghost use Rattle.std.specs.List.{filter, range_with_len};
 ghost use Rattle.moves.specs.Stands.{stands_of, is_at_finalize};
 ghost use Rattle.waitgraph.specs.Stuck.{is_stuck_at, stuck_at, stuck_of, unmet_of};
@@ -9,6 +10,7 @@ ghost use Rattle.waitgraph.specs.Causes.{view_of, waits_at, needs_in, causes_in,
 use crate::cause::Cause;
 use crate::unmet::{Unmet, stand_of, unmet_at};
 use crate::walk::causes_in;
+use moves::analyser::Analyser;
 use moves::need::Need;
 use pairing::pairs::Pairs;
 use std::alloc::{AllocError, Global};
@@ -80,7 +82,32 @@ fn graph_at(alloc: Global, pairs: &Pairs, stands: &[u32]) -> Result<Graph, Alloc
     })
 }
 
+/// The ranks' stands.
+fn stands_of(alloc: Global, analyser: &Analyser) -> Result<Vec<u32>, AllocError>
+    ensures { IfOk result (λ stands. stands.items ≡ analyser.now.stands) }
+{
+    let mut stands = Vec::new(alloc);
+    for rank in 0..analyser.head().ranks() {
+        if let Some(stand) = analyser.stand(rank) {
+            stands.push(stand)?;
+        }
+    }
+    Ok(stands)
+}
+
 impl Graph {
+    /// The wait graph of a run whose calls were all accepted. It takes memory for each rank and each unmet
+    /// need, and no time for each call.
+    pub fn of(alloc: Global, analyser: &Analyser) -> Result<Graph, AllocError>
+        requires { IsClosed analyser.now.recording }
+        ensures stuck { IfOk result (λ graph. graph.stuck ≡ stuck_of analyser.now.groups analyser.now.recording) }
+        ensures unmet { IfOk result (λ graph. (rank : ℕ) → needs_in graph.waits rank ≡ unmet_of analyser.now.groups analyser.now.recording rank) }
+        ensures causes { IfOk result (λ graph. graph.causes ≡ causes_of analyser.now.groups analyser.now.recording) }
+    {
+        let stands = stands_of(alloc, analyser)?;
+        graph_at(alloc, analyser.pairs(), &stands)
+    }
+
     /// The ranks whose present call isn't their Finalize, rising.
     pub fn stuck(&self) -> &[u16]
         ensures { result.now ≡ self.now.stuck }

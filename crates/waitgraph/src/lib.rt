@@ -4,5 +4,7 @@
 pub mod cause;
 pub mod finding;
 pub mod graph;
+#[cfg(test)]
+mod tests;
 pub mod unmet;
 pub mod walk;
