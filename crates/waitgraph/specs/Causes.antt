@@ -120,11 +120,11 @@ IsListed cause causes = (index : ℕ) × (slice_get causes index ≡ Some cause)
 -- the causes of a recording are those to which the walks from its stuck ranks come, each listed once
 pub record TellsCauses (groups : Groups) (recording : Lists) : Type 0 where
   pub each_walk_ends : (rank : ℕ) → rank < length recording → is_stuck groups recording rank ≡ true →
-    (cause : CauseView) × IsListed cause (causes_of groups recording) × EndsWith (waits_of groups recording) rank cause
+      (cause : CauseView) × IsListed cause (causes_of groups recording) × EndsWith (waits_of groups recording) rank cause
   pub each_is_an_end : (cause : CauseView) → IsListed cause (causes_of groups recording) →
-    (rank : ℕ) × (rank < length recording) × (is_stuck groups recording rank ≡ true) × EndsWith (waits_of groups recording) rank cause
+      (rank : ℕ) × (rank < length recording) × (is_stuck groups recording rank ≡ true) × EndsWith (waits_of groups recording) rank cause
   pub none_twice : (index other : ℕ) (cause : CauseView) →
-    slice_get (causes_of groups recording) index ≡ Some cause → slice_get (causes_of groups recording) other ≡ Some cause → index ≡ other
+      slice_get (causes_of groups recording) index ≡ Some cause → slice_get (causes_of groups recording) other ≡ Some cause → index ≡ other
 
 -- Law: over every closed recording, the walk from each stuck rank comes to a cause that is listed, and each
 -- cause that is listed is one to which the walk from some stuck rank comes.

@@ -2,8 +2,7 @@
 
 ghost use Rattle.std.specs.Prelude.{◌≡◌, ◌<◌, ℕ, length, map, IfOk, OnOk};
 ghost use Rattle.pairing.specs.Recordings.{IsClosed};
-ghost use Rattle.std.specs.List.{filter, range_with_len};
-ghost use Rattle.moves.specs.Stands.{stands_of, is_at_finalize};
+ghost use Rattle.moves.specs.Stands.{stands_of};
 ghost use Rattle.waitgraph.specs.Stuck.{is_stuck_at, stuck_at, stuck_of, unmet_of};
 ghost use Rattle.waitgraph.specs.Causes.{view_of, waits_at, needs_in, causes_in, causes_of};
 
@@ -58,7 +57,8 @@ fn stuck_at(alloc: Global, pairs: &Pairs, stands: &[u32]) -> Result<Vec<u16>, Al
 }
 
 fn waits_at(alloc: Global, pairs: &Pairs, stands: &[u32]) -> Result<Vec<Unmet>, AllocError>
-    ensures { IfOk result (λ waits. waits.items ≡ waits_at pairs.now.groups pairs.now.recording stands.now) }
+    ensures value { IfOk result (λ waits. waits.items ≡ waits_at pairs.now.groups pairs.now.recording stands.now) }
+    ensures few { IfOk result (λ waits. length waits.items < 65536) }
 {
     let mut waits = Vec::new(alloc);
     for rank in 0..pairs.head().ranks() {
@@ -84,7 +84,7 @@ fn graph_at(alloc: Global, pairs: &Pairs, stands: &[u32]) -> Result<Graph, Alloc
 
 /// The ranks' stands.
 fn stands_of(alloc: Global, analyser: &Analyser) -> Result<Vec<u32>, AllocError>
-    ensures { IfOk result (λ stands. stands.items ≡ analyser.now.stands) }
+    ensures { IfOk result (λ stands. stands.items ≡ stands_of analyser.now.groups analyser.now.recording) }
 {
     let mut stands = Vec::new(alloc);
     for rank in 0..analyser.head().ranks() {
@@ -105,7 +105,8 @@ impl Graph {
         ensures causes { IfOk result (λ graph. graph.causes ≡ causes_of analyser.now.groups analyser.now.recording) }
     {
         let stands = stands_of(alloc, analyser)?;
-        graph_at(alloc, analyser.pairs(), &stands)
+        let graph = graph_at(alloc, analyser.pairs(), &stands)?;
+        Ok(graph)
     }
 
     /// The ranks whose present call isn't their Finalize, rising.

@@ -60,11 +60,18 @@ fn two_ranks_send_first(rt: HostRuntime) -> Result<(), Fail> {
 
 #[test]
 fn a_member_leaves_out_the_barrier(rt: HostRuntime) -> Result<(), Fail> {
-    let graph = graph_of(rt.alloc(), "ranks 2\n", &["barrier 0\nfinalize\n", "finalize\n"])?;
+    let graph = graph_of(
+        rt.alloc(),
+        "ranks 2\n",
+        &["barrier 0\nfinalize\n", "finalize\n"],
+    )?;
     assert_eq!(rt; graph.stuck(), [0].as_slice());
     assert_eq!(rt; graph.unmet(0), [Need::Lacking { rank: 1 }].as_slice());
     assert_eq!(rt; graph.unmet(1), [].as_slice());
-    assert_eq!(rt; graph.causes(), [Cause::Missing { rank: 0, peer: 1 }].as_slice());
+    assert_eq!(rt;
+        graph.causes(),
+        [Cause::Missing { rank: 0, peer: 1 }].as_slice()
+    );
     Ok(())
 }
 
@@ -80,13 +87,20 @@ fn a_walk_comes_to_a_missing_call(rt: HostRuntime) -> Result<(), Fail> {
     assert_eq!(rt; graph.unmet(0), [at(1, 1)].as_slice());
     assert_eq!(rt; graph.unmet(1), [at(2, 1)].as_slice());
     assert_eq!(rt; graph.unmet(2), [Need::Lacking { rank: 0 }].as_slice());
-    assert_eq!(rt; graph.causes(), [Cause::Missing { rank: 2, peer: 0 }].as_slice());
+    assert_eq!(rt;
+        graph.causes(),
+        [Cause::Missing { rank: 2, peer: 0 }].as_slice()
+    );
     Ok(())
 }
 
 #[test]
 fn a_rank_waits_for_itself(rt: HostRuntime) -> Result<(), Fail> {
-    let graph = graph_of(rt.alloc(), "ranks 1\n", &["send 0 0 0\nrecv 0 0 0\nfinalize\n"])?;
+    let graph = graph_of(
+        rt.alloc(),
+        "ranks 1\n",
+        &["send 0 0 0\nrecv 0 0 0\nfinalize\n"],
+    )?;
     assert_eq!(rt; graph.stuck(), [0].as_slice());
     assert_eq!(rt; graph.unmet(0), [at(0, 1)].as_slice());
     assert_eq!(rt; graph.causes(), [cycle(rt.alloc(), &[0])?].as_slice());
@@ -116,8 +130,18 @@ fn needs_stand_by_rank_and_place(rt: HostRuntime) -> Result<(), Fail> {
     ];
     let graph = graph_of(rt.alloc(), "ranks 3\n", &files)?;
     assert_eq!(rt; graph.stuck(), [0, 1, 2].as_slice());
-    assert_eq!(rt; graph.unmet(0), [at(1, 1), at(1, 2), Need::Lacking { rank: 1 }, at(2, 1)].as_slice());
-    assert_eq!(rt; graph.causes(), [Cause::Missing { rank: 1, peer: 2 }, Cause::Missing { rank: 2, peer: 1 }].as_slice());
+    assert_eq!(rt;
+        graph.unmet(0),
+        [at(1, 1), at(1, 2), Need::Lacking { rank: 1 }, at(2, 1)].as_slice()
+    );
+    assert_eq!(rt;
+        graph.causes(),
+        [
+            Cause::Missing { rank: 1, peer: 2 },
+            Cause::Missing { rank: 2, peer: 1 }
+        ]
+        .as_slice()
+    );
     Ok(())
 }
 

@@ -1,9 +1,9 @@
 //! Walks from rank to rank, each by the first of the unmet needs of a rank.
 
-ghost use Rattle.std.specs.Prelude.{◌≡◌, ◌++◌, length, map, slice_get, option_map, IfOk, OnOk};
+ghost use Rattle.std.specs.Prelude.{◌≡◌, ◌<◌, ◌++◌, nat_le, length, map, option_map, IfOk, OnOk};
 ghost use Rattle.std.specs.Option.{option_to_list};
 ghost use Rattle.std.specs.List.{filter_map, range_with_len, list_all};
-ghost use Rattle.waitgraph.specs.Causes.{view_of, needs_in, first_in, next_in, lacks_in, way_home, cycle_at, missing_at, causes_in, WalksEndInTheCauses};
+ghost use Rattle.waitgraph.specs.Causes.{view_of, first_in, next_in, lacks_in, way_home, cycle_at, missing_at, causes_in, WalksEndInTheCauses};
 
 use crate::cause::Cause;
 use crate::unmet::Unmet;
@@ -81,11 +81,7 @@ fn add_cycle(
     Ok(())
 }
 
-fn add_cycles(
-    alloc: Global,
-    causes: &mut Vec<Cause>,
-    waits: &[Unmet],
-) -> Result<(), AllocError>
+fn add_cycles(alloc: Global, causes: &mut Vec<Cause>, waits: &[Unmet]) -> Result<(), AllocError>
     requires { length waits.now < 65536 }
     ensures { OnOk result (map view_of causes.new.items ≡ map view_of causes.old.items ++ filter_map (cycle_at waits.now) (range_with_len 0 (length waits.now))) }
 {
