@@ -24,19 +24,9 @@ pub enum Finding {
         root: u16,
     },
     /// A message is sent and received by no call.
-    Unreceived {
-        rank: u16,
-        place: u32,
-    },
+    Unreceived { rank: u16, place: u32 },
     /// A request is started and completed by no wait.
-    Request {
-        rank: u16,
-        place: u32,
-        req: u32,
-    },
+    Request { rank: u16, place: u32, req: u32 },
     /// The new communicator that a call names has another group than the call gives it.
-    Group {
-        rank: u16,
-        place: u32,
-    },
+    Group { rank: u16, place: u32 },
 }
