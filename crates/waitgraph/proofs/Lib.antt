@@ -1,5 +1,6 @@
 pub mod OrderLemmas
 pub mod AddingLemmas
+pub mod AmongLemmas
 pub mod RangeLemmas
-pub mod WalkLemmas
 pub mod UnmetLemmas
+pub mod WalkLemmas
