@@ -1,44 +1,81 @@
 -- Which needs stand in a list.
-use Rattle.std.proofs.Common.{inl, inr, ◌≡◌, ℕ, zero, suc, ◌⊎◌, Bool, true, false, not, ◌&&◌, Some, None, List, [], ◌∷◌, ◌++◌, refl, sym, ap, subst, ◌∙◌, ⊎_elim}
-use Rattle.std.specs.List.{slice_get, filter, list_all}
+use Rattle.std.proofs.Common.{inl, inr, ◌≡◌, ◌≢◌, ℕ, zero, suc, ◌+◌, ◌<◌, ◌≤◌, ◌⊎◌, Bool, true, false, Option, Some, None, List, [], ◌∷◌, ◌++◌, refl, sym, ap, subst, ◌∙◌, ⊎_elim, arith}
+use Rattle.std.specs.List.{slice_get, filter, filter_map, cons_option, list_all, range_with_len}
 use Rattle.std.proofs.lemmas.Option.{none-some, same_Some}
-use Rattle.std.proofs.lemmas.Bool.{cases_Bool, false≢true}
+use Rattle.std.proofs.lemmas.Bool.{cases_Bool, cases_eq, false≢true}
 use Rattle.moves.specs.declared.need.Need.{Need}
-use Rattle.waitgraph.specs.Stuck.{comes_before, with_need, with_needs, are_in_order, IsIn}
+use Rattle.waitgraph.specs.Stuck.{comes_before, with_need, with_needs, are_in_order}
 use Rattle.waitgraph.proofs.OrderLemmas.{before_total, stays_in_order, and_true}
 
 -- the need is one of the list
-abbrev pub Among : Need → List Need → Type 0
-Among need [] = ⊥
-Among need (first ∷ rest) = (first ≡ need) ⊎ Among need rest
+abbrev pub Among : {A : Type 0} → A → List A → Type 0
+Among x [] = ⊥
+Among x (first ∷ rest) = (first ≡ x) ⊎ Among x rest
 
-pub among_in : (need : Need) (xs : List Need) → Among need xs → IsIn need xs
-among_in need [] h = absurd h
-among_in need (x ∷ xs) (inl e) = (0, ap (λ (y : Need). Some y) e)
-among_in need (x ∷ xs) (inr h) = let later = among_in need xs h in (suc later.0, later.1)
+pub among_in : {A : Type 0} (x : A) (xs : List A) → Among x xs → (index : ℕ) × (slice_get xs index ≡ Some x)
+among_in x [] h = absurd h
+among_in {A} x (y ∷ ys) (inl e) = (0, ap (λ (z : A). Some z) e)
+among_in x (y ∷ ys) (inr h) = let later = among_in x ys h in (suc later.0, later.1)
 
-in_among_at : (need : Need) (xs : List Need) (index : ℕ) → slice_get xs index ≡ Some need → Among need xs
-in_among_at need [] index h = absurd (none-some need h)
-in_among_at need (x ∷ xs) zero h = inl (same_Some x need h)
-in_among_at need (x ∷ xs) (suc index) h = inr (in_among_at need xs index h)
+in_among_at : {A : Type 0} (x : A) (xs : List A) (index : ℕ) → slice_get xs index ≡ Some x → Among x xs
+in_among_at x [] index h = absurd (none-some x h)
+in_among_at x (y ∷ ys) zero h = inl (same_Some y x h)
+in_among_at x (y ∷ ys) (suc index) h = inr (in_among_at x ys index h)
 
-pub in_among : (need : Need) (xs : List Need) → IsIn need xs → Among need xs
-in_among need xs h = in_among_at need xs h.0 h.1
+pub in_among : {A : Type 0} (x : A) (xs : List A) → ((index : ℕ) × (slice_get xs index ≡ Some x)) → Among x xs
+in_among x xs h = in_among_at x xs h.0 h.1
 
-pub among_left : (need : Need) (xs ys : List Need) → Among need xs → Among need (xs ++ ys)
-among_left need [] ys h = absurd h
-among_left need (x ∷ xs) ys (inl e) = inl e
-among_left need (x ∷ xs) ys (inr h) = inr (among_left need xs ys h)
+pub among_left : {A : Type 0} (x : A) (xs ys : List A) → Among x xs → Among x (xs ++ ys)
+among_left x [] ys h = absurd h
+among_left x (y ∷ more) ys (inl e) = inl e
+among_left x (y ∷ more) ys (inr h) = inr (among_left x more ys h)
 
-pub among_right : (need : Need) (xs ys : List Need) → Among need ys → Among need (xs ++ ys)
-among_right need [] ys h = h
-among_right need (x ∷ xs) ys h = inr (among_right need xs ys h)
+pub among_right : {A : Type 0} (x : A) (xs ys : List A) → Among x ys → Among x (xs ++ ys)
+among_right x [] ys h = h
+among_right x (y ∷ more) ys h = inr (among_right x more ys h)
 
-among_both : (need : Need) (xs ys : List Need) → Among need (xs ++ ys) → Among need xs ⊎ Among need ys
-among_both need [] ys h = inr h
-among_both need (x ∷ xs) ys (inl e) = inl (inl e)
-among_both need (x ∷ xs) ys (inr h) =
-    ⊎_elim (λ (left : Among need xs). inl (inr left)) (λ (right : Among need ys). inr right) (among_both need xs ys h)
+pub among_both : {A : Type 0} (x : A) (xs ys : List A) → Among x (xs ++ ys) → Among x xs ⊎ Among x ys
+among_both x [] ys h = inr h
+among_both x (y ∷ more) ys (inl e) = inl (inl e)
+among_both x (y ∷ more) ys (inr h) =
+    ⊎_elim (λ (left : Among x more). inl (inr left)) (λ (right : Among x ys). inr right) (among_both x more ys h)
+
+-- what is given stands for an element of the list
+pub among_given : {A B : Type 0} (y : B) (h : A → Option B) (xs : List A) → Among y (filter_map h xs) → (x : A) × Among x xs × (h x ≡ Some y)
+among_given y h [] there = absurd there
+among_given {A} {B} y h (x ∷ xs) there =
+    by_first y h x xs (h x) refl (λ rest. among_given y h xs rest) there
+  where
+    by_first : {A B : Type 0} (y : B) (h : A → Option B) (x : A) (xs : List A) (o : Option B) → h x ≡ o → (Among y (filter_map h xs) → (x : A) × Among x xs × (h x ≡ Some y)) → Among y (cons_option o (filter_map h xs)) → (z : A) × Among z (x ∷ xs) × (h z ≡ Some y)
+    by_first y h x xs None is later there = let rest = later there in (rest.0, inr rest.1, rest.2)
+    by_first {A} {B} y h x xs (Some z) is later (inl e) = (x, inl refl, is ∙ ap (λ (w : B). Some w) e)
+    by_first y h x xs (Some z) is later (inr there) = let rest = later there in (rest.0, inr rest.1, rest.2)
+
+pub given_among : {A B : Type 0} (x : A) (y : B) (h : A → Option B) (xs : List A) → Among x xs → h x ≡ Some y → Among y (filter_map h xs)
+given_among x y h [] there is = absurd there
+given_among {A} {B} x y h (z ∷ zs) (inl e) is =
+    let here : h z ≡ Some y = ap h e ∙ is in
+    rw here (inl refl)
+given_among {A} {B} x y h (z ∷ zs) (inr there) is =
+    behind y (h z) (filter_map h zs) (given_among x y h zs there is)
+  where
+    behind : {B : Type 0} (y : B) (o : Option B) (ys : List B) → Among y ys → Among y (cons_option o ys)
+    behind y None ys there = there
+    behind y (Some z) ys there = inr there
+
+-- the numbers of a range
+pub among_range : (x a n : ℕ) → Among x (range_with_len a n) → (a ≤ x) × (x < a + n)
+among_range x a zero h = absurd h
+among_range x a (suc n) (inl e) = (omega arith, omega arith)
+among_range x a (suc n) (inr h) = let later = among_range x (a + 1) n h in (omega (arith, later.0), omega (arith, later.1))
+
+pub range_among : (x a n : ℕ) → a ≤ x → x < a + n → Among x (range_with_len a n)
+range_among x a zero low high = absurd (omega arith)
+range_among x a (suc n) low high =
+    ⊎_elim
+    (λ (same : a ≡ x). inl same)
+    (λ (other : a ≢ x). inr (range_among x (a + 1) n (omega arith) (omega arith)))
+    (cases_eq a x)
 
 kept_here : (need : Need) (p : Need → Bool) (x : Need) (xs kept : List Need) → p x ≡ true → (Among need kept → Among need xs × (p need ≡ true)) → Among need (x ∷ kept) → Among need (x ∷ xs) × (p need ≡ true)
 kept_here need p x xs kept passes later (inl e) = (inl e, ap p (sym e) ∙ passes)

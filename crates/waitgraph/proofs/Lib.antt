@@ -4,3 +4,6 @@ pub mod AmongLemmas
 pub mod RangeLemmas
 pub mod UnmetLemmas
 pub mod WalkLemmas
+pub mod PigeonLemmas
+pub mod CycleLemmas
+pub mod WalkLaws
