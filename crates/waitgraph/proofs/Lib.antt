@@ -7,3 +7,4 @@ pub mod WalkLemmas
 pub mod PigeonLemmas
 pub mod CycleLemmas
 pub mod WalkLaws
+pub mod ListedLemmas

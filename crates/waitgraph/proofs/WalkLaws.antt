@@ -160,7 +160,7 @@ pub record TellsCycle (waits : Waits) (rank : ℕ) (ranks : List ℕ) : Type 0 w
   pub is_cycle : IsCycle waits ranks
   pub begins : slice_get ranks 0 ≡ Some rank
 
-told_by_way : (waits : Waits) (most rank : ℕ) (ranks : List ℕ) → way_home waits most rank rank ≡ Some ranks → list_all (nat_le rank) ranks ≡ true → TellsCycle waits rank ranks
+pub told_by_way : (waits : Waits) (most rank : ℕ) (ranks : List ℕ) → way_home waits most rank rank ≡ Some ranks → list_all (nat_le rank) ranks ≡ true → TellsCycle waits rank ranks
 told_by_way waits most rank ranks is_way all =
     let way = way_home_is waits most rank rank ranks is_way in
     let cycle = way_is_cycle waits rank way.rest way.is_way (ap (λ (rs : List ℕ). list_all (nat_le rank) rs) (sym way.begins) ∙ all) in
@@ -179,11 +179,11 @@ missing_listed waits rank cause is_rank is =
     among_right cause (filter_map (cycle_at waits) (range_with_len 0 (length waits))) (filter_map (missing_at waits) (range_with_len 0 (length waits)))
     (given_among rank cause (missing_at waits) (range_with_len 0 (length waits)) (range_among rank 0 (length waits) (omega arith) (omega arith)) is)
 
-lacks_is_waiting : (waits : Waits) (rank peer : ℕ) (o : Option Need) → first_in waits rank ≡ o → option_and_then lacking o ≡ Some peer → IsWaiting waits rank
+pub lacks_is_waiting : (waits : Waits) (rank peer : ℕ) (o : Option Need) → first_in waits rank ≡ o → option_and_then lacking o ≡ Some peer → IsWaiting waits rank
 lacks_is_waiting waits rank peer None is h = absurd (none-some peer h)
 lacks_is_waiting waits rank peer (Some need) is h = record { need = need; is_first = is }
 
-next_is_waiting : (waits : Waits) (rank next : ℕ) (o : Option Need) → first_in waits rank ≡ o → option_and_then awaited o ≡ Some next → IsWaiting waits rank
+pub next_is_waiting : (waits : Waits) (rank next : ℕ) (o : Option Need) → first_in waits rank ≡ o → option_and_then awaited o ≡ Some next → IsWaiting waits rank
 next_is_waiting waits rank next None is h = absurd (none-some next h)
 next_is_waiting waits rank next (Some need) is h = record { need = need; is_first = is }
 
