@@ -8,3 +8,5 @@ pub mod PigeonLemmas
 pub mod CycleLemmas
 pub mod WalkLaws
 pub mod ListedLemmas
+pub mod CalledLemmas
+pub mod StuckLemmas
