@@ -1,5 +1,5 @@
 -- The way home is a cycle, and a walk that comes back has a way home.
-use Rattle.std.proofs.Common.{inl, inr, ◌≡◌, ◌≢◌, ℕ, zero, suc, ◌+◌, ◌-◌, ◌<◌, ◌≤◌, ◌⊎◌, Bool, true, false, ◌&&◌, ◌==◌, Option, Some, None, List, [], ◌∷◌, ◌++◌, length, refl, sym, ap, subst, ◌∙◌, ⊎_elim, arith}
+use Rattle.std.proofs.Common.{◌≡◌, ◌≢◌, ℕ, zero, suc, ◌+◌, ◌-◌, ◌<◌, ◌≤◌, true, ◌==◌, Option, Some, None, List, [], ◌∷◌, length, refl, sym, ap, subst, ◌∙◌, ⊎_elim, arith}
 use Rattle.std.specs.Prelude.{if◌then◌else◌, nat_le, option_map, option_and_then}
 use Rattle.std.specs.List.{slice_get, list_all}
 use Rattle.std.proofs.lemmas.Option.{none-some, same_Some, slice_get_within}
@@ -134,8 +134,8 @@ way_is_cycle waits home rest way all =
       waits_for_next = λ index rank next h k. way_next waits home (home ∷ rest) index rank next way h k;
       last_waits_for_first = λ rank first h k. way_last waits home (home ∷ rest) rank way h ∙ k;
       are_distinct = λ index other rank h k.
-        let times = same_time waits home rank (length (home ∷ rest) - index) (length (home ∷ rest) - other) (comes_home_at waits home (home ∷ rest) index rank way h) (comes_home_at waits home (home ∷ rest) other rank way k) in
-        omega (arith, slice_get_within (home ∷ rest) index rank h, slice_get_within (home ∷ rest) other rank k);
+          let times = same_time waits home rank (length (home ∷ rest) - index) (length (home ∷ rest) - other) (comes_home_at waits home (home ∷ rest) index rank way h) (comes_home_at waits home (home ∷ rest) other rank way k) in
+          omega (arith, slice_get_within (home ∷ rest) index rank h, slice_get_within (home ∷ rest) other rank k);
       first_is_lowest = λ index first rank k h. rw (← same_Some home first k) (all_no_lower home (home ∷ rest) index rank all h);
     }
 

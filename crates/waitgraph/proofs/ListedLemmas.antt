@@ -1,15 +1,13 @@
 -- Each listed cause is the end of a walk, and none is listed twice.
-use Rattle.std.proofs.Common.{inl, inr, ◌≡◌, ℕ, zero, suc, ◌+◌, ◌-◌, ◌<◌, ◌≤◌, ◌==◌, ◌⊎◌, Bool, true, false, Option, Some, None, List, [], ◌∷◌, ◌++◌, length, refl, sym, ap, subst, ◌∙◌, ⊎_elim, arith}
+use Rattle.std.proofs.Common.{◌≡◌, ℕ, zero, suc, ◌+◌, ◌-◌, ◌<◌, ◌≤◌, ◌==◌, Bool, true, false, Option, Some, None, List, [], ◌∷◌, ◌++◌, length, refl, sym, ap, subst, ◌∙◌, ⊎_elim, arith}
 use Rattle.std.specs.Prelude.{if◌then◌else◌, nat_le, option_map, option_and_then}
 use Rattle.std.specs.List.{slice_get, list_all, filter_map, cons_option, range_with_len}
-use Rattle.std.proofs.lemmas.Option.{none-some, same_Some, slice_get_within}
-use Rattle.std.proofs.lemmas.Bool.{cases_lt, cases_Bool}
-use Rattle.moves.specs.declared.need.Need.{Need}
+use Rattle.std.proofs.lemmas.Option.{none-some, same_Some}
+use Rattle.std.proofs.lemmas.Bool.{cases_lt}
 use Rattle.pairing.proofs.PlaceLemmas.{slice_get-front}
-use Rattle.waitgraph.specs.Causes.{CauseView, CycleOf, MissingOf, Waits, first_in, next_in, lacks_in, way_home, cycle_by, cycle_at, missing_at, causes_in, after, EndsWith}
+use Rattle.waitgraph.specs.Causes.{CauseView, CycleOf, MissingOf, Waits, first_in, next_in, lacks_in, way_home, cycle_by, cycle_at, missing_at, causes_in, EndsWith}
 use Rattle.waitgraph.proofs.AmongLemmas.{Among, in_among, among_both, among_given, among_range}
-use Rattle.waitgraph.proofs.CycleLemmas.{way_home_is}
-use Rattle.waitgraph.proofs.WalkLaws.{IsWaiting, TellsCycle, told_by_way, lacks_is_waiting, next_is_waiting}
+use Rattle.waitgraph.proofs.WalkLaws.{IsWaiting, told_by_way, lacks_is_waiting, next_is_waiting}
 
 -- what it means that the cycle of a rank is told
 record IsCycleOf (waits : Waits) (rank : ℕ) (cause : CauseView) : Type 0 where

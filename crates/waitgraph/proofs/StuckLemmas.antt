@@ -1,16 +1,16 @@
 -- Stuck ranks of a closed recording: each waits, and for a rank that is stuck.
-use Rattle.std.proofs.Common.{inl, inr, ◌≡◌, ◌≢◌, ℕ, zero, suc, ◌+◌, ◌-◌, ◌<◌, ◌≤◌, ◌⊎◌, Bool, true, false, not, ◌&&◌, ◌||◌, Option, Some, None, List, [], ◌∷◌, ◌++◌, length, get_or, map, refl, sym, ap, subst, ◌∙◌, ⊎_elim, arith, length-append}
-use Rattle.std.specs.Prelude.{nat_lt, nat_le, option_and_then, slice_index, unwrap_or}
-use Rattle.std.specs.List.{slice_get, list_all, list_any, range_with_len}
+use Rattle.std.proofs.Common.{◌≡◌, ◌≢◌, ℕ, zero, suc, ◌+◌, ◌<◌, ◌≤◌, Bool, true, false, ◌&&◌, Option, Some, None, List, [], ◌∷◌, ◌++◌, length, get_or, refl, sym, ap, subst, ◌∙◌, ⊎_elim, arith, length-append}
+use Rattle.std.specs.Prelude.{nat_lt, option_and_then, slice_index}
+use Rattle.std.specs.List.{slice_get, list_all, list_any}
 use Rattle.std.specs.Option.{option_map_or}
 use Rattle.std.proofs.lemmas.List.FromFn.{length-map-range_with_len}
-use Rattle.std.proofs.lemmas.Option.{none-some, same_Some, slice_get_within, slice_get_past, slice_get-get_or}
-use Rattle.std.proofs.lemmas.Bool.{cases_lt, cases_eq, cases_Bool, false≢true, or_parts, ltb-true, leb-false, not_from_false, not-true}
+use Rattle.std.proofs.lemmas.Option.{none-some, same_Some, slice_get_past, slice_get-get_or}
+use Rattle.std.proofs.lemmas.Bool.{cases_lt, cases_eq, cases_Bool, false≢true, or_parts, ltb-true, leb-false, not_from_false, not-true, not-false}
 use Rattle.mpicall.specs.Ending.{ends_list}
 use Rattle.mpicall.specs.declared.call.Call.{Call}
 use Rattle.mpicall.specs.declared.call.Call.TheVariants.{Finalize}
 use Rattle.mpigroup.specs.Groups.{Groups}
-use Rattle.pairing.specs.Recordings.{Lists, calls_of, is_finalize, has_end, IsClosedList, IsClosed}
+use Rattle.pairing.specs.Recordings.{Lists, calls_of, is_finalize, IsClosedList, IsClosed}
 use Rattle.pairing.proofs.PlaceLemmas.{slice_get-front}
 use Rattle.moves.specs.declared.need.Need.{Need}
 use Rattle.moves.specs.declared.need.Need.TheVariants.{At, Lacking}
@@ -18,13 +18,13 @@ use Rattle.moves.specs.Needs.{needs_of, is_met, may_pass, can_move}
 use Rattle.moves.specs.Stands.{stands_of, is_at_finalize, lowest_run_over}
 use Rattle.moves.proofs.RunLemmas.{reached_ranks}
 use Rattle.moves.proofs.StandLemmas.{every_maximal_run_ends_at_the_stands, no_call_after_finalize_is_reached}
-use Rattle.waitgraph.specs.Stuck.{is_stuck, unmet_at, unmet_of}
-use Rattle.waitgraph.specs.Causes.{CauseView, Waits, waits_of, needs_in, awaited, first_in, next_in, causes_of, IsListed, EndsWith, TellsCauses, WalksEndInTheCauses}
+use Rattle.waitgraph.specs.Stuck.{is_stuck, unmet_at, unmet_of, StuckRanksWaitForStuckRanks}
+use Rattle.waitgraph.specs.Causes.{waits_of, awaited, first_in, causes_of, WalksEndInTheCauses}
 use Rattle.waitgraph.proofs.AmongLemmas.{Among, among_in, in_among, among_all, one_fails}
-use Rattle.waitgraph.proofs.UnmetLemmas.{none_past, waits_are, unmet_from, unmet_all}
+use Rattle.waitgraph.proofs.UnmetLemmas.{waits_are, unmet_from, unmet_all}
 use Rattle.waitgraph.proofs.CalledLemmas.{is_call, needs_called}
-use Rattle.waitgraph.proofs.WalkLaws.{IsWaiting, GoesOn, waiting_is_rank, HasEnd, walk_ends}
-use Rattle.waitgraph.proofs.ListedLemmas.{HasStart, each_is_an_end, none_twice}
+use Rattle.waitgraph.proofs.WalkLaws.{IsWaiting, GoesOn, waiting_is_rank, walk_ends}
+use Rattle.waitgraph.proofs.ListedLemmas.{each_is_an_end, none_twice}
 
 is_the_end : (call : Call) → ends_list call ≡ true → call ≡ Finalize
 is_the_end Finalize h = refl
@@ -55,12 +55,12 @@ ends_at calls closed = record {
   end = length closed.before;
   is_last = ap (λ (cs : List Call). length cs) closed.is_all ∙ length-append closed.before (closed.last ∷ []);
   finalize =
-    ap (λ (cs : List Call). slice_get cs (length closed.before)) closed.is_all
-    ∙ at_last closed.before closed.last
-    ∙ ap (λ (call : Call). Some call) (is_the_end closed.last closed.is_the_end);
+      ap (λ (cs : List Call). slice_get cs (length closed.before)) closed.is_all
+      ∙ at_last closed.before closed.last
+      ∙ ap (λ (call : Call). Some call) (is_the_end closed.last closed.is_the_end);
   before = λ place call low h.
-    is_no_finalize call (none_of ends_list closed.before place call closed.has_no_other
-    (sym (slice_get-front closed.before (closed.last ∷ []) place low) ∙ ap (λ (cs : List Call). slice_get cs place) (sym closed.is_all) ∙ h));
+      is_no_finalize call (none_of ends_list closed.before place call closed.has_no_other
+      (sym (slice_get-front closed.before (closed.last ∷ []) place low) ∙ ap (λ (cs : List Call). slice_get cs place) (sym closed.is_all) ∙ h));
 }
 
 -- no rank stands past its Finalize
@@ -142,8 +142,12 @@ calls_past recording rank place within =
     (cases_lt rank (length recording))
 
 -- for whom a rank waits stands before its Finalize
-awaited_waits : (groups : Groups) (recording : Lists) → IsClosed recording → (rank next place : ℕ) → Among (At next place) (unmet_of groups recording rank) → IsWaiting (waits_of groups recording) next
-awaited_waits groups recording closed rank next place h =
+record IsAwaited (groups : Groups) (recording : Lists) (peer : ℕ) : Type 0 where
+  is_rank : peer < length recording
+  stands : StandsBefore groups recording peer
+
+awaited_stands : (groups : Groups) (recording : Lists) → IsClosed recording → (rank next place : ℕ) → Among (At next place) (unmet_of groups recording rank) → IsAwaited groups recording next
+awaited_stands groups recording closed rank next place h =
     let parts = unmet_from groups recording (stands_of groups recording) rank (At next place) h in
     let called : nat_lt place (length (calls_of recording next)) ≡ true =
     among_all (At next place) (is_call recording) (needs_of groups recording rank (slice_index (stands_of groups recording) rank)) parts.0 (needs_called groups recording rank (slice_index (stands_of groups recording) rank)) in
@@ -151,7 +155,12 @@ awaited_waits groups recording closed rank next place h =
     let is_rank = calls_past recording next place within in
     let behind = leb-false place (slice_index (stands_of groups recording) next) parts.1 in
     let ends = ends_at (calls_of recording next) (closed next is_rank) in
-    waits_before groups recording next is_rank (stands_before groups recording next ends (omega (arith, ends.is_last)))
+    record { is_rank = is_rank; stands = stands_before groups recording next ends (omega (arith, ends.is_last)) }
+
+awaited_waits : (groups : Groups) (recording : Lists) → IsClosed recording → (rank next place : ℕ) → Among (At next place) (unmet_of groups recording rank) → IsWaiting (waits_of groups recording) next
+awaited_waits groups recording closed rank next place h =
+    let there = awaited_stands groups recording closed rank next place h in
+    waits_before groups recording next there.is_rank there.stands
 
 goes_on : (groups : Groups) (recording : Lists) → IsClosed recording → GoesOn (waits_of groups recording)
 goes_on groups recording closed =
@@ -183,19 +192,38 @@ waiting_is_stuck groups recording rank waiting =
     (λ (not_there : is_at_finalize recording (stands_of groups recording) rank ≡ false). not_from_false (is_at_finalize recording (stands_of groups recording) rank) not_there)
     (cases_Bool (is_at_finalize recording (stands_of groups recording) rank))
 
+-- and a rank that isn't stuck has no unmet need
+none_at_finalize : (groups : Groups) (recording : Lists) (rank : ℕ) → is_stuck groups recording rank ≡ false → unmet_of groups recording rank ≡ []
+unfolding unmet_at
+none_at_finalize groups recording rank not_stuck =
+    let finalize = is_finalize_there (slice_get (calls_of recording rank) (slice_index (stands_of groups recording) rank)) (not-false (is_at_finalize recording (stands_of groups recording) rank) not_stuck) in
+    rw (no_needs groups recording rank (slice_index (stands_of groups recording) rank) finalize) refl
+
+pub stuck_ranks_wait_for_stuck_ranks : StuckRanksWaitForStuckRanks
+stuck_ranks_wait_for_stuck_ranks groups recording closed = record {
+  each_waits = λ rank is_rank stuck.
+      let ends = ends_at (calls_of recording rank) (closed rank is_rank) in
+      let waiting = waits_before groups recording rank is_rank (stands_before groups recording rank ends (stuck_low groups recording rank ends stuck)) in
+      (waiting.need, among_in waiting.need (unmet_of groups recording rank) (first_among groups recording rank waiting.need waiting.is_first));
+  no_other_waits = λ rank not_stuck. none_at_finalize groups recording rank not_stuck;
+  for_stuck_ranks = λ rank peer place h.
+      let there = awaited_stands groups recording closed rank peer place (in_among (At peer place) (unmet_of groups recording rank) h) in
+      (there.is_rank, stuck_from groups recording peer there.stands);
+}
+
 wait_count : (groups : Groups) (recording : Lists) → length (waits_of groups recording) ≡ length recording
 wait_count groups recording = length-map-range_with_len (unmet_at groups recording (stands_of groups recording)) 0 (length recording)
 
 pub walks_end_in_the_causes : WalksEndInTheCauses
 walks_end_in_the_causes groups recording closed = record {
   each_walk_ends = λ rank is_rank stuck.
-    let ends = ends_at (calls_of recording rank) (closed rank is_rank) in
-    let waiting = waits_before groups recording rank is_rank (stands_before groups recording rank ends (stuck_low groups recording rank ends stuck)) in
-    let end = walk_ends (waits_of groups recording) (goes_on groups recording closed) rank waiting in
-    (end.cause, among_in end.cause (causes_of groups recording) end.is_listed, end.ends);
+      let ends = ends_at (calls_of recording rank) (closed rank is_rank) in
+      let waiting = waits_before groups recording rank is_rank (stands_before groups recording rank ends (stuck_low groups recording rank ends stuck)) in
+      let end = walk_ends (waits_of groups recording) (goes_on groups recording closed) rank waiting in
+      (end.cause, among_in end.cause (causes_of groups recording) end.is_listed, end.ends);
   each_is_an_end = λ cause listed.
-    let start = each_is_an_end (waits_of groups recording) cause (in_among cause (causes_of groups recording) listed) in
-    let is_rank : start.rank < length recording = omega (arith, waiting_is_rank (waits_of groups recording) start.rank start.is_waiting, wait_count groups recording) in
-    (start.rank, is_rank, waiting_is_stuck groups recording start.rank start.is_waiting, start.ends);
+      let start = each_is_an_end (waits_of groups recording) cause (in_among cause (causes_of groups recording) listed) in
+      let is_rank : start.rank < length recording = omega (arith, waiting_is_rank (waits_of groups recording) start.rank start.is_waiting, wait_count groups recording) in
+      (start.rank, is_rank, waiting_is_stuck groups recording start.rank start.is_waiting, start.ends);
   none_twice = λ index other cause h k. none_twice (waits_of groups recording) index other cause h k;
 }

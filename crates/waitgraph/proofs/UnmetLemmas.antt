@@ -1,7 +1,7 @@
 -- What the unmet needs of a rank are.
-use Rattle.std.proofs.Common.{true, false, ◌≡◌, ℕ, ◌+◌, ◌<◌, ◌≤◌, Option, Some, None, List, [], ◌∷◌, length, map, get_or, refl, sym, ap, ◌∙◌, ⊎_elim, arith}
+use Rattle.std.proofs.Common.{true, false, ◌≡◌, ℕ, ◌<◌, ◌≤◌, Option, List, [], length, map, refl, sym, ap, ◌∙◌, ⊎_elim, arith}
 use Rattle.std.specs.Prelude.{unwrap_or, slice_index}
-use Rattle.std.specs.List.{slice_get, filter, range_with_len}
+use Rattle.std.specs.List.{filter, range_with_len}
 use Rattle.std.proofs.lemmas.List.FromFn.{length-map-range_with_len, get_or-map-range_with_len}
 use Rattle.std.proofs.lemmas.Option.{slice_get-get_or, slice_get_past}
 use Rattle.std.proofs.lemmas.Bool.{cases_lt, not-true, not_from_false}

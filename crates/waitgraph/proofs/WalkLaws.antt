@@ -1,15 +1,15 @@
 -- Where walks end, over waits in which no rank waits for one that waits for none.
-use Rattle.std.proofs.Common.{inl, inr, ◌≡◌, ◌≢◌, ℕ, zero, suc, ◌+◌, ◌-◌, ◌<◌, ◌≤◌, ◌⊎◌, Bool, true, false, Option, Some, None, List, [], ◌∷◌, ◌++◌, length, refl, sym, ap, subst, ◌∙◌, ⊎_elim, arith}
-use Rattle.std.specs.Prelude.{if◌then◌else◌, nat_le, option_map, option_and_then, unwrap_or}
-use Rattle.std.specs.List.{slice_get, list_all, filter_map, cons_option, range_with_len}
-use Rattle.std.proofs.lemmas.Option.{none-some, same_Some, slice_get_within, slice_get_past}
-use Rattle.std.proofs.lemmas.Bool.{cases_eq, cases_lt, cases_Bool, true≢false}
+use Rattle.std.proofs.Common.{inl, inr, ◌≡◌, ℕ, zero, suc, ◌+◌, ◌-◌, ◌<◌, ◌≤◌, ◌⊎◌, true, Option, Some, None, List, length, refl, sym, ap, subst, ◌∙◌, ⊎_elim, arith}
+use Rattle.std.specs.Prelude.{nat_le, option_and_then, unwrap_or}
+use Rattle.std.specs.List.{slice_get, list_all, filter_map, range_with_len}
+use Rattle.std.proofs.lemmas.Option.{none-some, same_Some, slice_get_past}
+use Rattle.std.proofs.lemmas.Bool.{cases_lt}
 use Rattle.moves.specs.declared.need.Need.{Need}
 use Rattle.moves.specs.declared.need.Need.TheVariants.{At, Lacking}
-use Rattle.waitgraph.specs.Causes.{CauseView, CycleOf, MissingOf, Waits, needs_in, awaited, lacking, first_in, next_in, lacks_in, way_home, cycle_by, cycle_at, missing_at, causes_in, after, IsCycle, IsEnd, EndsWith, IsListed}
-use Rattle.waitgraph.proofs.AmongLemmas.{Among, among_in, in_among, among_left, among_right, among_both, among_given, given_among, among_range, range_among}
-use Rattle.waitgraph.proofs.CycleLemmas.{HasWay, way_home_is, way_is_cycle, HasWayHome, finds_way}
-use Rattle.waitgraph.proofs.PigeonLemmas.{Twice, twice, Lowest, lowest_of}
+use Rattle.waitgraph.specs.Causes.{CauseView, CycleOf, MissingOf, Waits, awaited, lacking, first_in, next_in, lacks_in, way_home, cycle_at, missing_at, causes_in, after, IsCycle, EndsWith}
+use Rattle.waitgraph.proofs.AmongLemmas.{Among, among_left, among_right, given_among, range_among}
+use Rattle.waitgraph.proofs.CycleLemmas.{way_home_is, way_is_cycle, HasWayHome, finds_way}
+use Rattle.waitgraph.proofs.PigeonLemmas.{twice, lowest_of}
 
 -- a rank that waits has a first unmet need
 pub record IsWaiting (waits : Waits) (rank : ℕ) : Type 0 where
@@ -142,8 +142,8 @@ cycle_from waits rank first second on before within same place low is_lowest =
       comes_there = comes_to waits rank (length waits) (first + place) on (omega arith);
       is_rank = stays_below waits rank (length waits) (first + place) on (omega arith);
       way = finds_way waits (length waits) (second - first) (there_of waits rank (first + place)) (there_of waits rank (first + place)) (there_of waits rank (first + place)) (omega arith) (omega arith)
-      (back_there waits rank (length waits) first second place on before within same low)
-      (λ more by less here. above_there waits rank (length waits) first second place more by on before within same low is_lowest less here);
+          (back_there waits rank (length waits) first second place on before within same low)
+          (λ more by less here. above_there waits rank (length waits) first second place more by on before within same low is_lowest less here);
     }
 
 -- a walk that goes on for as many steps as there are ranks comes to a cycle
@@ -212,8 +212,8 @@ walk_ends waits on rank waiting =
         record {
           cause = MissingOf found.end found.peer;
           is_listed = missing_listed waits found.end (MissingOf found.end found.peer)
-            (waiting_is_rank waits found.end (lacks_is_waiting waits found.end found.peer (first_in waits found.end) refl found.lacks))
-            (rw found.lacks refl);
+              (waiting_is_rank waits found.end (lacks_is_waiting waits found.end found.peer (first_in waits found.end) refl found.lacks))
+              (rw found.lacks refl);
           ends = record { steps = found.steps; end = found.end; comes_there = found.comes_there; is_end = (refl, found.lacks) };
         }
     by_run waits rank (inr on) = by_cycle waits rank (comes_round waits rank on)

@@ -2,7 +2,7 @@
 use Rattle.std.specs.Prelude.{◌≡◌, ℕ, ◌<◌, Bool, true, false, not, ◌&&◌, ◌||◌, ◌==◌, nat_lt, Some, List, [], ◌∷◌, ◌++◌, length, slice_get, slice_index}
 use Rattle.std.specs.List.{filter, list_all, range_with_len}
 use Rattle.mpigroup.specs.Groups.{Groups}
-use Rattle.pairing.specs.Recordings.{Lists}
+use Rattle.pairing.specs.Recordings.{Lists, IsClosed}
 use Rattle.moves.specs.Runs.{State}
 use Rattle.moves.specs.Needs.{needs_of, is_met}
 use Rattle.moves.specs.Stands.{stands_of, is_at_finalize}
@@ -84,3 +84,14 @@ pub record TellsUnmet (groups : Groups) (recording : Lists) (rank : ℕ) : Type 
 -- met at the stands, and each comes before those behind it, so that none is listed twice.
 abbrev pub UnmetNeedsAreToldInOrder : Type 0
 UnmetNeedsAreToldInOrder = (groups : Groups) (recording : Lists) (rank : ℕ) → TellsUnmet groups recording rank
+
+-- who waits: each stuck rank, no other, and for stuck ranks
+pub record TellsWaiting (groups : Groups) (recording : Lists) : Type 0 where
+  pub each_waits : (rank : ℕ) → rank < length recording → is_stuck groups recording rank ≡ true → (need : Need) × IsIn need (unmet_of groups recording rank)
+  pub no_other_waits : (rank : ℕ) → is_stuck groups recording rank ≡ false → unmet_of groups recording rank ≡ []
+  pub for_stuck_ranks : (rank peer place : ℕ) → IsIn (At peer place) (unmet_of groups recording rank) → (peer < length recording) × (is_stuck groups recording peer ≡ true)
+
+-- Law: over every closed recording, a stuck rank has an unmet need, a rank that is not stuck has none, and a
+-- rank whose call is needed and not reached is stuck itself.
+abbrev pub StuckRanksWaitForStuckRanks : Type 0
+StuckRanksWaitForStuckRanks = (groups : Groups) (recording : Lists) → IsClosed recording → TellsWaiting groups recording

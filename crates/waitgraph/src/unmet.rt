@@ -8,7 +8,7 @@ ghost use Rattle.pairing.specs.Recordings.{calls_of};
 ghost use Rattle.pairing.specs.Requests.{completes};
 ghost use Rattle.pairing.specs.Pairs.{completed_of};
 ghost use Rattle.moves.specs.Needs.{world_of, half_need, half_needs, member_need, wave_needs, is_buffered, operation_needs, operation_needs_at, request_needs, needs_of_call, needs_of};
-ghost use Rattle.waitgraph.specs.Stuck.{comes_before, with_need, with_needs, is_unmet, unmet_at, UnmetNeedsAreToldInOrder};
+ghost use Rattle.waitgraph.specs.Stuck.{comes_before, with_need, with_needs, is_unmet, unmet_at, UnmetNeedsAreToldInOrder, StuckRanksWaitForStuckRanks};
 
 use moves::need::{Need, is_met};
 use mpicall::call::Mode;
@@ -344,4 +344,10 @@ pub(crate) fn unmet_at(
 /// comes before those behind it, so none is listed twice. It has no premise.
 pub fn unmet_needs_are_told_in_order()
     ensures { UnmetNeedsAreToldInOrder }
+{}
+
+/// A stuck rank of a closed recording has an unmet need, a rank that isn't stuck has none, and a rank whose
+/// call is needed and not reached is stuck itself.
+pub fn stuck_ranks_wait_for_stuck_ranks()
+    ensures { StuckRanksWaitForStuckRanks }
 {}

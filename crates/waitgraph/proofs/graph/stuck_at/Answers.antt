@@ -1,4 +1,4 @@
-use Rattle.std.proofs.Common.{◌≡◌, ℕ, List, [], ◌∷◌, ◌++◌, sym, ap, ◌∙◌}
+use Rattle.std.proofs.Common.{ℕ, List, [], ◌∷◌, ◌++◌, sym, ap, ◌∙◌}
 use Rattle.waitgraph.specs.Stuck.{is_stuck_at}
 use Rattle.waitgraph.proofs.RangeLemmas.{kept_more, kept_no_more}
 use Rattle.waitgraph.proofs.graph.stuck_at.Goals.{then-is_stuck_at+in_ok-push, else-is_stuck_at}

@@ -1,5 +1,5 @@
-use Rattle.std.proofs.Common.{◌≡◌, ◌≤◌, ℕ, Some, List, [], ◌∷◌, length, map, take, refl, sym, ap, ◌∙◌, arith}
-use Rattle.std.specs.List.{slice_get, filter}
+use Rattle.std.proofs.Common.{◌≡◌, ◌≤◌, ℕ, Some, List, [], ◌∷◌, length, map, sym, ap, ◌∙◌, arith}
+use Rattle.std.specs.List.{filter}
 use Rattle.std.proofs.lemmas.List.{take_all}
 use Rattle.std.proofs.lemmas.Option.{none-some, slice_get-get_or}
 use Rattle.mpigroup.specs.Groups.{group_of, world_rank_of}

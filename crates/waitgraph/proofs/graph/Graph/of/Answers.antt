@@ -1,9 +1,8 @@
-use Rattle.std.proofs.Common.{◌≡◌, ℕ, List, ap, ◌∙◌}
+use Rattle.std.proofs.Common.{ℕ, List, ap, ◌∙◌}
 use Rattle.mpigroup.specs.Groups.{Groups}
 use Rattle.pairing.specs.Recordings.{Lists}
 use Rattle.moves.specs.declared.need.Need.{Need}
 use Rattle.moves.specs.Stands.{stands_of}
-use Rattle.waitgraph.specs.Stuck.{unmet_at}
 use Rattle.waitgraph.specs.Causes.{waits_at, needs_in}
 use Rattle.waitgraph.proofs.UnmetLemmas.{waits_are}
 use Rattle.waitgraph.proofs.graph.Graph.of.Goals as goal
