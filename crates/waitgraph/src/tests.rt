@@ -5,22 +5,25 @@ use crate::graph::Graph;
 use moves::analyser::Analyser;
 use moves::need::Need;
 use mpicall::line::read_line;
+use mpicall::record::Record;
 use mpigroup::head::Head;
 use std::alloc::Global;
 use std::test::Fail;
 
+fn offer(analyser: &mut Analyser, rank: u16, call: &Record) -> Result<(), Fail> {
+    if rank >= analyser.head().ranks() {
+        return Err("more files than ranks".into());
+    }
+    Ok(analyser.offer(rank, call)?)
+}
+
 /// The analyser of a run by its head and the ranks' files.
 fn analyser_of(alloc: Global, head: &str, files: &[&str]) -> Result<Analyser, Fail> {
-    let head = Head::read(alloc, head.as_bytes())?;
-    let mut analyser = Analyser::new(alloc, head)?;
+    let mut analyser = Analyser::new(alloc, Head::read(alloc, head.as_bytes())?)?;
     for (rank, file) in files.iter().enumerate() {
-        let rank = u16::try_from(rank)?;
-        if rank >= analyser.head().ranks() {
-            return Err("more files than ranks".into());
-        }
         for line in file.split_inclusive('\n') {
             let call = read_line(line.as_bytes())?;
-            analyser.offer(rank, &call)?;
+            offer(&mut analyser, u16::try_from(rank)?, &call)?;
         }
     }
     Ok(analyser)
