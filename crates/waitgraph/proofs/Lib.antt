@@ -1,3 +1,15 @@
 pub mod FindingLemmas
 pub mod WaveLemmas
 pub mod MarkLemmas
+pub mod OrderLemmas
+pub mod AddingLemmas
+pub mod AmongLemmas
+pub mod RangeLemmas
+pub mod UnmetLemmas
+pub mod WalkLemmas
+pub mod PigeonLemmas
+pub mod CycleLemmas
+pub mod WalkLaws
+pub mod ListedLemmas
+pub mod CalledLemmas
+pub mod StuckLemmas

@@ -1,5 +1,29 @@
 //! Who waits for whom in a run that was recorded whole, and why.
+//!
+//! What it promises, as contracts that are proved, by definitions of `specs/`:
+//!
+//! - `graph::Graph::of` answers the stuck ranks of a closed recording, for each rank the needs of its present
+//!   call that aren't met where the ranks stand, by rank and place and each once (`Stuck`), and the causes:
+//!   the cycles of ranks that wait for each other, and the calls that a rank waits for and its peer lacks
+//!   (`Causes`).
+//! - Laws, each on a function that does nothing: the unmet needs are those needs of the present call that
+//!   aren't met and no others; each stuck rank has one, no other rank has, and who is waited for at a place is
+//!   stuck too; the walk from each stuck rank by its first unmet need comes to a listed cause, each listed
+//!   cause is the end of such a walk, and none is listed twice.
+//!
+//! ```text
+//! // rank 0: send 0 1 0 / recv 0 1 0 / finalize      rank 1: send 0 0 0 / recv 0 0 0 / finalize
+//! let graph = Graph::of(alloc, &analyser)?;
+//! graph.stuck() == [0, 1]
+//! graph.unmet(0) == [Need::At { rank: 1, place: 1 }]
+//! graph.causes() == [Cause::Cycle([0, 1])]
+//! ```
 #![tactic(auto)]
 
 pub mod cause;
 pub mod finding;
+pub mod graph;
+#[cfg(test)]
+mod tests;
+pub mod unmet;
+pub mod walk;

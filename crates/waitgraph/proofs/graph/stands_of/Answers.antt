@@ -1,0 +1,49 @@
+use Rattle.std.proofs.Common.{◌≡◌, ◌<◌, ◌≤◌, ℕ, suc, ◌+◌, Some, List, [], ◌∷◌, ◌++◌, length, take, sym, ap, ◌∙◌, arith}
+use Rattle.std.specs.List.{slice_get}
+use Rattle.std.proofs.lemmas.List.{take_all}
+use Rattle.std.proofs.lemmas.Option.{none-some, slice_get-get_or, slice_get_within, get_or_from_slice_get}
+use Rattle.std.proofs.Math.Seq.{take-suc}
+use Rattle.mpigroup.specs.Groups.{Groups, ranks_of}
+use Rattle.pairing.specs.Recordings.{Lists}
+use Rattle.moves.specs.Needs.{can_move}
+use Rattle.moves.specs.Stands.{stands_of}
+use Rattle.moves.proofs.RunLemmas.{reached_ranks}
+use Rattle.moves.proofs.StandLemmas.{every_maximal_run_ends_at_the_stands}
+use Rattle.waitgraph.proofs.graph.stands_of.Goals.{in-Some+in_ok-push, in_default}
+use Rattle.waitgraph.proofs.graph.stands_of.Goals as goal
+
+-- there is a stand for each rank
+stand_for_each : (groups : Groups) (recording : Lists) → length (stands_of groups recording) ≡ length recording
+stand_for_each groups recording =
+    reached_ranks (can_move groups recording) (length recording) (stands_of groups recording) (every_maximal_run_ends_at_the_stands groups recording).1.is_reached
+
+one_more : (stands : List ℕ) (rank stand : ℕ) → slice_get stands rank ≡ Some stand → take rank stands ++ stand ∷ [] ≡ take (rank + 1) stands
+one_more stands rank stand h =
+    let within : rank < length stands = slice_get_within stands rank stand h in
+    let next : rank + 1 ≡ suc rank = omega arith in
+    rw (next, take-suc stands rank stand within, get_or_from_slice_get stands rank stand stand h)
+
+pub loop-rank-preserved : goal.loop-rank-preserved
+loop-rank-preserved c = record {
+  so_far =
+      elim c.match-stand.branch [
+        | in-Some+in_ok-push w ↦
+            ap (λ v. v.items) w.stands-is
+            ∙ w.in_ok-push.ensures.items
+            ∙ ap (λ (so_far : List ℕ). so_far ++ w.in-Some.stand ∷ []) c.loop-rank.invariant.so_far
+            ∙ one_more c.args.analyser.now.stands c.loop-rank.rank w.in-Some.stand (sym c.stand.ensures.value ∙ w.in-Some.is)
+        | in_default w ↦
+            let each : length c.args.analyser.now.stands ≡ length c.args.analyser.now.recording =
+            ap (λ (s : List ℕ). length s) c.stand.ensures.stands ∙ stand_for_each c.args.analyser.now.groups c.args.analyser.now.recording in
+            absurd (none-some _ (sym w.in_default.is ∙ c.stand.ensures.value ∙ slice_get-get_or c.args.analyser.now.stands c.loop-rank.rank 0 (omega (arith, each, c.head.ensures.ranks, ap ranks_of c.head.ensures.value, c.ranks-rank-end.ensures.value, c.loop-rank-test.true))))
+      ];
+  told = λ some. c.stand.ensures.stands;
+}
+
+pub returns : goal.returns
+returns c =
+    let told = c.loop-rank.invariant.told (omega (arith, c.ranks-rank-end.ensures.least, c.loop-rank-test.false)) in
+    let each : length c.args.analyser.now.stands ≡ length c.args.analyser.now.recording =
+    ap (λ (s : List ℕ). length s) told ∙ stand_for_each c.args.analyser.now.groups c.args.analyser.now.recording in
+    let whole : length c.args.analyser.now.stands ≤ c.loop-rank.rank = omega (arith, each, c.head.ensures.ranks, ap ranks_of c.head.ensures.value, c.ranks-rank-end.ensures.value, c.loop-rank-test.false) in
+    c.loop-rank.invariant.so_far ∙ take_all c.loop-rank.rank c.args.analyser.now.stands whole ∙ told

@@ -1,0 +1,8 @@
+use Rattle.std.proofs.Common.{◌≡◌, ◌++◌, map}
+use Rattle.std.specs.List.{filter_map, range_with_len}
+use Rattle.waitgraph.specs.Causes.{view_of, cycle_at}
+use Rattle.waitgraph.proofs.walk.add_cycles.Given as goal
+
+-- the cycles of the ranks so far
+abbrev pub invariant-loop-rank : goal.invariant-loop-rank
+invariant-loop-rank l = map view_of l.causes.items ≡ map view_of l.fn.causes.items ++ filter_map (cycle_at l.waits) (range_with_len 0 l.rank)

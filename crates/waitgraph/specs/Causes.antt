@@ -1,0 +1,132 @@
+-- Why ranks are stuck. A stuck rank waits by its first unmet need alone, for another rank or for a call that
+-- another rank lacks. The walk from rank to rank by these needs comes to a cycle of ranks or to a call that
+-- is missing: that is the cause.
+use Rattle.std.specs.Prelude.{◌≡◌, ℕ, zero, suc, ◌+◌, ◌-◌, ◌<◌, ◌≤◌, ◌==◌, true, nat_le, if◌then◌else◌, Option, Some, None, option_map, option_and_then, unwrap_or, List, [], ◌∷◌, ◌++◌, length, map, slice_get}
+use Rattle.std.specs.List.{list_all, filter_map, range_with_len}
+use Rattle.mpigroup.specs.Groups.{Groups}
+use Rattle.pairing.specs.Recordings.{Lists, IsClosed}
+use Rattle.moves.specs.Runs.{State}
+use Rattle.moves.specs.Stands.{stands_of}
+use Rattle.moves.specs.declared.need.Need.{Need}
+use Rattle.moves.specs.declared.need.Need.TheVariants.{At, Lacking}
+use Rattle.waitgraph.specs.Stuck.{is_stuck, unmet_at}
+use Rattle.waitgraph.specs.declared.cause.Cause.{Cause}
+use Rattle.waitgraph.specs.declared.cause.Cause.TheVariants.{Cycle, Missing}
+
+-- what contracts see of a cause: the ranks of a cycle, or the rank that waits and the peer that lacks the call
+pub data CauseView : Type 0 where
+  CycleOf : List ℕ → CauseView
+  MissingOf : ℕ → ℕ → CauseView
+
+abbrev pub view_of : Cause → CauseView
+view_of (Cycle ranks) = CycleOf ranks.items
+view_of (Missing rank peer) = MissingOf rank peer
+
+-- what each rank waits for: its unmet needs
+abbrev pub Waits : Type 0
+Waits = List (List Need)
+
+-- the unmet needs of each rank in a state
+abbrev pub waits_at : Groups → Lists → State → Waits
+waits_at groups recording stands = map (unmet_at groups recording stands) (range_with_len 0 (length recording))
+
+-- and at the stands
+abbrev pub waits_of : Groups → Lists → Waits
+waits_of groups recording = waits_at groups recording (stands_of groups recording)
+
+-- the unmet needs of a rank; none where there is no such rank
+abbrev pub needs_in : Waits → ℕ → List Need
+needs_in waits rank = unwrap_or (slice_get waits rank) []
+
+-- the rank whose call is needed
+abbrev pub awaited : Need → Option ℕ
+awaited (At rank place) = Some rank
+awaited (Lacking rank) = None
+
+-- the rank that lacks the call which is needed
+abbrev pub lacking : Need → Option ℕ
+lacking (At rank place) = None
+lacking (Lacking rank) = Some rank
+
+-- the first of a rank's unmet needs
+abbrev pub first_in : Waits → ℕ → Option Need
+first_in waits rank = slice_get (needs_in waits rank) 0
+
+-- the rank for which a rank waits by its first unmet need
+abbrev pub next_in : Waits → ℕ → Option ℕ
+next_in waits rank = option_and_then awaited (first_in waits rank)
+
+-- the rank that lacks the call for which a rank waits by its first unmet need
+abbrev pub lacks_in : Waits → ℕ → Option ℕ
+lacks_in waits rank = option_and_then lacking (first_in waits rank)
+
+-- the ranks of the walk from a rank until it comes to `home`; None where it does not within so many steps
+abbrev pub way_home : Waits → ℕ → ℕ → ℕ → Option (List ℕ)
+way_home waits zero home rank = None
+way_home waits (suc most) home rank =
+    option_and_then (λ next. if next == home then Some (rank ∷ []) else option_map (λ ranks. rank ∷ ranks) (way_home waits most home next)) (next_in waits rank)
+
+-- the cycle of ranks
+abbrev pub cycle_by : ℕ → List ℕ → Option CauseView
+cycle_by rank ranks = if list_all (nat_le rank) ranks then Some (CycleOf ranks) else None
+
+-- the cycle whose lowest rank is the given one: the walk from it comes back to it and goes by no lower rank
+abbrev pub cycle_at : Waits → ℕ → Option CauseView
+cycle_at waits rank = option_and_then (cycle_by rank) (way_home waits (length waits) rank rank)
+
+-- the missing call for which the rank waits by its first unmet need
+abbrev pub missing_at : Waits → ℕ → Option CauseView
+missing_at waits rank = option_map (MissingOf rank) (lacks_in waits rank)
+
+-- the cycles by their lowest rank, and then the missing calls by the rank that waits
+abbrev pub causes_in : Waits → List CauseView
+causes_in waits =
+    filter_map (cycle_at waits) (range_with_len 0 (length waits)) ++ filter_map (missing_at waits) (range_with_len 0 (length waits))
+
+-- the causes of a recording
+abbrev pub causes_of : Groups → Lists → List CauseView
+causes_of groups recording = causes_in (waits_of groups recording)
+
+-- the rank to which the walk from a rank comes after so many steps
+abbrev pub after : Waits → ℕ → ℕ → Option ℕ
+after waits zero rank = Some rank
+after waits (suc steps) rank = option_and_then (after waits steps) (next_in waits rank)
+
+-- A cycle: distinct ranks, each of which waits for the next one and the last for the first, written from the
+-- lowest on.
+pub record IsCycle (waits : Waits) (ranks : List ℕ) : Type 0 where
+  pub is_some : 0 < length ranks
+  pub waits_for_next : (index rank next : ℕ) → slice_get ranks index ≡ Some rank → slice_get ranks (index + 1) ≡ Some next → next_in waits rank ≡ Some next
+  pub last_waits_for_first : (rank first : ℕ) → slice_get ranks (length ranks - 1) ≡ Some rank → slice_get ranks 0 ≡ Some first → next_in waits rank ≡ Some first
+  pub are_distinct : (index other rank : ℕ) → slice_get ranks index ≡ Some rank → slice_get ranks other ≡ Some rank → index ≡ other
+  pub first_is_lowest : (index first rank : ℕ) → slice_get ranks 0 ≡ Some first → slice_get ranks index ≡ Some rank → first ≤ rank
+
+-- the walk is at its end: at the lowest rank of a cycle, or at a rank that waits for a missing call
+abbrev pub IsEnd : Waits → ℕ → CauseView → Type 0
+IsEnd waits rank (CycleOf ranks) = IsCycle waits ranks × (slice_get ranks 0 ≡ Some rank)
+IsEnd waits rank (MissingOf waiting peer) = (waiting ≡ rank) × (lacks_in waits rank ≡ Some peer)
+
+-- the walk from the rank comes to the cause
+pub record EndsWith (waits : Waits) (rank : ℕ) (cause : CauseView) : Type 0 where
+  pub steps : ℕ
+  pub end : ℕ
+  pub comes_there : after waits steps rank ≡ Some end
+  pub is_end : IsEnd waits end cause
+
+-- the cause stands in the list
+abbrev pub IsListed : CauseView → List CauseView → Type 0
+IsListed cause causes = (index : ℕ) × (slice_get causes index ≡ Some cause)
+
+-- the causes of a recording are those to which the walks from its stuck ranks come, each listed once
+pub record TellsCauses (groups : Groups) (recording : Lists) : Type 0 where
+  pub each_walk_ends : (rank : ℕ) → rank < length recording → is_stuck groups recording rank ≡ true →
+      (cause : CauseView) × IsListed cause (causes_of groups recording) × EndsWith (waits_of groups recording) rank cause
+  pub each_is_an_end : (cause : CauseView) → IsListed cause (causes_of groups recording) →
+      (rank : ℕ) × (rank < length recording) × (is_stuck groups recording rank ≡ true) × EndsWith (waits_of groups recording) rank cause
+  pub none_twice : (index other : ℕ) (cause : CauseView) →
+      slice_get (causes_of groups recording) index ≡ Some cause → slice_get (causes_of groups recording) other ≡ Some cause → index ≡ other
+
+-- Law: over every closed recording, the walk from each stuck rank comes to a cause that is listed, and each
+-- cause that is listed is one to which the walk from some stuck rank comes.
+abbrev pub WalksEndInTheCauses : Type 0
+WalksEndInTheCauses = (groups : Groups) (recording : Lists) → IsClosed recording → TellsCauses groups recording

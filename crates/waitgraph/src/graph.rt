@@ -1,0 +1,137 @@
+//! Who waits for whom where the ranks stand, and why.
+
+ghost use Rattle.std.specs.Prelude.{◌≡◌, ◌<◌, ℕ, length, map, IfOk, OnOk};
+ghost use Rattle.pairing.specs.Recordings.{IsClosed};
+ghost use Rattle.moves.specs.Stands.{stands_of};
+ghost use Rattle.waitgraph.specs.Stuck.{is_stuck_at, stuck_at, stuck_of, unmet_of};
+ghost use Rattle.waitgraph.specs.Causes.{view_of, waits_at, needs_in, causes_in, causes_of};
+
+use crate::cause::Cause;
+use crate::unmet::{Unmet, stand_of, unmet_at};
+use crate::walk::causes_in;
+use moves::analyser::Analyser;
+use moves::need::Need;
+use pairing::pairs::Pairs;
+use std::alloc::{AllocError, Global};
+use std::marker::Model;
+
+/// Who waits for whom where the ranks of a run stand, and why. Contracts see the stuck ranks, each rank's
+/// unmet needs and the causes.
+#[derive(Drop)]
+pub struct Graph {
+    stuck: Vec<u16>,
+    waits: Vec<Unmet>,
+    causes: Vec<Cause>,
+}
+
+impl Model for Graph {
+    ghost use Rattle.std.specs.Prelude.{map};
+    ghost use Rattle.waitgraph.specs.Causes.{view_of};
+    ghost use Rattle.waitgraph.specs.Graphs.{Waiting};
+
+    ghost Value = { Waiting };
+
+    ghost view = { λ g. record { stuck = g.stuck.items; waits = g.waits.items; causes = map view_of g.causes.items } };
+}
+
+/// Whether the rank's present call isn't its Finalize.
+fn is_stuck_at(pairs: &Pairs, stands: &[u32], rank: u16) -> bool
+    ensures { result ≡ is_stuck_at pairs.now.recording stands.now rank }
+{
+    match pairs.call(rank, stand_of(stands, rank)) {
+        Some(call) => !call.is_finalize(),
+        None => true,
+    }
+}
+
+fn stuck_at(alloc: Global, pairs: &Pairs, stands: &[u32]) -> Result<Vec<u16>, AllocError>
+    ensures { IfOk result (λ stuck. stuck.items ≡ stuck_at pairs.now.recording stands.now) }
+{
+    let mut stuck = Vec::new(alloc);
+    for rank in 0..pairs.head().ranks() {
+        if is_stuck_at(pairs, stands, rank) {
+            stuck.push(rank)?;
+        }
+    }
+    Ok(stuck)
+}
+
+fn waits_at(alloc: Global, pairs: &Pairs, stands: &[u32]) -> Result<Vec<Unmet>, AllocError>
+    ensures value { IfOk result (λ waits. waits.items ≡ waits_at pairs.now.groups pairs.now.recording stands.now) }
+    ensures few { IfOk result (λ waits. length waits.items < 65536) }
+{
+    let mut waits = Vec::new(alloc);
+    for rank in 0..pairs.head().ranks() {
+        waits.push(unmet_at(alloc, pairs, stands, rank)?)?;
+    }
+    Ok(waits)
+}
+
+fn graph_at(alloc: Global, pairs: &Pairs, stands: &[u32]) -> Result<Graph, AllocError>
+    ensures stuck { IfOk result (λ graph. graph.stuck ≡ stuck_at pairs.now.recording stands.now) }
+    ensures waits { IfOk result (λ graph. graph.waits ≡ waits_at pairs.now.groups pairs.now.recording stands.now) }
+    ensures causes { IfOk result (λ graph. graph.causes ≡ causes_in (waits_at pairs.now.groups pairs.now.recording stands.now)) }
+{
+    let stuck = stuck_at(alloc, pairs, stands)?;
+    let waits = waits_at(alloc, pairs, stands)?;
+    let causes = causes_in(alloc, &waits)?;
+    Ok(Graph {
+        stuck,
+        waits,
+        causes,
+    })
+}
+
+/// The ranks' stands.
+fn stands_of(alloc: Global, analyser: &Analyser) -> Result<Vec<u32>, AllocError>
+    ensures { IfOk result (λ stands. stands.items ≡ stands_of analyser.now.groups analyser.now.recording) }
+{
+    let mut stands = Vec::new(alloc);
+    for rank in 0..analyser.head().ranks() {
+        if let Some(stand) = analyser.stand(rank) {
+            stands.push(stand)?;
+        }
+    }
+    Ok(stands)
+}
+
+impl Graph {
+    /// The wait graph of a run whose calls were all accepted. It takes memory for each rank and each unmet
+    /// need, and no time for each call.
+    pub fn of(alloc: Global, analyser: &Analyser) -> Result<Graph, AllocError>
+        requires { IsClosed analyser.now.recording }
+        ensures stuck { IfOk result (λ graph. graph.stuck ≡ stuck_of analyser.now.groups analyser.now.recording) }
+        ensures unmet { IfOk result (λ graph. (rank : ℕ) → needs_in graph.waits rank ≡ unmet_of analyser.now.groups analyser.now.recording rank) }
+        ensures causes { IfOk result (λ graph. graph.causes ≡ causes_of analyser.now.groups analyser.now.recording) }
+    {
+        let stands = stands_of(alloc, analyser)?;
+        let graph = graph_at(alloc, analyser.pairs(), &stands)?;
+        Ok(graph)
+    }
+
+    /// The ranks whose present call isn't their Finalize, rising.
+    pub fn stuck(&self) -> &[u16]
+        ensures { result.now ≡ self.now.stuck }
+    {
+        self.stuck.as_slice()
+    }
+
+    /// What the rank's present call needs and isn't met, by rank and place; nothing where the rank isn't
+    /// stuck.
+    pub fn unmet(&self, rank: u16) -> &[Need]
+        ensures { result.now ≡ needs_in self.now.waits rank }
+    {
+        match self.waits.get(usize::from(rank)) {
+            Some(unmet) => unmet.needs(),
+            None => &[],
+        }
+    }
+
+    /// Why ranks are stuck: the cycles by their lowest rank, and then the missing calls by the rank that
+    /// waits.
+    pub fn causes(&self) -> &[Cause]
+        ensures { map view_of result.now ≡ self.now.causes }
+    {
+        self.causes.as_slice()
+    }
+}

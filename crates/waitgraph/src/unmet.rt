@@ -1,0 +1,353 @@
+//! Needs that aren't met where the ranks stand.
+
+ghost use Rattle.std.specs.Prelude.{◌≡◌, ◌≤◌, ◌<◌, [], ◌∷◌, Some, true, false, not, length, map, take, flat_map, slice_get, slice_index, IfOk, IfSome, OnOk};
+ghost use Rattle.std.specs.List.{filter, list_all};
+ghost use Rattle.std.specs.Option.{option_map_or};
+ghost use Rattle.mpigroup.specs.Groups.{group_of};
+ghost use Rattle.pairing.specs.Recordings.{calls_of};
+ghost use Rattle.pairing.specs.Requests.{completes};
+ghost use Rattle.pairing.specs.Pairs.{completed_of};
+ghost use Rattle.moves.specs.Needs.{world_of, half_need, half_needs, member_need, wave_needs, is_buffered, operation_needs, operation_needs_at, request_needs, needs_of_call, needs_of};
+ghost use Rattle.waitgraph.specs.Stuck.{comes_before, with_need, with_needs, is_unmet, unmet_at, UnmetNeedsAreToldInOrder, StuckRanksWaitForStuckRanks};
+
+use moves::need::{Need, is_met};
+use mpicall::call::Mode;
+use mpigroup::head::Head;
+use pairing::envelope::{Half, Message};
+use pairing::pairs::Pairs;
+use pairing::stored::StoredCall;
+use std::alloc::{AllocError, Global};
+use std::marker::Model;
+
+/// Whether the one need comes before the other: needs are ordered by rank and then by place, and what a
+/// rank lacks comes behind its calls.
+fn comes_before(need: &Need, other: &Need) -> bool
+    ensures { result ≡ comes_before need.now other.now }
+{
+    match (*need, *other) {
+        (Need::At { rank, place }, Need::At { rank: r, place: p }) => {
+            rank < r || (rank == r && place < p)
+        }
+        (Need::At { rank, .. }, Need::Lacking { rank: r }) => rank <= r,
+        (Need::Lacking { rank }, Need::At { rank: r, .. } | Need::Lacking { rank: r }) => rank < r,
+    }
+}
+
+/// The place of the first of the needs that doesn't come before the need; their number where all do.
+fn place_among(needs: &[Need], need: &Need) -> usize
+    ensures most { result ≤ length needs.now }
+    ensures before { list_all (λ other. comes_before other need.now) (take result needs.now) ≡ true }
+    ensures next { IfSome (slice_get needs.now result) (λ other. comes_before other need.now ≡ false) }
+{
+    for (place, other) in needs.iter().enumerate() {
+        if !comes_before(other, need) {
+            return place;
+        }
+    }
+    needs.len()
+}
+
+/// Whether the need at the place comes behind the need; so it is where there is none.
+fn is_behind(needs: &[Need], place: usize, need: &Need) -> bool
+    ensures { result ≡ option_map_or (comes_before need.now) (slice_get needs.now place) true }
+{
+    match needs.get(place) {
+        Some(other) => comes_before(need, other),
+        None => true,
+    }
+}
+
+/// Needs in order, each once. Contracts see their list.
+#[derive(Drop)]
+pub(crate) struct Unmet {
+    needs: Vec<Need>,
+}
+
+impl Model for Unmet {
+    ghost use Rattle.std.specs.Prelude.{◌≡◌, true, List};
+    ghost use Rattle.moves.specs.declared.need.Need.{Need};
+    ghost use Rattle.waitgraph.specs.Stuck.{are_in_order};
+
+    ghost Value = { List Need };
+
+    ghost view = { λ u. u.needs.items };
+
+    ghost invariant = { λ u. are_in_order u.needs.items ≡ true };
+}
+
+impl Unmet {
+    pub(crate) fn new(alloc: Global) -> Unmet
+        ensures { result ≡ [] }
+    {
+        Unmet {
+            needs: Vec::new(alloc),
+        }
+    }
+
+    pub(crate) fn needs(&self) -> &[Need]
+        ensures { result.now ≡ self.now }
+    {
+        self.needs.as_slice()
+    }
+
+    fn add(&mut self, need: Need) -> Result<(), AllocError>
+        ensures { OnOk result (self.new ≡ with_need self.old need) }
+    {
+        let place = place_among(&self.needs, &need);
+        if is_behind(&self.needs, place, &need) {
+            self.needs.insert(place, need)?;
+        }
+        Ok(())
+    }
+}
+
+fn add_unmet(unmet: &mut Unmet, stands: &[u32], need: Need) -> Result<(), AllocError>
+    ensures { OnOk result (unmet.new ≡ with_needs unmet.old (filter (is_unmet stands.now) (need ∷ []))) }
+{
+    if is_met(stands, &need) {
+        Ok(())
+    } else {
+        unmet.add(need)
+    }
+}
+
+fn world_of(head: &Head, comm: u16, peer: u16) -> u16
+    ensures { result ≡ world_of head.now comm peer }
+{
+    head.world_rank(comm, peer).unwrap_or(peer)
+}
+
+/// What a message needs by one of its halves.
+fn half_need(pairs: &Pairs, rank: u16, place: u32, half: Half, message: &Message) -> Need
+    ensures { result ≡ half_need pairs.now.groups pairs.now.recording rank place half message.now }
+{
+    match pairs.partner(rank, place, half) {
+        Some((other, there)) => Need::At {
+            rank: other,
+            place: there,
+        },
+        None => Need::Lacking {
+            rank: world_of(pairs.head(), message.comm, message.peer),
+        },
+    }
+}
+
+fn add_half_needs(
+    unmet: &mut Unmet,
+    pairs: &Pairs,
+    stands: &[u32],
+    rank: u16,
+    place: u32,
+    half: Half,
+    call: &StoredCall<'_>,
+) -> Result<(), AllocError>
+    ensures { OnOk result (unmet.new ≡ with_needs unmet.old (filter (is_unmet stands.now) (half_needs pairs.now.groups pairs.now.recording rank place half call.now))) }
+{
+    match call.message(half) {
+        Some(message) => {
+            let need = half_need(pairs, rank, place, half, &message);
+            add_unmet(unmet, stands, need)
+        }
+        None => Ok(()),
+    }
+}
+
+/// What a wave needs of a member, by its rank in the group and its rank of the world.
+fn member_need(pairs: &Pairs, comm: u16, wave: u32, g: u16, member: u16) -> Need
+    requires { slice_get (group_of pairs.now.groups comm) g ≡ Some member }
+    ensures { result ≡ member_need pairs.now.recording comm wave member }
+{
+    match pairs.member(comm, wave, g) {
+        Some(place) => Need::At {
+            rank: member,
+            place,
+        },
+        None => Need::Lacking { rank: member },
+    }
+}
+
+fn members(head: &Head, comm: u16) -> u16
+    ensures { result ≡ length (group_of head.now comm) }
+{
+    head.size(comm).unwrap_or(0)
+}
+
+/// Adds what the wave still needs of each member of its communicator.
+fn add_member_needs(
+    unmet: &mut Unmet,
+    pairs: &Pairs,
+    stands: &[u32],
+    comm: u16,
+    wave: u32,
+) -> Result<(), AllocError>
+    ensures { OnOk result (unmet.new ≡ with_needs unmet.old (filter (is_unmet stands.now) (map (member_need pairs.now.recording comm wave) (group_of pairs.now.groups comm)))) }
+{
+    let head = pairs.head();
+    for g in 0..members(head, comm) {
+        if let Some(member) = head.world_rank(comm, g) {
+            let need = member_need(pairs, comm, wave, g, member);
+            add_unmet(unmet, stands, need)?;
+        }
+    }
+    Ok(())
+}
+
+fn add_wave_needs(
+    unmet: &mut Unmet,
+    pairs: &Pairs,
+    stands: &[u32],
+    rank: u16,
+    place: u32,
+) -> Result<(), AllocError>
+    ensures { OnOk result (unmet.new ≡ with_needs unmet.old (filter (is_unmet stands.now) (wave_needs pairs.now.groups pairs.now.recording rank place))) }
+{
+    match pairs.wave_of(rank, place) {
+        Some((comm, wave)) => add_member_needs(unmet, pairs, stands, comm, wave),
+        None => Ok(()),
+    }
+}
+
+fn is_buffered(call: &StoredCall<'_>) -> bool
+    ensures { result ≡ is_buffered call.now }
+{
+    matches!(call.mode(), Some(Mode::Buffered))
+}
+
+/// Adds what the operation of the call at the place still needs before it is done.
+fn add_operation_needs(
+    unmet: &mut Unmet,
+    pairs: &Pairs,
+    stands: &[u32],
+    rank: u16,
+    place: u32,
+    call: &StoredCall<'_>,
+) -> Result<(), AllocError>
+    ensures { OnOk result (unmet.new ≡ with_needs unmet.old (filter (is_unmet stands.now) (operation_needs pairs.now.groups pairs.now.recording rank place call.now))) }
+{
+    if !is_buffered(call) {
+        add_half_needs(unmet, pairs, stands, rank, place, Half::Send, call)?;
+    }
+    add_half_needs(unmet, pairs, stands, rank, place, Half::Recv, call)?;
+    add_wave_needs(unmet, pairs, stands, rank, place)
+}
+
+/// Adds the same of the call that started a request.
+fn add_start_needs(
+    unmet: &mut Unmet,
+    pairs: &Pairs,
+    stands: &[u32],
+    rank: u16,
+    start: u32,
+) -> Result<(), AllocError>
+    ensures { OnOk result (unmet.new ≡ with_needs unmet.old (filter (is_unmet stands.now) (operation_needs_at pairs.now.groups pairs.now.recording rank start))) }
+{
+    match pairs.call(rank, start) {
+        Some(call) => add_operation_needs(unmet, pairs, stands, rank, start, &call),
+        None => Ok(()),
+    }
+}
+
+/// Adds the same of the request with that index among those that the wait at the place completes.
+fn add_request_needs(
+    unmet: &mut Unmet,
+    pairs: &Pairs,
+    stands: &[u32],
+    rank: u16,
+    place: u32,
+    index: usize,
+) -> Result<(), AllocError>
+    ensures { OnOk result (unmet.new ≡ with_needs unmet.old (filter (is_unmet stands.now) (option_map_or (operation_needs_at pairs.now.groups pairs.now.recording rank) (completed_of pairs.now.recording rank place index) []))) }
+{
+    match pairs.completed(rank, place, index) {
+        Some(start) => add_start_needs(unmet, pairs, stands, rank, start),
+        None => Ok(()),
+    }
+}
+
+/// Adds the same of each request that the call at the place completes.
+fn add_completed_needs(
+    unmet: &mut Unmet,
+    pairs: &Pairs,
+    stands: &[u32],
+    rank: u16,
+    place: u32,
+    call: &StoredCall<'_>,
+) -> Result<(), AllocError>
+    requires { slice_get (calls_of pairs.now.recording rank) place ≡ Some call.now }
+    ensures { OnOk result (unmet.new ≡ with_needs unmet.old (filter (is_unmet stands.now) (flat_map (request_needs pairs.now.groups pairs.now.recording rank place) (completes call.now)))) }
+{
+    for index in 0..call.completed_count() {
+        add_request_needs(unmet, pairs, stands, rank, place, index)?;
+    }
+    Ok(())
+}
+
+/// Adds what the call at the place still needs: a call that starts a request needs nothing.
+fn add_needs_of_call(
+    unmet: &mut Unmet,
+    pairs: &Pairs,
+    stands: &[u32],
+    rank: u16,
+    place: u32,
+    call: &StoredCall<'_>,
+) -> Result<(), AllocError>
+    requires { slice_get (calls_of pairs.now.recording rank) place ≡ Some call.now }
+    ensures { OnOk result (unmet.new ≡ with_needs unmet.old (filter (is_unmet stands.now) (needs_of_call pairs.now.groups pairs.now.recording rank place call.now))) }
+{
+    if call.starts().is_some() {
+        return Ok(());
+    }
+    add_operation_needs(unmet, pairs, stands, rank, place, call)?;
+    add_completed_needs(unmet, pairs, stands, rank, place, call)
+}
+
+/// Adds what the rank's call at the place still needs; nothing where there is no such call.
+fn add_needs(
+    unmet: &mut Unmet,
+    pairs: &Pairs,
+    stands: &[u32],
+    rank: u16,
+    place: u32,
+) -> Result<(), AllocError>
+    ensures { OnOk result (unmet.new ≡ with_needs unmet.old (filter (is_unmet stands.now) (needs_of pairs.now.groups pairs.now.recording rank place))) }
+{
+    match pairs.call(rank, place) {
+        Some(call) => add_needs_of_call(unmet, pairs, stands, rank, place, &call),
+        None => Ok(()),
+    }
+}
+
+pub(crate) fn stand_of(stands: &[u32], rank: u16) -> u32
+    ensures { result ≡ slice_index stands.now rank }
+{
+    match stands.get(usize::from(rank)) {
+        Some(stand) => *stand,
+        None => 0,
+    }
+}
+
+/// The unmet needs of the rank's present call.
+pub(crate) fn unmet_at(
+    alloc: Global,
+    pairs: &Pairs,
+    stands: &[u32],
+    rank: u16,
+) -> Result<Unmet, AllocError>
+    ensures { IfOk result (λ unmet. unmet ≡ unmet_at pairs.now.groups pairs.now.recording stands.now rank) }
+{
+    let mut unmet = Unmet::new(alloc);
+    add_needs(&mut unmet, pairs, stands, rank, stand_of(stands, rank))?;
+    Ok(unmet)
+}
+
+/// The unmet needs of a rank are those needs of its present call that aren't met at the stands, and each
+/// comes before those behind it, so none is listed twice. It has no premise.
+pub fn unmet_needs_are_told_in_order()
+    ensures { UnmetNeedsAreToldInOrder }
+{}
+
+/// A stuck rank of a closed recording has an unmet need, a rank that isn't stuck has none, and a rank whose
+/// call is needed and not reached is stuck itself.
+pub fn stuck_ranks_wait_for_stuck_ranks()
+    ensures { StuckRanksWaitForStuckRanks }
+{}
