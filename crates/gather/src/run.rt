@@ -19,10 +19,7 @@ use mpigroup::head::Head;
 use std::alloc::Global;
 
 /// Reads the sources in rank order, each to its end, and stops at the first fault.
-fn read_ranks<I: Input>(
-    analyser: &mut Analyser,
-    sources: &mut [Source<I>],
-) -> Result<(), RunFault>
+fn read_ranks<I: Input>(analyser: &mut Analyser, sources: &mut [Source<I>]) -> Result<(), RunFault>
     requires one_a_rank { length sources.old ≡ ranks_of analyser.old.groups }
     requires ranks { length analyser.old.recording ≡ ranks_of analyser.old.groups }
     requires none { (rank : ℕ) → calls_of analyser.old.recording rank ≡ [] }
