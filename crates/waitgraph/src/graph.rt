@@ -96,8 +96,9 @@ fn stands_of(alloc: Global, analyser: &Analyser) -> Result<Vec<u32>, AllocError>
 }
 
 impl Graph {
-    /// The wait graph of a run whose calls were all accepted. It takes memory for each rank and each unmet
-    /// need, and no time for each call.
+    /// The wait graph of a run whose calls were all accepted. It asks for each rank what its present call
+    /// needs and walks from each rank once; it takes memory for the stuck ranks, their unmet needs and the
+    /// causes.
     pub fn of(alloc: Global, analyser: &Analyser) -> Result<Graph, AllocError>
         requires { IsClosed analyser.now.recording }
         ensures stuck { IfOk result (λ graph. graph.stuck ≡ stuck_of analyser.now.groups analyser.now.recording) }
