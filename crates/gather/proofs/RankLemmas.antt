@@ -1,5 +1,5 @@
 -- How the trace of a source goes on behind the calls that were read of it.
-use Rattle.std.proofs.Common.{◌≡◌, ◌≢◌, ℕ, ◌+◌, ◌-◌, ◌<◌, Bool, true, false, List, [], ◌∷◌, ◌++◌, length, sym, ap, subst, ◌∙◌, refl, arith, Option, Some, None, Ok, Err, append_assoc, append-nil, length-set}
+use Rattle.std.proofs.Common.{◌≡◌, ◌≢◌, ℕ, zero, suc, ◌+◌, ◌-◌, ◌<◌, Bool, true, false, List, [], ◌∷◌, ◌++◌, replicate, length, sym, ap, subst, ◌∙◌, refl, arith, Option, Some, None, Ok, Err, append_assoc, append-nil, length-set}
 use Rattle.std.proofs.lemmas.List.{length_push}
 use Rattle.std.specs.Prelude.{⊤}
 use Rattle.mpicall.specs.Trace.{Trace, End, Sealed, Torn, put_first, ends_here}
@@ -129,3 +129,9 @@ pub source_refused : (groups : Groups) (rank : ℕ) (told now next : Option Trac
 source_refused groups rank None now next calls fault c gives = (refl, tt)
 source_refused groups rank (Some whole) now next calls fault c gives =
     (refl, λ own. torn groups rank whole calls c.0 fault c.2 (told_end now next c.0 fault c.1 own gives))
+
+-- where no rank has a call, none has
+pub none_of_any : (ranks rank : ℕ) → calls_of (replicate ranks []) rank ≡ []
+none_of_any zero rank = refl
+none_of_any (suc ranks) zero = refl
+none_of_any (suc ranks) (suc rank) = none_of_any ranks rank

@@ -5,8 +5,14 @@ use Rattle.moves.specs.Verdicts.{verdict_of, SomeRankIsStuck}
 use Rattle.moves.specs.declared.verdict.Verdict.TheVariants.{Hang}
 use Rattle.gather.specs.Told.{RefusesOver}
 use Rattle.gather.specs.Ranks.{told_by, AcceptsAll}
+use Rattle.pairing.specs.Recordings.{Lists, calls_of}
+use Rattle.gather.proofs.RankLemmas.{none_of_any}
 use Rattle.gather.proofs.RunLemmas.{verdict_over, refused_over}
 use Rattle.gather.proofs.run.run.Goals as goal
+
+pub read_ranks-requires-clause-none : goal.read_ranks-requires-clause-none
+read_ranks-requires-clause-none g c = λ rank.
+    ap (λ (lists : Lists). calls_of lists rank) c.in-Ok.ensures.recording ∙ none_of_any (ranks_of c.args.head) rank
 
 pub returns-in-Err-clause-refused : goal.returns-in-Err-clause-refused
 returns-in-Err-clause-refused g c = λ traces tells.
