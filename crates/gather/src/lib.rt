@@ -18,7 +18,7 @@
 //! ```text
 //! let head = Head::read(b"ranks 1\n")?;
 //! let mut sources = vec![in alloc; Source::new(MemoryInput::new(b"finalize\n"))]?;
-//! let verdict = run(alloc, &head, sources.as_mut_slice(), &mut output)?;
+//! let verdict = run(alloc, head, sources.as_mut_slice(), &mut output)?;
 //! ```
 #![tactic(auto)]
 

@@ -1,7 +1,7 @@
 //! Envelopes of messages, and the halves of calls that send and receive them.
 
 ghost use Rattle.std.specs.Prelude.{◌≡◌, Some};
-ghost use Rattle.pairing.specs.Envelopes.{other_half, message_of, envelope_by, envelope_of, rank_of_half, has_envelope};
+ghost use Rattle.pairing.specs.Envelopes.{other_half, message_of, envelope_by, envelope_of, rank_of_half};
 
 use mpicall::call::{Call, Peer};
 use mpicall::record::Record;
@@ -147,15 +147,5 @@ pub fn rank_of_half(head: &Head, half: Half, envelope: &Envelope) -> Option<u16>
     match half {
         Half::Send => head.world_rank(envelope.comm, envelope.source),
         Half::Recv => head.world_rank(envelope.comm, envelope.dest),
-    }
-}
-
-/// Whether that half of the rank's call has the envelope.
-pub fn has_envelope(head: &Head, rank: u16, half: Half, wanted: &Envelope, call: &Record) -> bool
-    ensures { result ≡ has_envelope head.now rank half wanted.now call.now }
-{
-    match envelope_of(head, rank, half, call) {
-        Some(envelope) => *wanted == envelope,
-        None => false,
     }
 }

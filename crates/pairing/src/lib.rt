@@ -1,28 +1,31 @@
-//! What the calls of a recording mean for one another: which send goes with which receive, which call
-//! started a request, which collectives belong together, which communicators a rank holds, and which
-//! calls a rank may not make.
+//! What the calls of a run mean for one another: which send goes with which receive, which call started a
+//! request, which collectives belong together, and which calls a rank may not make.
 //!
 //! What it promises, as contracts that are proved, by definitions of `specs/`:
 //!
-//! - `partner::partner` answers the partner of a half of a call (`Partners`): the first send of an envelope
-//!   goes with its first receive, the second with the second, in whatever form each is called.
-//! - `request::started_of` answers the call that started a request which a wait names (`Requests`).
-//! - `wave::wave_of` answers the wave that a collective joins, `wave::member_of` a member's call in a wave
-//!   and `wave::is_full` whether all have theirs (`Waves`): blocking and nonblocking ones count together.
-//! - `comm::holds` answers whether a rank holds a communicator after its calls (`Communicators`).
-//! - `fault::fault` answers the first fault of a call after the calls of its rank before it (`Faults`);
-//!   `fault::next_fault` the same where those before have no fault.
+//! - `pairs::Pairs` has the calls of all ranks, added one by one. `add` refuses a call exactly where it has a
+//!   fault after its rank's calls before it (`Faults`), with the first one, or where memory is wanted, and
+//!   then nothing has changed. Else it tells the partners and the wave of the call (`Pairs`).
+//! - `partner` answers the partner of a half of a call (`Partners`): the first send of an envelope goes with
+//!   its first receive, the second with the second, in whatever form each is called. `wave_of` answers the
+//!   wave that a collective joins, and `member` a member's call in a wave (`Waves`): blocking and nonblocking
+//!   ones count together. `started` and `completed` answer the call that started a request which a wait
+//!   names, or completes (`Requests`). No look-up takes memory or scans a list of calls.
 //! - Laws, each on a function that does nothing: partners are mutual, no two sends have one receive, and
 //!   messages of one envelope do not overtake; a wave has at most one call of each rank; in a list without
 //!   faults each request that a wait names has its start, and no request is started while it is active;
 //!   partners and waves stay as a recording goes on.
 //!
+//! A call takes 32 bytes with the numbers that its look-ups start from, and each request that a wait for
+//! several names 8 more; the tables have 4 for each half of a message and for each collective.
+//!
 //! ```text
-//! let mut recording = Recording::new(alloc, 2)?;
-//! recording.push(0, &isend)?;
-//! recording.push(1, &recv)?;
-//! partner(&head, &recording, 0, 0, Half::Send) == Some((1, 0))
-//! started_in(recording.of_rank(0), 7) == Some(0)
+//! let mut pairs = Pairs::new(alloc, head)?;
+//! pairs.add(0, 0, &isend)?;                               // rank 0: isend 7 0 1 5
+//! pairs.add(1, 0, &recv)?.recv == Some((0, 0))            // rank 1: recv 0 0 5
+//! pairs.partner(0, 0, Half::Send) == Some((1, 0))
+//! pairs.add(0, 1, &wait)?;                                // rank 0: wait 7
+//! pairs.started(0, 1, 7) == Some(0)
 //! ```
 #![tactic(auto)]
 

@@ -37,7 +37,7 @@ fn add(active: &mut Active, rank: u16, place: u32, call: &Record) -> Result<(), 
     Ok(())
 }
 
-// The table after calls of two ranks: request 7 of rank 0 is used again, and 8 is completed.
+// The table after calls of two ranks: of rank 0's requests one number is used again, another is completed.
 fn active_of_two(alloc: Global) -> Result<Active, Fail> {
     let mut active = Active::new(alloc);
     let rows = [
