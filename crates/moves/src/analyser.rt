@@ -51,7 +51,7 @@ fn next_place(pairs: &Pairs, rank: u16) -> u32
     pairs.accepted(rank).unwrap_or(0)
 }
 
-/// Whether the list of each rank is ended.
+/// Whether the list of each of the first ranks is ended.
 fn are_ended(pairs: &Pairs, ranks: u16) -> bool
     ensures { result ≡ list_all (λ rank. is_ended (calls_of pairs.now.recording rank)) (range_with_len 0 ranks) }
 {
