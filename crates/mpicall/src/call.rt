@@ -7,7 +7,7 @@ use crate::reqs::Reqs;
 pub enum Peer {
     /// A rank of the communicator's group.
     Rank(u16),
-    /// MPI_PROC_NULL: the call is done at once and meets nobody (MPI 4.0, section 3.10).
+    /// MPI_PROC_NULL: the call is done at once and meets nobody (MPI 4.0, section 3.11).
     Null,
 }
 

@@ -1,8 +1,8 @@
 -- Envelopes (MPI 4.0, section 3.2.3): a message carries its communicator, its source and destination,
 -- which are ranks of the communicator's group, and its tag. A call may have a half that sends a message
--- (section 3.2.1) and a half that receives one (section 3.2.4); MPI_Sendrecv has both (section 3.11). The
+-- (section 3.2.1) and a half that receives one (section 3.2.4); MPI_Sendrecv has both (section 3.10). The
 -- modes and the nonblocking forms send and receive alike (section 3.7: either form meets either). A call
--- whose peer is MPI_PROC_NULL has no message (section 3.10).
+-- whose peer is MPI_PROC_NULL has no message (section 3.11).
 use Rattle.std.specs.Prelude.{ℕ, ◌==◌, Bool, false, ◌&&◌, Option, Some, None, option_map, option_and_then}
 use Rattle.std.specs.Option.{option_map_or}
 use Rattle.mpicall.specs.declared.call.Peer.TheVariants.{Rank}

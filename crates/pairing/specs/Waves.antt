@@ -1,4 +1,4 @@
--- Waves. All members of a communicator call its collectives in one order (MPI 4.0, section 6.13), so the
+-- Waves. All members of a communicator call its collectives in one order (MPI 4.0, section 6.14), so the
 -- n-th one of each member belongs together: they are a wave. Blocking and nonblocking ones, and those that
 -- make a communicator, are counted together, which is the strict reading of that section.
 use Rattle.std.specs.Prelude.{◌≡◌, ℕ, ◌==◌, Bool, false, Option, Some, None, option_map, option_and_then, is_some, slice_get}
