@@ -350,30 +350,6 @@ fn reports_runs_of_every_kind(rt: HostRuntime) -> Result<(), Fail> {
     Ok(())
 }
 
-/// A line so many times, and then Finalize.
-fn repeated(alloc: Global, line: &str, times: u32) -> Result<String, Fail> {
-    let mut text = String::new(alloc);
-    for _ in 0..times {
-        text.push_str(line)?;
-    }
-    text.push_str("finalize\n")?;
-    Ok(text)
-}
-
-#[test]
-fn reports_a_run_of_many_calls(rt: HostRuntime) -> Result<(), Fail> {
-    let sends = repeated(rt.alloc(), "send 0 1 0\n", 1000)?;
-    let recvs = repeated(rt.alloc(), "recv 0 0 0\n", 1000)?;
-    let files = [
-        ("head", "ranks 2\n"),
-        ("r0", sends.as_str()),
-        ("r1", recvs.as_str()),
-    ];
-    let shown = told_of(&rt, &Shelf::of(&files), &["check", "head", "r0", "r1"], 0)?;
-    assert_eq!(rt; shown.as_str(), "verdict free\n");
-    Ok(())
-}
-
 /// Each of 64 ranks has the same trace.
 #[test]
 fn reports_a_run_of_many_ranks(rt: HostRuntime) -> Result<(), Fail> {
