@@ -5,6 +5,8 @@ pub mod OrderLemmas
 pub mod AddingLemmas
 pub mod AmongLemmas
 pub mod RangeLemmas
+pub mod LineLemmas
+pub mod JsonLemmas
 pub mod UnmetLemmas
 pub mod WalkLemmas
 pub mod PigeonLemmas
@@ -13,3 +15,5 @@ pub mod WalkLaws
 pub mod ListedLemmas
 pub mod CalledLemmas
 pub mod StuckLemmas
+pub mod SpelledLemmas
+pub mod TellingLemmas

@@ -1,9 +1,22 @@
 -- What contracts see of a wait graph.
-use Rattle.std.specs.Prelude.{ℕ, List}
-use Rattle.waitgraph.specs.Causes.{Waits, CauseView}
+use Rattle.std.specs.Prelude.{◌≡◌, ℕ, List}
+use Rattle.mpigroup.specs.Groups.{Groups}
+use Rattle.pairing.specs.Recordings.{Lists}
+use Rattle.waitgraph.specs.Causes.{Waits, CauseView, needs_in, causes_of}
+use Rattle.waitgraph.specs.Findings.{findings_of}
+use Rattle.waitgraph.specs.Stuck.{stuck_of, unmet_of}
+use Rattle.waitgraph.specs.declared.finding.Finding.{Finding}
 
--- the stuck ranks, the unmet needs of each rank, and the causes
+-- the stuck ranks, the unmet needs of each rank, the causes and the findings
 pub record Waiting : Type 0 where
   pub stuck : List ℕ
   pub waits : Waits
   pub causes : List CauseView
+  pub findings : List Finding
+
+-- the graph is that of the recording
+pub record IsGraphOf (groups : Groups) (recording : Lists) (graph : Waiting) : Type 0 where
+  pub stuck : graph.stuck ≡ stuck_of groups recording
+  pub unmet : (rank : ℕ) → needs_in graph.waits rank ≡ unmet_of groups recording rank
+  pub causes : graph.causes ≡ causes_of groups recording
+  pub findings : graph.findings ≡ findings_of groups recording

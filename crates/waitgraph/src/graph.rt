@@ -5,8 +5,10 @@ ghost use Rattle.pairing.specs.Recordings.{IsClosed};
 ghost use Rattle.moves.specs.Stands.{stands_of};
 ghost use Rattle.waitgraph.specs.Stuck.{is_stuck_at, stuck_at, stuck_of, unmet_of};
 ghost use Rattle.waitgraph.specs.Causes.{view_of, waits_at, needs_in, causes_in, causes_of};
+ghost use Rattle.waitgraph.specs.Findings.{findings_of};
 
 use crate::cause::Cause;
+use crate::finding::{Finding, findings};
 use crate::unmet::{Unmet, stand_of, unmet_at};
 use crate::walk::causes_in;
 use moves::analyser::Analyser;
@@ -15,13 +17,14 @@ use pairing::pairs::Pairs;
 use std::alloc::{AllocError, Global};
 use std::marker::Model;
 
-/// Who waits for whom where the ranks of a run stand, and why. Contracts see the stuck ranks, each rank's
-/// unmet needs and the causes.
+/// Who waits for whom where the ranks of a run stand, and why, and what else is wrong with the run. Contracts see
+/// the stuck ranks, each rank's unmet needs, the causes and the findings.
 #[derive(Drop)]
 pub struct Graph {
     stuck: Vec<u16>,
     waits: Vec<Unmet>,
     causes: Vec<Cause>,
+    findings: Vec<Finding>,
 }
 
 impl Model for Graph {
@@ -31,7 +34,7 @@ impl Model for Graph {
 
     ghost Value = { Waiting };
 
-    ghost view = { λ g. record { stuck = g.stuck.items; waits = g.waits.items; causes = map view_of g.causes.items } };
+    ghost view = { λ g. record { stuck = g.stuck.items; waits = g.waits.items; causes = map view_of g.causes.items; findings = g.findings.items } };
 }
 
 /// Whether the rank's present call isn't its Finalize.
@@ -71,14 +74,17 @@ fn graph_at(alloc: Global, pairs: &Pairs, stands: &[u32]) -> Result<Graph, Alloc
     ensures stuck { IfOk result (λ graph. graph.stuck ≡ stuck_at pairs.now.recording stands.now) }
     ensures waits { IfOk result (λ graph. graph.waits ≡ waits_at pairs.now.groups pairs.now.recording stands.now) }
     ensures causes { IfOk result (λ graph. graph.causes ≡ causes_in (waits_at pairs.now.groups pairs.now.recording stands.now)) }
+    ensures findings { IfOk result (λ graph. graph.findings ≡ findings_of pairs.now.groups pairs.now.recording) }
 {
     let stuck = stuck_at(alloc, pairs, stands)?;
     let waits = waits_at(alloc, pairs, stands)?;
     let causes = causes_in(alloc, &waits)?;
+    let findings = findings(alloc, pairs)?;
     Ok(Graph {
         stuck,
         waits,
         causes,
+        findings,
     })
 }
 
@@ -97,13 +103,14 @@ fn stands_of(alloc: Global, analyser: &Analyser) -> Result<Vec<u32>, AllocError>
 
 impl Graph {
     /// The wait graph of a run whose calls were all accepted. It asks for each rank what its present call
-    /// needs and walks from each rank once; it takes memory for the stuck ranks, their unmet needs and the
-    /// causes.
+    /// needs and walks from each rank once, and then looks at each call for what is wrong. It takes memory
+    /// for the stuck ranks, their unmet needs, the causes and the findings.
     pub fn of(alloc: Global, analyser: &Analyser) -> Result<Graph, AllocError>
         requires { IsClosed analyser.now.recording }
         ensures stuck { IfOk result (λ graph. graph.stuck ≡ stuck_of analyser.now.groups analyser.now.recording) }
         ensures unmet { IfOk result (λ graph. (rank : ℕ) → needs_in graph.waits rank ≡ unmet_of analyser.now.groups analyser.now.recording rank) }
         ensures causes { IfOk result (λ graph. graph.causes ≡ causes_of analyser.now.groups analyser.now.recording) }
+        ensures findings { IfOk result (λ graph. graph.findings ≡ findings_of analyser.now.groups analyser.now.recording) }
     {
         let stands = stands_of(alloc, analyser)?;
         let graph = graph_at(alloc, analyser.pairs(), &stands)?;
@@ -134,5 +141,11 @@ impl Graph {
         ensures { map view_of result.now ≡ self.now.causes }
     {
         self.causes.as_slice()
+    }
+    /// What else is wrong with the run, in the order of the report.
+    pub fn findings(&self) -> &[Finding]
+        ensures { result.now ≡ self.now.findings }
+    {
+        self.findings.as_slice()
     }
 }

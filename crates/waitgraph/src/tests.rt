@@ -10,6 +10,15 @@ use mpigroup::head::Head;
 use std::alloc::Global;
 use std::test::Fail;
 
+/// What a test owns, which one call drops: its proof at each exit is that call's.
+pub(crate) struct Kept<T>(pub(crate) T);
+
+impl<T: Drop> Drop for Kept<T> {
+    fn drop(self) {
+        let Kept(_) = self;
+    }
+}
+
 fn offer(analyser: &mut Analyser, rank: u16, call: &Record) -> Result<(), Fail> {
     if rank >= analyser.head().ranks() {
         return Err("more files than ranks".into());
@@ -18,21 +27,25 @@ fn offer(analyser: &mut Analyser, rank: u16, call: &Record) -> Result<(), Fail> 
 }
 
 /// The analyser of a run by its head and the ranks' files.
-fn analyser_of(alloc: Global, head: &str, files: &[&str]) -> Result<Analyser, Fail> {
-    let mut analyser = Analyser::new(alloc, Head::read(alloc, head.as_bytes())?)?;
+pub(crate) fn analyser_of(
+    alloc: Global,
+    head: &str,
+    files: &[&str],
+) -> Result<Kept<Analyser>, Fail> {
+    let mut analyser = Kept(Analyser::new(alloc, Head::read(alloc, head.as_bytes())?)?);
     for (rank, file) in files.iter().enumerate() {
         for line in file.split_inclusive('\n') {
             let call = read_line(line.as_bytes())?;
-            offer(&mut analyser, u16::try_from(rank)?, &call)?;
+            offer(&mut analyser.0, u16::try_from(rank)?, &call)?;
         }
     }
     Ok(analyser)
 }
 
-fn graph_of(alloc: Global, head: &str, files: &[&str]) -> Result<Graph, Fail> {
+fn graph_of(alloc: Global, head: &str, files: &[&str]) -> Result<Kept<Graph>, Fail> {
     let analyser = analyser_of(alloc, head, files)?;
-    if analyser.is_closed() {
-        Ok(Graph::of(alloc, &analyser)?)
+    if analyser.0.is_closed() {
+        Ok(Kept(Graph::of(alloc, &analyser.0)?))
     } else {
         Err("a rank has no Finalize".into())
     }
@@ -54,10 +67,10 @@ fn two_ranks_send_first(rt: HostRuntime) -> Result<(), Fail> {
         "send 0 0 0\nrecv 0 0 0\nfinalize\n",
     ];
     let graph = graph_of(rt.alloc(), "ranks 2\n", &files)?;
-    assert_eq!(rt; graph.stuck(), [0, 1].as_slice());
-    assert_eq!(rt; graph.unmet(0), [at(1, 1)].as_slice());
-    assert_eq!(rt; graph.unmet(1), [at(0, 1)].as_slice());
-    assert_eq!(rt; graph.causes(), [cycle(rt.alloc(), &[0, 1])?].as_slice());
+    assert_eq!(rt; graph.0.stuck(), [0, 1].as_slice());
+    assert_eq!(rt; graph.0.unmet(0), [at(1, 1)].as_slice());
+    assert_eq!(rt; graph.0.unmet(1), [at(0, 1)].as_slice());
+    assert_eq!(rt; graph.0.causes(), [cycle(rt.alloc(), &[0, 1])?].as_slice());
     Ok(())
 }
 
@@ -68,11 +81,11 @@ fn a_member_leaves_out_the_barrier(rt: HostRuntime) -> Result<(), Fail> {
         "ranks 2\n",
         &["barrier 0\nfinalize\n", "finalize\n"],
     )?;
-    assert_eq!(rt; graph.stuck(), [0].as_slice());
-    assert_eq!(rt; graph.unmet(0), [Need::Lacking { rank: 1 }].as_slice());
-    assert_eq!(rt; graph.unmet(1), [].as_slice());
+    assert_eq!(rt; graph.0.stuck(), [0].as_slice());
+    assert_eq!(rt; graph.0.unmet(0), [Need::Lacking { rank: 1 }].as_slice());
+    assert_eq!(rt; graph.0.unmet(1), [].as_slice());
     assert_eq!(rt;
-        graph.causes(),
+        graph.0.causes(),
         [Cause::Missing { rank: 0, peer: 1 }].as_slice()
     );
     Ok(())
@@ -86,12 +99,12 @@ fn a_walk_comes_to_a_missing_call(rt: HostRuntime) -> Result<(), Fail> {
         "recv 0 0 3\nsend 0 1 0\nfinalize\n",
     ];
     let graph = graph_of(rt.alloc(), "ranks 3\n", &files)?;
-    assert_eq!(rt; graph.stuck(), [0, 1, 2].as_slice());
-    assert_eq!(rt; graph.unmet(0), [at(1, 1)].as_slice());
-    assert_eq!(rt; graph.unmet(1), [at(2, 1)].as_slice());
-    assert_eq!(rt; graph.unmet(2), [Need::Lacking { rank: 0 }].as_slice());
+    assert_eq!(rt; graph.0.stuck(), [0, 1, 2].as_slice());
+    assert_eq!(rt; graph.0.unmet(0), [at(1, 1)].as_slice());
+    assert_eq!(rt; graph.0.unmet(1), [at(2, 1)].as_slice());
+    assert_eq!(rt; graph.0.unmet(2), [Need::Lacking { rank: 0 }].as_slice());
     assert_eq!(rt;
-        graph.causes(),
+        graph.0.causes(),
         [Cause::Missing { rank: 2, peer: 0 }].as_slice()
     );
     Ok(())
@@ -104,9 +117,9 @@ fn a_rank_waits_for_itself(rt: HostRuntime) -> Result<(), Fail> {
         "ranks 1\n",
         &["send 0 0 0\nrecv 0 0 0\nfinalize\n"],
     )?;
-    assert_eq!(rt; graph.stuck(), [0].as_slice());
-    assert_eq!(rt; graph.unmet(0), [at(0, 1)].as_slice());
-    assert_eq!(rt; graph.causes(), [cycle(rt.alloc(), &[0])?].as_slice());
+    assert_eq!(rt; graph.0.stuck(), [0].as_slice());
+    assert_eq!(rt; graph.0.unmet(0), [at(0, 1)].as_slice());
+    assert_eq!(rt; graph.0.causes(), [cycle(rt.alloc(), &[0])?].as_slice());
     Ok(())
 }
 
@@ -117,10 +130,10 @@ fn barriers_of_two_communicators_cross(rt: HostRuntime) -> Result<(), Fail> {
         "dup 0 1\nbarrier 1\nbarrier 0\nfinalize\n",
     ];
     let graph = graph_of(rt.alloc(), "ranks 2\ncomm 0 1\n", &files)?;
-    assert_eq!(rt; graph.stuck(), [0, 1].as_slice());
-    assert_eq!(rt; graph.unmet(0), [at(1, 2)].as_slice());
-    assert_eq!(rt; graph.unmet(1), [at(0, 2)].as_slice());
-    assert_eq!(rt; graph.causes(), [cycle(rt.alloc(), &[0, 1])?].as_slice());
+    assert_eq!(rt; graph.0.stuck(), [0, 1].as_slice());
+    assert_eq!(rt; graph.0.unmet(0), [at(1, 2)].as_slice());
+    assert_eq!(rt; graph.0.unmet(1), [at(0, 2)].as_slice());
+    assert_eq!(rt; graph.0.causes(), [cycle(rt.alloc(), &[0, 1])?].as_slice());
     Ok(())
 }
 
@@ -132,13 +145,13 @@ fn needs_stand_by_rank_and_place(rt: HostRuntime) -> Result<(), Fail> {
         "recv 0 1 5\nsend 0 0 0\nfinalize\n",
     ];
     let graph = graph_of(rt.alloc(), "ranks 3\n", &files)?;
-    assert_eq!(rt; graph.stuck(), [0, 1, 2].as_slice());
+    assert_eq!(rt; graph.0.stuck(), [0, 1, 2].as_slice());
     assert_eq!(rt;
-        graph.unmet(0),
+        graph.0.unmet(0),
         [at(1, 1), at(1, 2), Need::Lacking { rank: 1 }, at(2, 1)].as_slice()
     );
     assert_eq!(rt;
-        graph.causes(),
+        graph.0.causes(),
         [
             Cause::Missing { rank: 1, peer: 2 },
             Cause::Missing { rank: 2, peer: 1 }
@@ -164,6 +177,6 @@ fn cycles_are_told_from_the_lowest_rank(rt: HostRuntime) -> Result<(), Fail> {
         cycle(rt.alloc(), &[1, 4])?,
         Cause::Missing { rank: 5, peer: 4 },
     ];
-    assert_eq!(rt; graph.causes(), wanted.as_slice());
+    assert_eq!(rt; graph.0.causes(), wanted.as_slice());
     Ok(())
 }

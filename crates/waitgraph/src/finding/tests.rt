@@ -1,6 +1,7 @@
 //! Recorded runs with their findings, taken by hand from the rules.
 
 use crate::finding::{Finding, findings};
+use crate::tests::Kept;
 use mpicall::line::read_line;
 use mpicall::record::Record;
 use mpicall::word::{Collective, Operation, Word};
@@ -29,17 +30,17 @@ fn add(pairs: &mut Pairs, rank: u16, call: &Record) -> Result<(), Fail> {
 }
 
 fn findings_in(alloc: Global, head: &str, files: &[&str]) -> Result<Vec<Finding>, Fail> {
-    let mut pairs = Pairs::new(alloc, Head::read(alloc, head.as_bytes())?)?;
+    let mut pairs = Kept(Pairs::new(alloc, Head::read(alloc, head.as_bytes())?)?);
     for (rank, file) in files.iter().enumerate() {
         for line in file.split_inclusive('\n') {
             add(
-                &mut pairs,
+                &mut pairs.0,
                 u16::try_from(rank)?,
                 &read_line(line.as_bytes())?,
             )?;
         }
     }
-    Ok(findings(alloc, &pairs)?)
+    Ok(findings(alloc, &pairs.0)?)
 }
 
 #[test]
