@@ -1,5 +1,5 @@
 -- Ranks that move on from a state that is reached.
-use Rattle.std.proofs.Common.{Some, [], ◌∷◌, ◌-◌, ◌≡◌, ℕ, zero, suc, ◌+◌, ◌<◌, ◌≢◌, Bool, true, false, length, map, get_or, refl, sym, subst, ⊎_elim, arith, get_or-set_same, get_or-set_other}
+use Rattle.std.proofs.Common.{Some, [], ◌∷◌, ◌-◌, ◌≡◌, ℕ, zero, suc, ◌+◌, ◌<◌, ◌≢◌, Bool, true, false, if◌then◌else◌, length, map, get_or, refl, sym, subst, ⊎_elim, arith, get_or-set_same, get_or-set_other}
 use Rattle.std.specs.List.{slice_get}
 use Rattle.std.proofs.lemmas.Option.{none-some}
 use Rattle.std.proofs.lemmas.List.{length-set}
@@ -51,6 +51,13 @@ from_moved can ranks s t u has_moved h more = record {
 
 pub from_stayed : (can : Rule) (ranks : ℕ) (s t u : State) (has_moved : Bool) → IsReachedFrom can ranks s t has_moved → IsReachedFrom can ranks t u false → IsReachedFrom can ranks s u has_moved
 from_stayed can ranks s t u has_moved h more = subst (λ (v : State). IsReachedFrom can ranks s v has_moved) (sym (more.same refl)) h
+
+-- a round that goes up the ranks, or down, comes to each
+pub round_is_whole : (can : Rule) (s : State) (ranks rank : ℕ) (is_upward : Bool) → rank < ranks → ((k : ℕ) → k < ranks → can s (if is_upward then k else ranks - 1 - k) ≡ false) → can s rank ≡ false
+round_is_whole can s ranks rank true is_rank none = none rank is_rank
+round_is_whole can s ranks rank false is_rank none =
+    let back : ranks - 1 - (ranks - 1 - rank) ≡ rank = omega (arith, is_rank) in
+    subst (λ (k : ℕ). can s k ≡ false) back (none (ranks - 1 - rank) (omega (arith, is_rank)))
 
 -- fewer calls are left
 pub left_less : (groups : Groups) (recording : Lists) (s t : State) → IsReached (can_move groups recording) (length recording) t → total s < total t → calls_in recording - total t < calls_in recording - total s

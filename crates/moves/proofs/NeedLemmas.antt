@@ -16,13 +16,11 @@ use Rattle.pairing.specs.Envelopes.{message_of}
 use Rattle.pairing.specs.Partners.{partner_of}
 use Rattle.pairing.specs.Requests.{starts, completes, started_before}
 use Rattle.pairing.specs.Waves.{place_in_wave, wave_of}
-use Rattle.pairing.proofs.PartnerLemmas.{partners_stay}
-use Rattle.pairing.proofs.WaveLemmas.{waves_stay}
 use Rattle.moves.specs.Runs.{State, StandsNoLater, IsPersistent, IsBounded}
 use Rattle.moves.specs.declared.need.Need.{Need}
 use Rattle.moves.specs.declared.need.Need.TheVariants.{At, Lacking}
 use Rattle.moves.specs.Needs.{world_of, half_need, half_needs, member_need, wave_needs, is_buffered, operation_needs, operation_needs_at, request_needs, needs_of_call, needs_of, is_met, may_pass, can_move}
-use Rattle.moves.proofs.StayLemmas.{call_stays, wave_stays, start_stays, start_is_a_call}
+use Rattle.moves.proofs.StayLemmas.{Carries, carries_on, carries_back, NoFurtherCallIsReached}
 
 and_true : (a b : Bool) → (a && b) ≡ true → (a ≡ true) × (b ≡ true)
 and_true true b h = (refl, h)
@@ -110,85 +108,99 @@ all_met_on stands needs later on [] h = refl
 all_met_on stands needs later on (x ∷ xs) h =
     both_met_on stands (needs x) (flat_map needs xs) (later x) (flat_map later xs) (on x) (all_met_on stands needs later on xs) h
 
--- a half whose need is met has a partner, which a longer recording keeps
-half_met_on : (groups : Groups) (recording longer : Lists) (stands : State) (rank place : ℕ) (half : Half) (m : Message) (partner : Option (ℕ × ℕ)) → partner_of groups recording rank place half ≡ partner → GoesOn recording longer → is_met stands (option_map_or (λ partner. At partner.0 partner.1) partner (Lacking (world_of groups m.comm m.peer))) ≡ true → is_met stands (half_need groups longer rank place half m) ≡ true
-half_met_on groups recording longer stands rank place half m None e goes_on h = absurd (false≢true h)
-half_met_on groups recording longer stands rank place half m (Some (other, there)) e goes_on h =
-    rw (partners_stay groups recording longer rank place half other there goes_on e) h
+-- a half whose need is met has a partner that is reached, which the other recording has too
+half_met_on : (groups : Groups) (recording other : Lists) (stands : State) (rank calls place : ℕ) (half : Half) (m : Message) (partner : Option (ℕ × ℕ)) → partner_of groups recording rank place half ≡ partner → Carries groups recording other stands rank calls → place < calls → is_met stands (option_map_or (λ partner. At partner.0 partner.1) partner (Lacking (world_of groups m.comm m.peer))) ≡ true → is_met stands (half_need groups other rank place half m) ≡ true
+half_met_on groups recording other stands rank calls place half m None e carries within h = absurd (false≢true h)
+half_met_on groups recording other stands rank calls place half m (Some (partner, there)) e carries within h =
+    rw (carries.partner place half partner there within e (leb-true there (get_or stands partner 0) h)) h
 
-halves_met_on : (groups : Groups) (recording longer : Lists) (stands : State) (rank place : ℕ) (half : Half) → GoesOn recording longer → (message : Option Message) → MetOn stands (option_map_or (λ m. half_need groups recording rank place half m ∷ []) message []) (option_map_or (λ m. half_need groups longer rank place half m ∷ []) message [])
-halves_met_on groups recording longer stands rank place half goes_on None h = refl
-halves_met_on groups recording longer stands rank place half goes_on (Some m) h =
-    one_met_on stands (half_need groups recording rank place half m) (half_need groups longer rank place half m)
-    (half_met_on groups recording longer stands rank place half m (partner_of groups recording rank place half) refl goes_on) h
+halves_met_on : (groups : Groups) (recording other : Lists) (stands : State) (rank calls place : ℕ) (half : Half) → Carries groups recording other stands rank calls → place < calls → (message : Option Message) → MetOn stands (option_map_or (λ m. half_need groups recording rank place half m ∷ []) message []) (option_map_or (λ m. half_need groups other rank place half m ∷ []) message [])
+halves_met_on groups recording other stands rank calls place half carries within None h = refl
+halves_met_on groups recording other stands rank calls place half carries within (Some m) h =
+    one_met_on stands (half_need groups recording rank place half m) (half_need groups other rank place half m)
+    (half_met_on groups recording other stands rank calls place half m (partner_of groups recording rank place half) refl carries within) h
 
 -- a member whose need is met has its call of the wave
-member_met_on : (recording longer : Lists) (stands : State) (comm wave member : ℕ) (there : Option ℕ) → place_in_wave recording comm wave member ≡ there → GoesOn recording longer → is_met stands (option_map_or (At member) there (Lacking member)) ≡ true → is_met stands (member_need longer comm wave member) ≡ true
-member_met_on recording longer stands comm wave member None e goes_on h = absurd (false≢true h)
-member_met_on recording longer stands comm wave member (Some place) e goes_on h =
-    rw (waves_stay recording longer comm wave member place goes_on e) h
+member_met_on : (groups : Groups) (recording other : Lists) (stands : State) (rank calls comm wave member : ℕ) (there : Option ℕ) → place_in_wave recording comm wave member ≡ there → Carries groups recording other stands rank calls → is_met stands (option_map_or (At member) there (Lacking member)) ≡ true → is_met stands (member_need other comm wave member) ≡ true
+member_met_on groups recording other stands rank calls comm wave member None e carries h = absurd (false≢true h)
+member_met_on groups recording other stands rank calls comm wave member (Some place) e carries h =
+    rw (carries.member comm wave member place e (leb-true place (get_or stands member 0) h)) h
 
-members_met_on : (groups : Groups) (recording longer : Lists) (stands : State) → GoesOn recording longer → (wave : Option (ℕ × ℕ)) → MetOn stands (option_map_or (λ wave. map (member_need recording wave.0 wave.1) (group_of groups wave.0)) wave []) (option_map_or (λ wave. map (member_need longer wave.0 wave.1) (group_of groups wave.0)) wave [])
-members_met_on groups recording longer stands goes_on None h = refl
-members_met_on groups recording longer stands goes_on (Some (comm, wave)) h =
-    each_met_on stands (member_need recording comm wave) (member_need longer comm wave)
-    (λ member. member_met_on recording longer stands comm wave member (place_in_wave recording comm wave member) refl goes_on) (group_of groups comm) h
+members_met_on : (groups : Groups) (recording other : Lists) (stands : State) (rank calls : ℕ) → Carries groups recording other stands rank calls → (wave : Option (ℕ × ℕ)) → MetOn stands (option_map_or (λ wave. map (member_need recording wave.0 wave.1) (group_of groups wave.0)) wave []) (option_map_or (λ wave. map (member_need other wave.0 wave.1) (group_of groups wave.0)) wave [])
+members_met_on groups recording other stands rank calls carries None h = refl
+members_met_on groups recording other stands rank calls carries (Some (comm, wave)) h =
+    each_met_on stands (member_need recording comm wave) (member_need other comm wave)
+    (λ member. member_met_on groups recording other stands rank calls comm wave member (place_in_wave recording comm wave member) refl carries) (group_of groups comm) h
 
-wave_met_on : (groups : Groups) (recording longer : Lists) (stands : State) (rank place : ℕ) → GoesOn recording longer → place < length (calls_of recording rank) → MetOn stands (wave_needs groups recording rank place) (wave_needs groups longer rank place)
-wave_met_on groups recording longer stands rank place goes_on within h =
-    rw (wave_stays recording longer rank place goes_on within) (members_met_on groups recording longer stands goes_on (wave_of recording rank place) h)
+wave_met_on : (groups : Groups) (recording other : Lists) (stands : State) (rank calls place : ℕ) → Carries groups recording other stands rank calls → place < calls → MetOn stands (wave_needs groups recording rank place) (wave_needs groups other rank place)
+wave_met_on groups recording other stands rank calls place carries within h =
+    rw (carries.wave place within) (members_met_on groups recording other stands rank calls carries (wave_of recording rank place) h)
 
-sends_met_on : (groups : Groups) (recording longer : Lists) (stands : State) (rank place : ℕ) (call : Call) → GoesOn recording longer → (buffered : Bool) → MetOn stands (if buffered then [] else half_needs groups recording rank place SendHalf call) (if buffered then [] else half_needs groups longer rank place SendHalf call)
-sends_met_on groups recording longer stands rank place call goes_on true h = refl
-sends_met_on groups recording longer stands rank place call goes_on false h =
-    halves_met_on groups recording longer stands rank place SendHalf goes_on (message_of SendHalf call) h
+sends_met_on : (groups : Groups) (recording other : Lists) (stands : State) (rank calls place : ℕ) (call : Call) → Carries groups recording other stands rank calls → place < calls → (buffered : Bool) → MetOn stands (if buffered then [] else half_needs groups recording rank place SendHalf call) (if buffered then [] else half_needs groups other rank place SendHalf call)
+sends_met_on groups recording other stands rank calls place call carries within true h = refl
+sends_met_on groups recording other stands rank calls place call carries within false h =
+    halves_met_on groups recording other stands rank calls place SendHalf carries within (message_of SendHalf call) h
 
-operation_met_on : (groups : Groups) (recording longer : Lists) (stands : State) (rank place : ℕ) (call : Call) → GoesOn recording longer → place < length (calls_of recording rank) → MetOn stands (operation_needs groups recording rank place call) (operation_needs groups longer rank place call)
-operation_met_on groups recording longer stands rank place call goes_on within =
-    both_met_on stands _ (wave_needs groups recording rank place) _ (wave_needs groups longer rank place)
-    (both_met_on stands _ (half_needs groups recording rank place RecvHalf call) _ (half_needs groups longer rank place RecvHalf call)
-    (sends_met_on groups recording longer stands rank place call goes_on (is_buffered call))
-    (halves_met_on groups recording longer stands rank place RecvHalf goes_on (message_of RecvHalf call)))
-    (wave_met_on groups recording longer stands rank place goes_on within)
+operation_met_on : (groups : Groups) (recording other : Lists) (stands : State) (rank calls place : ℕ) (call : Call) → Carries groups recording other stands rank calls → place < calls → MetOn stands (operation_needs groups recording rank place call) (operation_needs groups other rank place call)
+operation_met_on groups recording other stands rank calls place call carries within =
+    both_met_on stands _ (wave_needs groups recording rank place) _ (wave_needs groups other rank place)
+    (both_met_on stands _ (half_needs groups recording rank place RecvHalf call) _ (half_needs groups other rank place RecvHalf call)
+    (sends_met_on groups recording other stands rank calls place call carries within (is_buffered call))
+    (halves_met_on groups recording other stands rank calls place RecvHalf carries within (message_of RecvHalf call)))
+    (wave_met_on groups recording other stands rank calls place carries within)
 
-operation_there_met_on : (groups : Groups) (recording longer : Lists) (stands : State) (rank place : ℕ) → GoesOn recording longer → place < length (calls_of recording rank) → (there : Option Call) → MetOn stands (option_map_or (operation_needs groups recording rank place) there []) (option_map_or (operation_needs groups longer rank place) there [])
-operation_there_met_on groups recording longer stands rank place goes_on within None h = refl
-operation_there_met_on groups recording longer stands rank place goes_on within (Some call) h = operation_met_on groups recording longer stands rank place call goes_on within h
+operation_there_met_on : (groups : Groups) (recording other : Lists) (stands : State) (rank calls place : ℕ) → Carries groups recording other stands rank calls → place < calls → (there : Option Call) → MetOn stands (option_map_or (operation_needs groups recording rank place) there []) (option_map_or (operation_needs groups other rank place) there [])
+operation_there_met_on groups recording other stands rank calls place carries within None h = refl
+operation_there_met_on groups recording other stands rank calls place carries within (Some call) h = operation_met_on groups recording other stands rank calls place call carries within h
 
-operation_at_met_on : (groups : Groups) (recording longer : Lists) (stands : State) (rank place : ℕ) → GoesOn recording longer → place < length (calls_of recording rank) → MetOn stands (operation_needs_at groups recording rank place) (operation_needs_at groups longer rank place)
-operation_at_met_on groups recording longer stands rank place goes_on within h =
-    rw (call_stays recording longer rank place goes_on within)
-    (operation_there_met_on groups recording longer stands rank place goes_on within (slice_get (calls_of recording rank) place) h)
+operation_at_met_on : (groups : Groups) (recording other : Lists) (stands : State) (rank calls place : ℕ) → Carries groups recording other stands rank calls → place < calls → MetOn stands (operation_needs_at groups recording rank place) (operation_needs_at groups other rank place)
+operation_at_met_on groups recording other stands rank calls place carries within h =
+    rw (carries.call place within)
+    (operation_there_met_on groups recording other stands rank calls place carries within (slice_get (calls_of recording rank) place) h)
 
-started_met_on : (groups : Groups) (recording longer : Lists) (stands : State) (rank : ℕ) → GoesOn recording longer → (start : Option ℕ) → ((place : ℕ) → start ≡ Some place → place < length (calls_of recording rank)) → MetOn stands (option_map_or (operation_needs_at groups recording rank) start []) (option_map_or (operation_needs_at groups longer rank) start [])
-started_met_on groups recording longer stands rank goes_on None within h = refl
-started_met_on groups recording longer stands rank goes_on (Some place) within h = operation_at_met_on groups recording longer stands rank place goes_on (within place refl) h
+started_met_on : (groups : Groups) (recording other : Lists) (stands : State) (rank calls : ℕ) → Carries groups recording other stands rank calls → (start : Option ℕ) → ((place : ℕ) → start ≡ Some place → place < calls) → MetOn stands (option_map_or (operation_needs_at groups recording rank) start []) (option_map_or (operation_needs_at groups other rank) start [])
+started_met_on groups recording other stands rank calls carries None within h = refl
+started_met_on groups recording other stands rank calls carries (Some place) within h = operation_at_met_on groups recording other stands rank calls place carries (within place refl) h
 
-request_met_on : (groups : Groups) (recording longer : Lists) (stands : State) (rank place : ℕ) → GoesOn recording longer → place < length (calls_of recording rank) → (req : ℕ) → MetOn stands (request_needs groups recording rank place req) (request_needs groups longer rank place req)
-request_met_on groups recording longer stands rank place goes_on within req h =
-    rw (start_stays recording longer rank place req goes_on (omega (arith, within)))
-    (started_met_on groups recording longer stands rank goes_on (started_before recording rank place req) (λ start. start_is_a_call recording rank place req start) h)
+request_met_on : (groups : Groups) (recording other : Lists) (stands : State) (rank calls place : ℕ) → Carries groups recording other stands rank calls → place < calls → (req : ℕ) → MetOn stands (request_needs groups recording rank place req) (request_needs groups other rank place req)
+request_met_on groups recording other stands rank calls place carries within req h =
+    rw (carries.start place req within)
+    (started_met_on groups recording other stands rank calls carries (started_before recording rank place req) (λ start. carries.start_within place req start within) h)
 
-waited_met_on : (groups : Groups) (recording longer : Lists) (stands : State) (rank place : ℕ) (call : Call) → GoesOn recording longer → place < length (calls_of recording rank) → (starting : Bool) → MetOn stands (if starting then [] else operation_needs groups recording rank place call ++ flat_map (request_needs groups recording rank place) (completes call)) (if starting then [] else operation_needs groups longer rank place call ++ flat_map (request_needs groups longer rank place) (completes call))
-waited_met_on groups recording longer stands rank place call goes_on within true h = refl
-waited_met_on groups recording longer stands rank place call goes_on within false h =
-    both_met_on stands (operation_needs groups recording rank place call) (flat_map (request_needs groups recording rank place) (completes call)) (operation_needs groups longer rank place call) (flat_map (request_needs groups longer rank place) (completes call))
-    (operation_met_on groups recording longer stands rank place call goes_on within)
-    (all_met_on stands (request_needs groups recording rank place) (request_needs groups longer rank place) (request_met_on groups recording longer stands rank place goes_on within) (completes call))
+waited_met_on : (groups : Groups) (recording other : Lists) (stands : State) (rank calls place : ℕ) (call : Call) → Carries groups recording other stands rank calls → place < calls → (starting : Bool) → MetOn stands (if starting then [] else operation_needs groups recording rank place call ++ flat_map (request_needs groups recording rank place) (completes call)) (if starting then [] else operation_needs groups other rank place call ++ flat_map (request_needs groups other rank place) (completes call))
+waited_met_on groups recording other stands rank calls place call carries within true h = refl
+waited_met_on groups recording other stands rank calls place call carries within false h =
+    both_met_on stands (operation_needs groups recording rank place call) (flat_map (request_needs groups recording rank place) (completes call)) (operation_needs groups other rank place call) (flat_map (request_needs groups other rank place) (completes call))
+    (operation_met_on groups recording other stands rank calls place call carries within)
+    (all_met_on stands (request_needs groups recording rank place) (request_needs groups other rank place) (request_met_on groups recording other stands rank calls place carries within) (completes call))
     h
 
-needs_met_on : (groups : Groups) (recording longer : Lists) (stands : State) (rank place : ℕ) (call : Call) → GoesOn recording longer → place < length (calls_of recording rank) → MetOn stands (needs_of_call groups recording rank place call) (needs_of_call groups longer rank place call)
-needs_met_on groups recording longer stands rank place call goes_on within = waited_met_on groups recording longer stands rank place call goes_on within (is_some (starts call))
+needs_met_on : (groups : Groups) (recording other : Lists) (stands : State) (rank calls place : ℕ) (call : Call) → Carries groups recording other stands rank calls → place < calls → MetOn stands (needs_of_call groups recording rank place call) (needs_of_call groups other rank place call)
+needs_met_on groups recording other stands rank calls place call carries within = waited_met_on groups recording other stands rank calls place call carries within (is_some (starts call))
+
+-- who can move over the one recording can move over the other
+can_move_carried : (groups : Groups) (recording other : Lists) (stands : State) (rank calls : ℕ) → Carries groups recording other stands rank calls → get_or stands rank 0 < calls → can_move groups recording stands rank ≡ true → can_move groups other stands rank ≡ true
+can_move_carried groups recording other stands rank calls carries within h =
+    let pass = can_pass groups recording stands rank h in
+    can_from_pass groups other stands rank
+    (record {
+      call = pass.call;
+      is_present = carries.call (get_or stands rank 0) within ∙ pass.is_present;
+      is_not_finalize = pass.is_not_finalize;
+      needs_met = needs_met_on groups recording other stands rank calls (get_or stands rank 0) pass.call carries within pass.needs_met;
+    })
 
 -- who can move over a recording can move over each longer one
 pub can_move_on : (groups : Groups) (recording longer : Lists) (stands : State) (rank : ℕ) → GoesOn recording longer → can_move groups recording stands rank ≡ true → can_move groups longer stands rank ≡ true
 can_move_on groups recording longer stands rank goes_on h =
     let pass = can_pass groups recording stands rank h in
     let within = slice_get_within (calls_of recording rank) (get_or stands rank 0) pass.call pass.is_present in
-    can_from_pass groups longer stands rank
-    (record {
-      call = pass.call;
-      is_present = call_stays recording longer rank (get_or stands rank 0) goes_on within ∙ pass.is_present;
-      is_not_finalize = pass.is_not_finalize;
-      needs_met = needs_met_on groups recording longer stands rank (get_or stands rank 0) pass.call goes_on within pass.needs_met;
-    })
+    can_move_carried groups recording longer stands rank (length (calls_of recording rank)) (carries_on groups recording longer stands rank goes_on) within h
+
+-- who can move over a longer recording, none of whose further calls is reached, could move before
+pub could_move : (groups : Groups) (recording longer : Lists) (stands : State) (rank : ℕ) → GoesOn recording longer → NoFurtherCallIsReached recording longer stands → can_move groups longer stands rank ≡ true → can_move groups recording stands rank ≡ true
+could_move groups recording longer stands rank goes_on no_further h =
+    let pass = can_pass groups longer stands rank h in
+    let there = slice_get_within (calls_of longer rank) (get_or stands rank 0) pass.call pass.is_present in
+    can_move_carried groups longer recording stands rank (length (calls_of recording rank)) (carries_back groups recording longer stands rank goes_on no_further)
+    (no_further rank (get_or stands rank 0) there (omega arith)) h

@@ -13,7 +13,7 @@ ghost use Rattle.moves.specs.Needs.{can_move};
 ghost use Rattle.moves.specs.Stands.{stands_of, is_at_finalize};
 ghost use Rattle.moves.specs.Arrivals.{IsKeptOn};
 
-use crate::advance::advance_all;
+use crate::advance::advance_at;
 use crate::need::stand_of;
 use mpicall::record::Record;
 use mpigroup::head::Head;
@@ -97,7 +97,7 @@ impl Analyser {
         let place = next_place(&self.pairs, rank);
         match self.pairs.add(rank, place, call) {
             Ok(_) => {
-                advance_all(&self.pairs, &mut self.stands);
+                advance_at(&self.pairs, &mut self.stands, rank, place);
                 Ok(())
             }
             Err(fault) => Err(fault),

@@ -18,8 +18,8 @@
 //! call needs before its rank moves on, `Runs` and `Stands` where runs end. Which calls send, receive, start,
 //! complete and join is said by the tables of `pairing`, so a further call is a clause there.
 //!
-//! After each accepted call all ranks are looked at until none moves. A look ends at the first need that is
-//! not met.
+//! After an accepted call all ranks are looked at until none moves, and only where the call's rank stands at
+//! it: a call that is not reached wakes no rank. A look ends at the first need that is not met.
 //!
 //! ```text
 //! let head = Head::read(alloc, b"ranks 2\n")?;

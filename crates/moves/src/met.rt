@@ -75,12 +75,13 @@ fn members(head: &Head, comm: u16) -> u16
     head.size(comm).unwrap_or(0)
 }
 
-/// Whether each member of the communicator has reached its call of the wave.
+/// Whether each member of the communicator has reached its call of the wave. It asks the last member first:
+/// where calls come rank by rank, that one's is the one that is wanting.
 fn are_members_met(pairs: &Pairs, stands: &[u32], comm: u16, wave: u32) -> bool
     ensures { result ≡ list_all (is_met stands.now) (map (member_need pairs.now.recording comm wave) (group_of pairs.now.groups comm)) }
 {
     let head = pairs.head();
-    for g in 0..members(head, comm) {
+    for g in (0..members(head, comm)).rev() {
         if let Some(member) = head.world_rank(comm, g) {
             if !is_member_met(pairs, stands, comm, wave, g, member) {
                 return false;

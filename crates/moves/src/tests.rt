@@ -11,9 +11,18 @@ use std::test::Fail;
 /// A run: its head, each rank's calls, where the ranks come to stand, and the verdict.
 type Row<'a> = (&'a str, &'a [&'a str], &'a [u32], Verdict);
 
-fn analyser_of(alloc: Global, head: &str) -> Result<Analyser, Fail> {
+/// An analyser that one call drops, so that an exit of a test is proved by that call.
+struct Run(Analyser);
+
+impl Drop for Run {
+    fn drop(self) {
+        let Run(_) = self;
+    }
+}
+
+fn run_of(alloc: Global, head: &str) -> Result<Run, Fail> {
     let head = Head::read(alloc, head.as_bytes())?;
-    Ok(Analyser::new(alloc, head)?)
+    Ok(Run(Analyser::new(alloc, head)?))
 }
 
 /// Offers the call of a line, and tells why it is refused, if it is.
@@ -32,6 +41,16 @@ fn offer_line(analyser: &mut Analyser, rank: u16, line: &str) -> Result<(), Fail
     }
 }
 
+/// Offers the calls of the ranks' files one file after another.
+fn offer_files(analyser: &mut Analyser, files: &[&str]) -> Result<(), Fail> {
+    for (rank, file) in files.iter().enumerate() {
+        for line in file.split_inclusive('\n') {
+            offer_line(analyser, u16::try_from(rank)?, line)?;
+        }
+    }
+    Ok(())
+}
+
 /// Where the ranks stand.
 fn stands(alloc: Global, analyser: &Analyser) -> Result<Vec<u32>, Fail> {
     let mut stands = Vec::new(alloc);
@@ -43,13 +62,9 @@ fn stands(alloc: Global, analyser: &Analyser) -> Result<Vec<u32>, Fail> {
 
 /// What is told of a run whose files are offered one after another: where its ranks stand, and the verdict.
 fn told_of(alloc: Global, head: &str, files: &[&str]) -> Result<(Vec<u32>, Verdict), Fail> {
-    let mut analyser = analyser_of(alloc, head)?;
-    for (rank, file) in files.iter().enumerate() {
-        for line in file.split_inclusive('\n') {
-            offer_line(&mut analyser, u16::try_from(rank)?, line)?;
-        }
-    }
-    Ok((stands(alloc, &analyser)?, verdict_of(&analyser)))
+    let mut run = run_of(alloc, head)?;
+    offer_files(&mut run.0, files)?;
+    Ok((stands(alloc, &run.0)?, verdict_of(&run.0)))
 }
 
 #[test]
@@ -272,7 +287,7 @@ fn tells_runs_with_collectives(rt: HostRuntime) -> Result<(), Fail> {
 
 #[test]
 fn stands_move_on_as_calls_come(rt: HostRuntime) -> Result<(), Fail> {
-    let mut analyser = analyser_of(rt.alloc(), "ranks 2\n")?;
+    let mut run = run_of(rt.alloc(), "ranks 2\n")?;
     let offers = [
         (0, "irecv 7 0 1 0\n", 1, 0),
         (0, "send 0 1 0\n", 1, 0),
@@ -284,27 +299,27 @@ fn stands_move_on_as_calls_come(rt: HostRuntime) -> Result<(), Fail> {
         (1, "finalize\n", 3, 3),
     ];
     for (rank, line, first, second) in offers {
-        offer_line(&mut analyser, rank, line)?;
-        assert_eq!(rt; analyser.stand(0), Some(first), "after {line}");
-        assert_eq!(rt; analyser.stand(1), Some(second), "after {line}");
+        offer_line(&mut run.0, rank, line)?;
+        assert_eq!(rt; run.0.stand(0), Some(first), "after {line}");
+        assert_eq!(rt; run.0.stand(1), Some(second), "after {line}");
     }
     let refused = OfferFault::Refused(CallFault::CallAfterFinalize);
-    assert_eq!(rt; refusal(&mut analyser, 0, "barrier 9\n")?, Some(refused));
-    assert_eq!(rt; analyser.stand(0), Some(3));
+    assert_eq!(rt; refusal(&mut run.0, 0, "barrier 9\n")?, Some(refused));
+    assert_eq!(rt; run.0.stand(0), Some(3));
     Ok(())
 }
 
 #[test]
 fn answers_of_its_calls(rt: HostRuntime) -> Result<(), Fail> {
-    let mut analyser = analyser_of(rt.alloc(), "ranks 2\n")?;
-    offer_line(&mut analyser, 0, "finalize\n")?;
-    offer_line(&mut analyser, 1, "barrier 0\n")?;
-    assert_eq!(rt; analyser.is_ended(0), true);
-    assert_eq!(rt; analyser.record(1, 0), Some(read_line(b"barrier 0\n")?));
-    assert_eq!(rt; analyser.accepted(1), Some(1));
-    assert_eq!(rt; analyser.pairs().wave_of(1, 0), Some((0, 0)));
-    offer_line(&mut analyser, 1, "finalize\n")?;
-    assert_eq!(rt; analyser.is_closed(), true);
+    let mut run = run_of(rt.alloc(), "ranks 2\n")?;
+    offer_line(&mut run.0, 0, "finalize\n")?;
+    offer_line(&mut run.0, 1, "barrier 0\n")?;
+    assert_eq!(rt; run.0.is_ended(0), true);
+    assert_eq!(rt; run.0.record(1, 0), Some(read_line(b"barrier 0\n")?));
+    assert_eq!(rt; run.0.accepted(1), Some(1));
+    assert_eq!(rt; run.0.pairs().wave_of(1, 0), Some((0, 0)));
+    offer_line(&mut run.0, 1, "finalize\n")?;
+    assert_eq!(rt; run.0.is_closed(), true);
     Ok(())
 }
 
@@ -330,17 +345,17 @@ fn longer_mixes(
 
 /// Where the ranks stand once their calls came in the order of the mix.
 fn stands_of_mix(alloc: Global, files: &[&[&str]], mix: &[u16]) -> Result<Vec<u32>, Fail> {
-    let mut analyser = analyser_of(alloc, "ranks 3\n")?;
+    let mut run = run_of(alloc, "ranks 3\n")?;
     for rank in mix {
-        let place = analyser.accepted(*rank).ok_or("no such rank")?;
+        let place = run.0.accepted(*rank).ok_or("no such rank")?;
         let file = files.get(usize::from(*rank)).ok_or("no such file")?;
         offer_line(
-            &mut analyser,
+            &mut run.0,
             *rank,
             file.get(place as usize).ok_or("no call left")?,
         )?;
     }
-    stands(alloc, &analyser)
+    stands(alloc, &run.0)
 }
 
 #[test]
@@ -364,15 +379,15 @@ fn ranks_stand_alike_after_each_mix(rt: HostRuntime) -> Result<(), Fail> {
 
 #[test]
 fn a_barrier_of_many_ranks(rt: HostRuntime) -> Result<(), Fail> {
-    let mut analyser = analyser_of(rt.alloc(), "ranks 64\n")?;
+    let mut run = run_of(rt.alloc(), "ranks 64\n")?;
     for rank in (0..64).rev() {
-        offer_line(&mut analyser, rank, "barrier 0\n")?;
-        offer_line(&mut analyser, rank, "finalize\n")?;
+        offer_line(&mut run.0, rank, "barrier 0\n")?;
+        offer_line(&mut run.0, rank, "finalize\n")?;
     }
     for rank in 0..64 {
-        assert_eq!(rt; analyser.stand(rank), Some(1));
+        assert_eq!(rt; run.0.stand(rank), Some(1));
     }
-    assert_eq!(rt; verdict_of(&analyser), Verdict::Free);
+    assert_eq!(rt; verdict_of(&run.0), Verdict::Free);
     Ok(())
 }
 
@@ -394,15 +409,15 @@ fn offer_next(analyser: &mut Analyser, rank: u16, calls: u32) -> Result<(), Fail
 
 /// The verdict over a long run whose calls come in turns of so many of rank 0 and so many of rank 1.
 fn verdict_of_turns(alloc: Global, turns: &[(u32, u32)]) -> Result<Verdict, Fail> {
-    let mut analyser = analyser_of(alloc, "ranks 2\n")?;
+    let mut run = run_of(alloc, "ranks 2\n")?;
     for (first, second) in turns {
-        offer_next(&mut analyser, 0, *first)?;
-        offer_next(&mut analyser, 1, *second)?;
+        offer_next(&mut run.0, 0, *first)?;
+        offer_next(&mut run.0, 1, *second)?;
     }
-    if !analyser.is_closed() {
+    if !run.0.is_closed() {
         return Err("not closed".into());
     }
-    Ok(verdict_of(&analyser))
+    Ok(verdict_of(&run.0))
 }
 
 #[test]
