@@ -3,6 +3,7 @@ use crate::limits::MOST_CALLS;
 use crate::notes::Notes;
 use crate::packed::Numbers;
 use crate::request::waits_for;
+use crate::tests::Kept;
 use mpicall::call::Mode;
 use mpicall::line::read_line;
 use mpicall::record::Record;
@@ -54,21 +55,21 @@ fn gives_each_call_back(rt: HostRuntime) -> Result<(), Fail> {
         ("split 0 4 9 1\n", &[]),
         ("finalize\n", &[]),
     ];
-    let mut notes = Notes::new(rt.alloc(), 2)?;
+    let mut notes = Kept(Notes::new(rt.alloc(), 2)?);
     for (line, starts) in rows {
-        let _call = note_line(&rt, &mut notes, line, starts)?;
+        let _call = note_line(&rt, &mut notes.0, line, starts)?;
     }
     for (place, (line, _)) in rows.iter().enumerate() {
-        let found = match notes.get(1, place as u32) {
+        let found = match notes.0.get(1, place as u32) {
             Some(note) => Some(note.record()),
             None => None,
         };
         assert_eq!(rt; found, Some(read_line(line.as_bytes())?), "of {line:?}");
     }
-    assert_eq!(rt; notes.count(0), 0);
-    assert_eq!(rt; notes.count(1), 20);
-    assert_eq!(rt; notes.count(2), 0);
-    assert!(rt; notes.get(1, 20).is_none());
+    assert_eq!(rt; notes.0.count(0), 0);
+    assert_eq!(rt; notes.0.count(1), 20);
+    assert_eq!(rt; notes.0.count(2), 0);
+    assert!(rt; notes.0.get(1, 20).is_none());
     Ok(())
 }
 
@@ -82,11 +83,11 @@ fn finds_starts_beside_requests(rt: HostRuntime) -> Result<(), Fail> {
         ("wait 5\n", &[0]),
         ("waitall 7 6\n", &[8, 3]),
     ];
-    let mut notes = Notes::new(rt.alloc(), 2)?;
+    let mut notes = Kept(Notes::new(rt.alloc(), 2)?);
     for (line, starts) in lines {
-        let _call = note_line(&rt, &mut notes, line, starts)?;
+        let _call = note_line(&rt, &mut notes.0, line, starts)?;
     }
-    assert_eq!(rt; notes.count(1), 6);
+    assert_eq!(rt; notes.0.count(1), 6);
     let rows = [
         (2, 1, Some(6), Some(1), Some(1)),
         (3, 0, None, None, None),
@@ -94,7 +95,7 @@ fn finds_starts_beside_requests(rt: HostRuntime) -> Result<(), Fail> {
         (5, 2, Some(7), Some(8), Some(3)),
     ];
     for (place, count, req, start, start_of_6) in rows {
-        if let Some(note) = notes.get(1, place) {
+        if let Some(note) = notes.0.get(1, place) {
             assert_eq!(rt; note.completed_count(), count, "of {place}");
             assert_eq!(rt; note.completed_req(0), req, "of {place}");
             assert_eq!(rt; note.completed_start(0), start, "of {place}");
@@ -106,11 +107,11 @@ fn finds_starts_beside_requests(rt: HostRuntime) -> Result<(), Fail> {
 
 #[test]
 fn tells_of_a_call(rt: HostRuntime) -> Result<(), Fail> {
-    let mut notes = Notes::new(rt.alloc(), 2)?;
-    let _call = note_line(&rt, &mut notes, "issend 5 3 1 4\n", &[])?;
-    let _call = note_line(&rt, &mut notes, "finalize\n", &[])?;
-    assert_eq!(rt; notes.count(1), 2);
-    if let Some(note) = notes.get(1, 0) {
+    let mut notes = Kept(Notes::new(rt.alloc(), 2)?);
+    let _call = note_line(&rt, &mut notes.0, "issend 5 3 1 4\n", &[])?;
+    let _call = note_line(&rt, &mut notes.0, "finalize\n", &[])?;
+    assert_eq!(rt; notes.0.count(1), 2);
+    if let Some(note) = notes.0.get(1, 0) {
         let message = Message {
             comm: 3,
             peer: 1,
@@ -123,7 +124,7 @@ fn tells_of_a_call(rt: HostRuntime) -> Result<(), Fail> {
         assert_eq!(rt; note.joins(), None);
         assert_eq!(rt; (note.sent(), note.received(), note.joined()), (7, 8, 9));
     }
-    if let Some(note) = notes.get(1, 1) {
+    if let Some(note) = notes.0.get(1, 1) {
         assert!(rt; note.is_finalize() && note.ends_list());
     }
     Ok(())

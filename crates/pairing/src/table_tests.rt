@@ -2,6 +2,7 @@ use crate::active::Active;
 use crate::fault::CallFault;
 use crate::first_fault::first_fault;
 use crate::held::Held;
+use crate::tests::Kept;
 use mpicall::line::read_line;
 use mpicall::record::Record;
 use mpigroup::head::Head;
@@ -10,11 +11,11 @@ use std::test::Fail;
 
 #[test]
 fn holds_what_its_rank_has_made(rt: HostRuntime) -> Result<(), Fail> {
-    let mut held = Held::new(rt.alloc());
+    let mut held = Kept(Held::new(rt.alloc()));
     for line in ["dup 0 1\n", "split 0 undefined 0 none\n", "split 1 5 0 3\n"] {
         let call = read_line(line.as_bytes())?;
-        held.reserve(&call)?;
-        held.put(0, &call);
+        held.0.reserve(&call)?;
+        held.0.put(0, &call);
     }
     let rows = [
         (0, 0, true),
@@ -25,7 +26,7 @@ fn holds_what_its_rank_has_made(rt: HostRuntime) -> Result<(), Fail> {
         (1, 1, false),
     ];
     for (rank, comm, does) in rows {
-        assert_eq!(rt; held.holds(rank, comm), does, "of {rank} {comm}");
+        assert_eq!(rt; held.0.holds(rank, comm), does, "of {rank} {comm}");
     }
     Ok(())
 }
@@ -38,8 +39,8 @@ fn add(active: &mut Active, rank: u16, place: u32, call: &Record) -> Result<(), 
 }
 
 // The table after calls of two ranks: of rank 0's requests one number is used again, another is completed.
-fn active_of_two(alloc: Global) -> Result<Active, Fail> {
-    let mut active = Active::new(alloc);
+fn active_of_two(alloc: Global) -> Result<Kept<Active>, Fail> {
+    let mut active = Kept(Active::new(alloc));
     let rows = [
         (0, 0, "irecv 7 0 1 9\n"),
         (0, 1, "isend 8 0 1 9\n"),
@@ -50,7 +51,7 @@ fn active_of_two(alloc: Global) -> Result<Active, Fail> {
         (0, 5, "irecv 7 0 1 9\n"),
     ];
     for (rank, place, line) in rows {
-        add(&mut active, rank, place, &read_line(line.as_bytes())?)?;
+        add(&mut active.0, rank, place, &read_line(line.as_bytes())?)?;
     }
     Ok(active)
 }
@@ -66,7 +67,7 @@ fn knows_the_starts_of_active_requests(rt: HostRuntime) -> Result<(), Fail> {
         (1, 8, Some(0)),
     ];
     for (rank, req, start) in rows {
-        assert_eq!(rt; active.start_of(rank, req), start, "of {rank} {req}");
+        assert_eq!(rt; active.0.start_of(rank, req), start, "of {rank} {req}");
     }
     Ok(())
 }
@@ -75,9 +76,9 @@ fn knows_the_starts_of_active_requests(rt: HostRuntime) -> Result<(), Fail> {
 fn writes_the_starts_that_a_wait_names(rt: HostRuntime) -> Result<(), Fail> {
     let active = active_of_two(rt.alloc())?;
     let mut starts = [6; 3];
-    assert_eq!(rt; active.starts_of(0, &[7, 9], &mut starts), 2);
+    assert_eq!(rt; active.0.starts_of(0, &[7, 9], &mut starts), 2);
     assert_eq!(rt; starts, [5, 2, 6]);
-    assert_eq!(rt; active.starts_of(1, &[8, 7, 8], &mut starts), 1);
+    assert_eq!(rt; active.0.starts_of(1, &[8, 7, 8], &mut starts), 1);
     assert_eq!(rt; starts, [0, 2, 6]);
     Ok(())
 }
@@ -91,17 +92,17 @@ fn put(held: &mut Held, active: &mut Active, place: u32, call: &Record) -> Resul
 
 // The first call of rank 0 that has a fault, by its place.
 fn find_fault(alloc: Global, head: &Head, text: &str) -> Result<Option<(usize, CallFault)>, Fail> {
-    let mut held = Held::new(alloc);
-    let mut active = Active::new(alloc);
+    let mut held = Kept(Held::new(alloc));
+    let mut active = Kept(Active::new(alloc));
     let mut is_over = false;
     let lines = text.as_bytes().split_inclusive(|byte| *byte == b'\n');
     for (place, line) in lines.enumerate() {
         let call = read_line(line)?;
-        let found = first_fault(head, &held, &active, 0, place, is_over, call.as_call());
+        let found = first_fault(head, &held.0, &active.0, 0, place, is_over, call.as_call());
         if let Some(found) = found {
             return Ok(Some((place, found)));
         }
-        put(&mut held, &mut active, place as u32, &call)?;
+        put(&mut held.0, &mut active.0, place as u32, &call)?;
         is_over = call.ends_list();
     }
     Ok(None)
@@ -109,7 +110,7 @@ fn find_fault(alloc: Global, head: &Head, text: &str) -> Result<Option<(usize, C
 
 #[test]
 fn tells_the_first_fault_by_tables(rt: HostRuntime) -> Result<(), Fail> {
-    let head = Head::read(rt.alloc(), b"ranks 1\ncomm 0\n")?;
+    let head = Kept(Head::read(rt.alloc(), b"ranks 1\ncomm 0\n")?);
     let rows = [
         (
             "finalize\nsend 3 0 0\n",
@@ -137,7 +138,7 @@ fn tells_the_first_fault_by_tables(rt: HostRuntime) -> Result<(), Fail> {
         ),
     ];
     for (text, told) in rows {
-        assert_eq!(rt; find_fault(rt.alloc(), &head, text)?, told, "of {text:?}");
+        assert_eq!(rt; find_fault(rt.alloc(), &head.0, text)?, told, "of {text:?}");
     }
     Ok(())
 }

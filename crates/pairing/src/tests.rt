@@ -7,6 +7,15 @@ use mpigroup::head::Head;
 use std::alloc::Global;
 use std::test::Fail;
 
+/// What a test owns, which one call drops: its proof at each exit is that call's.
+pub(crate) struct Kept<T>(pub(crate) T);
+
+impl<T: Drop> Drop for Kept<T> {
+    fn drop(self) {
+        let Kept(_) = self;
+    }
+}
+
 /// Adds the rank's next call.
 fn add(pairs: &mut Pairs, rank: u16, call: &Record) -> Result<Result<Added, PairFault>, Fail> {
     if rank >= pairs.head().ranks() {
@@ -27,16 +36,16 @@ fn add_all(pairs: &mut Pairs, rank: u16, text: &str) -> Result<Option<PairFault>
     Ok(None)
 }
 
-fn pairs_of(alloc: Global, head: &str) -> Result<Pairs, Fail> {
+fn pairs_of(alloc: Global, head: &str) -> Result<Kept<Pairs>, Fail> {
     let head = Head::read(alloc, head.as_bytes())?;
-    Ok(Pairs::new(alloc, head)?)
+    Ok(Kept(Pairs::new(alloc, head)?))
 }
 
 /// The pairs of two ranks, whose calls are all added.
-fn added_of(alloc: Global, head: &str, first: &str, second: &str) -> Result<Pairs, Fail> {
+fn added_of(alloc: Global, head: &str, first: &str, second: &str) -> Result<Kept<Pairs>, Fail> {
     let mut pairs = pairs_of(alloc, head)?;
     for (rank, text) in [(0, first), (1, second)] {
-        if let Some(fault) = add_all(&mut pairs, rank, text)? {
+        if let Some(fault) = add_all(&mut pairs.0, rank, text)? {
             return Err(fault.into());
         }
     }
@@ -120,7 +129,7 @@ fn tells_the_first_fault_of_a_call(rt: HostRuntime) -> Result<(), Fail> {
     ];
     for (head, text, told) in rows {
         let mut pairs = pairs_of(rt.alloc(), head)?;
-        let words = told_of(rt.alloc(), &mut pairs, text)?;
+        let words = told_of(rt.alloc(), &mut pairs.0, text)?;
         assert_eq!(rt; words.as_str(), told, "of {text:?}");
     }
     Ok(())
@@ -147,7 +156,7 @@ fn finds_partners(rt: HostRuntime) -> Result<(), Fail> {
     ];
     for (rank, place, half, found) in rows {
         assert_eq!(rt;
-            pairs.partner(rank, place, half),
+            pairs.0.partner(rank, place, half),
             found,
             "of {rank} {place}"
         );
@@ -196,7 +205,7 @@ fn tells_what_is_added(rt: HostRuntime) -> Result<(), Fail> {
     let mut pairs = pairs_of(rt.alloc(), "ranks 2\n")?;
     for (rank, line, told) in rows {
         let call = read_line(line.as_bytes())?;
-        assert_eq!(rt; add(&mut pairs, rank, &call)?, Ok(told), "of {line:?}");
+        assert_eq!(rt; add(&mut pairs.0, rank, &call)?, Ok(told), "of {line:?}");
     }
     Ok(())
 }
@@ -217,10 +226,14 @@ fn counts_waves(rt: HostRuntime) -> Result<(), Fail> {
         (1, 3, Some((0, 2))),
     ];
     for (rank, place, wave) in rows {
-        assert_eq!(rt; pairs.wave_of(rank, place), wave, "of {rank} {place}");
+        assert_eq!(rt; pairs.0.wave_of(rank, place), wave, "of {rank} {place}");
     }
     for (comm, wave, g, place) in [(0, 2, 1, Some(3)), (1, 0, 1, Some(3)), (1, 0, 0, None)] {
-        assert_eq!(rt; pairs.member(comm, wave, g), place, "of {comm} {wave} {g}");
+        assert_eq!(rt;
+            pairs.0.member(comm, wave, g),
+            place,
+            "of {comm} {wave} {g}"
+        );
     }
     Ok(())
 }
@@ -242,7 +255,7 @@ fn finds_starts(rt: HostRuntime) -> Result<(), Fail> {
         (3, 0, None),
     ];
     for (place, req, start) in rows {
-        assert_eq!(rt; pairs.started(0, place, req), start, "of {place} {req}");
+        assert_eq!(rt; pairs.0.started(0, place, req), start, "of {place} {req}");
     }
     let completed = [
         (2, 0, Some(1)),
@@ -252,7 +265,7 @@ fn finds_starts(rt: HostRuntime) -> Result<(), Fail> {
     ];
     for (place, index, start) in completed {
         assert_eq!(rt;
-            pairs.completed(0, place, index),
+            pairs.0.completed(0, place, index),
             start,
             "of {place} {index}"
         );
