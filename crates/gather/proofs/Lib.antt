@@ -1,2 +1,12 @@
 pub mod RankLemmas
 pub mod RunLemmas
+pub mod SealedLemmas
+pub mod CollectedLemmas
+pub mod TakerLemmas
+pub mod OpenLemmas
+pub mod DrainLemmas
+pub mod FinishLemmas
+pub mod CloseLemmas
+pub mod FedLemmas
+pub mod AlongLemmas
+pub mod ThreadLemmas

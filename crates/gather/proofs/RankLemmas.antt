@@ -1,5 +1,5 @@
 -- How the trace of a source goes on behind the calls that were read of it.
-use Rattle.std.proofs.Common.{◌≡◌, ◌≢◌, ℕ, zero, suc, ◌+◌, ◌-◌, ◌<◌, Bool, true, false, List, [], ◌∷◌, ◌++◌, replicate, length, sym, ap, subst, ◌∙◌, refl, arith, Option, Some, None, Ok, Err, append_assoc, append-nil, length-set}
+use Rattle.std.proofs.Common.{◌≡◌, ◌≢◌, ℕ, zero, suc, ◌+◌, ◌-◌, ◌<◌, Bool, true, false, List, [], ◌∷◌, ◌++◌, replicate, length, sym, ap, subst, ◌∙◌, refl, arith, Option, Some, None, Ok, Err, append_assoc, append-nil, length-set, if◌then◌else◌}
 use Rattle.std.proofs.lemmas.List.{length_push}
 use Rattle.std.specs.Prelude.{⊤}
 use Rattle.mpicall.specs.Trace.{Trace, End, Sealed, Torn, put_first, ends_here}
@@ -8,13 +8,13 @@ use Rattle.mpicall.specs.declared.call.Call.{Call}
 use Rattle.mpicall.specs.declared.fault.SourceFault.{SourceFault}
 use Rattle.mpicall.specs.declared.fault.SourceFault.TheVariants.{Line, TextAfterFinalize, NoFinalize, ReadFailed, GateStopped, ThreadNotStarted}
 use Rattle.mpigroup.specs.Groups.{Groups}
-use Rattle.pairing.specs.Faults.{fault_of}
+use Rattle.pairing.specs.Faults.{fault_of, IsLawfulList}
 use Rattle.pairing.specs.declared.fault.CallFault.{CallFault}
 use Rattle.pairing.specs.Limits.{most_calls}
-use Rattle.pairing.specs.Recordings.{Lists, calls_of, appended}
-use Rattle.pairing.proofs.FaultLemmas.{fault_none}
+use Rattle.pairing.specs.Recordings.{Lists, calls_of, appended, is_ended, IsClosedList}
+use Rattle.pairing.proofs.FaultLemmas.{an_ended_lawful_list_is_closed, fault_none, lawful_push}
 use Rattle.pairing.proofs.RecordingLemmas.{calls_of-appended, calls_of-appended_other}
-use Rattle.gather.specs.Answers.{fault_of_rank, fault_behind, or_behind}
+use Rattle.gather.specs.Answers.{fault_of_rank, fault_behind, fault_of_end, or_behind}
 use Rattle.gather.specs.Told.{is_read_failure}
 use Rattle.gather.specs.Ranks.{AcceptsRank, RefusesRank}
 use Rattle.gather.specs.declared.fault.RankFault.TheVariants.{OfCall, OfSource}
@@ -101,16 +101,46 @@ call_refused groups rank (Some whole) (Some rest) next calls call fault c gives 
           ∙ ap (λ f. or_behind (length calls) f (fault_behind groups rank (calls ++ call ∷ []) gives.0.records gives.0.end)) is,
     )
 
--- the source came to its end
-pub accepted : (groups : Groups) (rank : ℕ) (told now next : Option Trace) (calls : List Call) → Continues groups rank told calls now → Gives now next (Ok None) → AcceptsRank groups rank told calls
-accepted groups rank None now next calls c gives = tt
-accepted groups rank (Some whole) None next calls c gives = absurd (let e = c.1 in cc)
-accepted groups rank (Some whole) (Some rest) next calls c gives =
+-- the source came to its end, and the last call ends the list, or it doesn't
+sealed : (groups : Groups) (rank : ℕ) (whole : Trace) (calls : List Call) (rest : Trace) → IsBehind groups rank whole calls rest → rest ≡ ends_here Sealed → fault_of_rank groups rank whole ≡ fault_of_end calls Sealed
+sealed groups rank whole calls rest b end = b.fault ∙ ap (λ (t : Trace). fault_behind groups rank calls t.records t.end) end
+
+pub accepted : (groups : Groups) (rank : ℕ) (told now next : Option Trace) (calls : List Call) → is_ended calls ≡ true → Continues groups rank told calls now → Gives now next (Ok None) → AcceptsRank groups rank told calls
+accepted groups rank None now next calls is c gives = tt
+accepted groups rank (Some whole) None next calls is c gives = absurd (let e = c.1 in cc)
+accepted groups rank (Some whole) (Some rest) next calls is c gives =
     let same : rest ≡ c.0 = let e = c.1 in cc in
     let end : c.0 ≡ ends_here Sealed = sym same ∙ gives.0 in (
       sym (c.2.records ∙ ap (λ (t : Trace). calls ++ t.records) end ∙ append-nil calls),
-      c.2.fault ∙ ap (λ (t : Trace). fault_behind groups rank calls t.records t.end) end,
+      sealed groups rank whole calls c.0 c.2 end ∙ ap (λ (b : Bool). if b then None else Some (length calls, OfSource NoFinalize)) is,
     )
+
+pub unended : (groups : Groups) (rank : ℕ) (told now next : Option Trace) (calls : List Call) → is_ended calls ≡ false → Continues groups rank told calls now → Gives now next (Ok None) → RefusesRank groups rank told (Refused (record { rank = rank; call = length calls; fault = OfSource NoFinalize }))
+unended groups rank None now next calls is c gives = (refl, tt)
+unended groups rank (Some whole) None next calls is c gives = absurd (let e = c.1 in cc)
+unended groups rank (Some whole) (Some rest) next calls is c gives =
+    let same : rest ≡ c.0 = let e = c.1 in cc in
+    let end : c.0 ≡ ends_here Sealed = sym same ∙ gives.0 in (
+      refl,
+      λ _. sealed groups rank whole calls c.0 c.2 end ∙ ap (λ (b : Bool). if b then None else Some (length calls, OfSource NoFinalize)) is,
+    )
+
+-- a list without a call is lawful, and so is a lawful one with one more call that has no fault
+pub none_is_lawful : (groups : Groups) (rank : ℕ) (calls : List Call) → calls ≡ [] → IsLawfulList groups rank calls
+none_is_lawful groups rank [] is place call at = cc
+none_is_lawful groups rank (first ∷ calls) is place call at = cc
+
+pub offered_lawful : (groups : Groups) (rank : ℕ) (old new : Lists) (call : Call) → rank < length old → new ≡ appended old rank call → fault_of groups rank (calls_of old rank) call ≡ None → IsLawfulList groups rank (calls_of old rank) → IsLawfulList groups rank (calls_of new rank)
+offered_lawful groups rank old new call is_rank is lawful so_far =
+    subst (λ (calls : List Call). IsLawfulList groups rank calls)
+    (sym (calls_of-appended old rank call is_rank) ∙ ap (λ (lists : Lists). calls_of lists rank) (sym is))
+    (lawful_push groups rank (calls_of old rank) call so_far lawful)
+
+-- a lawful list that was found to be ended is closed
+pub closed_where_found : (groups : Groups) (rank : ℕ) (lists given : Lists) (found : Bool) → given ≡ lists → found ≡ is_ended (calls_of given rank) → found ≡ true → IsLawfulList groups rank (calls_of lists rank) → IsClosedList (calls_of lists rank)
+closed_where_found groups rank lists given found same is there lawful =
+    let ended : is_ended (calls_of lists rank) ≡ true = ap (λ (ls : Lists). is_ended (calls_of ls rank)) (sym same) ∙ (sym is ∙ there) in
+    an_ended_lawful_list_is_closed groups rank (calls_of lists rank) lawful ended
 
 -- the source told a fault
 torn : (groups : Groups) (rank : ℕ) (whole : Trace) (calls : List Call) (rest : Trace) (fault : SourceFault) → IsBehind groups rank whole calls rest → rest ≡ ends_here (Torn fault) → fault_of_rank groups rank whole ≡ Some (length calls, OfSource fault)

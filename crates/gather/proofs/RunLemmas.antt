@@ -1,5 +1,7 @@
 -- What the ranks' answers say of a run over the traces that their sources tell.
-use Rattle.std.proofs.Common.{◌≡◌, ◌↔◌, ℕ, ◌+◌, ◌<◌, List, [], ◌∷◌, length, map, sym, ap, ◌∙◌, refl, arith, zero, suc, Option, Some, None, IfSome, slice_get, subst, option_and_then}
+use Rattle.std.proofs.Common.{◌≡◌, ◌↔◌, ℕ, ◌+◌, ◌<◌, List, [], ◌∷◌, length, map, sym, ap, ◌∙◌, refl, arith, zero, suc, Option, Some, None, IfSome, slice_get, subst, option_and_then, Result, Ok, Err, IfOk, IfErr, IsErrAnd, OnOk}
+use Rattle.std.specs.Io.KnownBytes.{Appends}
+use Rattle.mpicall.specs.Device.{AppendsBeginning}
 use Rattle.mpicall.specs.Trace.{Trace}
 use Rattle.mpicall.specs.Source.{coming}
 use Rattle.mpicall.specs.declared.call.Call.{Call}
@@ -12,8 +14,10 @@ use Rattle.moves.specs.declared.verdict.Verdict.{Verdict}
 use Rattle.moves.specs.declared.verdict.Verdict.TheVariants.{Hang}
 use Rattle.moves.proofs.StandLemmas.{no_run_brings_a_stuck_rank_to_finalize, every_maximal_run_ends_at_the_stands}
 use Rattle.gather.specs.Answers.{fault_of_rank, refusal_or, refusal_from, lists_of, SomeRankCannotEnd}
-use Rattle.gather.specs.Told.{Tells, IsVerdictOver, RefusesOver}
-use Rattle.gather.specs.Ranks.{told_by, AcceptsAll, AcceptsRank, RefusesRun, IsRefusalOf}
+use Rattle.gather.specs.Told.{Tells, IsVerdictOver, IsReportOver, LeavesOutput, ReadFailedAt, RefusesOver, WritesReport}
+use Rattle.gather.specs.Ranks.{told_by, AcceptsAll, AcceptsRank, LeavesReport, RefusesRun, IsRefusalOf}
+use Rattle.waitgraph.specs.Reports.{report_of}
+use Rattle.waitgraph.specs.declared.report.Format.{Format}
 use Rattle.gather.specs.declared.fault.Refusal.{Refusal}
 use Rattle.gather.specs.declared.fault.RunFault.{RunFault}
 use Rattle.gather.specs.declared.fault.RunFault.TheVariants.{Memory, Refused, Write}
@@ -89,19 +93,38 @@ in_list [] (suc k) x e = cc
 in_list (y ∷ ys) zero x e = omega arith
 in_list (y ∷ ys) (suc k) x e = omega (arith, in_list ys k x e)
 
-pub verdict_over : {I : Type 0} (left : I → Option (List ℕ)) (groups : Groups) (sources : List (Source I)) (lists : Lists) (verdict : Verdict) (traces : List Trace) → length sources ≡ ranks_of groups → AcceptsAll groups (told_by left sources) lists → verdict ≡ verdict_of groups lists → ((verdict ≡ Hang) ↔ SomeRankIsStuck groups lists) → Tells left sources traces → IsVerdictOver groups traces verdict
-verdict_over left groups sources lists verdict traces one all value hang tells =
+each_accepted : {I : Type 0} (left : I → Option (List ℕ)) (groups : Groups) (sources : List (Source I)) (lists : Lists) (traces : List Trace) → length sources ≡ ranks_of groups → AcceptsAll groups (told_by left sources) lists → Tells left sources traces → (k : ℕ) (trace : Trace) → slice_get traces k ≡ Some trace → (calls_of lists k ≡ trace.records) × (fault_of_rank groups k trace ≡ None)
+each_accepted left groups sources lists traces one all tells k trace at =
     let count : length sources ≡ length traces = same_length (coming left) sources traces tells in
     let ranks = all.one_a_rank in
-    let each : (k : ℕ) (trace : Trace) → slice_get traces k ≡ Some trace → (calls_of lists k ≡ trace.records) × (fault_of_rank groups k trace ≡ None) =
-    λ k trace at. accepted_at groups k _ trace _ (all.accepted k (omega (arith, in_list traces k trace at))) (told_at (coming left) sources traces k tells ∙ at) in
-    let same : lists ≡ lists_of traces = same_lists lists traces (omega arith) (λ k trace at. (each k trace at).0) in
+    accepted_at groups k _ trace _ (all.accepted k (omega (arith, in_list traces k trace at))) (told_at (coming left) sources traces k tells ∙ at)
+
+-- the recording is that of the traces
+lists_are : {I : Type 0} (left : I → Option (List ℕ)) (groups : Groups) (sources : List (Source I)) (lists : Lists) (traces : List Trace) → length sources ≡ ranks_of groups → AcceptsAll groups (told_by left sources) lists → Tells left sources traces → lists ≡ lists_of traces
+lists_are left groups sources lists traces one all tells =
+    let count : length sources ≡ length traces = same_length (coming left) sources traces tells in
+    let ranks = all.one_a_rank in
+    same_lists lists traces (omega arith) (λ k trace at. (each_accepted left groups sources lists traces one all tells k trace at).0)
+
+pub verdict_over : {I : Type 0} (left : I → Option (List ℕ)) (groups : Groups) (sources : List (Source I)) (lists : Lists) (verdict : Verdict) (traces : List Trace) → length sources ≡ ranks_of groups → AcceptsAll groups (told_by left sources) lists → verdict ≡ verdict_of groups lists → ((verdict ≡ Hang) ↔ SomeRankIsStuck groups lists) → Tells left sources traces → IsVerdictOver groups traces verdict
+verdict_over left groups sources lists verdict traces one all value hang tells =
+    let each = each_accepted left groups sources lists traces one all tells in
+    let same : lists ≡ lists_of traces = lists_are left groups sources lists traces one all tells in
     let both = cannot_end groups lists in
     record {
       no_refusal = none_from groups 0 traces (λ k trace at. let e : k ≡ 0 + k = omega arith in subst (λ (n : ℕ). fault_of_rank groups n trace ≡ None) e (each k trace at).1);
       value = value ∙ ap (verdict_of groups) same;
       hang = subst (λ (ls : Lists). (verdict ≡ Hang) ↔ SomeRankCannotEnd groups ls) same (λ is. both.0 (hang.0 is), λ cannot. hang.1 (both.1 cannot));
     }
+
+-- the report of the recording is that of the run
+pub report_over : {I : Type 0} (left : I → Option (List ℕ)) (groups : Groups) (sources : List (Source I)) (lists : Lists) (format : Format) (verdict : Verdict) → length sources ≡ ranks_of groups → AcceptsAll groups (told_by left sources) lists → verdict ≡ verdict_of groups lists → IsReportOver left sources groups format verdict (report_of format groups lists)
+report_over left groups sources lists format verdict one all value = record {
+  recording = lists;
+  of_traces = λ traces tells. lists_are left groups sources lists traces one all tells;
+  report_is = refl;
+  verdict_is = value;
+}
 
 no_fault_at : (groups : Groups) (rank : ℕ) (told : Option Trace) (trace : Trace) → IfSome told (λ t. fault_of_rank groups rank t ≡ None) → told ≡ Some trace → fault_of_rank groups rank trace ≡ None
 no_fault_at groups rank None trace h e = cc
@@ -132,3 +155,48 @@ refused_over left groups sources (Refused refusal) traces one refuses tells =
           (λ k trace below at. let e : k ≡ 0 + k = omega arith in subst (λ (n : ℕ). fault_of_rank groups n trace ≡ None) e (lower k trace below at))
           (refusal_told groups refusal _ there.0 refuses.its_own (told_at (coming left) sources traces refusal.rank tells ∙ there.1) own);
     }
+
+-- the answer of a report is that of the run
+pub run_verdict : {I : Type 0} (left : I → Option (List ℕ)) (groups told : Groups) (sources : List (Source I)) (lists : Lists) (answer : Result Verdict RunFault) → length sources ≡ ranks_of groups → told ≡ groups → AcceptsAll groups (told_by left sources) lists → IfOk answer (λ verdict. verdict ≡ verdict_of told lists) → IfOk answer (λ verdict. (verdict ≡ Hang) ↔ SomeRankIsStuck told lists) → IfOk answer (λ verdict. (traces : List Trace) → Tells left sources traces → IsVerdictOver groups traces verdict)
+run_verdict left groups told sources lists (Err fault) one same all value hang = tt
+run_verdict left groups told sources lists (Ok verdict) one same all value hang = λ traces tells.
+    verdict_over left groups sources lists verdict traces one all (value ∙ ap (λ (gs : Groups). verdict_of gs lists) same)
+    (subst (λ (gs : Groups). (verdict ≡ Hang) ↔ SomeRankIsStuck gs lists) same hang) tells
+
+pub run_written : {I O : Type 0} (left : I → Option (List ℕ)) (written : O → Option (List ℕ)) (failures : O → ℕ) (groups told : Groups) (sources : List (Source I)) (lists : Lists) (format : Format) (old new : O) (answer : Result Verdict RunFault) → length sources ≡ ranks_of groups → told ≡ groups → AcceptsAll groups (told_by left sources) lists → IfOk answer (λ verdict. verdict ≡ verdict_of told lists) → OnOk answer (Appends (written old) (written new) (report_of format told lists)) → IfOk answer (WritesReport left written failures sources groups format old new)
+run_written left written failures groups told sources lists format old new (Err fault) one same all value report = tt
+run_written left written failures groups told sources lists format old new (Ok verdict) one same all value report = (
+  report_of format groups lists,
+  report_over left groups sources lists format verdict one all (value ∙ ap (λ (gs : Groups). verdict_of gs lists) same),
+  subst (λ (gs : Groups). Appends (written old) (written new) (report_of format gs lists)) same report,
+)
+
+pub run_output : {I O : Type 0} (left : I → Option (List ℕ)) (written : O → Option (List ℕ)) (failures : O → ℕ) (groups told : Groups) (sources : List (Source I)) (lists : Lists) (format : Format) (old new : O) (answer : Result Verdict RunFault) → length sources ≡ ranks_of groups → told ≡ groups → AcceptsAll groups (told_by left sources) lists → IfErr answer (LeavesReport written failures old new (report_of format told lists)) → IfErr answer (LeavesOutput left written failures sources groups format old new)
+run_output left written failures groups told sources lists format old new (Ok verdict) one same all leaves = tt
+run_output left written failures groups told sources lists format old new (Err Memory) one same all leaves = leaves
+run_output left written failures groups told sources lists format old new (Err (Refused refusal)) one same all leaves = absurd leaves
+run_output left written failures groups told sources lists format old new (Err Write) one same all leaves = (
+  (
+    verdict_of groups lists,
+    report_of format groups lists,
+    report_over left groups sources lists format (verdict_of groups lists) one all refl,
+    subst (λ (gs : Groups). AppendsBeginning (written old) (written new) (report_of format gs lists)) same leaves.0,
+  ),
+  leaves.1,
+)
+
+-- a report that fails refuses no rank
+pub report_refuses : {O : Type 0} (written : O → Option (List ℕ)) (failures : O → ℕ) (old new : O) (report : List ℕ) (groups : Groups) (traces : List Trace) (fault : RunFault) → LeavesReport written failures old new report fault → RefusesOver groups traces fault
+report_refuses written failures old new report groups traces Memory leaves = tt
+report_refuses written failures old new report groups traces (Refused refusal) leaves = absurd leaves
+report_refuses written failures old new report groups traces Write leaves = tt
+
+pub report_reads : {O I : Type 0} (written : O → Option (List ℕ)) (failures : O → ℕ) (old new : O) (report : List ℕ) (reads : I → ℕ) (before after : List (Source I)) (fault : RunFault) → LeavesReport written failures old new report fault → ReadFailedAt reads before after fault
+report_reads written failures old new report reads before after Memory leaves = tt
+report_reads written failures old new report reads before after (Refused refusal) leaves = absurd leaves
+report_reads written failures old new report reads before after Write leaves = tt
+
+-- a fault that is passed on
+pub passed_on : {T : Type 0} (answer : Result T RunFault) (fault : RunFault) (P : RunFault → Type 0) → IsErrAnd answer (λ told. told ≡ fault) → P fault → IfErr answer P
+passed_on (Ok value) fault P is p = tt
+passed_on (Err told) fault P is p = subst P (sym is) p

@@ -1,24 +1,28 @@
 -- The answer of a run over the sources of its ranks: the refusal of the lowest rank that has a fault, or
 -- the recording of all their records with its verdict.
-use Rattle.std.specs.Prelude.{◌≡◌, ℕ, ◌+◌, ◌<◌, false, Option, Some, None, List, [], ◌∷◌, ◌++◌, length, map, codes}
-use Rattle.mpicall.specs.Trace.{Trace, End, Sealed, Torn}
+use Rattle.std.specs.Prelude.{◌≡◌, ℕ, ◌+◌, ◌<◌, true, false, if◌then◌else◌, Option, Some, None, List, [], ◌∷◌, ◌++◌, length, map}
+use Rattle.mpicall.specs.Trace.{Trace, End, Sealed, Torn, trace_of}
 use Rattle.mpicall.specs.declared.call.Call.{Call}
+use Rattle.mpicall.specs.declared.fault.SourceFault.TheVariants.{NoFinalize}
 use Rattle.mpigroup.specs.Groups.{Groups}
-use Rattle.pairing.specs.Recordings.{Lists}
+use Rattle.pairing.specs.Recordings.{Lists, is_ended}
 use Rattle.pairing.specs.Faults.{fault_of}
 use Rattle.pairing.specs.declared.fault.CallFault.{CallFault}
 use Rattle.moves.specs.Runs.{State}
 use Rattle.moves.specs.Stands.{IsRunOver, end_over, is_at_finalize}
-use Rattle.moves.specs.declared.verdict.Verdict.{Verdict}
-use Rattle.moves.specs.declared.verdict.Verdict.TheVariants.{Free, Hang}
 use Rattle.gather.specs.declared.fault.RankFault.{RankFault}
 use Rattle.gather.specs.declared.fault.RankFault.TheVariants.{OfCall, OfSource}
 use Rattle.gather.specs.declared.fault.Refusal.{Refusal}
 
--- the fault with which a source ends after so many records, if its end is one
-abbrev pub fault_of_end : ℕ → End → Option (ℕ × RankFault)
-fault_of_end count Sealed = None
-fault_of_end count (Torn fault) = Some (count, OfSource fault)
+-- the fault with which a rank ends behind its calls: that of its source's end, if that is one; or that none of
+-- its calls ends its list
+abbrev pub fault_of_end : List Call → End → Option (ℕ × RankFault)
+fault_of_end calls Sealed = if is_ended calls then None else Some (length calls, OfSource NoFinalize)
+fault_of_end calls (Torn fault) = Some (length calls, OfSource fault)
+
+-- Law: a text whose trace ends without a fault has its `finalize` as its last record.
+abbrev pub ASealedTextHasItsFinalize : Type 0
+ASealedTextHasItsFinalize = (text : List ℕ) → (trace_of text).end ≡ Sealed → is_ended (trace_of text).records ≡ true
 
 -- the fault of a call at a place, or else what comes behind it
 abbrev pub or_behind : ℕ → Option CallFault → Option (ℕ × RankFault) → Option (ℕ × RankFault)
@@ -28,7 +32,7 @@ or_behind place (Some fault) behind = Some (place, OfCall fault)
 -- the first fault of a rank behind the calls `before`, which have none: the first record that has a fault
 -- after those before it, at its place; without one, the end of the source, at the number of records
 abbrev pub fault_behind : Groups → ℕ → List Call → List Call → End → Option (ℕ × RankFault)
-fault_behind groups rank before [] end = fault_of_end (length before) end
+fault_behind groups rank before [] end = fault_of_end before end
 fault_behind groups rank before (call ∷ calls) end =
     or_behind (length before) (fault_of groups rank before call) (fault_behind groups rank (before ++ call ∷ []) calls end)
 
@@ -53,11 +57,6 @@ refusal_of groups traces = refusal_from groups 0 traces
 -- the recording that the traces of all ranks make
 abbrev pub lists_of : List Trace → Lists
 lists_of traces = map (λ trace. trace.records) traces
-
--- the report: one line with the verdict
-abbrev pub report_of : Verdict → List ℕ
-report_of Free = codes "verdict free\n"
-report_of Hang = codes "verdict hang\n"
 
 -- some rank comes to its Finalize in no run over the recording
 pub record SomeRankCannotEnd (groups : Groups) (recording : Lists) : Type 0 where

@@ -2,3 +2,11 @@ pub mod Answers
 pub mod Told
 pub mod Ranks
 pub mod Codes
+pub mod Collected
+pub mod Takers
+pub mod Receipts
+pub mod Collectors
+pub mod Closes
+pub mod Fed
+pub mod Threads
+pub mod Along

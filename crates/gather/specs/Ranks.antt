@@ -4,10 +4,10 @@ use Rattle.std.specs.Prelude.{◌≡◌, ℕ, ◌<◌, Bool, false, ⊤, Option,
 use Rattle.mpicall.specs.Source.{coming}
 use Rattle.mpicall.specs.declared.source.Source.{Source}
 use Rattle.mpicall.specs.Trace.{Trace}
-use Rattle.mpicall.specs.Device.{one_more}
+use Rattle.mpicall.specs.Device.{one_more, AppendsBeginning}
 use Rattle.mpicall.specs.declared.call.Call.{Call}
 use Rattle.mpigroup.specs.Groups.{Groups, ranks_of}
-use Rattle.pairing.specs.Recordings.{Lists, calls_of}
+use Rattle.pairing.specs.Recordings.{Lists, calls_of, IsClosed}
 use Rattle.gather.specs.Answers.{fault_of_rank}
 use Rattle.gather.specs.Told.{is_read_failure}
 use Rattle.gather.specs.declared.fault.Refusal.{Refusal}
@@ -46,9 +46,10 @@ told_by left sources rank = option_and_then (coming left) (slice_get sources ran
 abbrev pub HasNoFault : Groups → ℕ → Option Trace → Type 0
 HasNoFault groups rank told = IfSome told (λ trace. fault_of_rank groups rank trace ≡ None)
 
--- the recording has the calls of each rank, by what their sources tell
+-- the recording has the calls of each rank, by what their sources tell, and is closed
 pub record AcceptsAll (groups : Groups) (told : ℕ → Option Trace) (lists : Lists) : Type 0 where
   pub one_a_rank : length lists ≡ ranks_of groups
+  pub closed : IsClosed lists
   pub accepted : (rank : ℕ) → rank < length lists → AcceptsRank groups rank (told rank) (calls_of lists rank)
 
 -- the refusal is that of its rank, and no lower rank has a fault, by what their sources tell
@@ -61,3 +62,11 @@ abbrev pub RefusesRun : Groups → (ℕ → Option Trace) → RunFault → Type 
 RefusesRun groups told Memory = ⊤
 RefusesRun groups told (Refused refusal) = IsLowestRefusal groups told refusal
 RefusesRun groups told Write = ⊥
+
+-- what a report leaves on the output where it fails: only a failed write, which adds one to the count of
+-- failures, leaves a beginning of it
+abbrev pub LeavesReport : {O : Type 0} → (O → Option (List ℕ)) → (O → ℕ) → O → O → List ℕ → RunFault → Type 0
+LeavesReport written failures old new report Memory = new ≡ old
+LeavesReport written failures old new report (Refused refusal) = ⊥
+LeavesReport written failures old new report Write =
+    AppendsBeginning (written old) (written new) report × (failures new ≡ one_more (failures old))

@@ -6,11 +6,15 @@ use Rattle.mpicall.specs.declared.source.Source.{Source}
 use Rattle.mpicall.specs.Trace.{Trace}
 use Rattle.mpicall.specs.Device.{one_more, AppendsBeginning}
 use Rattle.mpicall.specs.declared.fault.SourceFault.TheVariants.{ReadFailed}
+use Rattle.std.specs.Io.KnownBytes.{Appends}
 use Rattle.mpigroup.specs.Groups.{Groups}
-use Rattle.gather.specs.Answers.{fault_of_rank, refusal_of, lists_of, report_of, SomeRankCannotEnd}
+use Rattle.pairing.specs.Recordings.{Lists}
+use Rattle.gather.specs.Answers.{fault_of_rank, refusal_of, lists_of, SomeRankCannotEnd}
 use Rattle.moves.specs.Verdicts.{verdict_of}
 use Rattle.moves.specs.declared.verdict.Verdict.{Verdict}
 use Rattle.moves.specs.declared.verdict.Verdict.TheVariants.{Hang}
+use Rattle.waitgraph.specs.Reports.{report_of}
+use Rattle.waitgraph.specs.declared.report.Format.{Format}
 use Rattle.gather.specs.declared.fault.RankFault.{RankFault}
 use Rattle.gather.specs.declared.fault.RankFault.TheVariants.{OfSource}
 use Rattle.gather.specs.declared.fault.Refusal.{Refusal}
@@ -56,11 +60,28 @@ pub record IsVerdictOver (groups : Groups) (traces : List Trace) (verdict : Verd
   pub value : verdict ≡ verdict_of groups (lists_of traces)
   pub hang : (verdict ≡ Hang) ↔ SomeRankCannotEnd groups (lists_of traces)
 
--- where memory was wanted or a rank refused, the output is as it was; a failed write leaves a beginning of a
--- report, and adds one to the count of failures
-abbrev pub LeavesOutput : {O : Type 0} → (O → Option (List ℕ)) → (O → ℕ) → O → O → RunFault → Type 0
-LeavesOutput written failures old new Memory = new ≡ old
-LeavesOutput written failures old new (Refused refusal) = new ≡ old
-LeavesOutput written failures old new Write =
-    ((verdict : Verdict) × AppendsBeginning (written old) (written new) (report_of verdict))
-    × (failures new ≡ one_more (failures old))
+-- the report of a run, and the verdict that it says: they are those of a recording, and where the sources tell
+-- their traces, it is the recording of these
+pub record IsReportOver {I : Type 0} (left : I → Option (List ℕ)) (sources : List (Source I)) (groups : Groups) (format : Format) (verdict : Verdict) (report : List ℕ) : Type 0 where
+  pub recording : Lists
+  pub of_traces : (traces : List Trace) → Tells left sources traces → recording ≡ lists_of traces
+  pub report_is : report ≡ report_of format groups recording
+  pub verdict_is : verdict ≡ verdict_of groups recording
+
+-- what a run leaves on its output, by its sources, its head and the format of its report
+module _ {I O : Type 0} (left : I → Option (List ℕ)) (written : O → Option (List ℕ)) (failures : O → ℕ) (sources : List (Source I)) (groups : Groups) (format : Format) (old new : O) where
+  -- the report stands behind what was there
+  abbrev pub WritesReport : Verdict → Type 0
+  WritesReport verdict = (report : List ℕ) × IsReportOver left sources groups format verdict report × Appends (written old) (written new) report
+
+  -- a beginning of the report stands behind what was there, and one more write failed
+  abbrev pub FailsToReport : Type 0
+  FailsToReport =
+      ((verdict : Verdict) × (report : List ℕ) × IsReportOver left sources groups format verdict report × AppendsBeginning (written old) (written new) report)
+      × (failures new ≡ one_more (failures old))
+
+  -- where memory was wanted or a rank refused, the output is as it was
+  abbrev pub LeavesOutput : RunFault → Type 0
+  LeavesOutput Memory = new ≡ old
+  LeavesOutput (Refused refusal) = new ≡ old
+  LeavesOutput Write = FailsToReport

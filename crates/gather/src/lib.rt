@@ -1,27 +1,48 @@
-//! The verdict of a run over the sources of its ranks.
+//! The report of a run over the sources of its ranks, and sessions over their feeds.
 //!
 //! `run::run` reads one source a rank, in rank order, and writes the report of the run: whether some
 //! rank can't reach its Finalize, whatever way the run goes.
 //!
 //! What it promises, as contracts that are proved:
 //!
-//! - At Ok no rank had a fault, and the verdict, which the output has as one line, is that of the traces
-//!   that the sources' bytes hold by definition. It is `Hang` exactly if some rank comes to its Finalize
-//!   in no run over them.
+//! - At Ok no rank had a fault, and the verdict is that of the traces that the sources' bytes hold by
+//!   definition. It is `Hang` exactly if some rank comes to its Finalize in no run over them.
+//! - The output then has the report of these traces, in the format that was asked for.
 //! - At a refusal nothing was written. The rank is the lowest with a fault, and the place and the fault
 //!   are that rank's first, by definition.
 //! - A read or a write that failed is told only where that device's count of failures rose.
 //!
+//! Sessions take the ranks' records in any order instead, from feeds that threads of the caller's fill; `run`
+//! doesn't use them yet:
+//!
+//! - `session::Session::open` opens a feed for each rank, and their collector.
+//! - `collector::Collector::step` takes one item of a rank's feed. Unless memory was wanted, the analyser has
+//!   of each rank the records received before its first fault, and that fault is kept.
+//! - `Collector::close` takes what is left, by a receipt for each rank, and answers what the traces that the
+//!   receipts hold give, whatever steps came before.
+//! - `feed::feed` puts the records of one source on a rank's feed and ends it; `threads` does so with a thread
+//!   for each source.
+//!
 //! The definitions stand in `specs/`: `Answers` says which refusal or verdict some traces have, `Told`
-//! what an answer says where the inputs tell their bytes.
+//! what an answer says where the inputs tell their bytes, `Collected` and `Closes` what a session keeps and
+//! answers, `Fed` what is put on a feed.
 //!
 //! ```text
 //! let head = Head::read(b"ranks 1\n")?;
 //! let mut sources = vec![in alloc; Source::new(MemoryInput::new(b"finalize\n"))]?;
-//! let verdict = run(alloc, head, sources.as_mut_slice(), &mut output)?;
+//! let verdict = run(alloc, head, sources.as_mut_slice(), Format::Text, &mut output)?;
 //! ```
 #![tactic(auto)]
 
+pub mod collector;
 pub mod fault;
+pub mod feed;
+pub mod gate;
+pub mod ledger;
+pub mod outcome;
 pub mod rank;
 pub mod run;
+pub mod session;
+#[cfg(test)]
+mod tests;
+pub mod threads;

@@ -2,12 +2,14 @@
 
 ghost use Rattle.std.specs.Prelude.{◌≡◌, ◌≢◌, ◌<◌, ℕ, [], None, length, OnOk, IfErr};
 ghost use Rattle.mpicall.specs.Source.{coming, ended, input_of};
-ghost use Rattle.pairing.specs.Recordings.{calls_of};
+ghost use Rattle.pairing.specs.Recordings.{calls_of, IsClosedList};
+ghost use Rattle.gather.specs.Answers.{ASealedTextHasItsFinalize};
 ghost use Rattle.gather.specs.Ranks.{AcceptsRank, RefusesRank, failures_after};
 
 use crate::fault::{RankFault, Refusal, RunFault};
 use moves::analyser::{Analyser, OfferFault};
 use mpicall::device::Input;
+use mpicall::fault::SourceFault;
 use mpicall::record::Record;
 use mpicall::source::Source;
 
@@ -23,7 +25,8 @@ fn refused_behind(analyser: &Analyser, rank: u16, fault: RankFault) -> RunFault
 }
 
 /// Reads the source of a rank to its end, or to the rank's first fault, and offers the rank's records, of
-/// which none was offered before. The calls of the other ranks stay.
+/// which none was offered before. A source that ends without its `finalize` is refused. The calls of the
+/// other ranks stay.
 pub fn read_rank<I: Input>(
     analyser: &mut Analyser,
     rank: u16,
@@ -36,6 +39,7 @@ pub fn read_rank<I: Input>(
     ensures ranks { length analyser.new.recording ≡ length analyser.old.recording }
     ensures others { (other : ℕ) → other ≢ rank → calls_of analyser.new.recording other ≡ calls_of analyser.old.recording other }
     ensures ok { OnOk result (AcceptsRank analyser.old.groups rank (coming I.left source.old) (calls_of analyser.new.recording rank)) }
+    ensures closed { OnOk result (IsClosedList (calls_of analyser.new.recording rank)) }
     ensures fault { IfErr result (RefusesRank analyser.old.groups rank (coming I.left source.old)) }
     ensures count { I.failures (input_of source.new) ≡ failures_after result (I.failures (input_of source.old)) }
 {
@@ -43,7 +47,11 @@ pub fn read_rank<I: Input>(
     loop {
         match source.next_into(&mut entry) {
             Ok(true) => {}
-            Ok(false) => return Ok(()),
+            Ok(false) if analyser.pairs().is_ended(rank) => return Ok(()),
+            Ok(false) => {
+                let fault = RankFault::OfSource(SourceFault::NoFinalize);
+                return Err(refused_behind(analyser, rank, fault));
+            }
             Err(fault) => return Err(refused_behind(analyser, rank, RankFault::OfSource(fault))),
         }
         match analyser.offer(rank, &entry) {
@@ -55,3 +63,9 @@ pub fn read_rank<I: Input>(
         }
     }
 }
+
+/// A text whose trace ends without a fault has its `finalize` as its last record. So a source that ends well
+/// is refused for want of it only where others took that record before.
+pub fn a_sealed_text_has_its_finalize()
+    ensures { ASealedTextHasItsFinalize }
+{}

@@ -1,31 +1,32 @@
 -- The answer over the traces that the sources tell.
-use Rattle.std.proofs.Common.{◌≡◌, ◌↔◌, subst, sym, ◌∙◌, ap}
-use Rattle.mpigroup.specs.Groups.{Groups, ranks_of}
-use Rattle.moves.specs.Verdicts.{verdict_of, SomeRankIsStuck}
-use Rattle.moves.specs.declared.verdict.Verdict.TheVariants.{Hang}
-use Rattle.gather.specs.Told.{RefusesOver}
-use Rattle.gather.specs.Ranks.{told_by, AcceptsAll}
-use Rattle.pairing.specs.Recordings.{Lists, calls_of}
-use Rattle.gather.proofs.RankLemmas.{none_of_any}
-use Rattle.gather.proofs.RunLemmas.{verdict_over, refused_over}
+use Rattle.std.proofs.lemmas.Result.{IfErr-weaker}
+use Rattle.gather.proofs.RunLemmas.{passed_on, refused_over, report_reads, report_refuses, run_output, run_verdict, run_written}
 use Rattle.gather.proofs.run.run.Goals as goal
 
-pub read_ranks-requires-clause-none : goal.read_ranks-requires-clause-none
-read_ranks-requires-clause-none g c = λ rank.
-    ap (λ (lists : Lists). calls_of lists rank) c.in-Ok.ensures.recording ∙ none_of_any (ranks_of c.args.head) rank
+pub returns-in_err-analyser-clause-refused : goal.returns-in_err-analyser-clause-refused
+returns-in_err-analyser-clause-refused g c =
+    passed_on c.from_residual.result c.in_err-analyser.field-0.0 _ c.from_residual.ensures.1
+    (λ traces tells. refused_over g.I.Input.left c.args.head c.args.sources.now _ traces c.requires.one_a_rank c.in_err-analyser.ensures.fault tells)
 
-pub returns-in-Err-clause-refused : goal.returns-in-Err-clause-refused
-returns-in-Err-clause-refused g c = λ traces tells.
-    subst (λ (groups : Groups). RefusesOver groups traces c.in-Err.fault) c.in-Ok.ensures.groups
-    (refused_over _ _ _ c.in-Err.fault traces (c.requires.one_a_rank ∙ ap ranks_of (sym c.in-Ok.ensures.groups)) c.in-Err.ensures.fault tells)
+pub returns-clause-verdict : goal.returns-clause-verdict
+returns-clause-verdict g c =
+    run_verdict g.I.Input.left c.args.head _ c.args.sources.now _ c.report.result c.requires.one_a_rank
+    c.in_ok-analyser.ensures.groups c.in_ok-analyser.ensures.ok c.report.ensures.value c.report.ensures.hang
 
-pub returns-in-Ok-write_all-clause-verdict : goal.returns-in-Ok-write_all-clause-verdict
-returns-in-Ok-write_all-clause-verdict g c = λ traces tells.
-    let lists = c.read_ranks.new.analyser.recording in
-    let verdict = c.verdict_of-verdict.result in
-    let groups : c.read_ranks.new.analyser.groups ≡ c.args.head = c.in_default-read_ranks.ensures.groups ∙ c.in-Ok.ensures.groups in
-    verdict_over _ c.args.head _ lists verdict traces c.requires.one_a_rank
-    (subst (λ (gs : Groups). AcceptsAll gs (told_by g.I.Input.left c.args.sources.now) lists) c.in-Ok.ensures.groups c.in_default-read_ranks.ensures.ok)
-    (c.verdict_of-verdict.ensures.value ∙ ap (λ (gs : Groups). verdict_of gs lists) groups)
-    (subst (λ (gs : Groups). (verdict ≡ Hang) ↔ SomeRankIsStuck gs lists) groups c.verdict_of-verdict.ensures.hang)
-    tells
+pub returns-clause-refused : goal.returns-clause-refused
+returns-clause-refused g c =
+    IfErr-weaker c.report.result _ _ (λ fault leaves. λ traces tells. report_refuses g.O.Output.written g.O.Output.failures _ _ _ c.args.head traces fault leaves) c.report.ensures.fault
+
+pub returns-clause-read_failed : goal.returns-clause-read_failed
+returns-clause-read_failed g c =
+    IfErr-weaker c.report.result _ _ (λ fault leaves. report_reads g.O.Output.written g.O.Output.failures _ _ _ g.I.Input.failures _ _ fault leaves) c.report.ensures.fault
+
+pub returns-clause-written : goal.returns-clause-written
+returns-clause-written g c =
+    run_written g.I.Input.left g.O.Output.written g.O.Output.failures c.args.head _ c.args.sources.now _ c.args.format _ _ c.report.result c.requires.one_a_rank
+    c.in_ok-analyser.ensures.groups c.in_ok-analyser.ensures.ok c.report.ensures.value c.report.ensures.written
+
+pub returns-clause-output : goal.returns-clause-output
+returns-clause-output g c =
+    run_output g.I.Input.left g.O.Output.written g.O.Output.failures c.args.head _ c.args.sources.now _ c.args.format _ _ c.report.result c.requires.one_a_rank
+    c.in_ok-analyser.ensures.groups c.in_ok-analyser.ensures.ok c.report.ensures.fault

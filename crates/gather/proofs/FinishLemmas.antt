@@ -1,0 +1,145 @@
+-- How the feeds of all ranks are drained by their receipts, in rank order.
+use Rattle.std.proofs.Common.{◌≡◌, ⊎_elim, ℕ, zero, suc, ◌+◌, ◌<◌, ◌≤◌, true, Option, Some, None, IfSome, List, [], ◌∷◌, ◌++◌, length, drop, refl, sym, ap, subst, ◌∙◌, arith, slice_get}
+use Rattle.std.specs.Option.{option_or}
+use Rattle.std.proofs.lemmas.List.{length-drop}
+use Rattle.std.proofs.lemmas.Bool.{cases_eq}
+use Rattle.rankfeed.specs.Rings.{FeedName, receipt_ring}
+use Rattle.rankfeed.specs.declared.ring.Receipt.{Receipt}
+use Rattle.gather.specs.declared.collector.Collector.{Collector}
+use Rattle.gather.specs.Receipts.{AreReceiptsOf, AreAllOf, AllReceived, missing_from, first_missing}
+use Rattle.gather.specs.Collectors.{rings, kept, received_from, ReceivesFrom}
+
+-- the front of what is left of a list
+
+pub front_at : {A : Type 0} (xs rest : List A) (place : ℕ) (x : A) → drop place xs ≡ x ∷ rest → slice_get xs place ≡ Some x
+front_at [] rest zero x e = cc
+front_at [] rest (suc place) x e = cc
+front_at (y ∷ ys) rest zero x e = let same : y ≡ x = cc in ap Some same
+front_at (y ∷ ys) rest (suc place) x e = front_at ys rest place x e
+
+behind_front : {A : Type 0} (xs rest : List A) (place : ℕ) (x : A) → drop place xs ≡ x ∷ rest → rest ≡ drop (suc place) xs
+behind_front [] rest zero x e = cc
+behind_front [] rest (suc place) x e = cc
+behind_front (y ∷ ys) rest zero x e = let same : ys ≡ rest = cc in sym same
+behind_front (y ∷ ys) rest (suc place) x e = behind_front ys rest place x e
+
+pub rest_at : {A : Type 0} (xs rest : List A) (place : ℕ) (x : A) → drop place xs ≡ x ∷ rest → rest ≡ drop (place + 1) xs
+rest_at xs rest place x e = let next : suc place ≡ place + 1 = omega arith in behind_front xs rest place x e ∙ ap (λ (n : ℕ). drop n xs) next
+
+pub some_left : {A : Type 0} (xs rest : List A) (place : ℕ) → rest ≡ drop place xs → length rest ≡ 0 → place < length xs → ⊥
+some_left xs rest place is none within = let count = ap length is in absurd (omega (arith, none, count, within, length-drop place xs))
+
+-- the receipts are those of the feeds, rank by rank
+
+pub receipts_count : (names : List FeedName) (receipts : List (Option Receipt)) → AreReceiptsOf names receipts → length receipts ≡ length names
+receipts_count [] [] are = refl
+receipts_count [] (r ∷ rs) are = absurd are
+receipts_count (n ∷ ns) [] are = absurd are
+receipts_count (n ∷ ns) (r ∷ rs) are = ap suc (receipts_count ns rs are.1)
+
+own_ring : (name : FeedName) (found : Option Receipt) (receipt : Receipt) → IfSome found (λ r. receipt_ring r ≡ name) → Some found ≡ Some (Some receipt) → Some name ≡ Some (receipt_ring receipt)
+own_ring name None receipt own e = cc
+own_ring name (Some found) receipt own e = let same : found ≡ receipt = cc in ap Some (sym own ∙ ap receipt_ring same)
+
+pub receipt_of_ring : (names : List FeedName) (receipts : List (Option Receipt)) (rank : ℕ) (receipt : Receipt) → AreReceiptsOf names receipts → slice_get receipts rank ≡ Some (Some receipt) → slice_get names rank ≡ Some (receipt_ring receipt)
+receipt_of_ring [] [] zero receipt are at = cc
+receipt_of_ring [] [] (suc rank) receipt are at = cc
+receipt_of_ring [] (r ∷ rs) rank receipt are at = absurd are
+receipt_of_ring (n ∷ ns) [] rank receipt are at = absurd are
+receipt_of_ring (n ∷ ns) (r ∷ rs) zero receipt are at = own_ring n r receipt are.0 at
+receipt_of_ring (n ∷ ns) (r ∷ rs) (suc rank) receipt are at = receipt_of_ring ns rs rank receipt are.1 at
+
+-- all was received of the ranks so far that have a receipt, and the first without one is known
+pub record Finishes (first now : Collector) (receipts : List (Option Receipt)) (ranks : ℕ) (missing : Option ℕ) : Type 0 where
+  pub names : rings now ≡ rings first
+  pub groups : (kept now).groups ≡ (kept first).groups
+  pub wanted : (kept first).wanted ≡ true → (kept now).wanted ≡ true
+  pub lowest : option_or missing (missing_from ranks (drop ranks receipts)) ≡ first_missing receipts
+  pub all : (rank : ℕ) (receipt : Receipt) → rank < ranks → slice_get receipts rank ≡ Some (Some receipt) → AreAllOf receipt (received_from now rank)
+
+pub none_finished : (collector : Collector) (receipts : List (Option Receipt)) → Finishes collector collector receipts 0 None
+none_finished collector receipts = record { names = refl; groups = refl; wanted = λ e. e; lowest = refl; all = λ rank receipt below at. absurd (omega (arith, below)) }
+
+pub with_receipt : (first now next : Collector) (receipts rest : List (Option Receipt)) (ranks : ℕ) (missing : Option ℕ) (receipt : Receipt) → Finishes first now receipts ranks missing → drop ranks receipts ≡ Some receipt ∷ rest → ReceivesFrom ranks now next → AreAllOf receipt (received_from next ranks) → Finishes first next receipts (ranks + 1) missing
+with_receipt first now next receipts rest ranks missing receipt so front only own =
+    let behind = rest_at receipts rest ranks (Some receipt) front in record {
+      names = only.names ∙ so.names;
+      groups = only.groups ∙ so.groups;
+      wanted = λ e. only.wanted (so.wanted e);
+      lowest = ap (λ (rs : List (Option Receipt)). option_or missing (missing_from (ranks + 1) rs)) (sym behind)
+          ∙ ap (λ (rs : List (Option Receipt)). option_or missing (missing_from ranks rs)) (sym front) ∙ so.lowest;
+      all = λ rank other below at.
+          ⊎_elim
+          (λ (same : rank ≡ ranks).
+          let here : slice_get receipts ranks ≡ Some (Some other) = ap (λ (n : ℕ). slice_get receipts n) (sym same) ∙ at in
+          let found : Some (Some receipt) ≡ Some (Some other) = sym (front_at receipts rest ranks (Some receipt) front) ∙ here in
+          let one : receipt ≡ other = cc in
+          subst (λ (n : ℕ). AreAllOf other (received_from next n)) (sym same) (subst (λ (r : Receipt). AreAllOf r (received_from next ranks)) one own))
+          (λ (differs : rank ≡ ranks → ⊥).
+          subst (AreAllOf other) (sym (only.others rank differs)) (so.all rank other (let apart = differs in omega (arith, below, apart)) at))
+          (cases_eq rank ranks);
+    }
+
+missing_here : (missing : Option ℕ) (rank : ℕ) (behind : Option ℕ) → option_or (option_or missing (Some rank)) behind ≡ option_or missing (Some rank)
+missing_here None rank behind = refl
+missing_here (Some earlier) rank behind = refl
+
+pub without_receipt : (first now : Collector) (receipts rest : List (Option Receipt)) (ranks : ℕ) (missing : Option ℕ) → Finishes first now receipts ranks missing → drop ranks receipts ≡ None ∷ rest → Finishes first now receipts (ranks + 1) (option_or missing (Some ranks))
+without_receipt first now receipts rest ranks missing so front = record {
+  names = so.names;
+  groups = so.groups;
+  wanted = so.wanted;
+  lowest = missing_here missing ranks _ ∙ ap (λ (rs : List (Option Receipt)). option_or missing (missing_from ranks rs)) (sym front) ∙ so.lowest;
+  all = λ rank other below at.
+      ⊎_elim
+      (λ (same : rank ≡ ranks).
+      let here : slice_get receipts ranks ≡ Some (Some other) = ap (λ (n : ℕ). slice_get receipts n) (sym same) ∙ at in
+      let found : Some None ≡ Some (Some other) = sym (front_at receipts rest ranks None front) ∙ here in
+      absurd cc)
+      (λ (differs : rank ≡ ranks → ⊥). so.all rank other (let apart = differs in omega (arith, below, apart)) at)
+      (cases_eq rank ranks);
+}
+
+nothing_behind : {A : Type 0} (xs : List A) (place : ℕ) → length xs ≤ place → drop place xs ≡ []
+nothing_behind [] zero within = refl
+nothing_behind [] (suc place) within = refl
+nothing_behind (x ∷ xs) zero within = absurd (omega (arith, within))
+nothing_behind (x ∷ xs) (suc place) within = nothing_behind xs place (omega (arith, within))
+
+or_none : (missing : Option ℕ) → option_or missing None ≡ missing
+or_none None = refl
+or_none (Some rank) = refl
+
+pub lowest_known : (first now : Collector) (receipts : List (Option Receipt)) (ranks : ℕ) (missing : Option ℕ) → Finishes first now receipts ranks missing → length receipts ≤ ranks → missing ≡ first_missing receipts
+lowest_known first now receipts ranks missing so within =
+    sym (or_none missing) ∙ ap (λ (rs : List (Option Receipt)). option_or missing (missing_from ranks rs)) (sym (nothing_behind receipts ranks within)) ∙ so.lowest
+
+in_list : {A : Type 0} (xs : List A) (k : ℕ) (x : A) → slice_get xs k ≡ Some x → k < length xs
+in_list [] zero x e = cc
+in_list [] (suc k) x e = cc
+in_list (y ∷ ys) zero x e = omega arith
+in_list (y ∷ ys) (suc k) x e = omega (arith, in_list ys k x e)
+
+pub all_received : (first now : Collector) (receipts : List (Option Receipt)) (ranks : ℕ) (missing : Option ℕ) → Finishes first now receipts ranks missing → length receipts ≤ ranks → AllReceived receipts (received_from now)
+all_received first now receipts ranks missing so within = λ rank receipt at. so.all rank receipt (omega (arith, within, in_list receipts rank _ at)) at
+
+-- the receipts so far are those of the first feeds, and the rest of the feeds is still to end
+abbrev pub ReceiptsTo : List FeedName → List (Option Receipt) → List FeedName → Type 0
+ReceiptsTo names [] rest = names ≡ rest
+ReceiptsTo [] (r ∷ rs) rest = ⊥
+ReceiptsTo (n ∷ ns) (r ∷ rs) rest = IfSome r (λ x. receipt_ring x ≡ n) × ReceiptsTo ns rs rest
+
+pub one_receipt_more : (names : List FeedName) (receipts : List (Option Receipt)) (rest : List FeedName) (name : FeedName) (receipt : Option Receipt) → ReceiptsTo names receipts (name ∷ rest) → IfSome receipt (λ x. receipt_ring x ≡ name) → ReceiptsTo names (receipts ++ receipt ∷ []) rest
+one_receipt_more names [] rest name receipt so own = rw so (own, refl)
+one_receipt_more [] (r ∷ rs) rest name receipt so own = absurd so
+one_receipt_more (n ∷ ns) (r ∷ rs) rest name receipt so own = (so.0, one_receipt_more ns rs rest name receipt so.1 own)
+
+pub all_receipts : (names : List FeedName) (receipts : List (Option Receipt)) → ReceiptsTo names receipts [] → AreReceiptsOf names receipts
+all_receipts [] [] so = tt
+all_receipts (n ∷ ns) [] so = cc
+all_receipts [] (r ∷ rs) so = absurd so
+all_receipts (n ∷ ns) (r ∷ rs) so = (so.0, all_receipts ns rs so.1)
+
+pub is_empty : {A : Type 0} (xs : List A) → length xs ≡ 0 → xs ≡ []
+is_empty [] e = refl
+is_empty (x ∷ xs) e = absurd (omega (arith, e))

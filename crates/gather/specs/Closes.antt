@@ -1,0 +1,26 @@
+-- What the close of a session answers, by what the receipts hold.
+use Rattle.std.specs.Prelude.{◌≡◌, ⊤, Some, None, Option, Result, Ok, Err, List}
+use Rattle.mpicall.specs.Trace.{Trace}
+use Rattle.mpigroup.specs.Groups.{Groups}
+use Rattle.pairing.specs.Recordings.{IsClosed}
+use Rattle.rankfeed.specs.declared.ring.Receipt.{Receipt}
+use Rattle.gather.specs.Answers.{refusal_of, lists_of}
+use Rattle.gather.specs.Receipts.{first_missing, traces_held}
+use Rattle.gather.specs.declared.outcome.CloseFault.{CloseFault}
+use Rattle.gather.specs.declared.outcome.CloseFault.TheVariants.{Memory, Unproved, Refused}
+use Rattle.gather.specs.declared.outcome.Outcome.{Outcome}
+
+-- no rank has a fault over the traces, and the outcome is that of their records, which are closed
+pub record IsOutcomeOver (groups : Groups) (traces : List Trace) (outcome : Outcome) : Type 0 where
+  pub no_refusal : refusal_of groups traces ≡ None
+  pub same_groups : outcome.analyser.groups ≡ groups
+  pub recording : outcome.analyser.recording ≡ lists_of traces
+  pub closed : IsClosed (lists_of traces)
+
+-- Unproved tells the lowest rank without a receipt. With a receipt for each, the answer is the refusal of the
+-- lowest rank that has a fault over the traces that the receipts hold, or else the outcome of their records.
+abbrev pub Closes : Groups → List (Option Receipt) → Result Outcome CloseFault → Type 0
+Closes groups receipts (Err Memory) = ⊤
+Closes groups receipts (Err (Unproved rank)) = first_missing receipts ≡ Some rank
+Closes groups receipts (Err (Refused refusal)) = (first_missing receipts ≡ None) × (refusal_of groups (traces_held receipts) ≡ Some refusal)
+Closes groups receipts (Ok outcome) = (first_missing receipts ≡ None) × IsOutcomeOver groups (traces_held receipts) outcome

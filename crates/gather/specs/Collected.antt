@@ -1,0 +1,131 @@
+-- What a collector keeps of the ranks' records, which come from their feeds in any order: for each rank the
+-- records before its first fault, and that fault.
+use Rattle.std.specs.Prelude.{◌≡◌, ◌⊎◌, ℕ, ◌+◌, Bool, true, false, not, ◌&&◌, is_none, unwrap_or, if◌then◌else◌, Option, Some, None, List, [], ◌∷◌, ◌++◌, length, take, replicate, slice_get, slice_set}
+use Rattle.mpicall.specs.declared.call.Call.{Call}
+use Rattle.mpigroup.specs.Groups.{Groups, ranks_of}
+use Rattle.pairing.specs.Recordings.{Lists, calls_of, appended}
+use Rattle.pairing.specs.Faults.{fault_of}
+use Rattle.pairing.specs.declared.fault.CallFault.{CallFault}
+use Rattle.rankfeed.specs.Items.{calls_among, end_of}
+use Rattle.rankfeed.specs.declared.item.Ending.{Ending}
+use Rattle.rankfeed.specs.declared.item.Ending.TheVariants.{Sealed, Torn}
+use Rattle.rankfeed.specs.declared.item.Item.{Item}
+use Rattle.rankfeed.specs.declared.answer.Took.{Took}
+use Rattle.gather.specs.Answers.{or_behind, refusal_or}
+use Rattle.gather.specs.declared.fault.RankFault.{RankFault}
+use Rattle.gather.specs.declared.fault.RankFault.TheVariants.{OfCall, OfSource}
+use Rattle.gather.specs.declared.fault.Refusal.{Refusal}
+use Rattle.gather.specs.declared.ledger.Stepped.{Stepped}
+use Rattle.gather.specs.declared.ledger.Stepped.TheVariants.{Refused, Discarded, Empty, Ended}
+
+-- a fault of a rank, with its place: the number of the rank's records before it
+abbrev pub PlacedFault : Type 0
+PlacedFault = ℕ × RankFault
+
+-- the fault with which a rank's items end behind so many records: that of an end mark, if one came and it has one
+abbrev pub fault_of_mark : ℕ → Option Ending → Option PlacedFault
+fault_of_mark count None = None
+fault_of_mark count (Some Sealed) = None
+fault_of_mark count (Some (Torn fault)) = Some (count, OfSource fault)
+
+-- the first fault of a rank behind the calls `before`, which have none: the first record that has a fault
+-- after those before it, at its place; without one, that of the end mark, at the number of records
+abbrev pub fault_in : Groups → ℕ → List Call → List Call → Option Ending → Option PlacedFault
+fault_in groups rank before [] mark = fault_of_mark (length before) mark
+fault_in groups rank before (call ∷ calls) mark =
+    or_behind (length before) (fault_of groups rank before call) (fault_in groups rank (before ++ call ∷ []) calls mark)
+
+-- the first fault of a rank over the items of its feed, with its place
+abbrev pub fault_of_items : Groups → ℕ → List Item → Option PlacedFault
+fault_of_items groups rank items = fault_in groups rank [] (calls_among items) (end_of items)
+
+-- the records before the fault; all of them where there is none
+abbrev pub records_before : Option PlacedFault → List Call → List Call
+records_before None records = records
+records_before (Some fault) records = take fault.0 records
+
+-- of the items received from a rank, its first fault is kept, and the records before it
+pub record IsKeptOf (groups : Groups) (rank : ℕ) (items : List Item) (calls : List Call) (fault : Option PlacedFault) : Type 0 where
+  pub first : fault ≡ fault_of_items groups rank items
+  pub before : calls ≡ records_before fault (calls_among items)
+
+-- what is kept of all ranks: each rank's records, its first fault, and whether memory was wanted
+pub record Kept : Type 0 where
+  pub groups : Groups
+  pub recording : Lists
+  pub faults : List (Option PlacedFault)
+  pub wanted : Bool
+
+-- nothing is kept so far
+abbrev pub nothing_kept : Groups → Kept
+nothing_kept groups = record { groups = groups; recording = replicate (ranks_of groups) []; faults = replicate (ranks_of groups) None; wanted = false }
+
+-- the fault that is kept of a rank, if one is
+abbrev pub fault_at : List (Option PlacedFault) → ℕ → Option PlacedFault
+fault_at faults rank = unwrap_or (slice_get faults rank) None
+
+-- the items received from a rank; none where there is no such rank
+abbrev pub items_of : List (List Item) → ℕ → List Item
+items_of received rank = unwrap_or (slice_get received rank) []
+
+-- unless memory was wanted, what is kept of each rank is what its items give, however they came
+abbrev pub AreKeptOf : List (List Item) → Kept → Type 0
+AreKeptOf received kept =
+    kept.wanted ≡ false → (rank : ℕ) → IsKeptOf kept.groups rank (items_of received rank) (calls_of kept.recording rank) (fault_at kept.faults rank)
+
+-- records of the rank are still accepted: it has no fault, and memory wasn't wanted
+abbrev pub is_open : Kept → ℕ → Bool
+is_open kept rank = is_none (fault_at kept.faults rank) && not kept.wanted
+
+-- the same with one more record of the rank
+abbrev pub with_record : Kept → ℕ → Call → Kept
+with_record kept rank call = record { groups = kept.groups; recording = appended kept.recording rank call; faults = kept.faults; wanted = kept.wanted }
+
+-- the same with a fault of the rank behind its records
+abbrev pub with_fault : Kept → ℕ → RankFault → Kept
+with_fault kept rank fault = record {
+  groups = kept.groups;
+  recording = kept.recording;
+  faults = slice_set kept.faults rank (Some (length (calls_of kept.recording rank), fault));
+  wanted = kept.wanted;
+}
+
+-- the same once memory is wanted
+abbrev pub wanting : Kept → Kept
+wanting kept = record { groups = kept.groups; recording = kept.recording; faults = kept.faults; wanted = true }
+
+-- the first fault of a record behind the rank's records so far
+abbrev pub fault_behind_kept : Kept → ℕ → Call → Option CallFault
+fault_behind_kept kept rank call = fault_of kept.groups rank (calls_of kept.recording rank) call
+
+-- what is answered of a record, and kept: it is accepted, or it is the rank's first fault, or it is thrown
+-- away, since its rank isn't open or since memory is wanted for it
+abbrev pub EntersRecord : ℕ → Call → Kept → Stepped → Kept → Type 0
+EntersRecord rank call old Stepped.Took new =
+    (is_open old rank ≡ true) × (fault_behind_kept old rank call ≡ None) × (new ≡ with_record old rank call)
+EntersRecord rank call old Refused new =
+    (is_open old rank ≡ true) × ((fault : CallFault) × (fault_behind_kept old rank call ≡ Some fault) × (new ≡ with_fault old rank (OfCall fault)))
+EntersRecord rank call old Discarded new =
+    ((is_open old rank ≡ false) × (new ≡ old)) ⊎ ((is_open old rank ≡ true) × (fault_behind_kept old rank call ≡ None) × (new ≡ wanting old))
+EntersRecord rank call old Empty new = ⊥
+EntersRecord rank call old Ended new = ⊥
+
+-- what is kept once the records of a rank stop for a fault
+abbrev pub torn : Kept → ℕ → RankFault → Kept
+torn kept rank fault = if is_open kept rank then with_fault kept rank fault else kept
+
+-- what is answered of what was taken from a rank's feed, and kept
+abbrev pub Enters : ℕ → Took → Kept → Stepped → Kept → Type 0
+Enters rank (Took.Record call) old answer new = EntersRecord rank call old answer new
+Enters rank Took.Empty old answer new = (answer ≡ Empty) × (new ≡ old)
+Enters rank Took.Sealed old answer new = (answer ≡ Ended) × (new ≡ old)
+Enters rank (Took.Torn fault) old answer new = (answer ≡ Ended) × (new ≡ torn old rank (OfSource fault))
+
+-- the refusal of the lowest rank, from `rank` on, of which a fault is kept
+abbrev pub refusal_in : ℕ → List (Option PlacedFault) → Option Refusal
+refusal_in rank [] = None
+refusal_in rank (fault ∷ faults) = refusal_or rank fault (refusal_in (rank + 1) faults)
+
+-- the refusal of the lowest rank of which a fault is kept
+abbrev pub refusal_kept : Kept → Option Refusal
+refusal_kept kept = refusal_in 0 kept.faults

@@ -1,0 +1,79 @@
+-- What is put on a rank's feed, by the trace of the rank's source.
+use Rattle.std.specs.Prelude.{◌≡◌, ◌⊎◌, ℕ, ◌-◌, ◌^◌, min, Bool, true, false, ⊤, Option, Some, IfSome, Result, Ok, Err, List, [], ◌∷◌, ◌++◌, length, map}
+use Rattle.mpicall.specs.Device.{count_if, one_more}
+use Rattle.mpicall.specs.Trace.{Trace, End}
+use Rattle.mpicall.specs.Trace as Trace
+use Rattle.mpicall.specs.declared.call.Call.{Call}
+use Rattle.mpicall.specs.declared.fault.SourceFault.TheVariants.{ReadFailed, GateStopped, NoFinalize}
+use Rattle.rankfeed.specs.Items.{end_the_list, end_of}
+use Rattle.rankfeed.specs.Rings.{sent_whole}
+use Rattle.rankfeed.specs.declared.answer.Unsealed.{Unsealed}
+use Rattle.rankfeed.specs.declared.ring.Receipt.{Receipt}
+use Rattle.rankfeed.specs.declared.item.Ending.{Ending}
+use Rattle.rankfeed.specs.declared.item.Ending.TheVariants.{Sealed, Torn}
+use Rattle.rankfeed.specs.declared.item.Item.{Item}
+use Rattle.rankfeed.specs.declared.item.Item.TheVariants.{Entry, Mark}
+
+-- the records, and behind them one end mark
+abbrev pub marked : List Call → Ending → List Item
+marked calls end = map Entry calls ++ Mark end ∷ []
+
+-- the end mark where no records are left: Sealed only where the record that ends the list was put
+abbrev pub end_behind : Bool → Ending
+end_behind true = Sealed
+end_behind false = Torn NoFinalize
+
+-- items with this end mark behind them
+abbrev pub ended_here : List Item → List Item
+ended_here items = items ++ Mark (end_behind (end_the_list items)) ∷ []
+
+-- the end mark behind all the records of a trace. For a text's it tells the text's end; what is left of a source
+-- that gave its `finalize` before has no `finalize`, and the mark NoFinalize
+abbrev pub mark_of : List Call → End → Ending
+mark_of records Trace.Sealed = end_behind (end_the_list (map Entry records))
+mark_of records (Trace.Torn fault) = Torn fault
+
+-- the end mark that tells an end
+abbrev pub ending_of : End → Ending
+ending_of Trace.Sealed = Sealed
+ending_of (Trace.Torn fault) = Torn fault
+
+-- the records are a beginning of these
+abbrev pub Begins : List Call → List Call → Type 0
+Begins calls records = (rest : List Call) × (records ≡ calls ++ rest)
+
+-- these calls and this end are all of the trace, or a beginning of its records where the gate or a failed read
+-- stopped them
+abbrev pub EndsAs : Trace → List Call → Ending → Type 0
+EndsAs trace calls (Torn GateStopped) = Begins calls trace.records
+EndsAs trace calls (Torn ReadFailed) = Begins calls trace.records
+EndsAs trace calls end = (trace.records ≡ calls) × (end ≡ mark_of trace.records trace.end)
+
+-- the line of a question behind so many records, which stays at the greatest u32
+abbrev pub line_behind : ℕ → ℕ
+line_behind count = min count (2 ^ 32 - 1)
+
+-- where the gate stopped the records, it may do so at the line behind them
+abbrev pub StopsAs : (ℕ → Type 0) → List Call → Ending → Type 0
+StopsAs may_stop calls (Torn GateStopped) = may_stop (line_behind (length calls))
+StopsAs may_stop calls end = ⊤
+
+-- the items are the records of a source with their end mark, by the source's trace where that is told, and by the
+-- lines at which the gate may stop the reading
+pub record IsFed (told : Option Trace) (may_stop : ℕ → Type 0) (items : List Item) : Type 0 where
+  pub calls : List Call
+  pub end : Ending
+  pub are : items ≡ marked calls end
+  pub whole : IfSome told (λ trace. EndsAs trace calls end)
+  pub stopped : StopsAs may_stop calls end
+
+-- the end mark is that of a read that failed
+abbrev pub is_failed_read : Option Ending → Bool
+is_failed_read (Some (Torn ReadFailed)) = true
+is_failed_read end = false
+
+-- the count of the input's failures rose by one just where the end mark tells a read that failed; without a
+-- receipt it rose by one at most
+abbrev pub CountsReads : ℕ → ℕ → Result Receipt Unsealed → Type 0
+CountsReads old new (Ok receipt) = new ≡ count_if (is_failed_read (end_of (sent_whole receipt))) old
+CountsReads old new (Err unsealed) = (new ≡ old) ⊎ (new ≡ one_more old)

@@ -1,0 +1,61 @@
+-- The receipts of the ranks' feeds, what they hold, and what is received of it.
+use Rattle.std.specs.Prelude.{◌≡◌, ⊤, ℕ, ◌+◌, true, Option, Some, None, IfSome, List, [], ◌∷◌, ◌++◌, map, slice_get}
+use Rattle.mpicall.specs.Trace.{Trace, End}
+use Rattle.mpicall.specs.Trace as Trace
+use Rattle.mpicall.specs.declared.fault.SourceFault.TheVariants.{NoFinalize}
+use Rattle.rankfeed.specs.Items.{calls_among, end_of, are_ended, IsFeed}
+use Rattle.rankfeed.specs.Rings.{FeedName, taker_ring, receipt_ring, sent_whole, received_by}
+use Rattle.rankfeed.specs.declared.item.Ending.{Ending}
+use Rattle.rankfeed.specs.declared.item.Ending.TheVariants.{Sealed, Torn}
+use Rattle.rankfeed.specs.declared.item.Item.{Item}
+use Rattle.rankfeed.specs.declared.ring.Receipt.{Receipt}
+use Rattle.rankfeed.specs.declared.ring.Taker.{Taker}
+use Rattle.gather.specs.Takers.{received_in, left_in}
+
+-- the end of a trace by the end mark of its items; items without one stop before their Finalize
+abbrev pub end_by : Option Ending → End
+end_by (Some Sealed) = Trace.Sealed
+end_by (Some (Torn fault)) = Trace.Torn fault
+end_by None = Trace.Torn NoFinalize
+
+-- the trace that the items of a feed make: their records, and the end by their end mark
+abbrev pub trace_of_items : List Item → Trace
+trace_of_items items = record { records = calls_among items; end = end_by (end_of items) }
+
+-- the receipts are those of the feeds: one for each feed, in their order, where there is one
+abbrev pub AreReceiptsOf : List FeedName → List (Option Receipt) → Type 0
+AreReceiptsOf [] [] = ⊤
+AreReceiptsOf (name ∷ names) (receipt ∷ receipts) = IfSome receipt (λ r. receipt_ring r ≡ name) × AreReceiptsOf names receipts
+AreReceiptsOf names receipts = ⊥
+
+-- the lowest rank, from `rank` on, without a receipt
+abbrev pub missing_from : ℕ → List (Option Receipt) → Option ℕ
+missing_from rank [] = None
+missing_from rank (None ∷ receipts) = Some rank
+missing_from rank (Some receipt ∷ receipts) = missing_from (rank + 1) receipts
+
+-- the lowest rank without a receipt
+abbrev pub first_missing : List (Option Receipt) → Option ℕ
+first_missing receipts = missing_from 0 receipts
+
+-- the traces that the receipts hold
+abbrev pub traces_held : List (Option Receipt) → List Trace
+traces_held [] = []
+traces_held (None ∷ receipts) = traces_held receipts
+traces_held (Some receipt ∷ receipts) = trace_of_items (sent_whole receipt) ∷ traces_held receipts
+
+-- the items are all that was sent on the feed of a receipt: they end with an end mark, and are in order
+pub record AreAllOf (receipt : Receipt) (items : List Item) : Type 0 where
+  pub all : items ≡ sent_whole receipt
+  pub ended : are_ended items ≡ true
+  pub in_order : IsFeed items
+
+-- of each rank that has a receipt, all was received
+abbrev pub AllReceived : List (Option Receipt) → (ℕ → List Item) → Type 0
+AllReceived receipts received = (rank : ℕ) (receipt : Receipt) → slice_get receipts rank ≡ Some (Some receipt) → AreAllOf receipt (received rank)
+
+-- the taker of a rank knows all that is left by the receipt, and nothing more was received
+pub record Meets (rank : ℕ) (receipt : Receipt) (old new : List Taker) : Type 0 where
+  pub names : map taker_ring new ≡ map taker_ring old
+  pub received : map received_by new ≡ map received_by old
+  pub left : AreAllOf receipt (received_in new rank ++ left_in new rank)

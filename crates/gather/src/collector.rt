@@ -1,0 +1,165 @@
+//! The collector: it takes the records of all ranks from their feeds, in any order.
+
+ghost use Rattle.std.specs.Prelude.{◌≡◌, ◌<◌, Some, length, map, slice_get};
+ghost use Rattle.rankfeed.specs.Rings.{taker_ring, receipt_ring};
+ghost use Rattle.gather.specs.Takers.{Collects, Takes};
+ghost use Rattle.gather.specs.Receipts.{Meets};
+
+use crate::ledger::Ledger;
+pub use crate::ledger::Stepped;
+use crate::outcome::{CloseFault, Outcome};
+use rankfeed::{Receipt, Taker, Took};
+use std::alloc::Global;
+
+/// The takers of all ranks' feeds, and what is kept of the records that came.
+///
+/// Unless memory was wanted, each rank's calls are its records before its first fault, and that fault is kept
+/// with its place, whatever the order in which the ranks' records came.
+#[derive(Drop)]
+pub struct Collector {
+    alloc: Global,
+    takers: Vec<Taker>,
+    ledger: Ledger,
+    ghost collects: { Collects takers.items ledger },
+}
+
+/// Takes the item at the front of a rank's feed.
+fn take_from(takers: &mut Vec<Taker>, rank: u16) -> Took
+    requires { rank < length takers.old.items }
+    ensures { Takes rank result takers.old.items takers.new.items }
+{
+    takers[usize::from(rank)].try_take()
+}
+
+/// Tells the taker of a rank's feed what is left, by the feed's receipt.
+fn meet_at(takers: &mut Vec<Taker>, rank: u16, receipt: Receipt)
+    requires { slice_get (map taker_ring takers.old.items) rank ≡ Some (receipt_ring receipt) }
+    ensures { Meets rank receipt takers.old.items takers.new.items }
+{
+    takers[usize::from(rank)].meet(receipt);
+}
+
+impl Collector {
+    ghost use Rattle.std.specs.Prelude.{◌++◌, true, Err};
+    ghost use Rattle.rankfeed.specs.Items.{are_ended, IsFeed};
+    ghost use Rattle.gather.specs.Takers.{received_in};
+    ghost use Rattle.gather.specs.Receipts.{AreAllOf, AreReceiptsOf, AllReceived, first_missing};
+    ghost use Rattle.gather.specs.Closes.{Closes};
+    ghost use Rattle.gather.specs.declared.outcome.CloseFault.TheVariants.{Memory};
+    ghost use Rattle.gather.specs.Collectors.{rings, kept, received_from, left_from, Steps, ReceivesFrom};
+
+    /// The collector of these takers, of which this much is kept.
+    pub(crate) fn of(alloc: Global, takers: Vec<Taker>, ledger: Ledger) -> Collector
+        requires { Collects takers.items ledger }
+        ensures rings { rings result ≡ map taker_ring takers.items }
+        ensures received { received_from result ≡ received_in takers.items }
+        ensures kept { kept result ≡ ledger }
+    {
+        Collector {
+            alloc,
+            takers,
+            ledger,
+        }
+    }
+
+    /// Takes one item at most from the feed of a rank.
+    pub fn step(&mut self, rank: u16) -> Stepped
+        requires { rank < length (rings self.old) }
+        ensures { Steps rank self.old result self.new }
+    {
+        let took = take_from(&mut self.takers, rank);
+        match took {
+            Took::Record(call) => self.ledger.enter(rank, &call),
+            Took::Empty => Stepped::Empty,
+            Took::Sealed => Stepped::Ended,
+            Took::Torn(fault) => {
+                self.ledger.tear(rank, fault);
+                Stepped::Ended
+            }
+        }
+    }
+
+    /// Takes all that is left on a rank's feed, whose receipt was met.
+    fn drain(&mut self, rank: u16)
+        requires is_rank { rank < length (rings self.old) }
+        requires known { are_ended (received_from self.old rank ++ left_from self.old rank) ≡ true }
+        requires in_order { IsFeed (received_from self.old rank ++ left_from self.old rank) }
+        ensures only { ReceivesFrom rank self.old self.new }
+        ensures all { received_from self.new rank ≡ received_from self.old rank ++ left_from self.old rank }
+    {
+        loop {
+            match self.step(rank) {
+                Stepped::Ended => return,
+                Stepped::Took | Stepped::Refused | Stepped::Discarded | Stepped::Empty => {}
+            }
+        }
+    }
+
+    /// Takes all that was sent on a rank's feed, by the feed's receipt.
+    fn finish(&mut self, rank: u16, receipt: Receipt)
+        requires { slice_get (rings self.old) rank ≡ Some (receipt_ring receipt) }
+        ensures only { ReceivesFrom rank self.old self.new }
+        ensures all { AreAllOf receipt (received_from self.new rank) }
+    {
+        meet_at(&mut self.takers, rank, receipt);
+        self.drain(rank);
+    }
+
+    /// The number of ranks. At any time, what is kept is what the items give that were received.
+    pub fn ranks(&self) -> u16
+        ensures value { result ≡ length (rings self.now) }
+        ensures collects { Collects self.now.takers.items (kept self.now) }
+    {
+        self.ledger.ranks()
+    }
+
+    /// Takes all that was sent on the feeds that have a receipt, in rank order, and answers the lowest rank
+    /// without one.
+    fn finish_all(&mut self, receipts: Vec<Option<Receipt>>) -> Option<u16>
+        requires { AreReceiptsOf (rings self.old) receipts.items }
+        ensures names { rings self.new ≡ rings self.old }
+        ensures missing { result ≡ first_missing receipts.items }
+        ensures groups { (kept self.new).groups ≡ (kept self.old).groups }
+        ensures wanted { (kept self.old).wanted ≡ true → (kept self.new).wanted ≡ true }
+        ensures all { AllReceived receipts.items (received_from self.new) }
+    {
+        let mut missing = None;
+        let mut receipts = receipts.into_iter();
+        for rank in 0..self.ranks() {
+            let Some(receipt) = receipts.next() else {
+                unreachable!()
+            };
+            match receipt {
+                Some(receipt) => self.finish(rank, receipt),
+                None => missing = missing.or(Some(rank)),
+            }
+        }
+        missing
+    }
+
+    /// Takes all that was sent, by the receipts of the ranks' feeds, and answers what comes of it. `Memory`
+    /// comes first, where memory was wanted; then `Unproved`, for the lowest rank without a receipt; then
+    /// `Refused`, for the lowest rank that has a fault.
+    pub fn close(self, receipts: Vec<Option<Receipt>>) -> Result<Outcome, CloseFault>
+        requires { AreReceiptsOf (rings self) receipts.items }
+        ensures answer { Closes (kept self).groups receipts.items result }
+        ensures wanting { (kept self).wanted ≡ true → result ≡ Err Memory }
+    {
+        let mut collector = self;
+        let missing = collector.finish_all(receipts);
+        let Collector { alloc, ledger, .. } = collector;
+        if ledger.is_wanting() {
+            return Err(CloseFault::Memory);
+        }
+        if let Some(rank) = missing {
+            return Err(CloseFault::Unproved(rank));
+        }
+        if let Some(refusal) = ledger.refusal() {
+            return Err(CloseFault::Refused(refusal));
+        }
+        match Outcome::of(alloc, ledger.into_analyser()) {
+            Ok(outcome) => Ok(outcome),
+            Err(_) => Err(CloseFault::Memory),
+        }
+    }
+}

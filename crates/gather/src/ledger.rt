@@ -1,0 +1,149 @@
+//! What is kept of the ranks' records as they come, in any order.
+
+ghost use Rattle.std.specs.Prelude.{◌≡◌, ◌<◌, length, IfOk};
+ghost use Rattle.gather.specs.declared.fault.RankFault.TheVariants.{OfSource};
+ghost use Rattle.pairing.specs.Faults.{IsLawful};
+ghost use Rattle.gather.specs.Collected.{nothing_kept, refusal_kept, EntersRecord, torn, is_open, with_fault};
+
+use crate::fault::{RankFault, Refusal};
+use moves::analyser::{Analyser, OfferFault};
+use mpicall::fault::SourceFault;
+use mpicall::record::Record;
+use mpigroup::head::Head;
+use std::alloc::{AllocError, Global};
+use std::marker::Model;
+
+/// What a step with a rank's feed found.
+#[derive(Clone, Copy, Debug, PartialEq, Eq)]
+pub enum Stepped {
+    /// A record, which was accepted.
+    Took,
+    /// A record with a fault, the first of its rank.
+    Refused,
+    /// A record, which was thrown away: its rank has a fault, or memory was wanted.
+    Discarded,
+    /// Nothing is there now.
+    Empty,
+    /// All was taken, the end mark last.
+    Ended,
+}
+
+/// The records of all ranks that were accepted, and each rank's first fault. Contracts see these, and whether
+/// memory was wanted.
+#[derive(Drop)]
+pub struct Ledger {
+    analyser: Analyser,
+    faults: Vec<Option<(u32, RankFault)>>,
+    wanted: bool,
+}
+
+impl Model for Ledger {
+    ghost use Rattle.std.specs.Prelude.{◌≡◌, length};
+    ghost use Rattle.gather.specs.Collected.{Kept};
+
+    ghost Value = { Kept };
+
+    ghost view = { λ l. record { groups = l.analyser.groups; recording = l.analyser.recording; faults = l.faults.items; wanted = l.wanted } };
+
+    ghost invariant = { λ l. length l.faults.items ≡ length l.analyser.recording };
+}
+
+impl Ledger {
+    /// Nothing is kept so far.
+    pub fn new(alloc: Global, head: Head) -> Result<Ledger, AllocError>
+        ensures { IfOk result (λ ledger. ledger ≡ nothing_kept head) }
+    {
+        let faults = vec![in alloc; None; usize::from(head.ranks())]?;
+        let analyser = Analyser::new(alloc, head)?;
+        Ok(Ledger {
+            analyser,
+            faults,
+            wanted: false,
+        })
+    }
+
+    /// The number of ranks.
+    pub fn ranks(&self) -> u16
+        ensures ranks { result ≡ length self.now.recording }
+        ensures faults { length self.now.faults ≡ length self.now.recording }
+        ensures lawful { IsLawful self.now.groups self.now.recording }
+    {
+        self.analyser.head().ranks()
+    }
+
+    /// Whether a rank's records are still accepted.
+    fn is_open(&self, rank: u16) -> bool
+        requires { rank < length self.now.recording }
+        ensures { result ≡ is_open self.now rank }
+    {
+        self.faults[usize::from(rank)].is_none() && !self.wanted
+    }
+
+    /// Keeps a fault of a rank behind its records.
+    fn keep(&mut self, rank: u16, fault: RankFault)
+        requires { rank < length self.old.recording }
+        ensures { self.new ≡ with_fault self.old rank fault }
+    {
+        let place = self.analyser.accepted(rank).unwrap_or(0);
+        self.faults[usize::from(rank)] = Some((place, fault));
+    }
+
+    /// Takes the next record of a rank.
+    pub fn enter(&mut self, rank: u16, call: &Record) -> Stepped
+        requires { rank < length self.old.recording }
+        ensures { EntersRecord rank call.now self.old result self.new }
+    {
+        if !self.is_open(rank) {
+            return Stepped::Discarded;
+        }
+        match self.analyser.offer(rank, call) {
+            Ok(()) => Stepped::Took,
+            Err(OfferFault::Refused(fault)) => {
+                self.keep(rank, RankFault::OfCall(fault));
+                Stepped::Refused
+            }
+            Err(OfferFault::Memory) => {
+                self.wanted = true;
+                Stepped::Discarded
+            }
+        }
+    }
+
+    /// Takes the fault for which a rank's records stop.
+    pub fn tear(&mut self, rank: u16, fault: SourceFault)
+        requires { rank < length self.old.recording }
+        ensures { self.new ≡ torn self.old rank (OfSource fault) }
+    {
+        if self.is_open(rank) {
+            self.keep(rank, RankFault::OfSource(fault));
+        }
+    }
+
+    /// Whether memory was wanted.
+    pub fn is_wanting(&self) -> bool
+        ensures { result ≡ self.now.wanted }
+    {
+        self.wanted
+    }
+
+    /// The refusal of the lowest rank that has a fault.
+    pub fn refusal(&self) -> Option<Refusal>
+        ensures value { result ≡ refusal_kept self.now }
+        ensures lawful { IsLawful self.now.groups self.now.recording }
+    {
+        for rank in 0..self.ranks() {
+            if let Some((call, fault)) = self.faults[usize::from(rank)] {
+                return Some(Refusal { rank, call, fault });
+            }
+        }
+        None
+    }
+
+    /// The analyser of the records that were accepted.
+    pub fn into_analyser(self) -> Analyser
+        ensures groups { result.groups ≡ self.groups }
+        ensures recording { result.recording ≡ self.recording }
+    {
+        self.analyser
+    }
+}

@@ -1,0 +1,68 @@
+//! What comes of a run whose records were all received, or why nothing does.
+
+ghost use Rattle.std.specs.Prelude.{◌≡◌, ◌↔◌, IfOk};
+ghost use Rattle.pairing.specs.Recordings.{IsClosed};
+ghost use Rattle.moves.specs.Verdicts.{verdict_of, SomeRankIsStuck};
+ghost use Rattle.moves.specs.declared.verdict.Verdict.TheVariants.{Hang};
+ghost use Rattle.waitgraph.specs.Graphs.{IsGraphOf};
+
+use crate::fault::Refusal;
+use moves::analyser::Analyser;
+use moves::verdict::{Verdict, verdict_of};
+use std::alloc::{AllocError, Global};
+use thiserror::Error;
+use waitgraph::graph::Graph;
+
+/// Why a session has no outcome.
+#[derive(Clone, Copy, Debug, PartialEq, Eq, Error)]
+pub enum CloseFault {
+    #[error("memory")]
+    Memory,
+    /// The lowest rank without a receipt.
+    #[error("rank {0} has no receipt")]
+    Unproved(u16),
+    /// The refusal of the lowest rank that has a fault.
+    #[error("{0}")]
+    Refused(Refusal),
+}
+
+/// What is said of a run whose calls were all accepted.
+#[derive(Drop)]
+pub struct Outcome {
+    analyser: Analyser,
+    graph: Graph,
+    ghost waits: { IsGraphOf analyser.groups analyser.recording graph },
+}
+
+impl Outcome {
+    /// The outcome of these calls. It takes memory for the wait graph.
+    pub(crate) fn of(alloc: Global, analyser: Analyser) -> Result<Outcome, AllocError>
+        requires { IsClosed analyser.recording }
+        ensures { IfOk result (λ outcome. outcome.analyser ≡ analyser) }
+    {
+        let graph = Graph::of(alloc, &analyser)?;
+        Ok(Outcome { analyser, graph })
+    }
+
+    /// Whether the run can hang.
+    pub fn verdict(&self) -> Verdict
+        ensures value { result ≡ verdict_of self.now.analyser.groups self.now.analyser.recording }
+        ensures hang { (result ≡ Hang) ↔ SomeRankIsStuck self.now.analyser.groups self.now.analyser.recording }
+    {
+        verdict_of(&self.analyser)
+    }
+
+    /// The calls of all ranks.
+    pub fn analyser(&self) -> &Analyser
+        ensures { result.now ≡ self.now.analyser }
+    {
+        &self.analyser
+    }
+
+    /// Who waits for whom, and why.
+    pub fn graph(&self) -> &Graph
+        ensures { IsGraphOf self.now.analyser.groups self.now.analyser.recording result.now }
+    {
+        &self.graph
+    }
+}
