@@ -7,23 +7,24 @@ use Rattle.clap.specs.Kinds.{HasKind}
 use Rattle.clap.specs.Values.{kind_of}
 use Rattle.clap.specs.declared.error.Error.{Error}
 use Rattle.clap.specs.declared.error.kind.ErrorKind.TheVariants.{OutOfMemory}
+use Rattle.waitgraph.specs.declared.report.Format.{Format}
 use Rattle.mpiwait.specs.declared.words.Words.{Words}
 use Rattle.mpiwait.specs.declared.words.Words.TheVariants.{Check, Lint, Said, NoMemory}
 use Rattle.mpiwait.specs.Asked.{Answers, CheckRun, Names, Says, SaysError, Task, program, run_of, task_in, task_of}
 
 pub said_where_none : (task : Option Task) (text : Text) (said : Words) → task ≡ None → Says text true said → Names task said
-said_where_none task text (Check head files) none says = absurd says
+said_where_none task text (Check head files format) none says = absurd says
 said_where_none task text (Lint file) none says = absurd says
 said_where_none task text (Said told is_told) none says = (none, says.1)
 said_where_none task text NoMemory none says = tt
 
-pub run_of_some : (head : Text) (files : List (Bor Text)) → 0 < length files → run_of (Some head) (Some (map (λ file. file.now) files)) ≡ Some (CheckRun head (map (λ file. file.now) files))
-run_of_some head [] some = absurd (omega arith)
-run_of_some head (file ∷ files) some = refl
+pub run_of_some : (head : Text) (files : List (Bor Text)) (format : Format) → 0 < length files → run_of (Some head) (Some (map (λ file. file.now) files)) format ≡ Some (CheckRun head (map (λ file. file.now) files) format)
+run_of_some head [] format some = absurd (omega arith)
+run_of_some head (file ∷ files) format some = refl
 
-pub run_of_none : (head : Option Text) → run_of head None ≡ None
-run_of_none None = refl
-run_of_none (Some head) = refl
+pub run_of_none : (head : Option Text) (format : Format) → run_of head None format ≡ None
+run_of_none None format = refl
+run_of_none (Some head) format = refl
 
 pub ruleset asked_steps = (said_where_none, run_of_some, run_of_none)
 
@@ -37,14 +38,14 @@ program_is_free = refl
 
 pub answers_named : (words : List Text) (found : Option (Text × List Row)) (asked : Words) → found ≡ subcommand_of program words → fault_of program words ≡ [] → Names (option_and_then (λ rows. task_of rows.0 rows.1) found) asked → Answers words asked
 unfolding task_in
-answers_named words found (Check head files) is taken names = (taken, sym (ap (option_and_then (λ (rows : Text × List Row). task_of rows.0 rows.1)) is) ∙ names)
+answers_named words found (Check head files format) is taken names = (taken, sym (ap (option_and_then (λ (rows : Text × List Row). task_of rows.0 rows.1)) is) ∙ names)
 answers_named words found (Lint file) is taken names = (taken, sym (ap (option_and_then (λ (rows : Text × List Row). task_of rows.0 rows.1)) is) ∙ names)
 answers_named words found (Said text false) is taken names = let e : false ≡ true = names.1 in cc
 answers_named words found (Said text true) is taken names = inr (taken, sym (ap (option_and_then (λ (rows : Text × List Row). task_of rows.0 rows.1)) is) ∙ names.0)
 answers_named words found NoMemory is taken names = tt
 
 pub answers_error : (words : List Text) (error : Error) (asked : Words) → HasKind (fault_of program words) error → SaysError (kind_of error) asked → (kind_of error ≡ OutOfMemory → asked ≡ NoMemory) → Answers words asked
-answers_error words error (Check head files) has says memory = absurd says
+answers_error words error (Check head files format) has says memory = absurd says
 answers_error words error (Lint file) has says memory = absurd says
 answers_error words error (Said text false) has says memory = elim has [
   | inl out ↦ let e : Said text false ≡ NoMemory = memory out in cc

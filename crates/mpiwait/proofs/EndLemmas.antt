@@ -1,5 +1,6 @@
 -- How the end of the program follows from the ends of its parts.
 use Rattle.std.proofs.Common.{ℕ, Option, Result, Ok, Err, List, sym, subst, true, false, inl, inr}
+use Rattle.waitgraph.specs.declared.report.Format.{Format}
 use Rattle.mpiwait.specs.Answer.{AnswerEnds, CheckEnds}
 use Rattle.mpiwait.specs.Ends.{Ends, EndsBy, EndsCheck, EndsLint, EndsOutput, EndsText}
 use Rattle.mpiwait.specs.Faults.{status_of}
@@ -12,19 +13,19 @@ use Rattle.mpiwait.specs.declared.words.Words.TheVariants.{Check, Lint, Said, No
 
 module _ {O : Type 0} (written : O → Option (List ℕ)) (failures : O → ℕ) where
   -- an answer ends as the words want it, where a check does
-  pub check_answers : (told : List ℕ → Option (List ℕ)) (old new : O) (words : Words) (head : Option (List ℕ)) (files : List (Option (List ℕ))) (answer : Result Status Complaint) →
-      ((ended : Status) → EndsCheck written failures told old new head files ended → EndsBy written failures told old new words ended) → CheckEnds written failures told old new head files answer → AnswerEnds written failures told old new words answer
-  check_answers told old new words head files (Ok ended) wants ends = (ends.0, wants ended ends.1)
-  check_answers told old new words head files (Err (complaint.Usage said)) wants ends = absurd ends
-  check_answers told old new words head files (Err (complaint.Fault fault)) wants ends = (ends.0, wants (status_of fault) ends.1, wants status.Fault ends.2)
+  pub check_answers : (told : List ℕ → Option (List ℕ)) (old new : O) (words : Words) (head : Option (List ℕ)) (files : List (Option (List ℕ))) (format : Format) (answer : Result Status Complaint) →
+      ((ended : Status) → EndsCheck written failures told old new head files format ended → EndsBy written failures told old new words ended) → CheckEnds written failures told old new head files format answer → AnswerEnds written failures told old new words answer
+  check_answers told old new words head files format (Ok ended) wants ends = (ends.0, wants ended ends.1)
+  check_answers told old new words head files format (Err (complaint.Usage said)) wants ends = absurd ends
+  check_answers told old new words head files format (Err (complaint.Fault fault)) wants ends = (ends.0, wants (status_of fault) ends.1, wants status.Fault ends.2)
 
   -- standard output by the status alone
-  pub check_output : (told : List ℕ → Option (List ℕ)) (old new : O) (head : Option (List ℕ)) (files : List (Option (List ℕ))) (ended : Status) → EndsCheck written failures told old new head files ended → EndsOutput written failures old new ended
-  check_output told old new head files status.Free ends = (_, ends.0)
-  check_output told old new head files status.Hang ends = (_, ends.0)
-  check_output told old new head files status.Refused ends = ends
-  check_output told old new head files status.Usage ends = ends
-  check_output told old new head files status.Fault ends = ends
+  pub check_output : (told : List ℕ → Option (List ℕ)) (old new : O) (head : Option (List ℕ)) (files : List (Option (List ℕ))) (format : Format) (ended : Status) → EndsCheck written failures told old new head files format ended → EndsOutput written failures old new ended
+  check_output told old new head files format status.Free ends = (ends.0.0, (ends.0.2, ends.1))
+  check_output told old new head files format status.Hang ends = (ends.0.0, (ends.0.2, ends.1))
+  check_output told old new head files format status.Refused ends = ends
+  check_output told old new head files format status.Usage ends = ends
+  check_output told old new head files format status.Fault ends = ends
 
   pub lint_output : (told : List ℕ → Option (List ℕ)) (old new : O) (text : Option (List ℕ)) (ended : Status) → EndsLint written failures told old new text ended → EndsOutput written failures old new ended
   lint_output told old new text status.Free ends = (_, ends.2)
@@ -41,7 +42,7 @@ module _ {O : Type 0} (written : O → Option (List ℕ)) (failures : O → ℕ)
   text_output told old new text status.Fault ends = inr ends
 
   pub asked_output : (told : List ℕ → Option (List ℕ)) (old new : O) (asked : Words) (ended : Status) → EndsBy written failures told old new asked ended → EndsOutput written failures old new ended
-  asked_output told old new (Check head files) ended ends = check_output told old new _ _ ended ends
+  asked_output told old new (Check head files format) ended ends = check_output told old new _ _ format ended ends
   asked_output told old new (Lint file) ended ends = lint_output told old new _ ended ends
   asked_output told old new (Said text false) ended ends = text_output told old new _ ended ends
   asked_output told old new (Said text true) ended ends = subst (λ (s : Status). EndsOutput written failures old new s) (sym ends.0) ends.1

@@ -1,16 +1,19 @@
 -- How the answers over a check's sources follow for the texts of its files.
 use Rattle.std.proofs.Common.{◌≡◌, ℕ, Option, Some, None, List, [], ◌∷◌, map, option_map, ap, ◌∙◌, sym, refl, subst, arith, Result, Ok, Err, IfSome, take, Bool, true, false, if◌then◌else◌}
 use Rattle.mpicall.specs.Trace.{Trace, trace_of}
+use Rattle.mpicall.specs.declared.source.Source.{Source}
+use Rattle.moves.specs.declared.verdict.Verdict.{Verdict}
+use Rattle.waitgraph.specs.declared.report.Format.{Format}
 use Rattle.mpigroup.proofs.FrontLemmas.{read_head-front}
 use Rattle.mpigroup.specs.Groups.{Groups}
 use Rattle.mpigroup.specs.HeadText.{read_head}
 use Rattle.mpigroup.specs.declared.fault.HeadFault.{HeadFault}
-use Rattle.gather.specs.Told.{RefusesOver}
+use Rattle.gather.specs.Told.{IsReportOver, RefusesOver, Tells}
 use Rattle.gather.specs.declared.fault.Refusal.{Refusal}
 use Rattle.gather.specs.declared.fault.RunFault.{RunFault}
 use Rattle.gather.specs.declared.fault.RunFault.TheVariants as run
 use Rattle.mpiwait.specs.Faults.{is_failure, of_run}
-use Rattle.mpiwait.specs.Texts.{IsFaultOfHead, IsFaultOfTexts, IsHeadOf, IsRefusalOfTexts}
+use Rattle.mpiwait.specs.Texts.{IsFaultOfHead, IsFaultOfTexts, IsHeadOf, IsRefusalOfTexts, IsReportOf}
 use Rattle.mpiwait.specs.declared.fault.Fault.{Fault}
 use Rattle.mpiwait.specs.declared.fault.Fault.TheVariants.{Open, ReadHead, Head, FileCount, Refused, Failed, LintRefused, LintFailed, Memory, Write}
 use Rattle.mpiwait.specs.Front.{IsFrontOf, deciding_bytes}
@@ -30,6 +33,25 @@ of_some (text ∷ texts) = ap (λ traces. Some (trace_of text) ∷ traces) (of_s
 pub tells_texts : {F : Type 0} (sources : List (Option Trace)) (told : F → Option Text) (files : List F) (texts : List Text) →
     sources ≡ map (λ file. option_map trace_of (told file)) files → map told files ≡ map Some texts → sources ≡ map Some (map trace_of texts)
 tells_texts sources told files texts of_files are = of_files ∙ of_told told files ∙ ap (map (option_map trace_of)) are ∙ of_some texts
+
+-- the head of a told text
+pub head_of_told : (told : Option Text) (text : Text) (groups : Groups) → IsHeadOf told groups → told ≡ Some text → read_head text ≡ Ok groups
+head_of_told None text groups of_told is = cc
+head_of_told (Some other) text groups of_told is = subst (λ (known : Option Text). IsHeadOf known groups) is of_told
+
+-- the report over sources that tell the traces of the files' texts is that of the texts
+pub report_says : {I : Type 0} (left : I → Option Text) (sources : List (Source I)) (groups : Groups) (format : Format) (verdict : Verdict) (report : Text) (head : Option Text) (files : List (Option Text)) →
+    IsHeadOf head groups → ((texts : List Text) → files ≡ map Some texts → Tells left sources (map trace_of texts)) → IsReportOver left sources groups format verdict report → IsReportOf format head files verdict report
+report_says left sources groups format verdict report head files of_head tells over = record {
+  groups = groups;
+  recording = over.recording;
+  of_texts = λ text texts head_is files_are. record {
+    is_head = head_of_told head text groups of_head head_is;
+    is_recording = over.of_traces (map trace_of texts) (tells texts files_are);
+  };
+  report_is = over.report_is;
+  verdict_is = over.verdict_is;
+}
 
 -- the text of a head says what its front says
 pub head_says : (told left : Option Text) (front : Text) (answer : Result Groups HeadFault) → left ≡ told → IsFrontOf left front → read_head front ≡ answer → IfSome told (λ text. read_head text ≡ answer)
@@ -61,8 +83,3 @@ run_fault_says groups head texts run.Memory is refuses = tt
 run_fault_says groups head texts run.Write is refuses = tt
 run_fault_says groups head texts (run.Refused refusal) is refuses =
     by_failure head texts refusal (is_failure refusal.fault) (record { groups = groups; is_head = is; of_traces = refuses }) refl
-
--- the head of a told text
-pub head_of_told : (told : Option Text) (text : Text) (groups : Groups) → IsHeadOf told groups → told ≡ Some text → read_head text ≡ Ok groups
-head_of_told None text groups of_told is = cc
-head_of_told (Some other) text groups of_told is = subst (λ (known : Option Text). IsHeadOf known groups) is of_told

@@ -2,6 +2,7 @@
 -- for standard error.
 use Rattle.std.specs.Prelude.{◌≡◌, ◌⊎◌, ℕ, Option, Result, Ok, Err, List, ⊤}
 use Rattle.clap.specs.Walk.{Text}
+use Rattle.waitgraph.specs.declared.report.Format.{Format}
 use Rattle.mpiwait.specs.Ends.{EndsBy, EndsCheck, EndsLint}
 use Rattle.mpiwait.specs.Faults.{status_of}
 use Rattle.mpiwait.specs.Outputs.{Writes, WritesSome, FailsToWrite}
@@ -45,11 +46,11 @@ module _ {O : Type 0} (written : O → Option (List ℕ)) (failures : O → ℕ)
 
   -- standard output is as the end of a check wants it, with the status that it tells; or with that of the
   -- complaint, and with that of a fault, which want of memory for the complaint's text gives
-  abbrev pub CheckEnds : (Text → Option Text) → O → O → Option Text → List (Option Text) → Result Status Complaint → Type 0
-  CheckEnds told old new head files (Ok ended) = IsOfOutput ended × EndsCheck written failures told old new head files ended
-  CheckEnds told old new head files (Err (complaint.Usage said)) = ⊥
-  CheckEnds told old new head files (Err (complaint.Fault fault)) =
-      IsOfError (status_of fault) × EndsCheck written failures told old new head files (status_of fault) × EndsCheck written failures told old new head files status.Fault
+  abbrev pub CheckEnds : (Text → Option Text) → O → O → Option Text → List (Option Text) → Format → Result Status Complaint → Type 0
+  CheckEnds told old new head files format (Ok ended) = IsOfOutput ended × EndsCheck written failures told old new head files format ended
+  CheckEnds told old new head files format (Err (complaint.Usage said)) = ⊥
+  CheckEnds told old new head files format (Err (complaint.Fault fault)) =
+      IsOfError (status_of fault) × EndsCheck written failures told old new head files format (status_of fault) × EndsCheck written failures told old new head files format status.Fault
 
   -- the same of a lint
   abbrev pub LintEnds : (Text → Option Text) → O → O → Option Text → Result Status Complaint → Type 0

@@ -2,12 +2,16 @@
 -- the program's command.
 use Rattle.std.specs.Prelude.{◌≡◌, ◌⊎◌, Bool, true, false, Option, Some, None, List, [], ◌∷◌, codes, map, string_bytes, option_and_then, option_map, bytes_eq, if◌then◌else◌, not}
 use Rattle.clap.specs.Lexer.{usize_max}
+use Rattle.std.specs.Option.{option_map_or}
 use Rattle.clap.specs.Walk.{Row, Rule, Text, first_of, all_of}
 use Rattle.clap.specs.Simple.{App, new_rule, new_shape, new_app, with_rule, with_subcommand, subcommand_of}
 use Rattle.clap.specs.Faults.{fault_of}
 use Rattle.clap.specs.Kinds.{IsAmong}
+use Rattle.clap.specs.declared.builder.action.ArgAction.TheVariants.{SetTrue}
 use Rattle.clap.specs.declared.error.kind.ErrorKind.{ErrorKind}
 use Rattle.clap.specs.declared.error.kind.ErrorKind.TheVariants.{DisplayHelp, DisplayVersion}
+use Rattle.waitgraph.specs.declared.report.Format.{Format}
+use Rattle.waitgraph.specs.declared.report.Format.TheVariants as format
 use Rattle.mpiwait.specs.declared.words.Words.{Words}
 use Rattle.mpiwait.specs.declared.words.Words.TheVariants.{Check, Lint, Said, NoMemory}
 
@@ -21,6 +25,13 @@ traces_rule = record (new_rule (codes "FILE")) {
   range = Some (record { start_inclusive = 1; end_inclusive = usize_max });
 }
 
+-- a flag, which clap notes as `true` where it is given
+abbrev pub json_rule : Rule
+json_rule = record (new_rule (codes "json")) {
+  long = Some (codes "json");
+  action = Some SetTrue;
+}
+
 -- one trace
 abbrev pub trace_rule : Rule
 trace_rule = record (new_rule (codes "FILE")) { required = true }
@@ -31,7 +42,7 @@ versioned name = record (new_app name) { top = record (new_shape name) { has_ver
 
 -- the commands `check` and `lint`
 abbrev pub check : App
-check = with_rule (with_rule (versioned (codes "check")) head_rule) traces_rule
+check = with_rule (with_rule (with_rule (versioned (codes "check")) head_rule) traces_rule) json_rule
 
 abbrev pub lint : App
 lint = with_rule (versioned (codes "lint")) trace_rule
@@ -47,20 +58,24 @@ program = with_subcommand (with_subcommand (record (new_app (codes "mpiwait")) {
   };
 }) check.top) lint.top
 
--- what a command line can ask the program to do: to check a run, of a head and its traces, one a rank; to
--- read one trace alone
+-- what a command line can ask the program to do: to check a run, of a head and its traces, one a rank, and
+-- to report it in a format; to read one trace alone
 pub data Task : Type 0 where
-  CheckRun : Text → List Text → Task
+  CheckRun : Text → List Text → Format → Task
   LintTrace : Text → Task
 
 -- a run to check, if there are a head and a trace
-abbrev pub run_of : Option Text → Option (List Text) → Option Task
-run_of (Some head) (Some (trace ∷ traces)) = Some (CheckRun head (trace ∷ traces))
-run_of _ _ = None
+abbrev pub run_of : Option Text → Option (List Text) → Format → Option Task
+run_of (Some head) (Some (trace ∷ traces)) format = Some (CheckRun head (trace ∷ traces) format)
+run_of _ _ format = None
+
+-- JSON where the flag is noted as given, and else text
+abbrev pub format_of : Option Text → Format
+format_of flag = if option_map_or (λ value. bytes_eq value (codes "true")) flag false then format.Json else format.Text
 
 -- the task that clap finds in what follows `check`, and in what follows `lint`
 abbrev pub check_of : List Row → Option Task
-check_of rows = run_of (first_of (codes "HEAD") rows) (all_of (codes "FILE") rows)
+check_of rows = run_of (first_of (codes "HEAD") rows) (all_of (codes "FILE") rows) (format_of (first_of (codes "json") rows))
 
 abbrev pub lint_of : List Row → Option Task
 lint_of rows = option_map LintTrace (first_of (codes "FILE") rows)
@@ -97,7 +112,7 @@ AreWrong words =
 
 -- the answer has the task, says that there is none, or has no memory
 abbrev pub Names : Option Task → Words → Type 0
-Names task (Check head files) = task ≡ Some (CheckRun head.now (map (λ file. file.now) files.items))
+Names task (Check head files format) = task ≡ Some (CheckRun head.now (map (λ file. file.now) files.items) format)
 Names task (Lint file) = task ≡ Some (LintTrace file.now)
 Names task (Said text is_error) = (task ≡ None) × (is_error ≡ true)
 Names task NoMemory = Unit {0}
@@ -109,21 +124,21 @@ SaysRightly words false = AsksForText words
 
 -- the answer has the task for which the words ask, or a text where they ask for none
 abbrev pub Answers : List Text → Words → Type 0
-Answers words (Check head files) = Asks words (CheckRun head.now (map (λ file. file.now) files.items))
+Answers words (Check head files format) = Asks words (CheckRun head.now (map (λ file. file.now) files.items) format)
 Answers words (Lint file) = Asks words (LintTrace file.now)
 Answers words (Said text is_error) = SaysRightly words is_error
 Answers words NoMemory = Unit {0}
 
 -- the text is said, or there is no memory for it
 abbrev pub Says : Text → Bool → Words → Type 0
-Says text is_error (Check head files) = ⊥
+Says text is_error (Check head files format) = ⊥
 Says text is_error (Lint file) = ⊥
 Says text is_error (Said said is_said) = (string_bytes said ≡ text) × (is_said ≡ is_error)
 Says text is_error NoMemory = Unit {0}
 
 -- a text is said of an error of this kind, or there is no memory for it
 abbrev pub SaysError : ErrorKind → Words → Type 0
-SaysError kind (Check head files) = ⊥
+SaysError kind (Check head files format) = ⊥
 SaysError kind (Lint file) = ⊥
 SaysError kind (Said text is_error) = is_text kind ≡ not is_error
 SaysError kind NoMemory = Unit {0}

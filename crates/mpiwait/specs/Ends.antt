@@ -3,11 +3,11 @@ use Rattle.std.specs.Prelude.{◌≡◌, ◌⊎◌, ℕ, true, false, Option, So
 use Rattle.clap.specs.Walk.{Text}
 use Rattle.moves.specs.declared.verdict.Verdict.{Verdict}
 use Rattle.moves.specs.declared.verdict.Verdict.TheVariants as verdict
-use Rattle.gather.specs.Answers.{report_of}
 use Rattle.mpiwait.specs.Asked.{Answers}
 use Rattle.mpiwait.specs.Outputs.{Writes, WritesSome, WritesNone, FailsToWrite, lint_report}
 use Rattle.mpiwait.specs.Lints.{IsCountOf}
-use Rattle.mpiwait.specs.Texts.{IsVerdictOfTexts}
+use Rattle.mpiwait.specs.Texts.{IsVerdictOfTexts, WritesReport}
+use Rattle.waitgraph.specs.declared.report.Format.{Format}
 use Rattle.mpiwait.specs.declared.status.Status.{Status}
 use Rattle.mpiwait.specs.declared.status.Status.TheVariants.{Free, Hang, Refused, Usage, Fault}
 use Rattle.mpiwait.specs.declared.words.Words.{Words}
@@ -28,17 +28,19 @@ module _ {O : Type 0} (written : O → Option (List ℕ)) (failures : O → ℕ)
 
 -- an output, the texts that files have where they are told, and the output as it was and as it is
 module _ {O : Type 0} (written : O → Option (List ℕ)) (failures : O → ℕ) (told : Text → Option Text) (old new : O) where
-  -- the report of a run stands behind what was there, and its verdict is that of the files' texts
-  abbrev pub Reports : Option Text → List (Option Text) → Verdict → Type 0
-  Reports head files verdict = Writes written failures old new (report_of verdict) × IsVerdictWhereTold head files verdict
+  -- the report of a run, in its format, stands behind what was there, no write failed, and the report and the
+  -- verdict are those of the files' texts
+  abbrev pub Reports : Option Text → List (Option Text) → Format → Verdict → Type 0
+  Reports head files format verdict =
+      WritesReport written old new format head files verdict × (failures new ≡ failures old) × IsVerdictWhereTold head files verdict
 
   -- a run was to be checked: its report stands there; or a refusal; or nothing, but for a failed write
-  abbrev pub EndsCheck : Option Text → List (Option Text) → Status → Type 0
-  EndsCheck head files Free = Reports head files verdict.Free
-  EndsCheck head files Hang = Reports head files verdict.Hang
-  EndsCheck head files Refused = WritesSome written failures old new
-  EndsCheck head files Usage = new ≡ old
-  EndsCheck head files Fault = WritesNone written failures old new
+  abbrev pub EndsCheck : Option Text → List (Option Text) → Format → Status → Type 0
+  EndsCheck head files format Free = Reports head files format verdict.Free
+  EndsCheck head files format Hang = Reports head files format verdict.Hang
+  EndsCheck head files format Refused = WritesSome written failures old new
+  EndsCheck head files format Usage = new ≡ old
+  EndsCheck head files format Fault = WritesNone written failures old new
 
   -- a trace was to be read alone: the number of its calls stands there, by its text where that is told; or
   -- a refusal; or nothing, but for a failed write
@@ -60,7 +62,7 @@ module _ {O : Type 0} (written : O → Option (List ℕ)) (failures : O → ℕ)
 
   -- the end of the program, by what its words ask for
   abbrev pub EndsBy : Words → Status → Type 0
-  EndsBy (Check head files) status = EndsCheck (told head.now) (map (λ file. told file.now) files.items) status
+  EndsBy (Check head files format) status = EndsCheck (told head.now) (map (λ file. told file.now) files.items) format status
   EndsBy (Lint file) status = EndsLint (told file.now) status
   EndsBy (Said text false) status = EndsText (string_bytes text) status
   EndsBy (Said text true) status = EndsAs Usage status

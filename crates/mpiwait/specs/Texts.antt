@@ -1,9 +1,15 @@
 -- What a check says of the texts of its files.
-use Rattle.std.specs.Prelude.{◌≡◌, ◌≢◌, ℕ, true, false, Option, Ok, Err, IfSome, List, length, map, ⊤}
+use Rattle.std.specs.Prelude.{◌≡◌, ◌≢◌, ℕ, true, false, Option, Some, Ok, Err, IfSome, List, length, map, ⊤}
+use Rattle.std.specs.Io.KnownBytes.{Appends}
 use Rattle.mpicall.specs.Trace.{trace_of}
 use Rattle.mpigroup.specs.Groups.{Groups, ranks_of}
 use Rattle.mpigroup.specs.HeadText.{read_head}
 use Rattle.moves.specs.declared.verdict.Verdict.{Verdict}
+use Rattle.moves.specs.Verdicts.{verdict_of}
+use Rattle.pairing.specs.Recordings.{Lists}
+use Rattle.waitgraph.specs.Reports.{report_of}
+use Rattle.waitgraph.specs.declared.report.Format.{Format}
+use Rattle.gather.specs.Answers.{lists_of}
 use Rattle.gather.specs.declared.fault.Refusal.{Refusal}
 use Rattle.gather.specs.Told.{IsRefusalOver, IsVerdictOver}
 use Rattle.mpiwait.specs.Faults.{is_failure}
@@ -33,6 +39,25 @@ pub record IsVerdictOfTexts (head : List ℕ) (texts : List (List ℕ)) (verdict
   pub groups : Groups
   pub is_head : read_head head ≡ Ok groups
   pub of_traces : IsVerdictOver groups (map trace_of texts) verdict
+
+-- the text of the head gives the groups, and the recording is that of the traces which the other texts hold
+pub record IsRunOfTexts (head : List ℕ) (texts : List (List ℕ)) (groups : Groups) (recording : Lists) : Type 0 where
+  pub is_head : read_head head ≡ Ok groups
+  pub is_recording : recording ≡ lists_of (map trace_of texts)
+
+-- the report of a run, and the verdict that it says: they are those of groups and a recording, and where the
+-- texts of the head and the files are told, these are of the texts
+pub record IsReportOf (format : Format) (head : Option (List ℕ)) (files : List (Option (List ℕ))) (verdict : Verdict) (report : List ℕ) : Type 0 where
+  pub groups : Groups
+  pub recording : Lists
+  pub of_texts : (text : List ℕ) (texts : List (List ℕ)) → head ≡ Some text → files ≡ map Some texts → IsRunOfTexts text texts groups recording
+  pub report_is : report ≡ report_of format groups recording
+  pub verdict_is : verdict ≡ verdict_of groups recording
+
+-- the report stands behind what was there
+abbrev pub WritesReport : {O : Type 0} → (O → Option (List ℕ)) → O → O → Format → Option (List ℕ) → List (Option (List ℕ)) → Verdict → Type 0
+WritesReport written old new format head files verdict =
+    (report : List ℕ) × IsReportOf format head files verdict report × Appends (written old) (written new) report
 
 -- the text of the head gives groups, and the number of the texts is another than that of their ranks
 pub record IsWrongCount (head : List ℕ) (texts : List (List ℕ)) (ranks files : ℕ) : Type 0 where

@@ -1,15 +1,14 @@
 //! `mpiwait check`: the head of a run and its traces are opened and read, and the run's report written.
 
 ghost use Rattle.std.specs.Prelude.{◌≡◌, ℕ, List, Some, IfOk, IfErr, OnOk, map, option_map};
-ghost use Rattle.std.specs.Io.KnownBytes.{Appends, Keeps, prepend_known};
+ghost use Rattle.std.specs.Io.KnownBytes.{Keeps, prepend_known};
 ghost use Rattle.mpicall.specs.Source.{coming};
 ghost use Rattle.mpicall.specs.Trace.{trace_of};
 ghost use Rattle.mpigroup.specs.HeadText.{read_head};
-ghost use Rattle.gather.specs.Answers.{report_of};
 ghost use Rattle.gather.specs.Told.{AreFresh};
 ghost use Rattle.mpiwait.specs.Front.{IsFrontFault, IsFrontOf};
 ghost use Rattle.mpiwait.specs.Outputs.{LeavesOutput};
-ghost use Rattle.mpiwait.specs.Texts.{IsFaultOfHead, IsFaultOfOpening, IsFaultOfTexts, IsHeadOf, IsVerdictOfTexts};
+ghost use Rattle.mpiwait.specs.Texts.{IsFaultOfHead, IsFaultOfOpening, IsFaultOfTexts, IsHeadOf, IsVerdictOfTexts, WritesReport};
 
 use crate::fault::Fault;
 use crate::opener::Opener;
@@ -20,6 +19,7 @@ use mpicall::source::Source;
 use mpigroup::fault::ReadFault;
 use mpigroup::head::{DECIDING_BYTES, Head};
 use std::alloc::Global;
+use waitgraph::report::Format;
 
 /// How many bytes of a head are read at once.
 const PIECE: usize = 4096;
@@ -88,12 +88,13 @@ fn open_sources<'a, P: Opener>(
     Ok(sources)
 }
 
-/// Checks the run of a head and its traces, and writes its report. The traces are opened in rank order,
-/// once their number is known to be that of the ranks.
+/// Checks the run of a head and its traces, and writes its report in the format. The traces are opened in
+/// rank order, once their number is known to be that of the ranks.
 pub fn check<'a, P: Opener, O: Output>(
     alloc: Global,
     head: &'a str,
     files: &[&'a str],
+    format: Format,
     opener: &P,
     out: &mut O,
 ) -> Result<Verdict, Fault<'a>>
@@ -107,8 +108,7 @@ pub fn check<'a, P: Opener, O: Output>(
         map (λ file. P.told opener.now file.now) files.now ≡ map Some texts →
         IsFaultOfTexts text texts fault) }
 
-    ensures written { IfOk result (λ verdict.
-        Appends (O.written out.old) (O.written out.new) (report_of verdict)) }
+    ensures written { IfOk result (WritesReport O.written out.old out.new format (P.told opener.now head.now) (map (λ file. P.told opener.now file.now) files.now)) }
     ensures no_write_failed { OnOk result (O.failures out.new ≡ O.failures out.old) }
     ensures output { IfErr result (LeavesOutput O.written O.failures out.old out.new) }
 {
@@ -120,7 +120,7 @@ pub fn check<'a, P: Opener, O: Output>(
         });
     }
     let mut sources = open_sources(alloc, opener, files)?;
-    match run(alloc, head, sources.as_mut_slice(), out) {
+    match run(alloc, head, sources.as_mut_slice(), format, out) {
         Ok(verdict) => Ok(verdict),
         Err(fault) => Err(Fault::from(fault)),
     }

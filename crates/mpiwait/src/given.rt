@@ -172,7 +172,12 @@ mod tests {
         let no_text = "usage: the words must be text in UTF-8\n";
         let rows: [(&[&[u8]], &str, &str, u8); 6] = [
             (&[b"check", b"head", b"r0"], "verdict free\n", "", 0),
-            (&[b"check", b"head", b"r1"], "verdict hang\n", "", 1),
+            (
+                &[b"check", b"head", b"r1"],
+                "verdict hang\nrank 0 at 0 recv 0 0 0 waits rank 0 none\nmissing 0 0\n",
+                "",
+                1,
+            ),
             (
                 &[b"lint", b"head"],
                 "lint refused call 0 L2 unknown word\n",

@@ -15,6 +15,7 @@ use moves::verdict::Verdict;
 use mpicall::device::{Output, write_all};
 use std::alloc::Global;
 use std::sync::Wait;
+use waitgraph::report::Format;
 
 /// What goes to standard error: what clap says of wrong words, or a fault.
 #[derive(Debug, Drop)]
@@ -65,12 +66,13 @@ fn answer_check<'a, P: Opener, O: Output>(
     alloc: Global,
     head: &'a str,
     files: &[&'a str],
+    format: Format,
     opener: &P,
     out: &mut O,
 ) -> Result<Status, Complaint<'a>>
-    ensures { CheckEnds O.written O.failures (P.told opener.now) out.old out.new (P.told opener.now head.now) (map (λ file. P.told opener.now file.now) files.now) result }
+    ensures { CheckEnds O.written O.failures (P.told opener.now) out.old out.new (P.told opener.now head.now) (map (λ file. P.told opener.now file.now) files.now) format result }
 {
-    match check(alloc, head, files, opener, out) {
+    match check(alloc, head, files, format, opener, out) {
         Ok(verdict) => Ok(status_of(verdict)),
         Err(fault) => refuse(alloc, fault, out),
     }
@@ -103,7 +105,11 @@ fn answer<'a, P: Opener, O: Output>(
     ensures { AnswerEnds O.written O.failures (P.told opener.now) out.old out.new words.entry result }
 {
     match words {
-        Words::Check { head, files } => answer_check(alloc, head, &files, opener, out),
+        Words::Check {
+            head,
+            files,
+            format,
+        } => answer_check(alloc, head, &files, format, opener, out),
         Words::Lint { file } => answer_lint(alloc, file, opener, wait, out),
         Words::Said {
             text,

@@ -7,21 +7,32 @@ ghost use Rattle.clap.specs.Values.{kind_of};
 ghost use Rattle.clap.specs.Walk.{rows_of, rule_of};
 ghost use Rattle.clap.specs.declared.builder.command.Command.TheViews.{out-Command as fields_of};
 ghost use Rattle.clap.specs.declared.error.kind.ErrorKind.TheVariants.{OutOfMemory};
-ghost use Rattle.mpiwait.specs.Asked.{Answers, LintTrace, Names, Says, SaysError, check, check_of, head_rule, is_text, lint, lint_of, program, run_of, task_of, trace_rule, traces_rule};
+ghost use Rattle.mpiwait.specs.Asked.{Answers, LintTrace, Names, Says, SaysError, check, check_of, format_of, head_rule, is_text, json_rule, lint, lint_of, program, run_of, task_of, trace_rule, traces_rule};
 
 use clap::error::ErrorKind;
-use clap::{Arg, ArgMatches, Command, Error};
+use clap::{Arg, ArgAction, ArgMatches, Command, Error};
 use std::alloc::{AllocError, Global};
+use waitgraph::report::Format;
 
 /// What the words ask for.
 #[derive(Debug, Drop)]
 pub enum Words<'a> {
-    /// To check a run, by the path of its head and those of its traces, at least one, in rank order.
-    Check { head: &'a str, files: Vec<&'a str> },
+    /// To check a run, by the path of its head and those of its traces, at least one, in rank order, and to
+    /// report it in a format.
+    Check {
+        head: &'a str,
+        files: Vec<&'a str>,
+        format: Format,
+    },
     /// To read one trace alone, by its path.
-    Lint { file: &'a str },
+    Lint {
+        file: &'a str,
+    },
     /// To show a text: the help or the version, or what is wrong with the words.
-    Said { text: String, is_error: bool },
+    Said {
+        text: String,
+        is_error: bool,
+    },
     /// There was no memory to read the words.
     NoMemory,
 }
@@ -34,11 +45,29 @@ const ABOUT: &str =
 const CHECK_ABOUT: &str =
     "Reads the head of a run and its traces, and says whether the run can hang";
 
+const CHECK_LONG_ABOUT: &str = "\
+Reads the head of a run and its traces, and says whether the run can hang.
+
+Lines of the report:
+  verdict free|hang
+      hang: some rank can't come to its end, whatever way the run goes
+  rank R at I CALL waits rank K call J|none
+      rank R is stuck at its call I until rank K comes to its call J; none: rank K has no such call
+  cycle R ..
+      these ranks wait for one another: each for the next, the last for the first
+  missing R K
+      rank R waits for a call that rank K doesn't have
+  finding kind|root|unreceived|request|group ..
+      what else is wrong: calls or roots of one collective that differ, a message that isn't received,
+      a request that isn't waited for, a new communicator with another group than its call gives it
+docs/FORMATS.md explains each.";
+
 const LINT_ABOUT: &str = "Reads one trace alone, and says whether it is in its format";
 
 const AFTER: &str = "\
 Examples:
   mpiwait check run/head run/r0 run/r1
+  mpiwait check --json run/head run/r0 run/r1
   mpiwait lint run/r0
 
 Exit status:
@@ -48,7 +77,7 @@ Exit status:
   3  usage: the words, or the number of files
   4  fault: a file, the memory or the output";
 
-const USAGE: &str = "usage: mpiwait check HEAD FILE.. or mpiwait lint FILE\n";
+const USAGE: &str = "usage: mpiwait check [--json] HEAD FILE.. or mpiwait lint FILE\n";
 
 /// What clap is told of the head.
 fn head_argument<'a>(alloc: Global) -> Arg<'a>
@@ -71,6 +100,17 @@ fn traces_argument<'a>(alloc: Global) -> Arg<'a>
         .help("The traces of the ranks, one file a rank, in rank order")
 }
 
+/// What clap is told of the flag for JSON.
+fn json_argument<'a>(alloc: Global) -> Arg<'a>
+    ensures rule { rule_of result ≡ json_rule }
+    ensures local { result.global ≡ false }
+{
+    Arg::new(alloc, "json")
+        .long("json")
+        .action(ArgAction::SetTrue)
+        .help("Writes the report as one JSON value")
+}
+
 /// What clap is told of one trace.
 fn trace_argument<'a>(alloc: Global) -> Arg<'a>
     ensures rule { rule_of result ≡ trace_rule }
@@ -88,10 +128,12 @@ fn check_command<'a>(alloc: Global) -> Result<Command<'a>, AllocError>
 {
     Command::new(alloc, "check")
         .about(CHECK_ABOUT)
+        .long_about(CHECK_LONG_ABOUT)
         .after_help(AFTER)
         .version(VERSION)
         .arg(head_argument(alloc))?
-        .arg(traces_argument(alloc))
+        .arg(traces_argument(alloc))?
+        .arg(json_argument(alloc))
 }
 
 /// What clap is told of `lint`.
@@ -160,8 +202,13 @@ fn say_error<'a>(alloc: Global, error: Error) -> Words<'a>
 
 /// The run that these paths name.
 #[tactic(auto, using(crate::proofs::AskedLemmas::asked_steps))]
-fn run_named<'a>(alloc: Global, head: Option<&'a str>, files: Option<&[&'a str]>) -> Words<'a>
-    ensures { Names (run_of (option_map (λ path. path.now) head.entry) (option_map (λ paths. map (λ path. path.now) paths.now) files.entry)) result }
+fn run_named<'a>(
+    alloc: Global,
+    head: Option<&'a str>,
+    files: Option<&[&'a str]>,
+    format: Format,
+) -> Words<'a>
+    ensures { Names (run_of (option_map (λ path. path.now) head.entry) (option_map (λ paths. map (λ path. path.now) paths.now) files.entry) format) result }
 {
     let Some(head) = head else {
         return say(alloc, USAGE, true);
@@ -173,8 +220,22 @@ fn run_named<'a>(alloc: Global, head: Option<&'a str>, files: Option<&[&'a str]>
         return say(alloc, USAGE, true);
     }
     match Vec::from_slice(alloc, files) {
-        Ok(files) => Words::Check { head, files },
+        Ok(files) => Words::Check {
+            head,
+            files,
+            format,
+        },
         Err(_) => Words::NoMemory,
+    }
+}
+
+/// The format that a flag asks for.
+fn format_of(flag: Option<&str>) -> Format
+    ensures { result ≡ format_of (option_map (λ value. value.now) flag.entry) }
+{
+    match flag {
+        Some(value) if value == "true" => Format::Json,
+        _ => Format::Text,
     }
 }
 
@@ -182,7 +243,12 @@ fn run_named<'a>(alloc: Global, head: Option<&'a str>, files: Option<&[&'a str]>
 fn check_of<'a>(alloc: Global, matches: &ArgMatches<'a>) -> Words<'a>
     ensures { Names (check_of (rows_of (found_of matches.now))) result }
 {
-    run_named(alloc, matches.get_str("HEAD"), matches.get_strs("FILE"))
+    run_named(
+        alloc,
+        matches.get_str("HEAD"),
+        matches.get_strs("FILE"),
+        format_of(matches.get_str("json")),
+    )
 }
 
 /// The trace that this path names.
@@ -267,6 +333,25 @@ mod tests {
             ] {
                 assert!(rt; text.as_str().contains(line), "{line} in {text}");
             }
+        }
+        Ok(())
+    }
+
+    #[test]
+    fn help_of_a_check_explains_the_report(rt: HostRuntime) -> Result<(), Fail> {
+        let Words::Said { text, .. } = parse(rt.alloc(), &["check", "--help"]) else {
+            return Err("no text".into());
+        };
+        for line in [
+            "      --json\n",
+            "  verdict free|hang\n",
+            "  rank R at I CALL waits rank K call J|none\n",
+            "  cycle R ..\n",
+            "  missing R K\n",
+            "  finding kind|root|unreceived|request|group ..\n",
+            "docs/FORMATS.md",
+        ] {
+            assert!(rt; text.as_str().contains(line), "{line} in {text}");
         }
         Ok(())
     }

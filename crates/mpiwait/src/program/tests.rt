@@ -44,7 +44,7 @@ fn told_of(
 
 #[test]
 fn reports_runs(rt: HostRuntime) -> Result<(), Fail> {
-    let rows: [(&str, &str, &str, &str, u8); 13] = [
+    let rows: [(&str, &str, &str, &str, u8); 10] = [
         ("ranks 1\n", "finalize\n", "", "verdict free\n", 0),
         (
             "ranks 1\n",
@@ -52,27 +52,6 @@ fn reports_runs(rt: HostRuntime) -> Result<(), Fail> {
             "",
             "refused rank 0 call 1 L8 text after finalize\n",
             2,
-        ),
-        (
-            "ranks 2\n",
-            "send 0 1 0\nrecv 0 1 0\nfinalize\n",
-            "send 0 0 0\nrecv 0 0 0\nfinalize\n",
-            "verdict hang\n",
-            1,
-        ),
-        (
-            "ranks 1\n",
-            "send 0 0 0\nrecv 0 0 0\nfinalize\n",
-            "",
-            "verdict hang\n",
-            1,
-        ),
-        (
-            "ranks 2\n",
-            "send 0 1 1\nsend 0 1 2\nfinalize\n",
-            "recv 0 0 2\nrecv 0 0 1\nfinalize\n",
-            "verdict hang\n",
-            1,
         ),
         (
             "ranks 2\n",
@@ -141,10 +120,10 @@ fn reports_runs(rt: HostRuntime) -> Result<(), Fail> {
     Ok(())
 }
 
-/// Runs over each kind of call: both verdicts, and each fault of a call that a trace may have.
+/// Runs over each kind of call, and each fault of a call that a trace may have.
 #[test]
 fn reports_runs_of_every_kind(rt: HostRuntime) -> Result<(), Fail> {
-    let rows: [(&str, &[&str], &str, u8); 26] = [
+    let rows: [(&str, &[&str], &str, u8); 18] = [
         (
             "ranks 2\n",
             &[
@@ -175,40 +154,10 @@ fn reports_runs_of_every_kind(rt: HostRuntime) -> Result<(), Fail> {
         ),
         (
             "ranks 2\n",
-            &["barrier 0\nfinalize\n", "finalize\n"],
-            "verdict hang\n",
-            1,
-        ),
-        (
-            "ranks 2\ncomm 0 1\n",
-            &[
-                "dup 0 1\nbarrier 0\nbarrier 1\nfinalize\n",
-                "dup 0 1\nbarrier 1\nbarrier 0\nfinalize\n",
-            ],
-            "verdict hang\n",
-            1,
-        ),
-        (
-            "ranks 2\n",
             &[
                 "ibarrier 0 0\nsend 0 1 5\nwait 0\nfinalize\n",
                 "recv 0 0 5\nibarrier 0 0\nwait 0\nfinalize\n",
             ],
-            "verdict free\n",
-            0,
-        ),
-        (
-            "ranks 2\n",
-            &[
-                "irecv 0 0 1 9\nirecv 1 0 1 8\nwaitany 1 0 1\nfinalize\n",
-                "send 0 0 8\nfinalize\n",
-            ],
-            "verdict free\n",
-            0,
-        ),
-        (
-            "ranks 2\n",
-            &["bcast 0 0\nfinalize\n", "barrier 0\nfinalize\n"],
             "verdict free\n",
             0,
         ),
@@ -223,26 +172,6 @@ fn reports_runs_of_every_kind(rt: HostRuntime) -> Result<(), Fail> {
             0,
         ),
         (
-            "ranks 3\ncomm 0 2\ncomm 1\n",
-            &[
-                "split 0 4 9 1\nsend 1 0 6\nfinalize\n",
-                "split 0 5 0 2\nfinalize\n",
-                "split 0 4 3 1\nrecv 1 1 6\nfinalize\n",
-            ],
-            "verdict hang\n",
-            1,
-        ),
-        (
-            "ranks 3\n",
-            &[
-                "recv 0 1 0\nfinalize\n",
-                "recv 0 2 0\nsend 0 0 0\nfinalize\n",
-                "recv 0 0 3\nsend 0 1 0\nfinalize\n",
-            ],
-            "verdict hang\n",
-            1,
-        ),
-        (
             "ranks 1\n",
             &["send 0 null 0\nrecv 0 null 0\nsendrecv 0 null 0 null 0\nfinalize\n"],
             "verdict free\n",
@@ -251,18 +180,6 @@ fn reports_runs_of_every_kind(rt: HostRuntime) -> Result<(), Fail> {
         (
             "ranks 1\n",
             &["isend 5 0 null 0\nwait 5\nisend 5 0 null 0\nwait 5\nfinalize\n"],
-            "verdict free\n",
-            0,
-        ),
-        (
-            "ranks 2\n",
-            &["issend 3 0 1 0\nwait 3\nfinalize\n", "finalize\n"],
-            "verdict hang\n",
-            1,
-        ),
-        (
-            "ranks 2\n",
-            &["ibsend 3 0 1 0\nwait 3\nfinalize\n", "finalize\n"],
             "verdict free\n",
             0,
         ),
@@ -350,6 +267,254 @@ fn reports_runs_of_every_kind(rt: HostRuntime) -> Result<(), Fail> {
     Ok(())
 }
 
+/// The files of a run of two ranks.
+fn files_of<'a>(head: &'a str, first: &'a str, second: &'a str) -> [(&'a str, &'a str); 3] {
+    [("head", head), ("r0", first), ("r1", second)]
+}
+
+/// A trace: a line a thousand times, and then its end.
+fn long_trace(alloc: Global, line: &str) -> Result<String, Fail> {
+    let mut text = String::new(alloc);
+    for _ in 0..1_000 {
+        text.push_str(line)?;
+    }
+    text.push_str("finalize\n")?;
+    Ok(text)
+}
+
+/// All that a report may say: who waits for whom, cycles, missing calls and each kind of finding.
+#[test]
+fn writes_whole_reports(rt: HostRuntime) -> Result<(), Fail> {
+    let rows: [(&str, &[&str], Format, &str, u8); 17] = [
+        (
+            "ranks 2\n",
+            &[
+                "send 0 1 0\nrecv 0 1 0\nfinalize\n",
+                "send 0 0 0\nrecv 0 0 0\nfinalize\n",
+            ],
+            Format::Text,
+            "verdict hang\n\
+             rank 0 at 0 send 0 1 0 waits rank 1 call 1\n\
+             rank 1 at 0 send 0 0 0 waits rank 0 call 1\n\
+             cycle 0 1\n",
+            1,
+        ),
+        (
+            "ranks 2\n",
+            &[
+                "send 0 1 0\nrecv 0 1 0\nfinalize\n",
+                "send 0 0 0\nrecv 0 0 0\nfinalize\n",
+            ],
+            Format::Json,
+            "{\"causes\":[{\"cycle\":[0,1]}],\"findings\":[],\"ranks\":[\
+             {\"at\":0,\"call\":\"send 0 1 0\",\"needs\":[[1,1]],\"rank\":0},\
+             {\"at\":0,\"call\":\"send 0 0 0\",\"needs\":[[0,1]],\"rank\":1}],\
+             \"verdict\":\"hang\"}\n",
+            1,
+        ),
+        (
+            "ranks 1\n",
+            &["send 0 0 0\nrecv 0 0 0\nfinalize\n"],
+            Format::Text,
+            "verdict hang\n\
+             rank 0 at 0 send 0 0 0 waits rank 0 call 1\n\
+             cycle 0\n",
+            1,
+        ),
+        (
+            "ranks 2\n",
+            &[
+                "send 0 1 1\nsend 0 1 2\nfinalize\n",
+                "recv 0 0 2\nrecv 0 0 1\nfinalize\n",
+            ],
+            Format::Text,
+            "verdict hang\n\
+             rank 0 at 0 send 0 1 1 waits rank 1 call 1\n\
+             rank 1 at 0 recv 0 0 2 waits rank 0 call 1\n\
+             cycle 0 1\n",
+            1,
+        ),
+        (
+            "ranks 2\n",
+            &["barrier 0\nfinalize\n", "finalize\n"],
+            Format::Text,
+            "verdict hang\n\
+             rank 0 at 0 barrier 0 waits rank 1 none\n\
+             missing 0 1\n",
+            1,
+        ),
+        (
+            "ranks 2\n",
+            &["barrier 0\nfinalize\n", "finalize\n"],
+            Format::Json,
+            "{\"causes\":[{\"missing\":[0,1]}],\"findings\":[],\
+             \"ranks\":[{\"at\":0,\"call\":\"barrier 0\",\"needs\":[[1,null]],\"rank\":0}],\
+             \"verdict\":\"hang\"}\n",
+            1,
+        ),
+        (
+            "ranks 2\ncomm 0 1\n",
+            &[
+                "dup 0 1\nbarrier 0\nbarrier 1\nfinalize\n",
+                "dup 0 1\nbarrier 1\nbarrier 0\nfinalize\n",
+            ],
+            Format::Text,
+            "verdict hang\n\
+             rank 0 at 1 barrier 0 waits rank 1 call 2\n\
+             rank 1 at 1 barrier 1 waits rank 0 call 2\n\
+             cycle 0 1\n",
+            1,
+        ),
+        (
+            "ranks 2\n",
+            &[
+                "irecv 0 0 1 9\nirecv 1 0 1 8\nwaitany 1 0 1\nfinalize\n",
+                "send 0 0 8\nfinalize\n",
+            ],
+            Format::Text,
+            "verdict free\n\
+             finding request 0 0 0\n",
+            0,
+        ),
+        (
+            "ranks 2\n",
+            &["bcast 0 0\nfinalize\n", "barrier 0\nfinalize\n"],
+            Format::Text,
+            "verdict free\n\
+             finding kind 0 0 1 bcast barrier\n",
+            0,
+        ),
+        (
+            "ranks 2\n",
+            &["bcast 0 0\nfinalize\n", "barrier 0\nfinalize\n"],
+            Format::Json,
+            "{\"causes\":[],\"findings\":[\"kind 0 0 1 bcast barrier\"],\
+             \"ranks\":[],\"verdict\":\"free\"}\n",
+            0,
+        ),
+        (
+            "ranks 3\ncomm 0 2\ncomm 1\n",
+            &[
+                "split 0 4 9 1\nsend 1 0 6\nfinalize\n",
+                "split 0 5 0 2\nfinalize\n",
+                "split 0 4 3 1\nrecv 1 1 6\nfinalize\n",
+            ],
+            Format::Text,
+            "verdict hang\n\
+             rank 0 at 1 send 1 0 6 waits rank 0 none\n\
+             rank 2 at 1 recv 1 1 6 waits rank 2 none\n\
+             missing 0 0\n\
+             missing 2 2\n\
+             finding unreceived 0 1\n\
+             finding group 0 0\n\
+             finding group 2 0\n",
+            1,
+        ),
+        (
+            "ranks 3\n",
+            &[
+                "recv 0 1 0\nfinalize\n",
+                "recv 0 2 0\nsend 0 0 0\nfinalize\n",
+                "recv 0 0 3\nsend 0 1 0\nfinalize\n",
+            ],
+            Format::Text,
+            "verdict hang\n\
+             rank 0 at 0 recv 0 1 0 waits rank 1 call 1\n\
+             rank 1 at 0 recv 0 2 0 waits rank 2 call 1\n\
+             rank 2 at 0 recv 0 0 3 waits rank 0 none\n\
+             missing 2 0\n",
+            1,
+        ),
+        (
+            "ranks 2\n",
+            &["issend 3 0 1 0\nwait 3\nfinalize\n", "finalize\n"],
+            Format::Text,
+            "verdict hang\n\
+             rank 0 at 1 wait 3 waits rank 1 none\n\
+             missing 0 1\n\
+             finding unreceived 0 0\n",
+            1,
+        ),
+        (
+            "ranks 2\n",
+            &["ibsend 3 0 1 0\nwait 3\nfinalize\n", "finalize\n"],
+            Format::Text,
+            "verdict free\n\
+             finding unreceived 0 0\n",
+            0,
+        ),
+        (
+            "ranks 4\n",
+            &[
+                "recv 0 0 9\nfinalize\n",
+                "irecv 1 0 2 0\nirecv 2 0 3 0\nwaitall 1 2\nsend 0 2 1\nfinalize\n",
+                "recv 0 1 1\nsend 0 1 0\nfinalize\n",
+                "finalize\n",
+            ],
+            Format::Text,
+            "verdict hang\n\
+             rank 0 at 0 recv 0 0 9 waits rank 0 none\n\
+             rank 1 at 2 waitall 1 2 waits rank 2 call 1\n\
+             rank 1 at 2 waitall 1 2 waits rank 3 none\n\
+             rank 2 at 0 recv 0 1 1 waits rank 1 call 3\n\
+             cycle 1 2\n\
+             missing 0 0\n",
+            1,
+        ),
+        (
+            "ranks 2\n",
+            &["bcast 0 0\nfinalize\n", "bcast 0 1\nfinalize\n"],
+            Format::Text,
+            "verdict free\n\
+             finding root 0 0 1 0 1\n",
+            0,
+        ),
+        (
+            "ranks 2\n",
+            &["sendrecv 0 1 0 1 0\nfinalize\n", "finalize\n"],
+            Format::Text,
+            "verdict hang\n\
+             rank 0 at 0 sendrecv 0 1 0 1 0 waits rank 1 none\n\
+             missing 0 1\n\
+             finding unreceived 0 0\n",
+            1,
+        ),
+    ];
+    let as_text = ["check", "head", "r0", "r1", "r2", "r3"];
+    let as_json = ["check", "--json", "head", "r0", "r1", "r2", "r3"];
+    for (head, texts, format, told, status) in rows {
+        let first = texts.first().copied().unwrap_or("");
+        let second = texts.get(1).copied().unwrap_or("");
+        let third = texts.get(2).copied().unwrap_or("");
+        let fourth = texts.get(3).copied().unwrap_or("");
+        let files = [
+            ("head", head),
+            ("r0", first),
+            ("r1", second),
+            ("r2", third),
+            ("r3", fourth),
+        ];
+        let count = texts.len().min(4);
+        let words = match format {
+            Format::Text => &as_text[..count + 2],
+            Format::Json => &as_json[..count + 3],
+        };
+        let shown = told_of(&rt, &Shelf::of(&files), words, status)?;
+        assert_eq!(rt; shown.as_str(), told, "of {texts:?}");
+    }
+    Ok(())
+}
+
+#[test]
+fn reports_a_run_of_a_thousand_sends(rt: HostRuntime) -> Result<(), Fail> {
+    let first = long_trace(rt.alloc(), "send 0 1 0\n")?;
+    let second = long_trace(rt.alloc(), "recv 0 0 0\n")?;
+    let files = files_of("ranks 2\n", first.as_str(), second.as_str());
+    let shown = told_of(&rt, &Shelf::of(&files), &["check", "head", "r0", "r1"], 0)?;
+    assert_eq!(rt; shown.as_str(), "verdict free\n");
+    Ok(())
+}
+
 /// Each of 64 ranks has the same trace.
 #[test]
 fn reports_a_run_of_many_ranks(rt: HostRuntime) -> Result<(), Fail> {
@@ -422,7 +587,7 @@ fn reads_no_more_of_a_head_than_decides_it(rt: HostRuntime) -> Result<(), Fail> 
 
 #[test]
 fn tells_what_the_words_ask_for(rt: HostRuntime) -> Result<(), Fail> {
-    let rows: [(&[&str], &str, u8); 20] = [
+    let rows: [(&[&str], &str, u8); 23] = [
         (&[], "error: 'mpiwait' requires a subcommand", 3),
         (&["frob"], "error: unrecognized subcommand 'frob'", 3),
         (&["help"], "error: unrecognized subcommand 'help'", 3),
@@ -430,6 +595,11 @@ fn tells_what_the_words_ask_for(rt: HostRuntime) -> Result<(), Fail> {
         (&["check"], "error: the following required arguments", 3),
         (&["check", "head"], "error: the following required", 3),
         (&["check", "head", "r0", "-x"], "error: unexpected", 3),
+        (
+            &["check", "--json", "head", "r0", "--json"],
+            "error: the argument '--json' cannot be used multiple times",
+            3,
+        ),
         (&["lint"], "error: the following required arguments", 3),
         (&["lint", "r0", "r0"], "error: unexpected argument 'r0'", 3),
         (&["lint", "r0", "-x"], "error: unexpected argument '-x'", 3),
@@ -442,6 +612,8 @@ fn tells_what_the_words_ask_for(rt: HostRuntime) -> Result<(), Fail> {
         (&["lint", "--help"], "Reads one trace alone", 0),
         (&["lint", "--version"], "mpiwait-lint 0.1.0\n", 0),
         (&["check", "head", "r0"], "verdict free\n", 0),
+        (&["check", "--json", "head", "r0"], "{\"causes\":[],", 0),
+        (&["check", "head", "r0", "--json"], "{\"causes\":[],", 0),
         (&["lint", "r0"], "lint ok 1\n", 0),
     ];
     for (words, begins, status) in rows {
@@ -528,8 +700,9 @@ fn tells_want_of_memory(rt: HostRuntime) {
 
 #[test]
 fn tells_an_output_that_fails(rt: HostRuntime) {
-    let rows: [(&[(&str, &str)], &[&str]); 4] = [
+    let rows: [(&[(&str, &str)], &[&str]); 5] = [
         (&FREE, &["check", "head", "r0"]),
+        (&FREE, &["check", "--json", "head", "r0"]),
         (&REFUSED, &["check", "head", "r0"]),
         (&FREE, &["lint", "r0"]),
         (&FREE, &["--help"]),

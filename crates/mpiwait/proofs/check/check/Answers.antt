@@ -1,8 +1,8 @@
 -- The answer over the sources is that of the files' texts.
-use Rattle.std.proofs.Common.{ap, map, ◌∙◌}
+use Rattle.std.proofs.Common.{ap, map, ◌∙◌, ℕ, List, Bor}
 use Rattle.mpicall.specs.Source.{coming}
 use Rattle.mpicall.specs.Trace.{trace_of}
-use Rattle.mpiwait.proofs.TextLemmas.{head_of_told, run_fault_says, tells_texts}
+use Rattle.mpiwait.proofs.TextLemmas.{head_of_told, report_says, run_fault_says, tells_texts}
 use Rattle.mpiwait.proofs.check.check.Goals as goal
 
 pub returns-in-Ok-clause-verdict : goal.returns-in-Ok-clause-verdict
@@ -12,6 +12,16 @@ returns-in-Ok-clause-verdict g c = λ text texts head_is files_are. record {
   of_traces = c.in-Ok.ensures.verdict (map trace_of texts)
       (ap (map (coming g.P.In.Input.left)) c.as_mut_slice.ensures.value ∙ tells_texts _ (λ file. g.P.Opener.told c.args.opener.now file.now) c.args.files.now texts c.in_ok-sources.ensures.told files_are);
 }
+
+pub returns-in-Ok-clause-written : goal.returns-in-Ok-clause-written
+returns-in-Ok-clause-written g c =
+    let told = λ (file : Bor (List ℕ)). g.P.Opener.told c.args.opener.now file.now in (
+      c.in-Ok.ensures.written.0,
+      report_says g.P.In.Input.left _ c.in_ok-head.head c.args.format c.in-Ok.verdict _ _ (map told c.args.files.now) c.in_ok-head.ensures.head
+          (λ texts files_are. ap (map (coming g.P.In.Input.left)) c.as_mut_slice.ensures.value ∙ tells_texts _ told c.args.files.now texts c.in_ok-sources.ensures.told files_are)
+          c.in-Ok.ensures.written.1,
+      c.in-Ok.ensures.written.2,
+    )
 
 pub returns-clause-fault : goal.returns-clause-fault
 returns-clause-fault g c = λ text texts head_is files_are.

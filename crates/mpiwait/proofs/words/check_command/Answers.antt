@@ -1,7 +1,7 @@
 use Rattle.std.proofs.Common.{ap, ap₂, codes, true, ◌≡◌, ◌∙◌}
 use Rattle.std.proofs.lemmas.Result.{IfOk-weaker}
 use Rattle.clap.specs.Simple.{App, app_of, app_of_fields, on_top, with_rule, new_app}
-use Rattle.mpiwait.specs.Asked.{head_rule}
+use Rattle.mpiwait.specs.Asked.{head_rule, traces_rule}
 use Rattle.mpiwait.proofs.words.check_command.Goals as goal
 
 abbrev with_version : App → App
@@ -10,7 +10,9 @@ with_version = on_top (λ s. record s { has_version = true })
 pub returns-clause-app : goal.returns-clause-app
 returns-clause-app c =
     let base : app_of c.version.result ≡ with_version (new_app (codes "check")) =
-    ap app_of_fields c.version.ensures ∙ ap with_version (ap app_of_fields c.after_help.ensures ∙ (ap app_of_fields c.about.ensures ∙ c.new.ensures.app)) in
+    ap app_of_fields c.version.ensures ∙ ap with_version (ap app_of_fields c.after_help.ensures ∙ (ap app_of_fields c.long_about.ensures ∙ (ap app_of_fields c.about.ensures ∙ c.new.ensures.app))) in
     let one : app_of c.in_ok-arg.field-0 ≡ with_rule (with_version (new_app (codes "check"))) head_rule =
     c.in_ok-arg.ensures.shape c.head_argument.ensures.local ∙ ap₂ with_rule base c.head_argument.ensures.rule in
-    IfOk-weaker c.arg-2.result _ _ (λ command adds. adds.shape c.traces_argument.ensures.local ∙ ap₂ with_rule one c.traces_argument.ensures.rule) c.arg-2.ensures
+    let two : app_of c.in_ok-arg-2.field-0 ≡ with_rule (with_rule (with_version (new_app (codes "check"))) head_rule) traces_rule =
+    c.in_ok-arg-2.ensures.shape c.traces_argument.ensures.local ∙ ap₂ with_rule one c.traces_argument.ensures.rule in
+    IfOk-weaker c.arg-3.result _ _ (λ command adds. adds.shape c.json_argument.ensures.local ∙ ap₂ with_rule two c.json_argument.ensures.rule) c.arg-3.ensures

@@ -1,5 +1,6 @@
-use Rattle.std.proofs.Common.{◌∙◌, codes}
+use Rattle.std.proofs.Common.{◌∙◌, ap, codes}
 use Rattle.clap.specs.Matches.{found_of}
+use Rattle.mpiwait.specs.Asked.{format_of}
 use Rattle.clap.proofs.WalkLemmas.{first_value-rows, raw_values-rows}
 use Rattle.mpiwait.proofs.words.check_of.Goals as goal
 
@@ -7,4 +8,5 @@ pub returns : goal.returns
 returns c =
     let head = c.get_str.ensures ∙ first_value-rows (found_of c.args.matches.now) (codes "HEAD") in
     let files = c.get_strs.ensures ∙ raw_values-rows (found_of c.args.matches.now) (codes "FILE") in
-    rw (← head, ← files) c.run_named.ensures
+    let flag = c.format_of.ensures ∙ ap format_of (c.get_str-2.ensures ∙ first_value-rows (found_of c.args.matches.now) (codes "json")) in
+    rw (← head, ← files, ← flag) c.run_named.ensures
