@@ -1,9 +1,11 @@
 -- What the ranks' answers say of a run over the traces that their sources tell.
-use Rattle.std.proofs.Common.{◌≡◌, ◌↔◌, ℕ, ◌+◌, ◌<◌, List, [], ◌∷◌, length, map, sym, ap, ◌∙◌, refl, arith, zero, suc, Option, Some, None, IfSome, slice_get, subst, option_and_then, Result, Ok, Err, IfOk, IfErr, IsErrAnd, OnOk}
+use Rattle.std.proofs.Common.{◌≡◌, ◌↔◌, ℕ, ◌+◌, ◌<◌, List, [], ◌∷◌, length, map, sym, ap, ◌∙◌, refl, arith, zero, suc, Option, Some, None, IfSome, slice_get, subst, option_and_then, Result, Ok, Err, IfOk, IfErr, IsErrAnd, OnOk, get_or, slice_set}
+use Rattle.std.proofs.Math.Seq.{map-set_same}
+use Rattle.std.proofs.lemmas.Option.{get_or_from_slice_get}
 use Rattle.std.specs.Io.KnownBytes.{Appends}
 use Rattle.mpicall.specs.Device.{AppendsBeginning}
 use Rattle.mpicall.specs.Trace.{Trace}
-use Rattle.mpicall.specs.Source.{coming}
+use Rattle.mpicall.specs.Source.{coming, input_of}
 use Rattle.mpicall.specs.declared.call.Call.{Call}
 use Rattle.mpicall.specs.declared.source.Source.{Source}
 use Rattle.mpigroup.specs.Groups.{Groups, ranks_of}
@@ -14,8 +16,9 @@ use Rattle.moves.specs.declared.verdict.Verdict.{Verdict}
 use Rattle.moves.specs.declared.verdict.Verdict.TheVariants.{Hang}
 use Rattle.moves.proofs.StandLemmas.{no_run_brings_a_stuck_rank_to_finalize, every_maximal_run_ends_at_the_stands}
 use Rattle.gather.specs.Answers.{fault_of_rank, refusal_or, refusal_from, lists_of, SomeRankCannotEnd}
-use Rattle.gather.specs.Told.{Tells, IsVerdictOver, IsReportOver, LeavesOutput, ReadFailedAt, RefusesOver, WritesReport}
-use Rattle.gather.specs.Ranks.{told_by, AcceptsAll, AcceptsRank, LeavesReport, RefusesRun, IsRefusalOf}
+use Rattle.gather.specs.Told.{Tells, IsVerdictOver, NoReadFailed, ReadFailedAt, RefusesOver}
+use Rattle.gather.specs.Ranks.{told_by, AcceptsAll, AcceptsRank, LeavesReport, RefusesRun, IsRefusalOf, failures_after}
+use Rattle.gather.specs.Written.{IsReportOver, LeavesOutput, WritesReport}
 use Rattle.waitgraph.specs.Reports.{report_of}
 use Rattle.waitgraph.specs.declared.report.Format.{Format}
 use Rattle.gather.specs.declared.fault.Refusal.{Refusal}
@@ -121,6 +124,7 @@ verdict_over left groups sources lists verdict traces one all value hang tells =
 pub report_over : {I : Type 0} (left : I → Option (List ℕ)) (groups : Groups) (sources : List (Source I)) (lists : Lists) (format : Format) (verdict : Verdict) → length sources ≡ ranks_of groups → AcceptsAll groups (told_by left sources) lists → verdict ≡ verdict_of groups lists → IsReportOver left sources groups format verdict (report_of format groups lists)
 report_over left groups sources lists format verdict one all value = record {
   recording = lists;
+  accepted = all;
   of_traces = λ traces tells. lists_are left groups sources lists traces one all tells;
   report_is = refl;
   verdict_is = value;
@@ -195,6 +199,32 @@ pub report_reads : {O I : Type 0} (written : O → Option (List ℕ)) (failures 
 report_reads written failures old new report reads before after Memory leaves = tt
 report_reads written failures old new report reads before after (Refused refusal) leaves = absurd leaves
 report_reads written failures old new report reads before after Write leaves = tt
+
+-- a rank that was read well failed no read
+pub reads_on : {I A : Type 0} (failures : I → ℕ) (old now : List (Source I)) (rank : ℕ) (spare after : Source I) (answer : Result A RunFault) (value : A) → NoReadFailed failures old now → failures (input_of after) ≡ failures_after answer (failures (input_of (get_or now rank spare))) → answer ≡ Ok value → NoReadFailed failures old (slice_set now rank after)
+reads_on {A = A} failures old now rank spare after answer value none count is =
+    let same : failures (input_of after) ≡ failures (input_of (get_or now rank spare)) = subst (λ (told : Result A RunFault). failures (input_of after) ≡ failures_after told (failures (input_of (get_or now rank spare)))) is count in
+    map-set_same (λ source. failures (input_of source)) now rank after spare same ∙ none
+
+-- the source at a place that was not read so far tells what it told at first
+told_there : {I : Type 0} (left : I → Option (List ℕ)) (old now : List (Source I)) (place : ℕ) (spare : Source I) → place < length now → slice_get now place ≡ slice_get old place → coming left (get_or now place spare) ≡ told_by left old place
+told_there left old now place spare within same =
+    let there = found_at now place within in
+    ap (coming left) (get_or_from_slice_get now place there.0 spare there.1) ∙ ap (option_and_then (coming left)) (sym there.1 ∙ same)
+
+-- one more rank is accepted
+pub accepts_on : {I : Type 0} (left : I → Option (List ℕ)) (groups held : Groups) (old now : List (Source I)) (place at : ℕ) (spare : Source I) (calls : List Call) → at ≡ place → held ≡ groups → place < length now → slice_get now place ≡ slice_get old place → AcceptsRank held place (coming left (get_or now at spare)) calls → AcceptsRank groups place (told_by left old place) calls
+accepts_on left groups held old now place at spare calls is same within unread accepts =
+    let here : AcceptsRank held place (coming left (get_or now place spare)) calls = subst (λ (n : ℕ). AcceptsRank held place (coming left (get_or now n spare)) calls) is accepts in
+    let told : AcceptsRank held place (told_by left old place) calls = subst (λ (t : Option Trace). AcceptsRank held place t calls) (told_there left old now place spare within unread) here in
+    subst (λ (gs : Groups). AcceptsRank gs place (told_by left old place) calls) same told
+
+-- a place above the one that is set stays
+pub stays_above : {A : Type 0} (xs : List A) (at place : ℕ) (x : A) → at < place → slice_get (slice_set xs at x) place ≡ slice_get xs place
+stays_above [] at place x above = refl
+stays_above (y ∷ ys) at zero x above = absurd (omega arith)
+stays_above (y ∷ ys) zero (suc place) x above = refl
+stays_above (y ∷ ys) (suc at) (suc place) x above = stays_above ys at place x (omega arith)
 
 -- a fault that is passed on
 pub passed_on : {T : Type 0} (answer : Result T RunFault) (fault : RunFault) (P : RunFault → Type 0) → IsErrAnd answer (λ told. told ≡ fault) → P fault → IfErr answer P

@@ -1,6 +1,7 @@
 pub mod Answers
 pub mod Told
 pub mod Ranks
+pub mod Written
 pub mod Codes
 pub mod Collected
 pub mod Takers

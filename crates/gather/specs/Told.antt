@@ -4,17 +4,13 @@ use Rattle.std.specs.Prelude.{◌≡◌, ◌↔◌, ℕ, ◌<◌, Bool, true, fa
 use Rattle.mpicall.specs.Source.{coming, ended, input_of}
 use Rattle.mpicall.specs.declared.source.Source.{Source}
 use Rattle.mpicall.specs.Trace.{Trace}
-use Rattle.mpicall.specs.Device.{one_more, AppendsBeginning}
+use Rattle.mpicall.specs.Device.{one_more}
 use Rattle.mpicall.specs.declared.fault.SourceFault.TheVariants.{ReadFailed}
-use Rattle.std.specs.Io.KnownBytes.{Appends}
 use Rattle.mpigroup.specs.Groups.{Groups}
-use Rattle.pairing.specs.Recordings.{Lists}
 use Rattle.gather.specs.Answers.{fault_of_rank, refusal_of, lists_of, SomeRankCannotEnd}
 use Rattle.moves.specs.Verdicts.{verdict_of}
 use Rattle.moves.specs.declared.verdict.Verdict.{Verdict}
 use Rattle.moves.specs.declared.verdict.Verdict.TheVariants.{Hang}
-use Rattle.waitgraph.specs.Reports.{report_of}
-use Rattle.waitgraph.specs.declared.report.Format.{Format}
 use Rattle.gather.specs.declared.fault.RankFault.{RankFault}
 use Rattle.gather.specs.declared.fault.RankFault.TheVariants.{OfSource}
 use Rattle.gather.specs.declared.fault.Refusal.{Refusal}
@@ -42,6 +38,10 @@ ReadFailedAt failures old new (Refused refusal) =
     ≡ option_map (λ source. one_more (failures (input_of source))) (slice_get old refusal.rank)
 ReadFailedAt failures old new fault = ⊤
 
+-- the count of failures of each source's input is as it was
+abbrev pub NoReadFailed : {I : Type 0} → (I → ℕ) → List (Source I) → List (Source I) → Type 0
+NoReadFailed failures old new = map (λ source. failures (input_of source)) new ≡ map (λ source. failures (input_of source)) old
+
 -- the refusal is that of the lowest rank that has a fault over these traces; where it tells a read that
 -- failed, no lower rank has one
 pub record IsRefusalOver (groups : Groups) (traces : List Trace) (refusal : Refusal) : Type 0 where
@@ -59,29 +59,3 @@ pub record IsVerdictOver (groups : Groups) (traces : List Trace) (verdict : Verd
   pub no_refusal : refusal_of groups traces ≡ None
   pub value : verdict ≡ verdict_of groups (lists_of traces)
   pub hang : (verdict ≡ Hang) ↔ SomeRankCannotEnd groups (lists_of traces)
-
--- the report of a run, and the verdict that it says: they are those of a recording, and where the sources tell
--- their traces, it is the recording of these
-pub record IsReportOver {I : Type 0} (left : I → Option (List ℕ)) (sources : List (Source I)) (groups : Groups) (format : Format) (verdict : Verdict) (report : List ℕ) : Type 0 where
-  pub recording : Lists
-  pub of_traces : (traces : List Trace) → Tells left sources traces → recording ≡ lists_of traces
-  pub report_is : report ≡ report_of format groups recording
-  pub verdict_is : verdict ≡ verdict_of groups recording
-
--- what a run leaves on its output, by its sources, its head and the format of its report
-module _ {I O : Type 0} (left : I → Option (List ℕ)) (written : O → Option (List ℕ)) (failures : O → ℕ) (sources : List (Source I)) (groups : Groups) (format : Format) (old new : O) where
-  -- the report stands behind what was there
-  abbrev pub WritesReport : Verdict → Type 0
-  WritesReport verdict = (report : List ℕ) × IsReportOver left sources groups format verdict report × Appends (written old) (written new) report
-
-  -- a beginning of the report stands behind what was there, and one more write failed
-  abbrev pub FailsToReport : Type 0
-  FailsToReport =
-      ((verdict : Verdict) × (report : List ℕ) × IsReportOver left sources groups format verdict report × AppendsBeginning (written old) (written new) report)
-      × (failures new ≡ one_more (failures old))
-
-  -- where memory was wanted or a rank refused, the output is as it was
-  abbrev pub LeavesOutput : RunFault → Type 0
-  LeavesOutput Memory = new ≡ old
-  LeavesOutput (Refused refusal) = new ≡ old
-  LeavesOutput Write = FailsToReport

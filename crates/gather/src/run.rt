@@ -4,8 +4,9 @@ ghost use Rattle.std.specs.Prelude.{◌≡◌, ◌↔◌, ◌<◌, ℕ, [], List
 ghost use Rattle.mpicall.specs.Trace.{Trace as TraceValue};
 ghost use Rattle.mpigroup.specs.Groups.{ranks_of};
 ghost use Rattle.pairing.specs.Recordings.{calls_of, IsClosed};
-ghost use Rattle.gather.specs.Told.{AreFresh, ReadFailedAt, Tells, IsVerdictOver, RefusesOver, LeavesOutput, WritesReport};
+ghost use Rattle.gather.specs.Told.{AreFresh, NoReadFailed, ReadFailedAt, Tells, IsVerdictOver, RefusesOver};
 ghost use Rattle.gather.specs.Ranks.{told_by, AcceptsAll, LeavesReport, RefusesRun};
+ghost use Rattle.gather.specs.Written.{LeavesOutput, WritesReport};
 ghost use Rattle.moves.specs.Verdicts.{verdict_of, SomeRankIsStuck};
 ghost use Rattle.std.specs.Io.KnownBytes.{Appends};
 ghost use Rattle.waitgraph.specs.Reports.{report_of};
@@ -31,6 +32,7 @@ fn read_ranks<I: Input>(analyser: &mut Analyser, sources: &mut [Source<I>]) -> R
     ensures ok { OnOk result (AcceptsAll analyser.old.groups (told_by I.left sources.old) analyser.new.recording) }
     ensures fault { IfErr result (RefusesRun analyser.old.groups (told_by I.left sources.old)) }
     ensures count { IfErr result (ReadFailedAt I.failures sources.old sources.new) }
+    ensures no_read_failed { OnOk result (NoReadFailed I.failures sources.old sources.new) }
 {
     for rank in 0..analyser.head().ranks() {
         if let Err(fault) = read_rank(analyser, rank, &mut sources[usize::from(rank)]) {
@@ -52,6 +54,7 @@ fn read_run<I: Input>(
     ensures ok { IfOk result (λ analyser. AcceptsAll head (told_by I.left sources.old) analyser.recording) }
     ensures fault { IfErr result (RefusesRun head (told_by I.left sources.old)) }
     ensures count { IfErr result (ReadFailedAt I.failures sources.old sources.new) }
+    ensures no_read_failed { OnOk result (NoReadFailed I.failures sources.old sources.new) }
 {
     let Ok(mut analyser) = Analyser::new(alloc, head) else {
         return Err(RunFault::Memory);
@@ -112,6 +115,7 @@ pub fn run<I: Input, O: Output>(
 
     // A read that failed and a write that failed are told only where the device's count rose.
     ensures read_failed { IfErr result (ReadFailedAt I.failures sources.old sources.new) }
+    ensures no_read_failed { OnOk result (NoReadFailed I.failures sources.old sources.new) }
     ensures no_write_failed { OnOk result (O.failures out.new ≡ O.failures out.old) }
     ensures output { IfErr result (LeavesOutput I.left O.written O.failures sources.old head format out.old out.new) }
 {

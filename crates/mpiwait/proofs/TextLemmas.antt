@@ -8,7 +8,8 @@ use Rattle.mpigroup.proofs.FrontLemmas.{read_head-front}
 use Rattle.mpigroup.specs.Groups.{Groups}
 use Rattle.mpigroup.specs.HeadText.{read_head}
 use Rattle.mpigroup.specs.declared.fault.HeadFault.{HeadFault}
-use Rattle.gather.specs.Told.{IsReportOver, RefusesOver, Tells}
+use Rattle.gather.specs.Told.{RefusesOver, Tells}
+use Rattle.gather.specs.Written.{IsReportOver}
 use Rattle.gather.specs.declared.fault.Refusal.{Refusal}
 use Rattle.gather.specs.declared.fault.RunFault.{RunFault}
 use Rattle.gather.specs.declared.fault.RunFault.TheVariants as run
@@ -45,6 +46,8 @@ pub report_says : {I : Type 0} (left : I → Option Text) (sources : List (Sourc
 report_says left sources groups format verdict report head files of_head tells over = record {
   groups = groups;
   recording = over.recording;
+  one_a_rank = over.accepted.one_a_rank;
+  closed = over.accepted.closed;
   of_texts = λ text texts head_is files_are. record {
     is_head = head_of_told head text groups of_head head_is;
     is_recording = over.of_traces (map trace_of texts) (tells texts files_are);

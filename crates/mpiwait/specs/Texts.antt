@@ -6,7 +6,7 @@ use Rattle.mpigroup.specs.Groups.{Groups, ranks_of}
 use Rattle.mpigroup.specs.HeadText.{read_head}
 use Rattle.moves.specs.declared.verdict.Verdict.{Verdict}
 use Rattle.moves.specs.Verdicts.{verdict_of}
-use Rattle.pairing.specs.Recordings.{Lists}
+use Rattle.pairing.specs.Recordings.{Lists, IsClosed}
 use Rattle.waitgraph.specs.Reports.{report_of}
 use Rattle.waitgraph.specs.declared.report.Format.{Format}
 use Rattle.gather.specs.Answers.{lists_of}
@@ -45,11 +45,13 @@ pub record IsRunOfTexts (head : List ℕ) (texts : List (List ℕ)) (groups : Gr
   pub is_head : read_head head ≡ Ok groups
   pub is_recording : recording ≡ lists_of (map trace_of texts)
 
--- the report of a run, and the verdict that it says: they are those of groups and a recording, and where the
--- texts of the head and the files are told, these are of the texts
+-- the report of a run, and the verdict that it says: they are those of groups and a closed recording of their
+-- ranks, and where the texts of the head and the files are told, these are of the texts
 pub record IsReportOf (format : Format) (head : Option (List ℕ)) (files : List (Option (List ℕ))) (verdict : Verdict) (report : List ℕ) : Type 0 where
   pub groups : Groups
   pub recording : Lists
+  pub one_a_rank : length recording ≡ ranks_of groups
+  pub closed : IsClosed recording
   pub of_texts : (text : List ℕ) (texts : List (List ℕ)) → head ≡ Some text → files ≡ map Some texts → IsRunOfTexts text texts groups recording
   pub report_is : report ≡ report_of format groups recording
   pub verdict_is : verdict ≡ verdict_of groups recording

@@ -51,7 +51,7 @@ Reads the head of a run and its traces, and says whether the run can hang.
 Lines of the report:
   verdict free|hang
       hang: some rank can't come to its end, whatever way the run goes
-  rank R at I CALL waits rank K call J|none
+  rank R at I CALL waits rank K (call J|none)
       rank R is stuck at its call I until rank K comes to its call J; none: rank K has no such call
   cycle R ..
       these ranks wait for one another: each for the next, the last for the first
@@ -73,7 +73,7 @@ Examples:
 Exit status:
   0  no hang; or the trace is in its format; or help or the version was asked for
   1  hang
-  2  refused: the head or a trace isn't in its format
+  2  refused: the head or a trace isn't in its format, or a call can't be as recorded
   3  usage: the words, or the number of files
   4  fault: a file, the memory or the output";
 
@@ -86,7 +86,7 @@ fn head_argument<'a>(alloc: Global) -> Arg<'a>
 {
     Arg::new(alloc, "HEAD")
         .required(true)
-        .help("The head of the run: how many ranks it has")
+        .help("The head of the run: its ranks and their communicators")
 }
 
 /// What clap is told of the traces.
@@ -345,7 +345,7 @@ mod tests {
         for line in [
             "      --json\n",
             "  verdict free|hang\n",
-            "  rank R at I CALL waits rank K call J|none\n",
+            "  rank R at I CALL waits rank K (call J|none)\n",
             "  cycle R ..\n",
             "  missing R K\n",
             "  finding kind|root|unreceived|request|group ..\n",

@@ -1,14 +1,13 @@
 -- The line of a call is ASCII, so that it is text.
-use Rattle.std.proofs.Common.{◌≡◌, ℕ, zero, suc, ◌-◌, ◌<◌, ◌/◌, ◌%◌, ◌==◌, Bool, true, false, cond, ◌&&◌, nat_lt, pos, negsuc, ℤ, Some, None, List, [], ◌∷◌, ◌++◌, length, map, take, refl, arith, lit<}
+use Rattle.std.proofs.Common.{◌≡◌, ℕ, zero, suc, ◌<◌, ◌/◌, ◌%◌, ◌==◌, Bool, true, false, cond, ◌&&◌, nat_lt, pos, negsuc, ℤ, Some, None, List, [], ◌∷◌, map, refl, arith, lit<}
 use Rattle.std.specs.Fmt.{decimal, signed_decimal, digits, digits_onto, digit_glyph}
 use Rattle.std.specs.List.{join_with_byte, list_all}
 use Rattle.std.specs.Str.{IsAscii, IsUtf8}
 use Rattle.std.proofs.lemmas.Bool.Decides.{nat_tests}
-use Rattle.std.proofs.lemmas.List.{take_at, length-append}
 use Rattle.std.proofs.lemmas.Str.{IsAscii-append, IsUtf8-from_ascii}
 use Rattle.std.proofs.lemmas.Str.Ascii.{IsAscii-nil, IsAscii-cons}
 use Rattle.mpicall.specs.Argument.{Argument, Number, PeerOf, Colour, Key, New, spell}
-use Rattle.mpicall.specs.Spelling.{space, line_feed, fields_of, word_of_call, arguments_of, spelling}
+use Rattle.mpicall.specs.Spelling.{space, fields_of, word_of_call, arguments_of}
 use Rattle.mpicall.specs.Word.{collective_text, operation_text, text_of}
 use Rattle.mpicall.specs.declared.call.Call.{Call}
 use Rattle.mpicall.specs.declared.call.Mode.TheVariants.{Standard, Synchronous, Buffered}
@@ -114,9 +113,3 @@ pub line_is_text : (call : Call) → IsUtf8 (join_with_byte space (fields_of cal
 line_is_text call =
     IsUtf8-from_ascii (join_with_byte space (fields_of call))
     (joined_ascii (text_of (word_of_call call)) (arguments_of call) (small_ascii (text_of (word_of_call call)) (word_small (word_of_call call))))
-
-pub without_line_feed : (call : Call) (line : List ℕ) → line ≡ spelling call → take (length line - 1) line ≡ join_with_byte space (fields_of call)
-unfolding spelling
-without_line_feed call line is =
-    let body = join_with_byte space (fields_of call) in
-    rw is (take_at body (line_feed ∷ []) (length (body ++ line_feed ∷ []) - 1) (omega (arith, length-append body (line_feed ∷ []))))

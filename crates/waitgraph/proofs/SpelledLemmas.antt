@@ -39,7 +39,7 @@ fields-append bytes [] more = refl
 fields-append bytes (field ∷ fields) more = fields-append (bytes ++ space ∷ field) fields more
 
 -- the body of a call's line is its fields
-body_joined : (call : Call) → body_of (spelling call) ≡ join_with_byte space (fields_of call)
+pub body_joined : (call : Call) → body_of (spelling call) ≡ join_with_byte space (fields_of call)
 unfolding spelling
 body_joined call =
     let joined = join_with_byte space (fields_of call) in

@@ -104,7 +104,8 @@ fn stands_of(alloc: Global, analyser: &Analyser) -> Result<Vec<u32>, AllocError>
 impl Graph {
     /// The wait graph of a run whose calls were all accepted. It asks for each rank what its present call
     /// needs and walks from each rank once, and then looks at each call for what is wrong. It takes memory
-    /// for the stuck ranks, their unmet needs, the causes and the findings.
+    /// for the stuck ranks, their unmet needs, the causes and the findings, and for what its search keeps on
+    /// the way: the stands, the marks of calls, the walks and the groups.
     pub fn of(alloc: Global, analyser: &Analyser) -> Result<Graph, AllocError>
         requires { IsClosed analyser.now.recording }
         ensures stuck { IfOk result (λ graph. graph.stuck ≡ stuck_of analyser.now.groups analyser.now.recording) }
@@ -142,6 +143,7 @@ impl Graph {
     {
         self.causes.as_slice()
     }
+
     /// What else is wrong with the run, in the order of the report.
     pub fn findings(&self) -> &[Finding]
         ensures { result.now ≡ self.now.findings }

@@ -15,7 +15,7 @@ use std::alloc::Global;
 use thiserror::Error;
 
 mod page;
-mod spelled;
+pub(crate) mod spelled;
 #[cfg(test)]
 mod tests;
 mod text;

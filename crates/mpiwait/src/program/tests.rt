@@ -285,7 +285,14 @@ fn long_trace(alloc: Global, line: &str) -> Result<String, Fail> {
 /// All that a report may say: who waits for whom, cycles, missing calls and each kind of finding.
 #[test]
 fn writes_whole_reports(rt: HostRuntime) -> Result<(), Fail> {
-    let rows: [(&str, &[&str], Format, &str, u8); 17] = [
+    let rows: [(&str, &[&str], Format, &str, u8); 18] = [
+        (
+            "ranks 1\n",
+            &["finalize\n"],
+            Format::Json,
+            "{\"causes\":[],\"findings\":[],\"ranks\":[],\"verdict\":\"free\"}\n",
+            0,
+        ),
         (
             "ranks 2\n",
             &[

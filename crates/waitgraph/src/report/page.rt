@@ -19,7 +19,7 @@ use std::marker::Model;
 /// The most bytes that wait.
 pub(crate) const PAGE_BYTES: usize = 4096;
 
-/// The room that a line is given, more than any line without a list takes.
+/// The room that a line is given, more than any line but a cycle's takes.
 pub(crate) const ROOM_BYTES: usize = 2048;
 
 /// Bytes that wait; contracts see them.

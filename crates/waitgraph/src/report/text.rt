@@ -259,6 +259,29 @@ fn write_causes<O: Output>(
     Ok(())
 }
 
+/// Adds a word for what is wrong in a wave, and the wave and the member.
+fn push_wave(page: &mut Page, text: &[u8], comm: u16, wave: u32, member: u16)
+    requires { length page.old + length text.now + 37 ≤ PAGE_BYTES }
+    ensures value { page.new ≡ with_fields page.old (text.now ∷ decimal comm ∷ decimal wave ∷ decimal member ∷ []) }
+    ensures short { length page.new ≤ length page.old + length text.now + 37 }
+{
+    page.push_field(text);
+    page.push_number(u32::from(comm));
+    page.push_number(wave);
+    page.push_number(u32::from(member));
+}
+
+/// Adds a word for what is wrong with a call, and where the call is.
+fn push_place(page: &mut Page, text: &[u8], rank: u16, place: u32)
+    requires { length page.old + length text.now + 25 ≤ PAGE_BYTES }
+    ensures value { page.new ≡ with_fields page.old (text.now ∷ decimal rank ∷ decimal place ∷ []) }
+    ensures short { length page.new ≤ length page.old + length text.now + 25 }
+{
+    page.push_field(text);
+    page.push_number(u32::from(rank));
+    page.push_number(place);
+}
+
 fn push_fields(page: &mut Page, finding: &Finding)
     requires { length page.old + 100 ≤ PAGE_BYTES }
     ensures value { page.new ≡ with_fields page.old (finding_fields finding.now) }
@@ -272,10 +295,7 @@ fn push_fields(page: &mut Page, finding: &Finding)
             first,
             word,
         } => {
-            page.push_field(b"kind");
-            page.push_number(u32::from(comm));
-            page.push_number(wave);
-            page.push_number(u32::from(member));
+            push_wave(page, b"kind", comm, wave, member);
             page.push_word(first);
             page.push_word(word);
         }
@@ -286,29 +306,16 @@ fn push_fields(page: &mut Page, finding: &Finding)
             first,
             root,
         } => {
-            page.push_field(b"root");
-            page.push_number(u32::from(comm));
-            page.push_number(wave);
-            page.push_number(u32::from(member));
+            push_wave(page, b"root", comm, wave, member);
             page.push_number(u32::from(first));
             page.push_number(u32::from(root));
         }
-        Finding::Unreceived { rank, place } => {
-            page.push_field(b"unreceived");
-            page.push_number(u32::from(rank));
-            page.push_number(place);
-        }
+        Finding::Unreceived { rank, place } => push_place(page, b"unreceived", rank, place),
         Finding::Request { rank, place, req } => {
-            page.push_field(b"request");
-            page.push_number(u32::from(rank));
-            page.push_number(place);
+            push_place(page, b"request", rank, place);
             page.push_number(req);
         }
-        Finding::Group { rank, place } => {
-            page.push_field(b"group");
-            page.push_number(u32::from(rank));
-            page.push_number(place);
-        }
+        Finding::Group { rank, place } => push_place(page, b"group", rank, place),
     }
 }
 
