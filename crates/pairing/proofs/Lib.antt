@@ -9,6 +9,7 @@ pub mod NoteLemmas
 pub mod NotedLemmas
 pub mod KeptLemmas
 pub mod PackedLemmas
+pub mod StartLemmas
 pub mod FiledLemmas
 pub mod MatchedLemmas
 pub mod JoinedLemmas

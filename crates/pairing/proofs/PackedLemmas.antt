@@ -1,9 +1,13 @@
--- Entries of a rank whose lists of requests and starts go on.
-use Rattle.std.proofs.Common.{◌≡◌, ℕ, ◌+◌, ◌<◌, ◌≤◌, List, [], ◌∷◌, ◌++◌, length, map, drop, refl, sym, ap, ◌∙◌, true, arith, length-append}
-use Rattle.std.proofs.lemmas.List.{take-append-le, drop-append-le, map-append, length-drop}
-use Rattle.std.proofs.lemmas.List.Elements.{All-head, All-tail, All-push, All-weaker}
-use Rattle.std.specs.List.{All}
-use Rattle.mpicall.specs.Limits.{in_ranges}
+-- Entries of a rank, whose lists of calls and of starts go on.
+use Rattle.std.proofs.Common.{◌≡◌, ℕ, zero, suc, ◌+◌, ◌<◌, ◌≤◌, Option, Some, IsSome, is_some, List, [], ◌∷◌, ◌++◌, length, map, drop, refl, sym, ap, ◌∙◌, Bool, true, false, ◌&&◌, leb, arith, length-append}
+use Rattle.std.specs.Prelude.{unwrap_or}
+use Rattle.std.specs.List.{list_all, All}
+use Rattle.std.proofs.lemmas.Bool.{false≢true, leb-true}
+use Rattle.std.proofs.lemmas.List.{take-append-le, drop-append-le, map-append, length-drop, length-map}
+use Rattle.std.proofs.lemmas.List.Elements.{All-nil, All-cons, All-head, All-tail, All-push, All-weaker}
+use Rattle.mpicall.specs.Limits.{few_enough, names_enough, in_ranges}
+use Rattle.mpicall.specs.Argument.{is_in_range}
+use Rattle.mpicall.specs.Spelling.{arguments_of}
 use Rattle.mpicall.specs.declared.limits.TheConstants.{MOST_REQUESTS}
 use Rattle.mpicall.specs.declared.call.Call.{Call}
 use Rattle.mpicall.specs.declared.call.Call.TheVariants as made
@@ -11,30 +15,16 @@ use Rattle.pairing.specs.declared.packed.Packed.{Packed}
 use Rattle.pairing.specs.declared.packed.Packed.TheVariants.{Send, Recv, Isend, Irecv, Sendrecv, Wait, Waitall, Waitany, Coll, Icoll, Dup, Split, Finalize}
 use Rattle.pairing.specs.declared.packed.Entry.{Entry}
 use Rattle.pairing.specs.Limits.{most_calls}
-use Rattle.pairing.specs.Requests.{waits_for}
-use Rattle.pairing.specs.Notes.{Noted, listed}
-use Rattle.pairing.specs.Packed.{part, unpack, unpack_starts, end_of, noted, noted_of, IsStored, AreStored, listed_starts}
+use Rattle.pairing.specs.Requests.{starts as starts_of, waits_for}
+use Rattle.pairing.specs.Notes.{Noted, calls_in, request_at as request_among, AreStarts}
+use Rattle.pairing.specs.Packed.{request_of, request_at, req_at, reqs_at, part, unpack, unpack_starts, end_of, noted, noted_of, StartRequests, IsStored, AreStored, listed_starts}
+use Rattle.pairing.proofs.FrontLemmas.{same_map}
 
 -- a part of a list stays as the list goes on
 part_more : (xs more : List ℕ) (first count : ℕ) → first + count ≤ length xs → part (xs ++ more) first count ≡ part xs first count
 part_more xs more first count within =
     let rest : count ≤ length (drop first xs) = omega (arith, length-drop first xs) in
     rw (drop-append-le first xs more (omega arith)) (take-append-le count (drop first xs) more rest)
-
-unpack_more : (reqs more : List ℕ) (packed : Packed) → end_of packed ≤ length reqs → unpack (reqs ++ more) packed ≡ unpack reqs packed
-unpack_more reqs more (Waitall first count) within = ap (λ (xs : List ℕ). made.Waitall xs) (part_more reqs more first count within)
-unpack_more reqs more (Waitany chosen first count) within = ap (λ (xs : List ℕ). made.Waitany chosen xs) (part_more reqs more first count within)
-unpack_more reqs more (Send mode comm dest tag) within = refl
-unpack_more reqs more (Recv comm source tag) within = refl
-unpack_more reqs more (Isend req mode comm dest tag) within = refl
-unpack_more reqs more (Irecv req comm source tag) within = refl
-unpack_more reqs more (Sendrecv comm dest send_tag source recv_tag) within = refl
-unpack_more reqs more (Wait req start) within = refl
-unpack_more reqs more (Coll comm kind) within = refl
-unpack_more reqs more (Icoll req comm kind) within = refl
-unpack_more reqs more (Dup comm new) within = refl
-unpack_more reqs more (Split comm colour key new) within = refl
-unpack_more reqs more Finalize within = refl
 
 starts_more : (starts more : List ℕ) (packed : Packed) → end_of packed ≤ length starts → unpack_starts (starts ++ more) packed ≡ unpack_starts starts packed
 starts_more starts more (Waitall first count) within = part_more starts more first count within
@@ -44,24 +34,66 @@ starts_more starts more (Recv comm source tag) within = refl
 starts_more starts more (Isend req mode comm dest tag) within = refl
 starts_more starts more (Irecv req comm source tag) within = refl
 starts_more starts more (Sendrecv comm dest send_tag source recv_tag) within = refl
-starts_more starts more (Wait req start) within = refl
+starts_more starts more (Wait start) within = refl
 starts_more starts more (Coll comm kind) within = refl
 starts_more starts more (Icoll req comm kind) within = refl
 starts_more starts more (Dup comm new) within = refl
 starts_more starts more (Split comm colour key new) within = refl
 starts_more starts more Finalize within = refl
 
--- so an entry stands for the same, and is stored
-noted_more : (reqs starts reqs' starts' : List ℕ) (entry : Entry) → IsStored reqs starts entry → noted_of (reqs ++ reqs') (starts ++ starts') entry ≡ noted_of reqs starts entry
-noted_more reqs starts reqs' starts' entry stored =
-    ap (λ (call : Call). noted call entry.numbers (unpack_starts (starts ++ starts') entry.call)) (unpack_more reqs reqs' entry.call stored.reqs_in)
-    ∙ ap (λ (xs : List ℕ). noted (unpack reqs entry.call) entry.numbers xs) (starts_more starts starts' entry.call stored.starts_in)
+-- a call that starts a request starts the same as calls go on
+request_more : (entries more : List Entry) (place : ℕ) → IsSome (request_at entries place) → request_at (entries ++ more) place ≡ request_at entries place
+request_more [] more place some = absurd (false≢true some)
+request_more (entry ∷ entries) more zero some = refl
+request_more (entry ∷ entries) more (suc place) some = request_more entries more place some
 
-stored_more : (reqs starts reqs' starts' : List ℕ) (entry : Entry) → IsStored reqs starts entry → IsStored (reqs ++ reqs') (starts ++ starts') entry
-stored_more reqs starts reqs' starts' entry stored = record {
-  ranged = ap in_ranges (unpack_more reqs reqs' entry.call stored.reqs_in) ∙ stored.ranged;
-  reqs_in = omega (arith, length-append reqs reqs', stored.reqs_in);
-  starts_in = omega (arith, length-append starts starts', stored.starts_in);
+reqs_more : (entries more : List Entry) (places : List ℕ) → StartRequests entries places → reqs_at (entries ++ more) places ≡ reqs_at entries places
+reqs_more entries more [] start = refl
+reqs_more entries more (place ∷ places) start =
+    let first = request_more entries more place (All-head (λ (p : ℕ). IsSome (request_at entries p)) place places start) in
+    let rest = reqs_more entries more places (All-tail (λ (p : ℕ). IsSome (request_at entries p)) place places start) in
+    rw first (ap (λ (reqs : List ℕ). req_at entries place ∷ reqs) rest)
+
+start_more : (entries more : List Entry) (places : List ℕ) → StartRequests entries places → StartRequests (entries ++ more) places
+start_more entries more =
+    All-weaker (λ (p : ℕ). IsSome (request_at entries p)) (λ (p : ℕ). IsSome (request_at (entries ++ more) p))
+    (λ p some. ap (λ (o : Option ℕ). is_some o) (request_more entries more p some) ∙ some)
+
+-- so a wait names the same requests
+named_more : (entries entries' : List Entry) (starts starts' : List ℕ) (first count : ℕ) → first + count ≤ length starts → StartRequests entries (part starts first count) → reqs_at (entries ++ entries') (part (starts ++ starts') first count) ≡ reqs_at entries (part starts first count)
+named_more entries entries' starts starts' first count within start =
+    ap (λ (places : List ℕ). reqs_at (entries ++ entries') places) (part_more starts starts' first count within)
+    ∙ reqs_more entries entries' (part starts first count) start
+
+unpack_more : (entries entries' : List Entry) (starts starts' : List ℕ) (packed : Packed) → end_of packed ≤ length starts → StartRequests entries (unpack_starts starts packed) → unpack (entries ++ entries') (starts ++ starts') packed ≡ unpack entries starts packed
+unpack_more entries entries' starts starts' (Wait start) within started =
+    ap (λ (o : Option ℕ). made.Wait (unwrap_or o 0)) (request_more entries entries' start (All-head (λ (p : ℕ). IsSome (request_at entries p)) start [] started))
+unpack_more entries entries' starts starts' (Waitall first count) within started =
+    ap (λ (reqs : List ℕ). made.Waitall reqs) (named_more entries entries' starts starts' first count within started)
+unpack_more entries entries' starts starts' (Waitany chosen first count) within started =
+    ap (λ (reqs : List ℕ). made.Waitany chosen reqs) (named_more entries entries' starts starts' first count within started)
+unpack_more entries entries' starts starts' (Send mode comm dest tag) within started = refl
+unpack_more entries entries' starts starts' (Recv comm source tag) within started = refl
+unpack_more entries entries' starts starts' (Isend req mode comm dest tag) within started = refl
+unpack_more entries entries' starts starts' (Irecv req comm source tag) within started = refl
+unpack_more entries entries' starts starts' (Sendrecv comm dest send_tag source recv_tag) within started = refl
+unpack_more entries entries' starts starts' (Coll comm kind) within started = refl
+unpack_more entries entries' starts starts' (Icoll req comm kind) within started = refl
+unpack_more entries entries' starts starts' (Dup comm new) within started = refl
+unpack_more entries entries' starts starts' (Split comm colour key new) within started = refl
+unpack_more entries entries' starts starts' Finalize within started = refl
+
+-- so an entry stands for the same, and is stored
+noted_more : (entries entries' : List Entry) (starts starts' : List ℕ) (entry : Entry) → IsStored entries starts entry → noted_of (entries ++ entries') (starts ++ starts') entry ≡ noted_of entries starts entry
+noted_more entries entries' starts starts' entry stored =
+    ap (λ (call : Call). noted call entry.numbers (unpack_starts (starts ++ starts') entry.call)) (unpack_more entries entries' starts starts' entry.call stored.within stored.started)
+    ∙ ap (λ (xs : List ℕ). noted (unpack entries starts entry.call) entry.numbers xs) (starts_more starts starts' entry.call stored.within)
+
+stored_more : (entries entries' : List Entry) (starts starts' : List ℕ) (entry : Entry) → IsStored entries starts entry → IsStored (entries ++ entries') (starts ++ starts') entry
+stored_more entries entries' starts starts' entry stored = record {
+  ranged = ap in_ranges (unpack_more entries entries' starts starts' entry.call stored.within stored.started) ∙ stored.ranged;
+  within = omega (arith, length-append starts starts', stored.within);
+  started = rw (starts_more starts starts' entry.call stored.within) (start_more entries entries' (unpack_starts starts entry.call) stored.started);
 }
 
 map_same : {X Y : Type 0} (f g : X → Y) (P : X → Type 0) (xs : List X) → ((x : X) → P x → f x ≡ g x) → All P xs → map f xs ≡ map g xs
@@ -72,37 +104,98 @@ map_same {Y = Y} f g P (x ∷ xs) same each =
     cc
 
 -- an entry is added, and what it lists
-pub notes_push : (reqs starts reqs' starts' : List ℕ) (entries : List Entry) (entry : Entry) → AreStored entries reqs starts → map (noted_of (reqs ++ reqs') (starts ++ starts')) (entries ++ entry ∷ []) ≡ map (noted_of reqs starts) entries ++ noted_of (reqs ++ reqs') (starts ++ starts') entry ∷ []
-notes_push reqs starts reqs' starts' entries entry stored =
-    map-append (noted_of (reqs ++ reqs') (starts ++ starts')) entries (entry ∷ [])
-    ∙ ap (λ (notes : List Noted). notes ++ noted_of (reqs ++ reqs') (starts ++ starts') entry ∷ [])
-    (map_same (noted_of (reqs ++ reqs') (starts ++ starts')) (noted_of reqs starts) (IsStored reqs starts) entries (noted_more reqs starts reqs' starts') stored.each)
+pub notes_push : (entries : List Entry) (starts starts' : List ℕ) (entry : Entry) → AreStored entries starts → map (noted_of (entries ++ entry ∷ []) (starts ++ starts')) (entries ++ entry ∷ []) ≡ map (noted_of entries starts) entries ++ noted_of (entries ++ entry ∷ []) (starts ++ starts') entry ∷ []
+notes_push entries starts starts' entry stored =
+    map-append (noted_of (entries ++ entry ∷ []) (starts ++ starts')) entries (entry ∷ [])
+    ∙ ap (λ (notes : List Noted). notes ++ noted_of (entries ++ entry ∷ []) (starts ++ starts') entry ∷ [])
+    (map_same (noted_of (entries ++ entry ∷ []) (starts ++ starts')) (noted_of entries starts) (IsStored entries starts) entries (noted_more entries (entry ∷ []) starts starts') stored.each)
 
-pub stored_push : (reqs starts reqs' starts' : List ℕ) (entries : List Entry) (entry : Entry) → AreStored entries reqs starts → IsStored (reqs ++ reqs') (starts ++ starts') entry → length reqs' ≡ length starts' → length reqs' ≤ MOST_REQUESTS → length entries < most_calls → AreStored (entries ++ entry ∷ []) (reqs ++ reqs') (starts ++ starts')
-stored_push reqs starts reqs' starts' entries entry stored added same short few = record {
-  each = All-push (IsStored (reqs ++ reqs') (starts ++ starts')) entries entry
-      (All-weaker (IsStored reqs starts) (IsStored (reqs ++ reqs') (starts ++ starts')) (stored_more reqs starts reqs' starts') entries stored.each) added;
-  same = omega (arith, length-append reqs reqs', length-append starts starts', stored.same);
-  few_reqs = omega (arith, length-append reqs reqs', length-append entries (entry ∷ []), stored.few_reqs);
+pub stored_push : (entries : List Entry) (starts starts' : List ℕ) (entry : Entry) → AreStored entries starts → IsStored (entries ++ entry ∷ []) (starts ++ starts') entry → length starts' ≤ MOST_REQUESTS → length entries < most_calls → AreStored (entries ++ entry ∷ []) (starts ++ starts')
+stored_push entries starts starts' entry stored added short few = record {
+  each = All-push (IsStored (entries ++ entry ∷ []) (starts ++ starts')) entries entry
+      (All-weaker (IsStored entries starts) (IsStored (entries ++ entry ∷ []) (starts ++ starts')) (stored_more entries (entry ∷ []) starts starts') entries stored.each) added;
+  few_starts = omega (arith, length-append starts starts', length-append entries (entry ∷ []), stored.few_starts);
   few = omega (arith, length-append entries (entry ∷ []));
 }
 
--- a wait lists as many starts as requests
-pub as_many : (call : Call) (starts : List ℕ) → length starts ≡ length (waits_for call) → length (listed call) ≡ length (listed_starts call starts)
-as_many (made.Waitall reqs) starts e = sym e
-as_many (made.Waitany chosen reqs) starts e = sym e
-as_many _ starts e = refl
+-- the request that an entry starts is that of its call
+request_unpacked : (entries : List Entry) (starts : List ℕ) (packed : Packed) → starts_of (unpack entries starts packed) ≡ request_of packed
+request_unpacked entries starts (Send mode comm dest tag) = refl
+request_unpacked entries starts (Recv comm source tag) = refl
+request_unpacked entries starts (Isend req mode comm dest tag) = refl
+request_unpacked entries starts (Irecv req comm source tag) = refl
+request_unpacked entries starts (Sendrecv comm dest send_tag source recv_tag) = refl
+request_unpacked entries starts (Wait start) = refl
+request_unpacked entries starts (Waitall first count) = refl
+request_unpacked entries starts (Waitany chosen first count) = refl
+request_unpacked entries starts (Coll comm kind) = refl
+request_unpacked entries starts (Icoll req comm kind) = refl
+request_unpacked entries starts (Dup comm new) = refl
+request_unpacked entries starts (Split comm colour key new) = refl
+request_unpacked entries starts Finalize = refl
+
+request_noted : (all : List Entry) (starts : List ℕ) (entries : List Entry) (place : ℕ) → request_among (calls_in (map (noted_of all starts) entries)) place ≡ request_at entries place
+request_noted all starts [] place = refl
+request_noted all starts (entry ∷ entries) zero = request_unpacked all starts entry.call
+request_noted all starts (entry ∷ entries) (suc place) = request_noted all starts entries place
+
+-- what stands at the starts of a wait: calls that start requests, and those that it names
+pub record Names (entries : List Entry) (places reqs : List ℕ) : Type 0 where
+  pub start : StartRequests entries places
+  pub are_those : reqs_at entries places ≡ reqs
+
+names : (entries : List Entry) (places reqs : List ℕ) → map (request_at entries) places ≡ map (λ req. Some req) reqs → Names entries places reqs
+names entries [] [] h = record { start = All-nil (λ (p : ℕ). IsSome (request_at entries p)); are_those = refl }
+names entries [] (req ∷ reqs) h = absurd cc
+names entries (place ∷ places) [] h = absurd cc
+names entries (place ∷ places) (req ∷ reqs) h =
+    let first : request_at entries place ≡ Some req = cc in
+    let rest = names entries places reqs cc in
+    record {
+      start = All-cons (λ (p : ℕ). IsSome (request_at entries p)) place places (ap (λ (o : Option ℕ). is_some o) first) rest.start;
+      are_those = rw first (ap (λ (others : List ℕ). req ∷ others) rest.are_those);
+    }
+
+-- of the starts that are given with a call, once an entry is added
+pub names_more : (entries : List Entry) (starts places : List ℕ) (call : Call) (entry : Entry) → AreStarts (calls_in (map (noted_of entries starts) entries)) call places → Names (entries ++ entry ∷ []) places (waits_for call)
+names_more entries starts places call entry are_starts =
+    let those = names entries places (waits_for call) (sym (same_map (request_among (calls_in (map (noted_of entries starts) entries))) (request_at entries) places (request_noted entries starts entries)) ∙ are_starts) in
+    record {
+      start = start_more entries (entry ∷ []) places those.start;
+      are_those = reqs_more entries (entry ∷ []) places those.start ∙ those.are_those;
+    }
+
+-- there is one for each request
+pub as_many_starts : (calls : List Call) (call : Call) (places : List ℕ) → AreStarts calls call places → length places ≡ length (waits_for call)
+as_many_starts calls call places are_starts =
+    sym (length-map places (request_among calls)) ∙ ap (λ (os : List (Option ℕ)). length os) are_starts ∙ length-map (waits_for call) (λ (req : ℕ). Some req)
 
 -- a call that was packed is stored
-pub packed_stored : (reqs starts beside : List ℕ) (call : Call) (first : ℕ) (entry : Entry) → in_ranges call ≡ true → length beside ≡ length (waits_for call) → length reqs ≡ length starts → length reqs ≡ first → unpack (reqs ++ listed call) entry.call ≡ call → end_of entry.call ≤ first + length (listed call) → IsStored (reqs ++ listed call) (starts ++ listed_starts call beside) entry
-packed_stored reqs starts beside call first entry ranged named same here is end = record {
+pub packed_stored : (entries : List Entry) (starts places : List ℕ) (call : Call) (entry : Entry) → in_ranges call ≡ true → StartRequests entries places → unpack entries (starts ++ listed_starts call places) entry.call ≡ call → unpack_starts (starts ++ listed_starts call places) entry.call ≡ places → end_of entry.call ≤ length starts + length (listed_starts call places) → IsStored entries (starts ++ listed_starts call places) entry
+packed_stored entries starts places call entry ranged start is starts_are end = record {
   ranged = ap in_ranges is ∙ ranged;
-  reqs_in = omega (arith, length-append reqs (listed call));
-  starts_in = omega (arith, length-append starts (listed_starts call beside), as_many call beside named);
+  within = omega (arith, end, length-append starts (listed_starts call places));
+  started = rw starts_are start;
 }
 
 -- and is the same call
-pub packed_noted : (reqs starts beside : List ℕ) (call : Call) (entry : Entry) → unpack (reqs ++ listed call) entry.call ≡ call → unpack_starts (starts ++ listed_starts call beside) entry.call ≡ beside → noted_of (reqs ++ listed call) (starts ++ listed_starts call beside) entry ≡ noted call entry.numbers beside
-packed_noted reqs starts beside call entry is starts_are =
-    ap (λ (it : Call). noted it entry.numbers (unpack_starts (starts ++ listed_starts call beside) entry.call)) is
+pub packed_noted : (entries : List Entry) (starts places : List ℕ) (call : Call) (entry : Entry) → unpack entries (starts ++ listed_starts call places) entry.call ≡ call → unpack_starts (starts ++ listed_starts call places) entry.call ≡ places → noted_of entries (starts ++ listed_starts call places) entry ≡ noted call entry.numbers places
+packed_noted entries starts places call entry is starts_are =
+    ap (λ (it : Call). noted it entry.numbers (unpack_starts (starts ++ listed_starts call places) entry.call)) is
     ∙ ap (λ (xs : List ℕ). noted call entry.numbers xs) starts_are
+
+-- a wait for several lists no more starts than it may name requests
+right : (a b : Bool) → (a && b) ≡ true → b ≡ true
+right true b h = h
+right false b h = absurd (false≢true h)
+
+pub most_of : (reqs : List ℕ) → few_enough reqs ≡ true → length reqs ≤ MOST_REQUESTS
+most_of reqs few = leb-true (length reqs) MOST_REQUESTS (right (leb 1 (length reqs)) (leb (length reqs) MOST_REQUESTS) few)
+
+pub few_listed : (call : Call) (places : List ℕ) → in_ranges call ≡ true → length places ≡ length (waits_for call) → length (listed_starts call places) ≤ MOST_REQUESTS
+few_listed call places ranged same = by_names call places (right (list_all is_in_range (arguments_of call)) (names_enough call) ranged) same
+  where
+    by_names : (call : Call) (places : List ℕ) → names_enough call ≡ true → length places ≡ length (waits_for call) → length (listed_starts call places) ≤ MOST_REQUESTS
+    by_names (made.Waitall reqs) places few same = omega (arith, same, most_of reqs few)
+    by_names (made.Waitany chosen reqs) places few same = omega (arith, same, most_of reqs few)
+    by_names _ places few same = omega arith

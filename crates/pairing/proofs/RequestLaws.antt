@@ -137,7 +137,7 @@ not_behind test calls k start last h is_last behind =
     omega arith)
     (cases_Bool (ltb k (length (places test calls) - 1)))
 
-is_it : (req : ℕ) (o : Option ℕ) → option_map_or (λ started. eqb started req) o false ≡ true → o ≡ Some req
+pub is_it : (req : ℕ) (o : Option ℕ) → option_map_or (λ started. eqb started req) o false ≡ true → o ≡ Some req
 is_it req None h = absurd (false≢true h)
 is_it req (Some started) h = ap (λ (m : ℕ). Some m) (eqb-true started req h)
 

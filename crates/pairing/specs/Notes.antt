@@ -1,11 +1,11 @@
 -- Notes: the calls of each rank, each with three numbers and, at a wait, the places that started the
 -- requests which it names.
-use Rattle.std.specs.Prelude.{ℕ, ◌≤◌, ◌==◌, Option, unwrap_or, option_and_then, List, [], ◌∷◌, ◌++◌, map, length, take, drop, slice_get, slice_set}
+use Rattle.std.specs.Prelude.{◌≡◌, ℕ, ◌≤◌, ◌==◌, Option, Some, unwrap_or, option_and_then, List, [], ◌∷◌, ◌++◌, map, length, take, drop, slice_get, slice_set}
 use Rattle.std.specs.List.{position}
 use Rattle.mpicall.specs.declared.call.Call.{Call}
 use Rattle.mpicall.specs.declared.call.Call.TheVariants.{Waitall, Waitany}
 use Rattle.pairing.specs.Recordings.{Lists}
-use Rattle.pairing.specs.Requests.{waits_for}
+use Rattle.pairing.specs.Requests.{starts, waits_for}
 
 -- a call, the numbers kept with it, and the places that started the requests which it names: one place
 -- for each request, in its order
@@ -16,11 +16,10 @@ pub record Noted : Type 0 where
   pub joined : ℕ
   pub starts : List ℕ
 
--- how many more calls of a rank can be noted without memory, and how many more requests and starts of
--- waits for several requests
+-- how many more calls of a rank can be noted without memory, and how many more starts of waits for several
+-- requests
 pub record Room : Type 0 where
   pub calls : ℕ
-  pub reqs : ℕ
   pub starts : ℕ
 
 -- the noted calls of one rank
@@ -57,15 +56,23 @@ listed _ = []
 -- the call can be noted without memory
 pub record Holds (room : Room) (call : Call) : Type 0 where
   pub calls : 1 ≤ room.calls
-  pub reqs : length (listed call) ≤ room.reqs
   pub starts : length (listed call) ≤ room.starts
 
 abbrev pub no_room : Room
-no_room = record { calls = 0; reqs = 0; starts = 0 }
+no_room = record { calls = 0; starts = 0 }
 
 -- and so can the rank's call
 abbrev pub HasRoom : Notebook → ℕ → Call → Type 0
 HasRoom notes rank call = Holds (unwrap_or (slice_get notes.rooms rank) no_room) call
+
+-- the request that the call at the place starts
+abbrev pub request_at : List Call → ℕ → Option ℕ
+request_at calls place = option_and_then starts (slice_get calls place)
+
+-- the places are starts of the wait after the calls: at each stands the call that starts the request which
+-- the wait names there
+abbrev pub AreStarts : List Call → Call → List ℕ → Type 0
+AreStarts calls wait places = map (request_at calls) places ≡ map (λ req. Some req) (waits_for wait)
 
 -- what stands beside the requests that a wait completes, of what stands beside those that it names
 abbrev pub completed_among : Call → List ℕ → List ℕ

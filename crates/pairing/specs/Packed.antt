@@ -1,6 +1,7 @@
--- How calls are stored compactly. A wait for several requests has their numbers, and the places that
--- started them, in two lists of its rank.
-use Rattle.std.specs.Prelude.{◌≡◌, ℕ, ◌+◌, ◌*◌, ◌≤◌, List, [], ◌∷◌, length, take, drop, IsTrue}
+-- How calls are stored compactly. A wait has the places of its rank's calls that started the requests which it
+-- names; the number of each request is read from the call at its place. A wait for several requests has these
+-- places in a list of its rank.
+use Rattle.std.specs.Prelude.{ℕ, ◌+◌, ◌*◌, ◌≤◌, Option, Some, None, IsSome, option_and_then, unwrap_or, List, [], ◌∷◌, map, length, take, drop, slice_get, IsTrue}
 use Rattle.std.specs.List.{All}
 use Rattle.mpicall.specs.declared.limits.TheConstants.{MOST_REQUESTS}
 use Rattle.mpicall.specs.Limits.{in_ranges}
@@ -13,34 +14,53 @@ use Rattle.pairing.specs.declared.packed.Numbers.{Numbers}
 use Rattle.pairing.specs.Limits.{most_calls}
 use Rattle.pairing.specs.Notes.{Noted}
 
--- so many of the numbers, from the first on
+-- the request that a stored call starts
+abbrev pub request_of : Packed → Option ℕ
+request_of (Isend req mode comm dest tag) = Some req
+request_of (Irecv req comm source tag) = Some req
+request_of (Icoll req comm kind) = Some req
+request_of _ = None
+
+-- the request that the rank's call at the place starts
+abbrev pub request_at : List Entry → ℕ → Option ℕ
+request_at entries place = option_and_then (λ entry. request_of entry.call) (slice_get entries place)
+
+-- the same, or 0 where that call starts none
+abbrev pub req_at : List Entry → ℕ → ℕ
+req_at entries place = unwrap_or (request_at entries place) 0
+
+-- the requests that the calls at the places start
+abbrev pub reqs_at : List Entry → List ℕ → List ℕ
+reqs_at entries places = map (req_at entries) places
+
+-- so many of the places, from the first on
 abbrev pub part : List ℕ → ℕ → ℕ → List ℕ
-part numbers first count = take count (drop first numbers)
+part places first count = take count (drop first places)
 
--- the call, by the requests that the waits of its rank name
-abbrev pub unpack : List ℕ → Packed → Call
-unpack reqs (Send mode comm dest tag) = made.Send mode comm dest tag
-unpack reqs (Recv comm source tag) = made.Recv comm source tag
-unpack reqs (Isend req mode comm dest tag) = made.Isend req mode comm dest tag
-unpack reqs (Irecv req comm source tag) = made.Irecv req comm source tag
-unpack reqs (Sendrecv comm dest send_tag source recv_tag) = made.Sendrecv comm dest send_tag source recv_tag
-unpack reqs (Wait req start) = made.Wait req
-unpack reqs (Waitall first count) = made.Waitall (part reqs first count)
-unpack reqs (Waitany chosen first count) = made.Waitany chosen (part reqs first count)
-unpack reqs (Coll comm kind) = made.Coll comm kind
-unpack reqs (Icoll req comm kind) = made.Icoll req comm kind
-unpack reqs (Dup comm new) = made.Dup comm new
-unpack reqs (Split comm colour key new) = made.Split comm colour key new
-unpack reqs Finalize = made.Finalize
-
--- the places that started the requests which it names
+-- the places that started the requests which a wait names
 abbrev pub unpack_starts : List ℕ → Packed → List ℕ
-unpack_starts starts (Wait req start) = start ∷ []
+unpack_starts starts (Wait start) = start ∷ []
 unpack_starts starts (Waitall first count) = part starts first count
 unpack_starts starts (Waitany chosen first count) = part starts first count
 unpack_starts starts _ = []
 
--- how long those lists are at least
+-- the call: a wait names the requests that the calls at its starts start
+abbrev pub unpack : List Entry → List ℕ → Packed → Call
+unpack entries starts (Send mode comm dest tag) = made.Send mode comm dest tag
+unpack entries starts (Recv comm source tag) = made.Recv comm source tag
+unpack entries starts (Isend req mode comm dest tag) = made.Isend req mode comm dest tag
+unpack entries starts (Irecv req comm source tag) = made.Irecv req comm source tag
+unpack entries starts (Sendrecv comm dest send_tag source recv_tag) = made.Sendrecv comm dest send_tag source recv_tag
+unpack entries starts (Wait start) = made.Wait (req_at entries start)
+unpack entries starts (Waitall first count) = made.Waitall (reqs_at entries (part starts first count))
+unpack entries starts (Waitany chosen first count) = made.Waitany chosen (reqs_at entries (part starts first count))
+unpack entries starts (Coll comm kind) = made.Coll comm kind
+unpack entries starts (Icoll req comm kind) = made.Icoll req comm kind
+unpack entries starts (Dup comm new) = made.Dup comm new
+unpack entries starts (Split comm colour key new) = made.Split comm colour key new
+unpack entries starts Finalize = made.Finalize
+
+-- how long the list of starts is at least
 abbrev pub end_of : Packed → ℕ
 end_of (Waitall first count) = first + count
 end_of (Waitany chosen first count) = first + count
@@ -51,20 +71,23 @@ abbrev pub noted : Call → Numbers → List ℕ → Noted
 noted call numbers starts =
     record { call = call; sent = numbers.sent; received = numbers.received; joined = numbers.joined; starts = starts }
 
-abbrev pub noted_of : List ℕ → List ℕ → Entry → Noted
-noted_of reqs starts entry = noted (unpack reqs entry.call) entry.numbers (unpack_starts starts entry.call)
+abbrev pub noted_of : List Entry → List ℕ → Entry → Noted
+noted_of entries starts entry = noted (unpack entries starts entry.call) entry.numbers (unpack_starts starts entry.call)
 
--- an entry stands for a record
-pub record IsStored (reqs starts : List ℕ) (entry : Entry) : Type 0 where
-  pub ranged : IsTrue (in_ranges (unpack reqs entry.call))
-  pub reqs_in : end_of entry.call ≤ length reqs
-  pub starts_in : end_of entry.call ≤ length starts
+-- the calls at the places start requests
+abbrev pub StartRequests : List Entry → List ℕ → Type 0
+StartRequests entries places = All (λ place. IsSome (request_at entries place)) places
+
+-- an entry stands for a record, and each of its starts for a call that starts a request
+pub record IsStored (entries : List Entry) (starts : List ℕ) (entry : Entry) : Type 0 where
+  pub ranged : IsTrue (in_ranges (unpack entries starts entry.call))
+  pub within : end_of entry.call ≤ length starts
+  pub started : StartRequests entries (unpack_starts starts entry.call)
 
 -- so does each entry of a rank, and its lists aren't too long
-pub record AreStored (entries : List Entry) (reqs starts : List ℕ) : Type 0 where
-  pub each : All (IsStored reqs starts) entries
-  pub same : length reqs ≡ length starts
-  pub few_reqs : length reqs ≤ MOST_REQUESTS * length entries
+pub record AreStored (entries : List Entry) (starts : List ℕ) : Type 0 where
+  pub each : All (IsStored entries starts) entries
+  pub few_starts : length starts ≤ MOST_REQUESTS * length entries
   pub few : length entries ≤ most_calls
 
 -- what is put into the list of starts: the starts of a wait that may name several requests

@@ -17,7 +17,7 @@
 //!   partners and waves stay as a recording goes on.
 //!
 //! A call takes 32 bytes with the numbers that its look-ups start from, and each request that a wait for
-//! several names 8 more; the tables have 4 for each half of a message and for each collective.
+//! several names 4 more; the tables have 4 for each half of a message and for each collective.
 //!
 //! ```text
 //! let mut pairs = Pairs::new(alloc, head)?;

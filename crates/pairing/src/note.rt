@@ -1,35 +1,36 @@
 //! A noted call, seen in place.
 
-ghost use Rattle.std.specs.Prelude.{◌≡◌, ◌==◌, length, slice_get, position};
+ghost use Rattle.std.specs.Prelude.{◌≡◌, ◌==◌, length, slice_get, find};
 ghost use Rattle.mpicall.specs.Ending.{ends_list};
 ghost use Rattle.pairing.specs.Recordings.{is_finalize};
 ghost use Rattle.pairing.specs.Envelopes.{message_of};
-ghost use Rattle.pairing.specs.Requests.{starts, completes, waits_for};
+ghost use Rattle.pairing.specs.Requests.{starts, completes};
 ghost use Rattle.pairing.specs.Waves.{joins};
 ghost use Rattle.pairing.specs.Pairs.{mode_of};
-ghost use Rattle.pairing.specs.Notes.{completed_among, completed_starts, start_of};
-ghost use Rattle.pairing.specs.Packed.{IsStored, noted_of};
+ghost use Rattle.pairing.specs.Notes.{completed_starts, start_of};
+ghost use Rattle.pairing.specs.Packed.{IsStored, req_at, noted_of};
 
 use crate::envelope::{Half, Message};
 use crate::packed::{Entry, Packed};
-use crate::packing::{named, named_starts, unpack};
+use crate::packing::{req_at, unpack, unpack_starts};
 use mpicall::call::Mode;
 use mpicall::record::Record;
 use std::marker::Model;
 use std::slice::from_ref;
 
-/// The index of the first such number.
-fn index_of(number: u32, numbers: &[u32]) -> Option<usize>
-    ensures { result ≡ position (λ other. other == number) numbers.now }
+/// The first of the places whose call starts the request.
+fn first_start(req: u32, entries: &[Entry], places: &[u32]) -> Option<u32>
+    ensures { result ≡ find (λ place. req_at entries.now place == req) places.now }
 {
-    numbers.iter().position(|other| *other == number)
+    let mut starts = places.iter().copied();
+    starts.find(|place| req_at(entries, *place) == req)
 }
 
 /// A noted call. Contracts see the call with what is kept beside it.
 #[derive(Drop)]
 pub(crate) struct Note<'a> {
     entry: &'a Entry,
-    reqs: &'a [u32],
+    entries: &'a [Entry],
     starts: &'a [u32],
 }
 
@@ -39,20 +40,20 @@ impl<'a> Model for Note<'a> {
 
     ghost Value = { Noted };
 
-    ghost view = { λ n. noted_of n.reqs.now n.starts.now n.entry.now };
+    ghost view = { λ n. noted_of n.entries.now n.starts.now n.entry.now };
 
-    ghost invariant = { λ n. IsStored n.reqs.now n.starts.now n.entry.now };
+    ghost invariant = { λ n. IsStored n.entries.now n.starts.now n.entry.now };
 }
 
 impl<'a> Note<'a> {
     /// The note of an entry, with the lists of its rank.
-    pub(crate) fn of(entry: &'a Entry, reqs: &'a [u32], starts: &'a [u32]) -> Note<'a>
-        requires { IsStored reqs.now starts.now entry.now }
-        ensures { result ≡ noted_of reqs.now starts.now entry.now }
+    pub(crate) fn of(entry: &'a Entry, entries: &'a [Entry], starts: &'a [u32]) -> Note<'a>
+        requires { IsStored entries.now starts.now entry.now }
+        ensures { result ≡ noted_of entries.now starts.now entry.now }
     {
         Note {
             entry,
-            reqs,
+            entries,
             starts,
         }
     }
@@ -61,7 +62,7 @@ impl<'a> Note<'a> {
     pub(crate) fn record(&self) -> Record
         ensures { result ≡ self.now.call }
     {
-        Record::new(unpack(&self.entry.call, self.reqs)).unwrap()
+        Record::new(unpack(&self.entry.call, self.entries, self.starts)).unwrap()
     }
 
     /// The message that a half of the call sends or receives. None where the call has no such half, and
@@ -128,30 +129,25 @@ impl<'a> Note<'a> {
         self.entry.numbers.joined
     }
 
-    /// The requests that the call names as a wait, in its order; none where it is no wait.
-    fn named(&self) -> &[u32]
-        ensures { result.now ≡ waits_for self.now.call }
-    {
-        named(&self.entry.call, self.reqs)
-    }
-
-    /// The places that started those requests, one beside each.
+    /// The places that started the requests which the call names, in its order; none where it is no wait.
     fn starts(&self) -> &[u32]
         ensures { result.now ≡ self.now.starts }
     {
-        named_starts(&self.entry.call, self.starts)
+        unpack_starts(&self.entry.call, self.starts)
     }
 
-    /// What stands beside the requests that the wait completes, of what stands beside those it names.
-    fn completed_among<'b>(&self, beside: &'b [u32]) -> &'b [u32]
-        ensures { result.now ≡ completed_among self.now.call beside.now }
+    /// The places that started the requests which the call completes.
+    fn completed_starts(&self) -> &[u32]
+        ensures value { result.now ≡ completed_starts self.now }
+        ensures count { length result.now ≡ length (completes self.now.call) }
     {
+        let starts = self.starts();
         match self.entry.call {
-            Packed::Waitany { chosen, .. } => match beside.get(usize::from(chosen)) {
-                Some(number) => from_ref(number),
+            Packed::Waitany { chosen, .. } => match starts.get(usize::from(chosen)) {
+                Some(start) => from_ref(start),
                 None => &[],
             },
-            _ => beside,
+            _ => starts,
         }
     }
 
@@ -159,21 +155,23 @@ impl<'a> Note<'a> {
     pub(crate) fn completed_count(&self) -> usize
         ensures { result ≡ length (completes self.now.call) }
     {
-        self.completed_among(self.named()).len()
+        self.completed_starts().len()
     }
 
     /// The request with that index, from 0, among those that the call completes.
     pub(crate) fn completed_req(&self, index: usize) -> Option<u32>
         ensures { result ≡ slice_get (completes self.now.call) index }
     {
-        self.completed_among(self.named()).get(index).copied()
+        let entries = self.entries;
+        let start = self.completed_start(index)?;
+        Some(req_at(entries, start))
     }
 
     /// The place that started the request with that index among those that the call completes.
     pub(crate) fn completed_start(&self, index: usize) -> Option<u32>
         ensures { result ≡ slice_get (completed_starts self.now) index }
     {
-        self.completed_among(self.starts()).get(index).copied()
+        self.completed_starts().get(index).copied()
     }
 
     /// The place that started a request which the call names: that beside the first such number. None
@@ -181,9 +179,6 @@ impl<'a> Note<'a> {
     pub(crate) fn start_of(&self, req: u32) -> Option<u32>
         ensures { result ≡ start_of self.now req }
     {
-        match index_of(req, self.named()) {
-            Some(index) => self.starts().get(index).copied(),
-            None => None,
-        }
+        first_start(req, self.entries, self.starts())
     }
 }

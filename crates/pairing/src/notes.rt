@@ -3,7 +3,7 @@
 ghost use Rattle.std.specs.Prelude.{◌≡◌, ◌<◌, ◌≤◌, [], length, replicate, slice_get, IfOk, IfSome, OnOk};
 ghost use Rattle.pairing.specs.Limits.{most_calls};
 ghost use Rattle.pairing.specs.Requests.{waits_for};
-ghost use Rattle.pairing.specs.Notes.{notes_of, with_note, HasRoom};
+ghost use Rattle.pairing.specs.Notes.{notes_of, with_note, calls_in, AreStarts, HasRoom};
 ghost use Rattle.pairing.specs.Packed.{noted};
 
 use crate::note::Note;
@@ -79,7 +79,7 @@ impl Notes {
     pub(crate) fn note(&mut self, rank: u16, call: &Record, numbers: Numbers, starts: &[u32])
         requires is_rank { rank < length self.old.lists }
         requires room { HasRoom self.old rank call.now }
-        requires starts { length starts.now ≡ length (waits_for call.now) }
+        requires starts { AreStarts (calls_in (notes_of self.old.lists rank)) call.now starts.now }
         requires few { length (notes_of self.old.lists rank) < most_calls }
         ensures { self.new.lists ≡ with_note self.old.lists rank (noted call.now numbers starts.now) }
     {

@@ -1,5 +1,5 @@
 //! Calls stored compactly: a call with its numbers takes 32 bytes, and each request that a wait for
-//! several names 8 more.
+//! several names 4 more.
 
 ghost use Rattle.std.specs.Prelude.{◌≡◌, List, ℕ};
 ghost use Rattle.mpicall.specs.Ending.{ends_list};
@@ -8,15 +8,16 @@ ghost use Rattle.pairing.specs.Envelopes.{message_of};
 ghost use Rattle.pairing.specs.Requests.{starts};
 ghost use Rattle.pairing.specs.Waves.{joins};
 ghost use Rattle.pairing.specs.Pairs.{mode_of};
-ghost use Rattle.pairing.specs.Packed.{unpack};
+ghost use Rattle.pairing.specs.Packed.{request_of, unpack};
+ghost use Rattle.pairing.specs.declared.packed.Entry.{Entry};
 
 use crate::envelope::{Half, Message};
 use mpicall::call::{Kind, Mode, Peer};
 use std::mem::size_of;
 
-/// A call, variant by variant as `Call`. A wait for several requests says where, in two lists of its rank,
-/// their numbers and the places that started them stand: `count` of them from `first` on. A wait for one
-/// has that place itself.
+/// A call, variant by variant as `Call`. A wait has the places that started its requests, and their numbers
+/// are read from the calls there. A wait for several says where these places stand in a list of its rank:
+/// `count` of them from `first` on.
 #[derive(Clone, Copy, Debug)]
 pub(crate) enum Packed {
     Send {
@@ -51,7 +52,6 @@ pub(crate) enum Packed {
         recv_tag: u32,
     },
     Wait {
-        req: u32,
         start: u32,
     },
     Waitall {
@@ -106,7 +106,7 @@ const _: () = prove!(size_of::<Entry>() <= 32);
 impl Packed {
     /// The message that the call sends.
     fn sent(&self) -> Option<Message>
-        ensures { (reqs : List ℕ) → result ≡ message_of Half.Send (unpack reqs self.now) }
+        ensures { (entries : List Entry) (starts : List ℕ) → result ≡ message_of Half.Send (unpack entries starts self.now) }
     {
         match *self {
             Packed::Send {
@@ -133,7 +133,7 @@ impl Packed {
 
     /// The message that the call receives.
     fn received(&self) -> Option<Message>
-        ensures { (reqs : List ℕ) → result ≡ message_of Half.Recv (unpack reqs self.now) }
+        ensures { (entries : List Entry) (starts : List ℕ) → result ≡ message_of Half.Recv (unpack entries starts self.now) }
     {
         match *self {
             Packed::Recv {
@@ -160,7 +160,7 @@ impl Packed {
     /// The message that a half of the call sends or receives. None where the call has no such half, and
     /// where its peer is MPI_PROC_NULL.
     pub(crate) fn message(&self, half: Half) -> Option<Message>
-        ensures { (reqs : List ℕ) → result ≡ message_of half (unpack reqs self.now) }
+        ensures { (entries : List Entry) (starts : List ℕ) → result ≡ message_of half (unpack entries starts self.now) }
     {
         match half {
             Half::Send => self.sent(),
@@ -170,7 +170,7 @@ impl Packed {
 
     /// The mode of a call that sends, blocking or not; None for every other call, MPI_Sendrecv too.
     pub(crate) fn mode(&self) -> Option<Mode>
-        ensures { (reqs : List ℕ) → result ≡ mode_of (unpack reqs self.now) }
+        ensures { (entries : List Entry) (starts : List ℕ) → result ≡ mode_of (unpack entries starts self.now) }
     {
         match *self {
             Packed::Send { mode, .. } | Packed::Isend { mode, .. } => Some(mode),
@@ -180,7 +180,8 @@ impl Packed {
 
     /// The request that the call starts, if it starts one.
     pub(crate) fn starts(&self) -> Option<u32>
-        ensures { (reqs : List ℕ) → result ≡ starts (unpack reqs self.now) }
+        ensures value { result ≡ request_of self.now }
+        ensures call { (entries : List Entry) (places : List ℕ) → result ≡ starts (unpack entries places self.now) }
     {
         match *self {
             Packed::Isend { req, .. } | Packed::Irecv { req, .. } | Packed::Icoll { req, .. } => {
@@ -192,7 +193,7 @@ impl Packed {
 
     /// The communicator whose members all make the call, if there is one.
     pub(crate) fn joins(&self) -> Option<u16>
-        ensures { (reqs : List ℕ) → result ≡ joins (unpack reqs self.now) }
+        ensures { (entries : List Entry) (starts : List ℕ) → result ≡ joins (unpack entries starts self.now) }
     {
         match *self {
             Packed::Coll { comm, .. }
@@ -205,14 +206,14 @@ impl Packed {
 
     /// Whether the call is MPI_Finalize.
     pub(crate) fn is_finalize(&self) -> bool
-        ensures { (reqs : List ℕ) → result ≡ is_finalize (unpack reqs self.now) }
+        ensures { (entries : List Entry) (starts : List ℕ) → result ≡ is_finalize (unpack entries starts self.now) }
     {
         matches!(*self, Packed::Finalize)
     }
 
     /// Whether no call of the rank comes behind this one.
     pub(crate) fn ends_list(&self) -> bool
-        ensures { (reqs : List ℕ) → result ≡ ends_list (unpack reqs self.now) }
+        ensures { (entries : List Entry) (starts : List ℕ) → result ≡ ends_list (unpack entries starts self.now) }
     {
         matches!(*self, Packed::Finalize)
     }

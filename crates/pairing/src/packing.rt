@@ -4,9 +4,10 @@ ghost use Rattle.std.specs.Prelude.{◌≡◌, ◌+◌, ◌≤◌, ◌++◌, Lis
 ghost use Rattle.mpicall.specs.Limits.{few_enough, names_enough};
 ghost use Rattle.pairing.specs.Requests.{waits_for};
 ghost use Rattle.pairing.specs.Notes.{listed};
-ghost use Rattle.pairing.specs.Packed.{part, unpack, unpack_starts, end_of, listed_starts};
+ghost use Rattle.pairing.specs.Packed.{request_at, req_at, reqs_at, part, unpack, unpack_starts, end_of, listed_starts};
+ghost use Rattle.pairing.specs.declared.packed.Entry.{Entry};
 
-use crate::packed::Packed;
+use crate::packed::{Entry, Packed};
 use mpicall::call::Call;
 use mpicall::limits::MOST_REQUESTS;
 use mpicall::reqs::Reqs;
@@ -62,51 +63,29 @@ macro_rules! converted {
     };
 }
 
-/// The call packed. The places that started the requests which it names are given beside it, and those
-/// that are listed come to stand from `first` on.
+/// The call packed. The places that started the requests which it names are given, and those that are listed
+/// come to stand from `first` on.
 pub(crate) fn pack(call: &Call, first: u32, starts: &[u32]) -> Packed
     requires { length starts.now ≡ length (waits_for call.now) }
-    ensures call { (before : List ℕ) → length before ≡ first → unpack (before ++ listed call.now) result ≡ call.now }
+    ensures call { (entries : List Entry) (before : List ℕ) → reqs_at entries starts.now ≡ waits_for call.now → length before ≡ first →
+        unpack entries (before ++ listed_starts call.now starts.now) result ≡ call.now }
     ensures starts { (before : List ℕ) → length before ≡ first → unpack_starts (before ++ listed_starts call.now starts.now) result ≡ starts.now }
-    ensures end { end_of result ≤ first + length (listed call.now) }
+    ensures end { end_of result ≤ first + length (listed_starts call.now starts.now) }
 {
     converted!(*call, Call => Packed,
-        Call::Wait { req } => Packed::Wait { req, start: starts[0] },
+        Call::Wait { .. } => Packed::Wait { start: starts[0] },
         Call::Waitall { ref reqs } => Packed::Waitall { first, count: count(reqs) },
         Call::Waitany { chosen, ref reqs } => Packed::Waitany { chosen, first, count: count(reqs) },
     )
 }
 
-/// So many of the numbers, from the first on.
-fn part(numbers: &[u32], first: u32, count: u8) -> &[u32]
-    requires { first + count ≤ length numbers.now }
-    ensures { result.now ≡ part numbers.now first count }
-{
-    let first = first as usize;
-    &numbers[first..first + usize::from(count)]
-}
-
-/// The requests that a wait names, in its order; none where the call is no wait.
-pub(crate) fn named<'a>(packed: &'a Packed, reqs: &'a [u32]) -> &'a [u32]
-    requires { end_of packed.now ≤ length reqs.now }
-    ensures { result.now ≡ waits_for (unpack reqs.now packed.now) }
-{
-    match packed {
-        Packed::Wait { req, .. } => from_ref(req),
-        Packed::Waitall { first, count } | Packed::Waitany { first, count, .. } => {
-            part(reqs, *first, *count)
-        }
-        _ => &[],
-    }
-}
-
-/// The places that started the requests which a wait names, in its order.
-pub(crate) fn named_starts<'a>(packed: &'a Packed, starts: &'a [u32]) -> &'a [u32]
+/// The places that started the requests which a wait names, in its order; none where the call is no wait.
+pub(crate) fn unpack_starts<'a>(packed: &'a Packed, starts: &'a [u32]) -> &'a [u32]
     requires { end_of packed.now ≤ length starts.now }
     ensures { result.now ≡ unpack_starts starts.now packed.now }
 {
     match packed {
-        Packed::Wait { start, .. } => from_ref(start),
+        Packed::Wait { start } => from_ref(start),
         Packed::Waitall { first, count } | Packed::Waitany { first, count, .. } => {
             part(starts, *first, *count)
         }
@@ -114,26 +93,54 @@ pub(crate) fn named_starts<'a>(packed: &'a Packed, starts: &'a [u32]) -> &'a [u3
     }
 }
 
-/// The requests that stand there.
-fn reqs_at(numbers: &[u32], first: u32, count: u8) -> Reqs
-    requires within { first + count ≤ length numbers.now }
-    requires few { IsTrue (few_enough (part numbers.now first count)) }
-    ensures { result ≡ part numbers.now first count }
+/// So many of the places, from the first on.
+fn part(places: &[u32], first: u32, count: u8) -> &[u32]
+    requires { first + count ≤ length places.now }
+    ensures { result.now ≡ part places.now first count }
 {
-    Reqs::new(part(numbers, first, count)).unwrap()
+    let first = first as usize;
+    &places[first..first + usize::from(count)]
 }
 
-/// The call, by the requests that the waits of its rank name.
-pub(crate) fn unpack(packed: &Packed, reqs: &[u32]) -> Call
-    requires within { end_of packed.now ≤ length reqs.now }
-    requires few { IsTrue (names_enough (unpack reqs.now packed.now)) }
-    ensures { result ≡ unpack reqs.now packed.now }
+/// The request that the rank's call at the place starts.
+fn request_at(entries: &[Entry], place: u32) -> Option<u32>
+    ensures { result ≡ request_at entries.now place }
+{
+    entries.get(place as usize)?.call.starts()
+}
+
+/// The same, or 0 where that call starts none.
+pub(crate) fn req_at(entries: &[Entry], place: u32) -> u32
+    ensures { result ≡ req_at entries.now place }
+{
+    request_at(entries, place).unwrap_or(0)
+}
+
+/// The requests that the calls at the places start.
+fn reqs_at(entries: &[Entry], places: &[u32]) -> Reqs
+    requires { IsTrue (few_enough (reqs_at entries.now places.now)) }
+    ensures { result ≡ reqs_at entries.now places.now }
+{
+    let mut reqs = [0; MOST_REQUESTS];
+    for i in 0..places.len() {
+        reqs[i] = req_at(entries, places[i]);
+    }
+    Reqs::new(&reqs[..places.len()]).unwrap()
+}
+
+/// The call, by the entries of its rank and the starts of their waits.
+pub(crate) fn unpack(packed: &Packed, entries: &[Entry], starts: &[u32]) -> Call
+    requires within { end_of packed.now ≤ length starts.now }
+    requires few { IsTrue (names_enough (unpack entries.now starts.now packed.now)) }
+    ensures { result ≡ unpack entries.now starts.now packed.now }
 {
     converted!(*packed, Packed => Call,
-        Packed::Wait { req, .. } => Call::Wait { req },
-        Packed::Waitall { first, count } => Call::Waitall { reqs: reqs_at(reqs, first, count) },
+        Packed::Wait { start } => Call::Wait { req: req_at(entries, start) },
+        Packed::Waitall { first, count } => {
+            Call::Waitall { reqs: reqs_at(entries, part(starts, first, count)) }
+        }
         Packed::Waitany { chosen, first, count } => {
-            Call::Waitany { chosen, reqs: reqs_at(reqs, first, count) }
+            Call::Waitany { chosen, reqs: reqs_at(entries, part(starts, first, count)) }
         }
     )
 }

@@ -3,7 +3,7 @@
 ghost use Rattle.std.specs.Prelude.{◌≡◌, ◌+◌, ◌<◌, ◌≤◌, [], ◌∷◌, ◌++◌, length, slice_get, vec_len, vec_capacity, IfSome, OnOk};
 ghost use Rattle.pairing.specs.Limits.{most_calls};
 ghost use Rattle.pairing.specs.Requests.{waits_for};
-ghost use Rattle.pairing.specs.Notes.{Holds};
+ghost use Rattle.pairing.specs.Notes.{calls_in, AreStarts, Holds};
 ghost use Rattle.pairing.specs.Packed.{noted};
 
 use crate::note::Note;
@@ -28,8 +28,7 @@ fn push_all(to: &mut Vec<u32>, numbers: &[u32])
 #[derive(Drop)]
 pub(crate) struct RankNotes {
     entries: Vec<Entry>,
-    // The requests that waits for several name, and the places that started them: one beside each.
-    reqs: Vec<u32>,
+    // The places that started the requests of waits for several.
     starts: Vec<u32>,
 }
 
@@ -41,15 +40,14 @@ impl Model for RankNotes {
     ghost Value = { NotedList };
 
     ghost view = { λ r. record {
-      calls = map (noted_of r.reqs.items r.starts.items) r.entries.items;
+      calls = map (noted_of r.entries.items r.starts.items) r.entries.items;
       room = record {
         calls = vec_capacity r.entries - vec_len r.entries;
-        reqs = vec_capacity r.reqs - vec_len r.reqs;
         starts = vec_capacity r.starts - vec_len r.starts;
       };
     } };
 
-    ghost invariant = { λ r. AreStored r.entries.items r.reqs.items r.starts.items };
+    ghost invariant = { λ r. AreStored r.entries.items r.starts.items };
 }
 
 impl RankNotes {
@@ -59,7 +57,6 @@ impl RankNotes {
     {
         RankNotes {
             entries: Vec::new(alloc),
-            reqs: Vec::new(alloc),
             starts: Vec::new(alloc),
         }
     }
@@ -77,10 +74,8 @@ impl RankNotes {
         ensures calls { self.new.calls ≡ self.old.calls }
         ensures ok { OnOk result (Holds self.new.room call.now) }
     {
-        let more = listed(call.as_call()).len();
         self.entries.reserve(1)?;
-        self.reqs.reserve(more)?;
-        self.starts.reserve(more)?;
+        self.starts.reserve(listed(call.as_call()).len())?;
         Ok(())
     }
 
@@ -88,13 +83,12 @@ impl RankNotes {
     /// names.
     pub(crate) fn note(&mut self, call: &Record, numbers: Numbers, starts: &[u32])
         requires room { Holds self.old.room call.now }
-        requires starts { length starts.now ≡ length (waits_for call.now) }
+        requires starts { AreStarts (calls_in self.old.calls) call.now starts.now }
         requires few { length self.old.calls < most_calls }
         ensures { self.new.calls ≡ self.old.calls ++ noted call.now numbers starts.now ∷ [] }
     {
         let call = call.as_call();
-        let packed = pack(call, self.reqs.len() as u32, starts);
-        push_all(&mut self.reqs, listed(call));
+        let packed = pack(call, self.starts.len() as u32, starts);
         push_all(&mut self.starts, listed_starts(call, starts));
         self.entries.push_reserved(Entry {
             call: packed,
@@ -108,7 +102,9 @@ impl RankNotes {
         ensures starts { IfSome result (λ note. length note.starts ≡ length (waits_for note.call)) }
     {
         match self.entries.get(place as usize) {
-            Some(entry) => { Some(Note::of(entry, self.reqs.as_slice(), self.starts.as_slice())) }
+            Some(entry) => {
+                Some(Note::of(entry, self.entries.as_slice(), self.starts.as_slice()))
+            }
             None => None,
         }
     }
