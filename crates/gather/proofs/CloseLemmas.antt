@@ -148,11 +148,11 @@ refusal_told takers kept receipts are =
 
 -- where there is no refusal, no rank has a fault
 
-own_none : (rank : ℕ) (fault : Option PlacedFault) (behind : Option Refusal) → refusal_or rank fault behind ≡ None → fault ≡ None
+pub own_none : (rank : ℕ) (fault : Option PlacedFault) (behind : Option Refusal) → refusal_or rank fault behind ≡ None → fault ≡ None
 own_none rank None behind e = refl
 own_none rank (Some (place, fault)) behind e = absurd (none-some _ (sym e))
 
-behind_none : (rank : ℕ) (fault : Option PlacedFault) (behind : Option Refusal) → refusal_or rank fault behind ≡ None → behind ≡ None
+pub behind_none : (rank : ℕ) (fault : Option PlacedFault) (behind : Option Refusal) → refusal_or rank fault behind ≡ None → behind ≡ None
 behind_none rank None behind e = e
 behind_none rank (Some (place, fault)) behind e = absurd (none-some _ (sym e))
 

@@ -1,5 +1,5 @@
-pub mod RankLemmas
 pub mod RunLemmas
+pub mod HeldLemmas
 pub mod SealedLemmas
 pub mod CollectedLemmas
 pub mod TakerLemmas

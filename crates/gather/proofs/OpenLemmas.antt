@@ -4,12 +4,18 @@ use Rattle.std.specs.List.{range_with_len}
 use Rattle.std.proofs.lemmas.List.{map-append, length-map, length-replicate}
 use Rattle.std.proofs.lemmas.List.FromFn.{length-range_with_len}
 use Rattle.mpigroup.specs.Groups.{Groups, ranks_of}
+use Rattle.pairing.specs.Recordings.{calls_of}
 use Rattle.rankfeed.specs.Rings.{feed_ring, taker_ring, received_by}
 use Rattle.rankfeed.specs.declared.ring.Feed.{Feed}
 use Rattle.rankfeed.specs.declared.ring.Taker.{Taker}
 use Rattle.gather.specs.Collected.{IsKeptOf, Kept, nothing_kept, fault_at}
 use Rattle.gather.specs.Takers.{rank_of, received_in, Collects}
-use Rattle.gather.proofs.RankLemmas.{none_of_any}
+
+-- where no rank has a call, none has
+none_of_any : (ranks rank : ℕ) → calls_of (replicate ranks []) rank ≡ []
+none_of_any zero rank = refl
+none_of_any (suc ranks) zero = refl
+none_of_any (suc ranks) (suc rank) = none_of_any ranks rank
 
 -- one more at the end
 pub mapped_push : {A B : Type 0} (f : A → B) (xs all : List A) (x : A) → all ≡ xs ++ x ∷ [] → map f all ≡ map f xs ++ f x ∷ []

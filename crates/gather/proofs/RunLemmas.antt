@@ -1,11 +1,9 @@
 -- What the ranks' answers say of a run over the traces that their sources tell.
-use Rattle.std.proofs.Common.{◌≡◌, ◌↔◌, ℕ, ◌+◌, ◌<◌, List, [], ◌∷◌, length, map, sym, ap, ◌∙◌, refl, arith, zero, suc, Option, Some, None, IfSome, slice_get, subst, option_and_then, Result, Ok, Err, IfOk, IfErr, IsErrAnd, OnOk, get_or, slice_set}
-use Rattle.std.proofs.Math.Seq.{map-set_same}
-use Rattle.std.proofs.lemmas.Option.{get_or_from_slice_get}
+use Rattle.std.proofs.Common.{◌≡◌, ◌↔◌, ℕ, ◌+◌, ◌<◌, List, [], ◌∷◌, length, map, sym, ap, ◌∙◌, refl, arith, zero, suc, Option, Some, None, IfSome, slice_get, subst, option_and_then, Result, Ok, Err, IfOk, IfErr, OnOk}
 use Rattle.std.specs.Io.KnownBytes.{Appends}
 use Rattle.mpicall.specs.Device.{AppendsBeginning}
 use Rattle.mpicall.specs.Trace.{Trace}
-use Rattle.mpicall.specs.Source.{coming, input_of}
+use Rattle.mpicall.specs.Source.{coming}
 use Rattle.mpicall.specs.declared.call.Call.{Call}
 use Rattle.mpicall.specs.declared.source.Source.{Source}
 use Rattle.mpigroup.specs.Groups.{Groups, ranks_of}
@@ -16,14 +14,18 @@ use Rattle.moves.specs.declared.verdict.Verdict.{Verdict}
 use Rattle.moves.specs.declared.verdict.Verdict.TheVariants.{Hang}
 use Rattle.moves.proofs.StandLemmas.{no_run_brings_a_stuck_rank_to_finalize, every_maximal_run_ends_at_the_stands}
 use Rattle.gather.specs.Answers.{fault_of_rank, refusal_or, refusal_from, lists_of, SomeRankCannotEnd}
-use Rattle.gather.specs.Told.{Tells, IsVerdictOver, NoReadFailed, ReadFailedAt, RefusesOver}
-use Rattle.gather.specs.Ranks.{told_by, AcceptsAll, AcceptsRank, LeavesReport, RefusesRun, IsRefusalOf, failures_after}
+use Rattle.gather.specs.Told.{Tells, IsVerdictOver, RefusesOver}
+use Rattle.gather.specs.Ranks.{told_by, AcceptsAll, AcceptsRank, LeavesReport, RefusesRun, IsRefusalOf}
+use Rattle.gather.proofs.HeldLemmas.{found_at, lowest_refusal}
+use Rattle.gather.specs.Runs.{of_close, RefusesFeeds, StopsWhereAllowed}
+use Rattle.gather.specs.declared.outcome.CloseFault.{CloseFault}
+use Rattle.gather.specs.declared.outcome.CloseFault.TheVariants as close
 use Rattle.gather.specs.Written.{IsReportOver, LeavesOutput, WritesReport}
 use Rattle.waitgraph.specs.Reports.{report_of}
 use Rattle.waitgraph.specs.declared.report.Format.{Format}
 use Rattle.gather.specs.declared.fault.Refusal.{Refusal}
 use Rattle.gather.specs.declared.fault.RunFault.{RunFault}
-use Rattle.gather.specs.declared.fault.RunFault.TheVariants.{Memory, Refused, Write}
+use Rattle.gather.specs.declared.fault.RunFault.TheVariants.{Memory, Unproved, Refused, Write}
 
 -- what is told of each place of a list
 told_at : {A B : Type 0} (f : A → Option B) (xs : List A) (ys : List B) (place : ℕ) → map f xs ≡ map Some ys → option_and_then f (slice_get xs place) ≡ slice_get ys place
@@ -138,13 +140,9 @@ refusal_told : (groups : Groups) (refusal : Refusal) (told : Option Trace) (trac
 refusal_told groups refusal None trace h e = cc
 refusal_told groups refusal (Some t) trace h e = let same : t ≡ trace = cc in subst (λ (s : Trace). IsRefusalOf groups refusal.rank s refusal) same h
 
-found_at : {A : Type 0} (xs : List A) (k : ℕ) → k < length xs → (x : A) × (slice_get xs k ≡ Some x)
-found_at [] k below = absurd (omega arith)
-found_at (x ∷ xs) zero below = (x, refl)
-found_at (x ∷ xs) (suc k) below = found_at xs k (omega arith)
-
 pub refused_over : {I : Type 0} (left : I → Option (List ℕ)) (groups : Groups) (sources : List (Source I)) (fault : RunFault) (traces : List Trace) → length sources ≡ ranks_of groups → RefusesRun groups (told_by left sources) fault → Tells left sources traces → RefusesOver groups traces fault
 refused_over left groups sources Memory traces one refuses tells = tt
+refused_over left groups sources (Unproved rank) traces one refuses tells = tt
 refused_over left groups sources Write traces one refuses tells = tt
 refused_over left groups sources (Refused refusal) traces one refuses tells =
     let count : length sources ≡ length traces = same_length (coming left) sources traces tells in
@@ -178,6 +176,7 @@ run_written left written failures groups told sources lists format old new (Ok v
 pub run_output : {I O : Type 0} (left : I → Option (List ℕ)) (written : O → Option (List ℕ)) (failures : O → ℕ) (groups told : Groups) (sources : List (Source I)) (lists : Lists) (format : Format) (old new : O) (answer : Result Verdict RunFault) → length sources ≡ ranks_of groups → told ≡ groups → AcceptsAll groups (told_by left sources) lists → IfErr answer (LeavesReport written failures old new (report_of format told lists)) → IfErr answer (LeavesOutput left written failures sources groups format old new)
 run_output left written failures groups told sources lists format old new (Ok verdict) one same all leaves = tt
 run_output left written failures groups told sources lists format old new (Err Memory) one same all leaves = leaves
+run_output left written failures groups told sources lists format old new (Err (Unproved rank)) one same all leaves = absurd leaves
 run_output left written failures groups told sources lists format old new (Err (Refused refusal)) one same all leaves = absurd leaves
 run_output left written failures groups told sources lists format old new (Err Write) one same all leaves = (
   (
@@ -192,41 +191,39 @@ run_output left written failures groups told sources lists format old new (Err W
 -- a report that fails refuses no rank
 pub report_refuses : {O : Type 0} (written : O → Option (List ℕ)) (failures : O → ℕ) (old new : O) (report : List ℕ) (groups : Groups) (traces : List Trace) (fault : RunFault) → LeavesReport written failures old new report fault → RefusesOver groups traces fault
 report_refuses written failures old new report groups traces Memory leaves = tt
+report_refuses written failures old new report groups traces (Unproved rank) leaves = absurd leaves
 report_refuses written failures old new report groups traces (Refused refusal) leaves = absurd leaves
 report_refuses written failures old new report groups traces Write leaves = tt
 
-pub report_reads : {O I : Type 0} (written : O → Option (List ℕ)) (failures : O → ℕ) (old new : O) (report : List ℕ) (reads : I → ℕ) (before after : List (Source I)) (fault : RunFault) → LeavesReport written failures old new report fault → ReadFailedAt reads before after fault
-report_reads written failures old new report reads before after Memory leaves = tt
-report_reads written failures old new report reads before after (Refused refusal) leaves = absurd leaves
-report_reads written failures old new report reads before after Write leaves = tt
+-- a report that fails is no refusal of the ranks' feeds
+pub report_feeds : {O I : Type 0} (written : O → Option (List ℕ)) (failures : O → ℕ) (old new : O) (report : List ℕ) (left : I → Option (List ℕ)) (may_stop : ℕ → ℕ → Type 0) (sources : List (Source I)) (groups : Groups) (answer : Result Verdict RunFault) → IfErr answer (LeavesReport written failures old new report) → IfErr answer (RefusesFeeds left may_stop sources groups)
+report_feeds written failures old new report left may_stop sources groups (Ok verdict) leaves = tt
+report_feeds written failures old new report left may_stop sources groups (Err Memory) leaves = tt
+report_feeds written failures old new report left may_stop sources groups (Err (Unproved rank)) leaves = absurd leaves
+report_feeds written failures old new report left may_stop sources groups (Err (Refused refusal)) leaves = absurd leaves
+report_feeds written failures old new report left may_stop sources groups (Err Write) leaves = tt
 
--- a rank that was read well failed no read
-pub reads_on : {I A : Type 0} (failures : I → ℕ) (old now : List (Source I)) (rank : ℕ) (spare after : Source I) (answer : Result A RunFault) (value : A) → NoReadFailed failures old now → failures (input_of after) ≡ failures_after answer (failures (input_of (get_or now rank spare))) → answer ≡ Ok value → NoReadFailed failures old (slice_set now rank after)
-reads_on {A = A} failures old now rank spare after answer value none count is =
-    let same : failures (input_of after) ≡ failures (input_of (get_or now rank spare)) = subst (λ (told : Result A RunFault). failures (input_of after) ≡ failures_after told (failures (input_of (get_or now rank spare)))) is count in
-    map-set_same (λ source. failures (input_of source)) now rank after spare same ∙ none
+pub report_stops : {O : Type 0} (written : O → Option (List ℕ)) (failures : O → ℕ) (old new : O) (report : List ℕ) (may_stop : ℕ → ℕ → Type 0) (answer : Result Verdict RunFault) → IfErr answer (LeavesReport written failures old new report) → IfErr answer (StopsWhereAllowed may_stop)
+report_stops written failures old new report may_stop (Ok verdict) leaves = tt
+report_stops written failures old new report may_stop (Err Memory) leaves = tt
+report_stops written failures old new report may_stop (Err (Unproved rank)) leaves = absurd leaves
+report_stops written failures old new report may_stop (Err (Refused refusal)) leaves = absurd leaves
+report_stops written failures old new report may_stop (Err Write) leaves = tt
 
--- the source at a place that was not read so far tells what it told at first
-told_there : {I : Type 0} (left : I → Option (List ℕ)) (old now : List (Source I)) (place : ℕ) (spare : Source I) → place < length now → slice_get now place ≡ slice_get old place → coming left (get_or now place spare) ≡ told_by left old place
-told_there left old now place spare within same =
-    let there = found_at now place within in
-    ap (coming left) (get_or_from_slice_get now place there.0 spare there.1) ∙ ap (option_and_then (coming left)) (sym there.1 ∙ same)
+-- a refusal of the ranks' feeds is one over the traces that their sources tell
+feeds_refuse : {I : Type 0} (left : I → Option (List ℕ)) (may_stop : ℕ → ℕ → Type 0) (groups : Groups) (sources : List (Source I)) (fault : CloseFault) → length sources ≡ ranks_of groups → RefusesFeeds left may_stop sources groups (of_close fault) → RefusesRun groups (told_by left sources) (of_close fault)
+feeds_refuse left may_stop groups sources close.Memory one refuses = tt
+feeds_refuse left may_stop groups sources (close.Unproved rank) one refuses = tt
+feeds_refuse left may_stop groups sources (close.Refused refusal) one refuses = lowest_refusal left may_stop sources groups refusal one refuses
 
--- one more rank is accepted
-pub accepts_on : {I : Type 0} (left : I → Option (List ℕ)) (groups held : Groups) (old now : List (Source I)) (place at : ℕ) (spare : Source I) (calls : List Call) → at ≡ place → held ≡ groups → place < length now → slice_get now place ≡ slice_get old place → AcceptsRank held place (coming left (get_or now at spare)) calls → AcceptsRank groups place (told_by left old place) calls
-accepts_on left groups held old now place at spare calls is same within unread accepts =
-    let here : AcceptsRank held place (coming left (get_or now place spare)) calls = subst (λ (n : ℕ). AcceptsRank held place (coming left (get_or now n spare)) calls) is accepts in
-    let told : AcceptsRank held place (told_by left old place) calls = subst (λ (t : Option Trace). AcceptsRank held place t calls) (told_there left old now place spare within unread) here in
-    subst (λ (gs : Groups). AcceptsRank gs place (told_by left old place) calls) same told
+pub close_refuses : {I : Type 0} (left : I → Option (List ℕ)) (may_stop : ℕ → ℕ → Type 0) (groups : Groups) (sources : List (Source I)) (fault : CloseFault) (told : RunFault) → told ≡ of_close fault → length sources ≡ ranks_of groups → RefusesFeeds left may_stop sources groups (of_close fault) → (traces : List Trace) → Tells left sources traces → RefusesOver groups traces told
+close_refuses left may_stop groups sources fault told is one refuses traces tells =
+    rw is (refused_over left groups sources (of_close fault) traces one (feeds_refuse left may_stop groups sources fault one refuses) tells)
 
--- a place above the one that is set stays
-pub stays_above : {A : Type 0} (xs : List A) (at place : ℕ) (x : A) → at < place → slice_get (slice_set xs at x) place ≡ slice_get xs place
-stays_above [] at place x above = refl
-stays_above (y ∷ ys) at zero x above = absurd (omega arith)
-stays_above (y ∷ ys) zero (suc place) x above = refl
-stays_above (y ∷ ys) (suc at) (suc place) x above = stays_above ys at place x (omega arith)
+close_leaves : {I O : Type 0} (left : I → Option (List ℕ)) (written : O → Option (List ℕ)) (failures : O → ℕ) (groups : Groups) (sources : List (Source I)) (format : Format) (out : O) (fault : CloseFault) → LeavesOutput left written failures sources groups format out out (of_close fault)
+close_leaves left written failures groups sources format out close.Memory = refl
+close_leaves left written failures groups sources format out (close.Unproved rank) = refl
+close_leaves left written failures groups sources format out (close.Refused refusal) = refl
 
--- a fault that is passed on
-pub passed_on : {T : Type 0} (answer : Result T RunFault) (fault : RunFault) (P : RunFault → Type 0) → IsErrAnd answer (λ told. told ≡ fault) → P fault → IfErr answer P
-passed_on (Ok value) fault P is p = tt
-passed_on (Err told) fault P is p = subst P (sym is) p
+pub close_output : {I O : Type 0} (left : I → Option (List ℕ)) (written : O → Option (List ℕ)) (failures : O → ℕ) (groups : Groups) (sources : List (Source I)) (format : Format) (out : O) (fault : CloseFault) (told : RunFault) → told ≡ of_close fault → LeavesOutput left written failures sources groups format out out told
+close_output left written failures groups sources format out fault told is = rw is (close_leaves left written failures groups sources format out fault)

@@ -11,3 +11,4 @@ pub mod Closes
 pub mod Fed
 pub mod Threads
 pub mod Along
+pub mod Runs

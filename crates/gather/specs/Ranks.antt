@@ -1,5 +1,4 @@
--- What the answers for single ranks say, by what their sources tell: the words of the functions that read
--- rank by rank. What `run` answers follows from them.
+-- What an answer says of each rank, by what its source tells, be the other sources told or not.
 use Rattle.std.specs.Prelude.{◌≡◌, ℕ, ◌<◌, Bool, false, ⊤, Option, None, option_and_then, Result, Err, IfSome, if◌then◌else◌, Some, List, length, slice_get}
 use Rattle.mpicall.specs.Source.{coming}
 use Rattle.mpicall.specs.declared.source.Source.{Source}
@@ -9,30 +8,15 @@ use Rattle.mpicall.specs.declared.call.Call.{Call}
 use Rattle.mpigroup.specs.Groups.{Groups, ranks_of}
 use Rattle.pairing.specs.Recordings.{Lists, calls_of, IsClosed}
 use Rattle.gather.specs.Answers.{fault_of_rank}
-use Rattle.gather.specs.Told.{is_read_failure}
+use Rattle.gather.specs.Told.{is_from_outside}
 use Rattle.gather.specs.declared.fault.Refusal.{Refusal}
 use Rattle.gather.specs.declared.fault.RunFault.{RunFault}
-use Rattle.gather.specs.declared.fault.RunFault.TheVariants.{Memory, Refused, Write}
+use Rattle.gather.specs.declared.fault.RunFault.TheVariants.{Memory, Unproved, Refused, Write}
 
--- the answer is the fault of a read that failed
-abbrev pub tells_read_failure : {A : Type 0} → Result A RunFault → Bool
-tells_read_failure (Err (Refused refusal)) = is_read_failure refusal.fault
-tells_read_failure answer = false
-
--- the count of an input's failures after an answer: one more just where a read failed
-abbrev pub failures_after : {A : Type 0} → Result A RunFault → ℕ → ℕ
-failures_after answer count = if tells_read_failure answer then one_more count else count
-
--- the refusal of a rank is that of its trace, a read that failed aside
+-- the refusal of a rank is that of its trace, a fault from outside aside
 abbrev pub IsRefusalOf : Groups → ℕ → Trace → Refusal → Type 0
 IsRefusalOf groups rank trace refusal =
-    is_read_failure refusal.fault ≡ false → fault_of_rank groups rank trace ≡ Some (refusal.call, refusal.fault)
-
--- the fault of a rank, by the trace of its source where that is told
-abbrev pub RefusesRank : Groups → ℕ → Option Trace → RunFault → Type 0
-RefusesRank groups rank told Memory = ⊤
-RefusesRank groups rank told (Refused refusal) = (refusal.rank ≡ rank) × IfSome told (λ trace. IsRefusalOf groups rank trace refusal)
-RefusesRank groups rank told Write = ⊥
+    is_from_outside refusal.fault ≡ false → fault_of_rank groups rank trace ≡ Some (refusal.call, refusal.fault)
 
 -- the calls of a rank, by the trace of its source where that is told: all of its records, and no fault
 abbrev pub AcceptsRank : Groups → ℕ → Option Trace → List Call → Type 0
@@ -60,6 +44,7 @@ pub record IsLowestRefusal (groups : Groups) (told : ℕ → Option Trace) (refu
 
 abbrev pub RefusesRun : Groups → (ℕ → Option Trace) → RunFault → Type 0
 RefusesRun groups told Memory = ⊤
+RefusesRun groups told (Unproved rank) = ⊤
 RefusesRun groups told (Refused refusal) = IsLowestRefusal groups told refusal
 RefusesRun groups told Write = ⊥
 
@@ -67,6 +52,7 @@ RefusesRun groups told Write = ⊥
 -- failures, leaves a beginning of it
 abbrev pub LeavesReport : {O : Type 0} → (O → Option (List ℕ)) → (O → ℕ) → O → O → List ℕ → RunFault → Type 0
 LeavesReport written failures old new report Memory = new ≡ old
+LeavesReport written failures old new report (Unproved rank) = ⊥
 LeavesReport written failures old new report (Refused refusal) = ⊥
 LeavesReport written failures old new report Write =
     AppendsBeginning (written old) (written new) report × (failures new ≡ one_more (failures old))

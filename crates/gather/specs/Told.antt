@@ -1,11 +1,10 @@
--- What an answer says of traces, where the sources' inputs tell them. These are the words of `run`; its
--- helpers, which read rank by rank, have theirs in `Ranks`.
-use Rattle.std.specs.Prelude.{◌≡◌, ◌↔◌, ℕ, ◌<◌, Bool, true, false, ⊤, Option, Some, None, option_map, List, length, map, slice_get, All}
-use Rattle.mpicall.specs.Source.{coming, ended, input_of}
+-- What an answer says of traces, where the sources' inputs tell them. These are the words of `run`; what it
+-- stands on speaks of each rank alone, by the words of `Ranks`.
+use Rattle.std.specs.Prelude.{◌≡◌, ◌↔◌, ℕ, ◌<◌, Bool, true, false, ⊤, Option, Some, None, List, length, map, slice_get, All}
+use Rattle.mpicall.specs.Source.{coming, ended}
 use Rattle.mpicall.specs.declared.source.Source.{Source}
 use Rattle.mpicall.specs.Trace.{Trace}
-use Rattle.mpicall.specs.Device.{one_more}
-use Rattle.mpicall.specs.declared.fault.SourceFault.TheVariants.{ReadFailed}
+use Rattle.mpicall.specs.declared.fault.SourceFault.TheVariants.{ReadFailed, GateStopped, ThreadNotStarted}
 use Rattle.mpigroup.specs.Groups.{Groups}
 use Rattle.gather.specs.Answers.{fault_of_rank, refusal_of, lists_of, SomeRankCannotEnd}
 use Rattle.moves.specs.Verdicts.{verdict_of}
@@ -15,12 +14,14 @@ use Rattle.gather.specs.declared.fault.RankFault.{RankFault}
 use Rattle.gather.specs.declared.fault.RankFault.TheVariants.{OfSource}
 use Rattle.gather.specs.declared.fault.Refusal.{Refusal}
 use Rattle.gather.specs.declared.fault.RunFault.{RunFault}
-use Rattle.gather.specs.declared.fault.RunFault.TheVariants.{Memory, Refused, Write}
+use Rattle.gather.specs.declared.fault.RunFault.TheVariants.{Memory, Unproved, Refused, Write}
 
--- the fault is that of a read that failed, which is no fault of the bytes
-abbrev pub is_read_failure : RankFault → Bool
-is_read_failure (OfSource ReadFailed) = true
-is_read_failure fault = false
+-- the fault is none of the bytes: a read failed, the gate stopped the reading, or no thread started
+abbrev pub is_from_outside : RankFault → Bool
+is_from_outside (OfSource ReadFailed) = true
+is_from_outside (OfSource GateStopped) = true
+is_from_outside (OfSource ThreadNotStarted) = true
+is_from_outside fault = false
 
 -- no record was asked of the sources so far
 abbrev pub AreFresh : {I : Type 0} → List (Source I) → Type 0
@@ -30,27 +31,16 @@ AreFresh sources = All (λ source. ended source ≡ None) sources
 abbrev pub Tells : {I : Type 0} → (I → Option (List ℕ)) → List (Source I) → List Trace → Type 0
 Tells left sources traces = map (coming left) sources ≡ map Some traces
 
--- the count of failures of the rank's input rose by one, where the fault is that of a read that failed
-abbrev pub ReadFailedAt : {I : Type 0} → (I → ℕ) → List (Source I) → List (Source I) → RunFault → Type 0
-ReadFailedAt failures old new (Refused refusal) =
-    is_read_failure refusal.fault ≡ true →
-    option_map (λ source. failures (input_of source)) (slice_get new refusal.rank)
-    ≡ option_map (λ source. one_more (failures (input_of source))) (slice_get old refusal.rank)
-ReadFailedAt failures old new fault = ⊤
-
--- the count of failures of each source's input is as it was
-abbrev pub NoReadFailed : {I : Type 0} → (I → ℕ) → List (Source I) → List (Source I) → Type 0
-NoReadFailed failures old new = map (λ source. failures (input_of source)) new ≡ map (λ source. failures (input_of source)) old
-
--- the refusal is that of the lowest rank that has a fault over these traces; where it tells a read that
--- failed, no lower rank has one
+-- the refusal is that of the lowest rank that has a fault over these traces; where its fault comes from outside,
+-- no lower rank has one
 pub record IsRefusalOver (groups : Groups) (traces : List Trace) (refusal : Refusal) : Type 0 where
   pub is_rank : refusal.rank < length traces
   pub lowest : (rank : ℕ) (trace : Trace) → rank < refusal.rank → slice_get traces rank ≡ Some trace → fault_of_rank groups rank trace ≡ None
-  pub its_own : is_read_failure refusal.fault ≡ false → refusal_of groups traces ≡ Some refusal
+  pub its_own : is_from_outside refusal.fault ≡ false → refusal_of groups traces ≡ Some refusal
 
 abbrev pub RefusesOver : Groups → List Trace → RunFault → Type 0
 RefusesOver groups traces Memory = ⊤
+RefusesOver groups traces (Unproved rank) = ⊤
 RefusesOver groups traces (Refused refusal) = IsRefusalOver groups traces refusal
 RefusesOver groups traces Write = ⊤
 

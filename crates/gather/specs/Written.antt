@@ -14,7 +14,7 @@ use Rattle.gather.specs.Answers.{lists_of}
 use Rattle.gather.specs.Told.{Tells}
 use Rattle.gather.specs.Ranks.{told_by, AcceptsAll}
 use Rattle.gather.specs.declared.fault.RunFault.{RunFault}
-use Rattle.gather.specs.declared.fault.RunFault.TheVariants.{Memory, Refused, Write}
+use Rattle.gather.specs.declared.fault.RunFault.TheVariants.{Memory, Unproved, Refused, Write}
 
 -- the report of a run, and the verdict that it says: they are those of a recording, which is closed and has the
 -- calls of each rank whose source tells its trace; where all of them tell, it is the recording of their traces
@@ -37,8 +37,9 @@ module _ {I O : Type 0} (left : I → Option (List ℕ)) (written : O → Option
       ((verdict : Verdict) × (report : List ℕ) × IsReportOver left sources groups format verdict report × AppendsBeginning (written old) (written new) report)
       × (failures new ≡ one_more (failures old))
 
-  -- where memory was wanted or a rank refused, the output is as it was
+  -- but for a write that failed, the output is as it was
   abbrev pub LeavesOutput : RunFault → Type 0
   LeavesOutput Memory = new ≡ old
+  LeavesOutput (Unproved rank) = new ≡ old
   LeavesOutput (Refused refusal) = new ≡ old
   LeavesOutput Write = FailsToReport

@@ -43,6 +43,9 @@ pub struct Refusal {
 pub enum RunFault {
     #[error("memory")]
     Memory,
+    /// The lowest rank whose feed gave no proof of its end.
+    #[error("seal {0}")]
+    Unproved(u16),
     #[error("{0}")]
     Refused(Refusal),
     #[error("write")]

@@ -5,6 +5,7 @@ ghost use Rattle.mpicall.specs.Source.{coming, ended, input_of};
 ghost use Rattle.rankfeed.specs.Items.{IsFeed};
 ghost use Rattle.rankfeed.specs.Rings.{feed_ring, sent_by, receipt_ring, sent_whole};
 ghost use Rattle.mpicall.specs.Trace.{trace_of};
+ghost use Rattle.gather.specs.Answers.{ASealedTextHasItsFinalize};
 ghost use Rattle.gather.specs.Fed.{IsFed, CountsReads, ended_here, mark_of, ending_of};
 
 use crate::gate::Gate;
@@ -70,4 +71,10 @@ pub fn feed<I: Input, G: Gate>(
 #[tactic(auto, using(crate::proofs::FedLemmas::mark_text))]
 pub fn each_text_has_its_own_mark()
     ensures { (bytes : List ℕ) → mark_of (trace_of bytes).records (trace_of bytes).end ≡ ending_of (trace_of bytes).end }
+{}
+
+/// A text whose trace ends without a fault has its `finalize` as its last record. So a source that ends well
+/// is refused for want of it only where others took that record before.
+pub fn a_sealed_text_has_its_finalize()
+    ensures { ASealedTextHasItsFinalize }
 {}

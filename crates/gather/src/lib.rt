@@ -1,7 +1,7 @@
 //! The report of a run over the sources of its ranks, and sessions over their feeds.
 //!
-//! `run::run` reads one source a rank, in rank order, and writes the report of the run: whether some
-//! rank can't reach its Finalize, whatever way the run goes.
+//! `run::run` reads one source a rank, all at once and each by a thread of its own, and writes the report of
+//! the run: whether some rank can't reach its Finalize, whatever way the run goes.
 //!
 //! What it promises, as contracts that are proved:
 //!
@@ -10,10 +10,9 @@
 //! - The output then has the report of these traces, in the format that was asked for.
 //! - At a refusal nothing was written. The rank is the lowest with a fault, and the place and the fault
 //!   are that rank's first, by definition.
-//! - A read or a write that failed is told only where that device's count of failures rose.
+//! - A write that failed is told only where that device's count of failures rose.
 //!
-//! Sessions take the ranks' records in any order instead, from feeds that threads of the caller's fill; `run`
-//! doesn't use them yet:
+//! It stands on sessions, which take the ranks' records in any order from feeds, and may be used apart:
 //!
 //! - `session::Session::open` opens a feed for each rank, and their collector.
 //! - `collector::Collector::step` takes one item of a rank's feed. Unless memory was wanted, the analyser has
@@ -25,12 +24,12 @@
 //!
 //! The definitions stand in `specs/`: `Answers` says which refusal or verdict some traces have, `Told`
 //! what an answer says where the inputs tell their bytes, `Collected` and `Closes` what a session keeps and
-//! answers, `Fed` what is put on a feed.
+//! answers, `Fed` what is put on a feed, `Runs` what a run answers by what was put.
 //!
 //! ```text
 //! let head = Head::read(b"ranks 1\n")?;
-//! let mut sources = vec![in alloc; Source::new(MemoryInput::new(b"finalize\n"))]?;
-//! let verdict = run(alloc, head, sources.as_mut_slice(), Format::Text, &mut output)?;
+//! let sources = vec![in alloc; Source::new(MemoryInput::new(b"finalize\n"))]?;
+//! let verdict = run(alloc, head, sources, 64, &OpenGate, Format::Text, &mut output, &rt)?;
 //! ```
 #![tactic(auto)]
 
@@ -38,11 +37,12 @@ pub mod collector;
 pub mod fault;
 pub mod feed;
 pub mod gate;
+mod gathering;
 pub mod ledger;
 pub mod outcome;
-pub mod rank;
 pub mod run;
 pub mod session;
+mod sweep;
 #[cfg(test)]
 mod tests;
 pub mod threads;

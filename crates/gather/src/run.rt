@@ -1,124 +1,180 @@
-//! The report of a run over the sources of its ranks.
+//! The report of a run over the sources of its ranks, which are read at once.
 
-ghost use Rattle.std.specs.Prelude.{◌≡◌, ◌↔◌, ◌<◌, ℕ, [], List, length, IfOk, IfErr, OnOk};
+ghost use Rattle.std.specs.Prelude.{◌≡◌, ◌↔◌, ◌<◌, ◌≤◌, ℕ, [], List, length, map, vec_len, vec_capacity, IfOk, IfErr, OnOk};
 ghost use Rattle.mpicall.specs.Trace.{Trace as TraceValue};
 ghost use Rattle.mpigroup.specs.Groups.{ranks_of};
-ghost use Rattle.pairing.specs.Recordings.{calls_of, IsClosed};
-ghost use Rattle.gather.specs.Told.{AreFresh, NoReadFailed, ReadFailedAt, Tells, IsVerdictOver, RefusesOver};
-ghost use Rattle.gather.specs.Ranks.{told_by, AcceptsAll, LeavesReport, RefusesRun};
-ghost use Rattle.gather.specs.Written.{LeavesOutput, WritesReport};
 ghost use Rattle.moves.specs.Verdicts.{verdict_of, SomeRankIsStuck};
 ghost use Rattle.std.specs.Io.KnownBytes.{Appends};
 ghost use Rattle.waitgraph.specs.Reports.{report_of};
+ghost use Rattle.gather.specs.Told.{AreFresh, Tells, IsVerdictOver, RefusesOver};
+ghost use Rattle.gather.specs.Ranks.{LeavesReport};
+ghost use Rattle.gather.specs.Written.{LeavesOutput, WritesReport};
+ghost use Rattle.gather.specs.Runs.{receipt_of, of_close, IsOutcomeOfFeeds, RefusesFeeds, StopsWhereAllowed};
 
 use crate::fault::RunFault;
-use crate::rank::read_rank;
-use moves::analyser::Analyser;
-use moves::verdict::{Verdict, verdict_of};
+use crate::gate::Gate;
+use crate::gathering::in_threads;
+use crate::outcome::{CloseFault, Outcome};
+use crate::session::Session;
+use crate::threads::{Fed, NotStarted};
+use moves::verdict::Verdict;
 use mpicall::device::{Input, Output};
 use mpicall::source::Source;
 use mpigroup::head::Head;
+use rankfeed::Receipt;
 use std::alloc::Global;
-use waitgraph::graph::Graph;
+use std::sync::Wait;
+use std::thread::Threads;
 use waitgraph::report::{Format, ReportFault, write_report};
 
-/// Reads the sources in rank order, each to its end, and stops at the first fault.
-fn read_ranks<I: Input>(analyser: &mut Analyser, sources: &mut [Source<I>]) -> Result<(), RunFault>
-    requires one_a_rank { length sources.old ≡ ranks_of analyser.old.groups }
-    requires ranks { length analyser.old.recording ≡ ranks_of analyser.old.groups }
-    requires none { (rank : ℕ) → calls_of analyser.old.recording rank ≡ [] }
-    requires fresh { AreFresh sources.old }
-    ensures groups { analyser.new.groups ≡ analyser.old.groups }
-    ensures ok { OnOk result (AcceptsAll analyser.old.groups (told_by I.left sources.old) analyser.new.recording) }
-    ensures fault { IfErr result (RefusesRun analyser.old.groups (told_by I.left sources.old)) }
-    ensures count { IfErr result (ReadFailedAt I.failures sources.old sources.new) }
-    ensures no_read_failed { OnOk result (NoReadFailed I.failures sources.old sources.new) }
+/// The receipts that came of the sources, in their order. `receipts` has room for them.
+fn receipts_of<I: Input + Drop>(
+    fed: Vec<Fed<I>>,
+    receipts: Vec<Option<Receipt>>,
+) -> Vec<Option<Receipt>>
+    requires nothing { receipts.items ≡ [] }
+    requires room { vec_len fed ≤ vec_capacity receipts }
+    ensures { result.items ≡ map receipt_of fed.items }
 {
-    for rank in 0..analyser.head().ranks() {
-        if let Err(fault) = read_rank(analyser, rank, &mut sources[usize::from(rank)]) {
-            return Err(fault);
-        }
+    let mut receipts = receipts;
+    for one in fed {
+        let Ok(()) = receipts.push(one.receipt.ok()) else {
+            unreachable!()
+        };
     }
-    Ok(())
+    receipts
 }
 
-/// The calls of all ranks, from their sources.
-fn read_run<I: Input>(
+/// What comes of the sources, each read by a thread with a stack of this size; of the system's where none is
+/// given.
+fn outcome_of<I, G, R>(
     alloc: Global,
     head: Head,
-    sources: &mut [Source<I>],
-) -> Result<Analyser, RunFault>
-    requires one_a_rank { length sources.old ≡ ranks_of head }
-    requires fresh { AreFresh sources.old }
-    ensures groups { IfOk result (λ analyser. analyser.groups ≡ head) }
-    ensures ok { IfOk result (λ analyser. AcceptsAll head (told_by I.left sources.old) analyser.recording) }
-    ensures fault { IfErr result (RefusesRun head (told_by I.left sources.old)) }
-    ensures count { IfErr result (ReadFailedAt I.failures sources.old sources.new) }
-    ensures no_read_failed { OnOk result (NoReadFailed I.failures sources.old sources.new) }
+    sources: Vec<Source<I>>,
+    capacity: u16,
+    gate: &G,
+    rt: &R,
+    stack_size: Option<usize>,
+) -> Result<Outcome, CloseFault>
+where
+    I: Input + Drop + Send,
+    G: Gate + Sync,
+    R: Threads + Wait + Sync,
+    requires room { 0 < capacity }
+    requires one_a_rank { length sources.items ≡ ranks_of head }
+    requires fresh { AreFresh sources.items }
+    ensures ok { IfOk result (IsOutcomeOfFeeds I.left (G.may_stop gate.now) sources.items head) }
+    ensures fault { IfErr result (λ fault. RefusesFeeds I.left (G.may_stop gate.now) sources.items head (of_close fault)) }
+    ensures stopped { IfErr result (λ fault. StopsWhereAllowed (G.may_stop gate.now) (of_close fault)) }
 {
-    let Ok(mut analyser) = Analyser::new(alloc, head) else {
-        return Err(RunFault::Memory);
+    let ranks = sources.len();
+    let Ok((feeds, collector)) = Session::open(alloc, head, capacity) else {
+        return Err(CloseFault::Memory);
     };
-    match read_ranks(&mut analyser, sources) {
-        Ok(()) => Ok(analyser),
-        Err(fault) => Err(fault),
+    let Ok(started) = Vec::with_capacity(alloc, ranks) else {
+        return Err(CloseFault::Memory);
+    };
+    let Ok(fed) = Vec::with_capacity(alloc, ranks) else {
+        return Err(CloseFault::Memory);
+    };
+    let Ok(receipts) = Vec::with_capacity(alloc, ranks) else {
+        return Err(CloseFault::Memory);
+    };
+    let not_started = NotStarted::none();
+    let (collector, fed) = in_threads(
+        rt,
+        sources,
+        feeds,
+        collector,
+        started,
+        fed,
+        gate,
+        &not_started,
+        stack_size,
+    );
+    collector.close(receipts_of(fed, receipts))
+}
+
+/// The fault of a run whose session has no outcome.
+fn fault_of_close(fault: CloseFault) -> RunFault
+    ensures { result ≡ of_close fault }
+{
+    match fault {
+        CloseFault::Memory => RunFault::Memory,
+        CloseFault::Unproved(rank) => RunFault::Unproved(rank),
+        CloseFault::Refused(refusal) => RunFault::Refused(refusal),
     }
 }
 
-/// Writes the report of a run whose calls were all read, and gives the verdict that it says.
+/// Writes the report of a run whose calls were all accepted, and gives the verdict that it says.
 fn report<O: Output>(
     alloc: Global,
-    analyser: &Analyser,
+    outcome: &Outcome,
     format: Format,
     out: &mut O,
 ) -> Result<Verdict, RunFault>
-    requires closed { IsClosed analyser.now.recording }
-    ensures value { IfOk result (λ verdict. verdict ≡ verdict_of analyser.now.groups analyser.now.recording) }
-    ensures hang { IfOk result (λ verdict. (verdict ≡ Verdict.Hang) ↔ SomeRankIsStuck analyser.now.groups analyser.now.recording) }
-    ensures written { OnOk result (Appends (O.written out.old) (O.written out.new) (report_of format analyser.now.groups analyser.now.recording)) }
+    ensures value { IfOk result (λ verdict. verdict ≡ verdict_of outcome.now.analyser.groups outcome.now.analyser.recording) }
+    ensures hang { IfOk result (λ verdict. (verdict ≡ Verdict.Hang) ↔ SomeRankIsStuck outcome.now.analyser.groups outcome.now.analyser.recording) }
+    ensures written { OnOk result (Appends (O.written out.old) (O.written out.new) (report_of format outcome.now.analyser.groups outcome.now.analyser.recording)) }
     ensures no_write_failed { OnOk result (O.failures out.new ≡ O.failures out.old) }
-    ensures fault { IfErr result (LeavesReport O.written O.failures out.old out.new (report_of format analyser.now.groups analyser.now.recording)) }
+    ensures fault { IfErr result (LeavesReport O.written O.failures out.old out.new (report_of format outcome.now.analyser.groups outcome.now.analyser.recording)) }
 {
-    let Ok(graph) = Graph::of(alloc, analyser) else {
-        return Err(RunFault::Memory);
-    };
-    match write_report(alloc, analyser, &graph, format, out) {
-        Ok(()) => Ok(verdict_of(analyser)),
+    match write_report(alloc, outcome.analyser(), outcome.graph(), format, out) {
+        Ok(()) => Ok(outcome.verdict()),
         Err(ReportFault::Memory) => Err(RunFault::Memory),
         Err(ReportFault::Write) => Err(RunFault::Write),
     }
 }
 
-/// Reads the sources of all ranks, each to its end, and writes the report of the run: whether some rank
-/// can't reach its Finalize, whatever way the run goes, who waits for whom and why, and what else is wrong.
-/// The first fault of the lowest rank that has one is told instead, and then nothing is written.
+/// Reads the sources of all ranks at once, each by a thread of its own and to its end, and writes the report
+/// of the run: whether some rank can't reach its Finalize, whatever way the run goes, who waits for whom and
+/// why, and what else is wrong. The first fault of the lowest rank that has one is told instead, and then
+/// nothing is written.
 ///
-/// The sources are read in rank order, one source a rank; none of them may have been asked before.
-pub fn run<I: Input, O: Output>(
+/// There is one source a rank, in rank order; none of them may have been asked before. At most `capacity`
+/// records of a rank wait to be judged. Before each record is read the gate is asked. All threads have ended
+/// when this returns.
+pub fn run<I, G, O, R>(
     alloc: Global,
     head: Head,
-    sources: &mut [Source<I>],
+    sources: Vec<Source<I>>,
+    capacity: u16,
+    gate: &G,
     format: Format,
     out: &mut O,
+    rt: &R,
 ) -> Result<Verdict, RunFault>
-    requires one_a_rank { length sources.old ≡ ranks_of head }
-    requires fresh { AreFresh sources.old }
+where
+    I: Input + Drop + Send,
+    G: Gate + Sync,
+    O: Output,
+    R: Threads + Wait + Sync,
+    requires room { 0 < capacity }
+    requires one_a_rank { length sources.items ≡ ranks_of head }
+    requires fresh { AreFresh sources.items }
 
     // The answer is that of the traces which the sources' bytes hold, where the inputs tell them.
     ensures verdict { IfOk result (λ verdict. (traces : List TraceValue) →
-        Tells I.left sources.old traces → IsVerdictOver head traces verdict) }
+        Tells I.left sources.items traces → IsVerdictOver head traces verdict) }
     ensures refused { IfErr result (λ fault. (traces : List TraceValue) →
-        Tells I.left sources.old traces → RefusesOver head traces fault) }
+        Tells I.left sources.items traces → RefusesOver head traces fault) }
+
+    // A refusal is that of what the threads put on the ranks' feeds, and the gate stops no rank where it may not.
+    ensures fed { IfErr result (RefusesFeeds I.left (G.may_stop gate.now) sources.items head) }
+    ensures stopped { IfErr result (StopsWhereAllowed (G.may_stop gate.now)) }
 
     // What is written is the report of those traces, with that verdict.
-    ensures written { IfOk result (WritesReport I.left O.written O.failures sources.old head format out.old out.new) }
+    ensures written { IfOk result (WritesReport I.left O.written O.failures sources.items head format out.old out.new) }
 
-    // A read that failed and a write that failed are told only where the device's count rose.
-    ensures read_failed { IfErr result (ReadFailedAt I.failures sources.old sources.new) }
-    ensures no_read_failed { OnOk result (NoReadFailed I.failures sources.old sources.new) }
+    // A write that failed is told only where the device's count rose.
     ensures no_write_failed { OnOk result (O.failures out.new ≡ O.failures out.old) }
-    ensures output { IfErr result (LeavesOutput I.left O.written O.failures sources.old head format out.old out.new) }
+    ensures output { IfErr result (LeavesOutput I.left O.written O.failures sources.items head format out.old out.new) }
 {
-    let analyser = read_run(alloc, head, sources)?;
-    report(alloc, &analyser, format, out)
+    match outcome_of(alloc, head, sources, capacity, gate, rt, None) {
+        Ok(outcome) => report(alloc, &outcome, format, out),
+        Err(fault) => Err(fault_of_close(fault)),
+    }
 }
+
+#[cfg(test)]
+mod tests;

@@ -1,37 +1,49 @@
-//! Sessions of two ranks in one thread, by several orders of what comes.
+//! Sessions of two ranks, by several orders of what comes.
 
-ghost use Rattle.std.specs.Prelude.{◌≡◌, ◌<◌, length, map, IfOk, IfSome};
+ghost use Rattle.std.specs.Prelude.{◌≡◌, ◌<◌, ◌≤◌, [], ◌∷◌, length, map, vec_capacity, IfOk, IfSome};
 ghost use Rattle.rankfeed.specs.Rings.{feed_ring, receipt_ring};
 ghost use Rattle.gather.specs.Receipts.{AreReceiptsOf};
 ghost use Rattle.gather.specs.Collectors.{rings};
+ghost use Rattle.gather.specs.Runs.{IsSameSession};
 
 use crate::collector::{Collector, Stepped};
 use crate::fault::{RankFault, Refusal};
 use crate::outcome::CloseFault;
 use crate::session::Session;
+use crate::sweep::take_all;
 use moves::verdict::Verdict;
-use mpicall::fault::SourceFault;
+use mpicall::fault::{LineFault, SourceFault};
 use mpicall::line::read_line;
 use mpicall::record::Record;
 use mpigroup::head::Head;
 use pairing::fault::CallFault;
 use rankfeed::{Feed, Receipt};
 use std::alloc::{AllocError, Global};
+use std::sync::Wait;
 use std::test::Fail;
+use std::thread;
+use std::thread::Threads;
 
-/// The place of a call to a peer that isn't in the group.
-const BAD: u32 = 100;
+/// A record's line and its rank.
+type Line = (u16, &'static [u8]);
 
-/// The record that a rank has at a place: rank 0 sends to rank 1, 20 times, and each ends.
-fn record_of(alloc: Global, rank: u16, place: u32) -> Result<Record, Fail> {
-    let line = match (rank, place) {
-        (_, 20) => format!(in alloc; "finalize\n")?,
-        (_, BAD) => format!(in alloc; "send 0 9 0\n")?,
-        (0, _) => format!(in alloc; "send 0 1 {place}\n")?,
-        _ => format!(in alloc; "recv 0 0 {place}\n")?,
-    };
-    Ok(read_line(line.as_bytes())?)
-}
+const BUFFERED: [Line; 6] = [
+    (0, b"bsend 0 1 0\n"),
+    (0, b"recv 0 1 0\n"),
+    (0, b"finalize\n"),
+    (1, b"bsend 0 0 0\n"),
+    (1, b"recv 0 0 0\n"),
+    (1, b"finalize\n"),
+];
+
+const HEAD_TO_HEAD: [Line; 6] = [
+    (0, b"send 0 1 0\n"),
+    (0, b"recv 0 1 0\n"),
+    (0, b"finalize\n"),
+    (1, b"send 0 0 0\n"),
+    (1, b"recv 0 0 0\n"),
+    (1, b"finalize\n"),
+];
 
 /// Puts a record on a rank's feed, where there is room.
 fn put_at(feeds: &mut Vec<Feed>, rank: u16, record: Record) -> bool
@@ -43,17 +55,16 @@ fn put_at(feeds: &mut Vec<Feed>, rank: u16, record: Record) -> bool
 
 /// Puts the records in this order, with a step behind each, and counts those that were accepted.
 fn deal(
-    alloc: Global,
     feeds: &mut Vec<Feed>,
     collector: &mut Collector,
-    order: &[(u16, u32)],
+    order: &[Line],
 ) -> Result<usize, Fail>
     requires { rings collector.old ≡ map feed_ring feeds.old.items }
     ensures { rings collector.new ≡ map feed_ring feeds.new.items }
 {
     let mut took = 0usize;
-    for &(rank, place) in order {
-        let record = record_of(alloc, rank, place)?;
+    for &(rank, line) in order {
+        let record = read_line(line)?;
         if rank >= collector.ranks() || !put_at(feeds, rank, record) {
             return Err("no such place".into());
         }
@@ -64,51 +75,71 @@ fn deal(
     Ok(took)
 }
 
-/// Ends a feed: sealed behind its Finalize, else torn.
-fn end_feed(feed: Feed) -> Option<Receipt>
+/// Ends a feed: sealed behind its Finalize, else torn with the fault.
+fn end_feed(feed: Feed, fault: SourceFault) -> Option<Receipt>
     ensures { IfSome result (λ receipt. receipt_ring receipt ≡ feed_ring feed) }
 {
     if feed.is_done() {
         feed.seal().ok()
     } else {
-        feed.tear(SourceFault::NoFinalize).ok()
+        feed.tear(fault).ok()
     }
 }
 
-/// Ends all feeds.
-fn end_feeds(alloc: Global, feeds: Vec<Feed>) -> Result<Vec<Option<Receipt>>, AllocError>
+/// Ends all feeds, and loses the receipt of one rank.
+fn end_feeds(
+    alloc: Global,
+    feeds: Vec<Feed>,
+    fault: SourceFault,
+    lost: Option<u16>,
+) -> Result<Vec<Option<Receipt>>, AllocError>
     ensures { IfOk result (λ receipts. AreReceiptsOf (map feed_ring feeds.items) receipts.items) }
 {
     let mut receipts = Vec::new(alloc);
     for feed in feeds {
-        receipts.push(end_feed(feed))?;
+        let is_lost = lost == Some(feed.rank());
+        let receipt = end_feed(feed, fault);
+        receipts.push(if is_lost { None } else { receipt })?;
     }
     Ok(receipts)
 }
 
-/// How many records of the order are accepted at once, and what the session answers at its close.
+/// How many records of the order are accepted at once, and what the session answers at its close. Each feed
+/// has one place. A feed without its Finalize is torn with the fault, and the receipt of one rank is lost.
 fn answer(
     alloc: Global,
-    order: &[(u16, u32)],
+    order: &[Line],
+    fault: SourceFault,
+    lost: Option<u16>,
 ) -> Result<(usize, Result<Verdict, CloseFault>), Fail> {
     let head = Head::read(alloc, b"ranks 2\n")?;
-    let (mut feeds, mut collector) = Session::open(alloc, head, 32)?;
-    let took = deal(alloc, &mut feeds, &mut collector, order)?;
-    let receipts = end_feeds(alloc, feeds)?;
+    let (mut feeds, mut collector) = Session::open(alloc, head, 1)?;
+    let took = deal(&mut feeds, &mut collector, order)?;
+    let receipts = end_feeds(alloc, feeds, fault, lost)?;
     match collector.close(receipts) {
         Ok(outcome) => Ok((took, Ok(outcome.verdict()))),
         Err(fault) => Ok((took, Err(fault))),
     }
 }
 
+/// The record that a rank has at a place, where rank 0 sends a thousand times to rank 1.
+fn one_of_a_thousand(rank: u16, place: u32) -> Line {
+    match (rank, place) {
+        (_, 1000) => (rank, b"finalize\n"),
+        (0, _) => (rank, b"send 0 1 0\n"),
+        _ => (rank, b"recv 0 0 0\n"),
+    }
+}
+
 #[test]
 fn ranks_by_turns(rt: HostRuntime) -> Result<(), Fail> {
     let mut order = Vec::new(rt.alloc());
-    for place in 0..=20u32 {
-        order.push((0, place))?;
-        order.push((1, place))?;
+    for place in 0..=1000u32 {
+        order.push(one_of_a_thousand(0, place))?;
+        order.push(one_of_a_thousand(1, place))?;
     }
-    assert_eq!(rt; answer(rt.alloc(), &order)?, (42, Ok(Verdict::Free)));
+    let answer = answer(rt.alloc(), &order, SourceFault::NoFinalize, None)?;
+    assert_eq!(rt; answer, (2002, Ok(Verdict::Free)));
     Ok(())
 }
 
@@ -116,28 +147,126 @@ fn ranks_by_turns(rt: HostRuntime) -> Result<(), Fail> {
 fn one_rank_wholly_first(rt: HostRuntime) -> Result<(), Fail> {
     for first in 0..2u16 {
         let mut order = Vec::new(rt.alloc());
-        for place in 0..=20u32 {
-            order.push((first, place))?;
+        for place in 0..=1000u32 {
+            order.push(one_of_a_thousand(first, place))?;
         }
-        for place in 0..=20u32 {
-            order.push((1 - first, place))?;
+        for place in 0..=1000u32 {
+            order.push(one_of_a_thousand(1 - first, place))?;
         }
-        assert_eq!(rt; answer(rt.alloc(), &order)?, (42, Ok(Verdict::Free)));
+        let answer = answer(rt.alloc(), &order, SourceFault::NoFinalize, None)?;
+        assert_eq!(rt; answer, (2002, Ok(Verdict::Free)));
     }
     Ok(())
 }
 
 #[test]
-fn the_lowest_rank_with_a_fault_is_told(rt: HostRuntime) -> Result<(), Fail> {
-    let order = [(1, BAD), (1, 0), (0, 0), (0, BAD), (0, 1)];
-    let refusal = Refusal {
-        rank: 0,
-        call: 1,
-        fault: RankFault::OfCall(CallFault::PeerOutOfGroup),
-    };
-    assert_eq!(rt;
-        answer(rt.alloc(), &order)?,
-        (1, Err(CloseFault::Refused(refusal)))
+fn what_a_close_answers(rt: HostRuntime) -> Result<(), Fail> {
+    let refused = |rank, call, fault| Err(CloseFault::Refused(Refusal { rank, call, fault }));
+    let wildcard = SourceFault::Line(LineFault::Wildcard);
+    let out_of_group = RankFault::OfCall(CallFault::PeerOutOfGroup);
+    let not_started = SourceFault::ThreadNotStarted;
+    let none = SourceFault::NoFinalize;
+    let bad: [Line; 4] = [
+        (1, b"recv 0 0 0\n"),
+        (1, b"recv 0 9 0\n"),
+        (0, b"bsend 0 1 0\n"),
+        (0, b"send 0 9 0\n"),
+    ];
+    let rows: [(&[Line], SourceFault, Option<u16>, (usize, Result<Verdict, CloseFault>)); 7] = [
+        (&BUFFERED, none, None, (6, Ok(Verdict::Free))),
+        (&HEAD_TO_HEAD, none, None, (6, Ok(Verdict::Hang))),
+        (&HEAD_TO_HEAD, none, Some(1), (6, Err(CloseFault::Unproved(1)))),
+        (&bad, none, None, (2, refused(0, 1, out_of_group))),
+        (&bad, none, Some(0), (2, Err(CloseFault::Unproved(0)))),
+        (&[(0, b"send 0 9 0\n")], wildcard, None, (0, refused(0, 0, out_of_group))),
+        (&[(0, b"finalize\n")], not_started, None, (1, refused(1, 0, RankFault::OfSource(not_started)))),
+    ];
+    for (order, fault, lost, expected) in rows {
+        assert_eq!(rt; answer(rt.alloc(), order, fault, lost)?, expected);
+    }
+    Ok(())
+}
+
+/// Puts the rank's records of these lines, and ends the feed.
+fn put_all(feed: Feed, lines: &[Line], wait: &impl Wait) -> Option<Receipt>
+    ensures { IfSome result (λ receipt. receipt_ring receipt ≡ feed_ring feed) }
+{
+    let mut feed = feed;
+    for &(rank, line) in lines {
+        if let Ok(record) = read_line(line) {
+            if rank == feed.rank() {
+                let _ = feed.put(record, wait);
+            }
+        }
+    }
+    end_feed(feed, SourceFault::NoFinalize)
+}
+
+/// Puts two ranks' records, each in a thread of its own.
+fn put_both<R: Threads + Wait + Sync>(
+    first: Feed,
+    second: Feed,
+    rt: &R,
+) -> (Option<Receipt>, Option<Receipt>)
+    ensures first { IfSome result.0 (λ receipt. receipt_ring receipt ≡ feed_ring first) }
+    ensures second { IfSome result.1 (λ receipt. receipt_ring receipt ≡ feed_ring second) }
+{
+    thread::join(
+        rt,
+        move || -> Option<Receipt>
+            ensures { IfSome result (λ receipt. receipt_ring receipt ≡ feed_ring first) }
+        { put_all(first, &BUFFERED, rt) },
+        move || -> Option<Receipt>
+            ensures { IfSome result (λ receipt. receipt_ring receipt ≡ feed_ring second) }
+        { put_all(second, &BUFFERED, rt) },
+    )
+}
+
+/// Steps with both ranks in turn until each has ended.
+fn stepped(collector: Collector, wait: &impl Wait) -> Collector
+    ensures { IsSameSession collector result }
+{
+    let mut collector = collector;
+    take_all(&mut collector, wait);
+    collector
+}
+
+/// Puts two ranks' records by a thread each while a third one steps, and tells whether the close has an outcome.
+/// `receipts` has room for two.
+fn by_three_threads<R: Threads + Wait + Sync>(
+    first: Feed,
+    second: Feed,
+    collector: Collector,
+    receipts: Vec<Option<Receipt>>,
+    rt: &R,
+) -> bool
+    requires feeds { rings collector ≡ feed_ring first ∷ feed_ring second ∷ [] }
+    requires none { receipts.items ≡ [] }
+    requires room { 2 ≤ vec_capacity receipts }
+{
+    let mut receipts = receipts;
+    let (put, collector) = thread::join(
+        rt,
+        move || -> (Option<Receipt>, Option<Receipt>)
+            ensures first { IfSome result.0 (λ receipt. receipt_ring receipt ≡ feed_ring first) }
+            ensures second { IfSome result.1 (λ receipt. receipt_ring receipt ≡ feed_ring second) }
+        { put_both(first, second, rt) },
+        move || -> Collector
+            ensures { IsSameSession collector result }
+        { stepped(collector, rt) },
     );
+    receipts.push_reserved(put.0);
+    receipts.push_reserved(put.1);
+    collector.close(receipts).is_ok()
+}
+
+#[test]
+fn two_threads_put_and_a_third_steps(rt: HostRuntime) -> Result<(), Fail> {
+    let head = Head::read(rt.alloc(), b"ranks 2\n")?;
+    let receipts = Vec::with_capacity(rt.alloc(), 2)?;
+    let (mut feeds, collector) = Session::open(rt.alloc(), head, 1)?;
+    if let (Some(second), Some(first), true) = (feeds.pop(), feeds.pop(), feeds.is_empty()) {
+        assert!(rt; by_three_threads(first, second, collector, receipts, &rt));
+    }
     Ok(())
 }

@@ -2,6 +2,7 @@
 
 use crate::feed::feed;
 use crate::gate::Gate;
+use core::thread::Stack;
 use mpicall::device::Input;
 use mpicall::fault::SourceFault;
 use mpicall::source::Source;
@@ -13,6 +14,35 @@ use std::thread::{Promise, PromisedHandle, Scope, Threads};
 
 #[cfg(test)]
 mod tests;
+
+/// The rank whose thread couldn't be started last, if there is one.
+#[derive(Drop)]
+pub struct NotStarted(AtomicU64);
+
+impl NotStarted {
+    /// Each thread so far was started.
+    pub fn none() -> NotStarted {
+        NotStarted(AtomicU64::new(u64::MAX))
+    }
+
+    /// The thread of a rank couldn't be started.
+    pub fn set(&self, rank: u16) {
+        self.0.store(u64::from(rank), Ordering::SeqCst);
+    }
+
+    /// Whether it is that rank.
+    pub fn is(&self, rank: u16) -> bool {
+        self.0.load(Ordering::SeqCst) == u64::from(rank)
+    }
+}
+
+/// The stack of a thread, of this size; of the system's where none is given.
+fn stack_of(size: Option<usize>) -> Stack {
+    match size {
+        Some(size) => Stack::new().stack_size(size),
+        None => Stack::new(),
+    }
+}
 
 /// What came of the feeding of one rank: its source as it is left, and the receipt of its feed.
 #[derive(Drop)]
@@ -41,14 +71,13 @@ impl<I: Input> Fed<I> {
     ghost use Rattle.rankfeed.specs.Rings.{sent_by};
     ghost use Rattle.gather.specs.Threads.{IsFedFrom};
 
-    /// Feeds a source to its end, or tears its feed where its thread didn't start: `not_started` is the
-    /// number behind that rank's.
+    /// Feeds a source to its end, or tears its feed where its thread didn't start.
     fn of<G: Gate>(
         source: Source<I>,
         feed_end: Feed,
         gate: &G,
         wait: &impl Wait,
-        not_started: &AtomicU64,
+        not_started: &NotStarted,
     ) -> Fed<I>
         requires fresh { ended source ≡ None }
         requires nothing_put { sent_by feed_end ≡ [] }
@@ -56,7 +85,7 @@ impl<I: Input> Fed<I> {
     {
         let mut source = source;
         let rank = feed_end.rank();
-        let receipt = if not_started.load(Ordering::SeqCst) == u64::from(rank) + 1 {
+        let receipt = if not_started.is(rank) {
             feed_end.tear(SourceFault::ThreadNotStarted)
         } else {
             feed(rank, &mut source, feed_end, gate, wait)
@@ -88,7 +117,8 @@ impl<I: Input, G: Gate> Started<I, G> {
         source: Source<I>,
         feed_end: Feed,
         gate: &'s G,
-        not_started: &'s AtomicU64,
+        not_started: &'s NotStarted,
+        stack_size: Option<usize>,
     ) -> Started<I, G>
     where
         I: Drop + Send + 's,
@@ -103,14 +133,15 @@ impl<I: Input, G: Gate> Started<I, G> {
             feed: Snapshot::of(&feed_end),
             gate: Snapshot::of(gate),
         };
-        let started = scope.spawn_with(
+        let started = stack_of(stack_size).spawn_scoped_with(
+            scope,
             promise,
             move || Fed::of(source, feed_end, gate, rt, not_started),
         );
         match started {
             Ok(handle) => Started::Running(handle),
             Err(error) => {
-                not_started.store(u64::from(rank) + 1, Ordering::SeqCst);
+                not_started.set(rank);
                 Started::NotStarted((error.value)())
             }
         }
@@ -136,7 +167,8 @@ impl<I: Input, G: Gate> Started<I, G> {
         feeds: Vec<Feed>,
         started: Vec<Started<I, G>>,
         gate: &'s G,
-        not_started: &'s AtomicU64,
+        not_started: &'s NotStarted,
+        stack_size: Option<usize>,
     ) -> Vec<Started<I, G>>
     where
         I: Drop + Send + 's,
@@ -155,7 +187,9 @@ impl<I: Input, G: Gate> Started<I, G> {
             let Some(feed_end) = feeds.next() else {
                 unreachable!()
             };
-            let thread = Started::start(scope, rt, source, feed_end, gate, not_started);
+            let thread = Started::start(
+                scope, rt, source, feed_end, gate, not_started, stack_size,
+            );
             let Ok(()) = started.push(thread) else {
                 unreachable!()
             };

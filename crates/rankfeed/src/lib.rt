@@ -35,6 +35,7 @@
 pub mod answer;
 pub mod channel;
 pub mod item;
+pub mod pause;
 pub mod ring;
 #[cfg(test)]
 mod tests;

@@ -6,12 +6,12 @@ ghost use Rattle.rankfeed.specs.Items.{may_follow, last_item, are_in_order, end_
 
 use crate::answer::{Met, PutFault, Took, Unsealed};
 use crate::item::{Ending, Item};
+use crate::pause::Pause;
 use mpicall::fault::SourceFault;
 use mpicall::record::Record;
 use rtrb::{Consumer, Finished, Producer, Protocol, RingBuffer};
 use std::alloc::{AllocError, Global};
 use std::sync::Wait;
-use std::thread;
 
 /// The rule of the ring: each item may follow the one before it.
 struct InOrder;
@@ -160,12 +160,13 @@ impl Feed {
         if self.done {
             return Err(PutFault::Closed(call));
         }
+        let mut pause = Pause::new();
         for _ in wait.forever() {
             if self.has_room() {
                 self.push(&call);
                 return Ok(());
             }
-            thread::yield_now();
+            pause.rest(wait);
         }
         unreachable!()
     }

@@ -3,7 +3,7 @@ ghost use Rattle.rankfeed.specs.Rings.{sent_by};
 ghost use Rattle.gather.specs.Told.{AreFresh};
 
 use crate::gate::{Gate, OpenGate};
-use crate::threads::{Fed, Started};
+use crate::threads::{Fed, NotStarted, Started};
 use mpicall::device::Input;
 use mpicall::fault::SourceFault;
 use mpicall::line::read_line;
@@ -12,7 +12,6 @@ use mpicall::source::Source;
 use rankfeed::{Feed, Took};
 use std::process::Abort;
 use std::sync::Wait;
-use std::sync::atomic::AtomicU64;
 use std::test::Fail;
 use std::thread;
 use std::thread::{Scope, Threads};
@@ -26,7 +25,7 @@ fn start_and_finish<'s, E, I, G, R>(
     started: Vec<Started<I, G>>,
     fed: Vec<Fed<I>>,
     gate: &'s G,
-    not_started: &'s AtomicU64,
+    not_started: &'s NotStarted,
 ) -> Vec<Fed<I>>
 where
     I: Input + Drop + Send + 's,
@@ -40,7 +39,7 @@ where
     requires nothing_fed { fed.items ≡ [] }
     requires room_behind { vec_len sources ≤ vec_capacity fed }
 {
-    let all = Started::start_all(scope, rt, sources, feeds, started, gate, not_started);
+    let all = Started::start_all(scope, rt, sources, feeds, started, gate, not_started, None);
     Started::finish_all(all, fed, rt)
 }
 
@@ -52,7 +51,7 @@ fn in_threads<I, G, R>(
     started: Vec<Started<I, G>>,
     fed: Vec<Fed<I>>,
     gate: &G,
-    not_started: &AtomicU64,
+    not_started: &NotStarted,
 ) -> Vec<Fed<I>>
 where
     I: Input + Drop + Send,
@@ -104,7 +103,7 @@ fn two_threads_feed_their_ranks(rt: HostRuntime) -> Result<(), Fail> {
         started,
         fed,
         &OpenGate,
-        &AtomicU64::new(0),
+        &NotStarted::none(),
     );
     assert_eq!(rt; fed.len(), 2);
     assert_eq!(rt; first_taker.try_take(), record(&rt, b"send 0 1 5\n"));
@@ -116,7 +115,8 @@ fn two_threads_feed_their_ranks(rt: HostRuntime) -> Result<(), Fail> {
 fn a_thread_that_did_not_start(rt: HostRuntime) -> Result<(), Fail> {
     let (feed, mut taker) = Feed::open(rt.alloc(), 7, 2)?;
     let source = Source::new(MemoryInput::new(b"finalize\n"));
-    let not_started = AtomicU64::new(8);
+    let not_started = NotStarted::none();
+    not_started.set(7);
     let fed = Fed::of(source, feed, &OpenGate, &rt, &not_started);
     assert!(rt; fed.receipt.is_ok());
     assert_eq!(rt; taker.try_take(), Took::Torn(SourceFault::ThreadNotStarted));
