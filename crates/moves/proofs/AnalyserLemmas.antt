@@ -1,9 +1,9 @@
 -- What an analyser's stands and lists are at the start, after a call, and at any time.
-use Rattle.std.proofs.Common.{◌≡◌, ◌≢◌, ◌↔◌, ℕ, zero, suc, ◌+◌, ◌-◌, ◌<◌, ◌≤◌, Bool, true, false, cond, eqb, Some, None, List, [], ◌∷◌, ◌++◌, length, replicate, get_or, refl, sym, ap, subst, ◌∙◌, ⊎_elim, arith, append-nil}
+use Rattle.std.proofs.Common.{◌≡◌, ◌≢◌, ◌↔◌, ℕ, zero, suc, ◌+◌, ◌-◌, ◌<◌, ◌≤◌, Bool, true, false, cond, eqb, Some, None, List, [], ◌∷◌, ◌++◌, length, replicate, refl, sym, ap, subst, ◌∙◌, ⊎_elim, arith, append-nil}
 use Rattle.std.specs.List.{slice_get, list_all, range_with_len}
 use Rattle.std.proofs.lemmas.List.{length-set, length-replicate, length-append}
 use Rattle.std.proofs.lemmas.Option.{none-some}
-use Rattle.std.proofs.lemmas.Bool.{cases_eq, cases_Bool, false≢true, eq-eqb, ne_eqb}
+use Rattle.std.proofs.lemmas.Bool.{cases_eq, cases_Bool, eq-eqb, ne_eqb}
 use Rattle.mpicall.specs.declared.call.Call.{Call}
 use Rattle.mpigroup.specs.Groups.{Groups, ranks_of}
 use Rattle.mpicall.specs.Ending.{ends_list}
@@ -19,9 +19,8 @@ use Rattle.moves.specs.Needs.{can_move}
 use Rattle.moves.specs.Stands.{stands_of, lowest_run_over}
 use Rattle.moves.specs.Arrivals.{Arrival, kept_one, kept_from, IsKeptOn, MixesStandAlike}
 use Rattle.moves.proofs.RunLemmas.{reached_start}
-use Rattle.moves.proofs.StayLemmas.{NoFurtherCallIsReached}
-use Rattle.moves.proofs.NeedLemmas.{can_pass, length_of_calls, could_move}
-use Rattle.moves.proofs.StandLemmas.{every_maximal_run_ends_at_the_stands, reached_on, reached_within}
+use Rattle.moves.proofs.NeedLemmas.{can_pass}
+use Rattle.moves.proofs.StandLemmas.{every_maximal_run_ends_at_the_stands, reached_on}
 use Rattle.moves.proofs.ArrivalLemmas.{no_calls, mixes_are_kept_alike}
 use Rattle.moves.proofs.VerdictLemmas.{all_pass}
 use Rattle.moves.proofs.AdvanceLemmas.{stuck_end}
@@ -73,29 +72,6 @@ goes_on_by recording rank call is_rank = record {
 pub still_reached : (groups : Groups) (recording : Lists) (rank : ℕ) (call : Call) (s : State) → rank < length recording → IsTheEnd (can_move groups recording) (length recording) s → IsReached (can_move groups (appended recording rank call)) (length (appended recording rank call)) s
 still_reached groups recording rank call s is_rank end =
     reached_on groups recording (appended recording rank call) s (goes_on_by recording rank call is_rank) end.is_reached
-
--- a call that its rank has not come to is not reached
-none_further : (recording : Lists) (rank : ℕ) (call : Call) (s : State) → rank < length recording → get_or s rank 0 < length (calls_of recording rank) → NoFurtherCallIsReached recording (appended recording rank call) s
-none_further recording rank call s is_rank behind other place there reached =
-    ⊎_elim
-    (λ (same : other ≡ rank). omega (arith, behind, rw same at reached, ap (λ (r : ℕ). length (calls_of recording r)) same))
-    (λ (differs : other ≢ rank). rw (calls_of-appended_other recording rank other call differs) at there)
-    (cases_eq other rank)
-
--- and where the ranks were at the end, such a call wakes none
-still_stuck_behind : (groups : Groups) (recording : Lists) (rank : ℕ) (call : Call) (s : State) → rank < length recording → IsStuck (can_move groups recording) s → get_or s rank 0 < length (calls_of recording rank) → IsStuck (can_move groups (appended recording rank call)) s
-still_stuck_behind groups recording rank call s is_rank stuck behind other other_is_rank =
-    ⊎_elim
-    (λ (able : can_move groups (appended recording rank call) s other ≡ true).
-    absurd (false≢true (sym (stuck other other_is_rank)
-    ∙ could_move groups recording (appended recording rank call) s other (goes_on_by recording rank call is_rank) (none_further recording rank call s is_rank behind) able)))
-    (λ (unable : can_move groups (appended recording rank call) s other ≡ false). unable)
-    (cases_Bool (can_move groups (appended recording rank call) s other))
-
-pub still_stuck : (groups : Groups) (recording : Lists) (rank : ℕ) (call : Call) (s : State) → rank < length recording → IsTheEnd (can_move groups recording) (length recording) s → get_or s rank 0 ≢ length (calls_of recording rank) → IsStuck (can_move groups (appended recording rank call)) s
-still_stuck groups recording rank call s is_rank end not_there =
-    let within = (reached_within groups recording s end.is_reached).stands rank in
-    still_stuck_behind groups recording rank call s is_rank end.is_stuck (omega (arith, within, length_of_calls recording rank, not_there))
 
 -- one arrival more
 kept_from_more : (groups : Groups) (recording : Lists) (arrivals : List Arrival) (arrival : Arrival) → kept_from groups recording (arrivals ++ arrival ∷ []) ≡ kept_one groups (kept_from groups recording arrivals) arrival

@@ -7,3 +7,9 @@ pub mod VerdictLemmas
 pub mod ArrivalLemmas
 pub mod AdvanceLemmas
 pub mod AnalyserLemmas
+pub mod LinkLemmas
+pub mod WaveLemmas
+pub mod WaitLemmas
+pub mod ReachLemmas
+pub mod TouchLemmas
+pub mod SettleLemmas

@@ -1,7 +1,6 @@
 -- Whether each need is met, told one by one.
-use Rattle.std.proofs.Common.{◌≡◌, ℕ, ◌+◌, ◌&&◌, Bool, true, false, Some, List, [], ◌∷◌, flat_map, take, drop, get_or, refl, ap, ◌∙◌}
+use Rattle.std.proofs.Common.{◌≡◌, ℕ, ◌+◌, ◌&&◌, Bool, true, false, Some, List, [], ◌∷◌, flat_map, take, get_or, refl, ap, ◌∙◌}
 use Rattle.std.specs.List.{slice_get, list_all}
-use Rattle.std.proofs.lemmas.List.{at_drop_more}
 use Rattle.std.proofs.lemmas.List.Folds.{list_all-append, list_all_more, list_all_at}
 use Rattle.std.proofs.lemmas.Option.{slice_get_within, get_or_from_slice_get}
 
@@ -10,12 +9,6 @@ pub passes_more : (p : ℕ → Bool) (xs : List ℕ) (i x : ℕ) → slice_get x
 passes_more p xs i x there so_far passes =
     let here : p (get_or xs i x) ≡ true = ap p (get_or_from_slice_get xs i x x there) ∙ passes in
     list_all_more p xs i x (slice_get_within xs i x there) ∙ rw (so_far, here) refl
-
--- the same from the last on
-pub passes_before : (p : ℕ → Bool) (xs : List ℕ) (i x : ℕ) → slice_get xs i ≡ Some x → list_all p (drop (i + 1) xs) ≡ true → p x ≡ true → list_all p (drop i xs) ≡ true
-passes_before p xs i x there so_far passes =
-    let here : p (get_or xs i x) ≡ true = ap p (get_or_from_slice_get xs i x x there) ∙ passes in
-    at_drop_more (list_all p) xs i x (slice_get_within xs i x there) ∙ rw (here, so_far) refl
 
 -- one that fails
 pub fails_at : (p : ℕ → Bool) (xs : List ℕ) (i x : ℕ) → slice_get xs i ≡ Some x → p x ≡ false → list_all p xs ≡ false

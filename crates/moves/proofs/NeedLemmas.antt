@@ -20,7 +20,7 @@ use Rattle.moves.specs.Runs.{State, StandsNoLater, IsPersistent, IsBounded}
 use Rattle.moves.specs.declared.need.Need.{Need}
 use Rattle.moves.specs.declared.need.Need.TheVariants.{At, Lacking}
 use Rattle.moves.specs.Needs.{world_of, half_need, half_needs, member_need, wave_needs, is_buffered, operation_needs, operation_needs_at, request_needs, needs_of_call, needs_of, is_met, may_pass, can_move}
-use Rattle.moves.proofs.StayLemmas.{Carries, carries_on, carries_back, NoFurtherCallIsReached}
+use Rattle.moves.proofs.StayLemmas.{Carries, carries_on}
 
 and_true : (a b : Bool) → (a && b) ≡ true → (a ≡ true) × (b ≡ true)
 and_true true b h = (refl, h)
@@ -196,11 +196,3 @@ can_move_on groups recording longer stands rank goes_on h =
     let pass = can_pass groups recording stands rank h in
     let within = slice_get_within (calls_of recording rank) (get_or stands rank 0) pass.call pass.is_present in
     can_move_carried groups recording longer stands rank (length (calls_of recording rank)) (carries_on groups recording longer stands rank goes_on) within h
-
--- who can move over a longer recording, none of whose further calls is reached, could move before
-pub could_move : (groups : Groups) (recording longer : Lists) (stands : State) (rank : ℕ) → GoesOn recording longer → NoFurtherCallIsReached recording longer stands → can_move groups longer stands rank ≡ true → can_move groups recording stands rank ≡ true
-could_move groups recording longer stands rank goes_on no_further h =
-    let pass = can_pass groups longer stands rank h in
-    let there = slice_get_within (calls_of longer rank) (get_or stands rank 0) pass.call pass.is_present in
-    can_move_carried groups longer recording stands rank (length (calls_of recording rank)) (carries_back groups recording longer stands rank goes_on no_further)
-    (no_further rank (get_or stands rank 0) there (omega arith)) h

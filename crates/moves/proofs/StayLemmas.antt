@@ -10,18 +10,17 @@ use Rattle.mpicall.specs.declared.call.Call.{Call}
 use Rattle.mpigroup.specs.Groups.{Groups}
 use Rattle.pairing.specs.declared.envelope.Half.{Half}
 use Rattle.pairing.specs.Recordings.{Lists, calls_of, GoesOn}
-use Rattle.pairing.specs.Envelopes.{other_half, has_envelope}
-use Rattle.pairing.specs.Partners.{number_of, partner_of}
+use Rattle.pairing.specs.Partners.{partner_of}
 use Rattle.pairing.specs.Places.{places}
 use Rattle.pairing.specs.Requests.{does_start, does_complete, last_of, unless_completed, started_in, started_before}
-use Rattle.pairing.specs.Waves.{does_join, place_in_wave, wave_of}
-use Rattle.pairing.proofs.PartnerLemmas.{partner_parts, partner_from, partners_stay}
+use Rattle.pairing.specs.Waves.{place_in_wave, wave_of}
+use Rattle.pairing.proofs.PartnerLemmas.{partners_stay}
 use Rattle.pairing.proofs.PlaceLemmas.{nth_place, place_nth, slice_get-front}
 use Rattle.pairing.proofs.RequestLemmas.{place_within}
 use Rattle.pairing.proofs.WaveLemmas.{waves_stay}
 use Rattle.moves.specs.Runs.{State}
 
-first_calls_stay : (recording longer : Lists) (rank place : ℕ) → GoesOn recording longer → place ≤ length (calls_of recording rank) → take place (calls_of longer rank) ≡ take place (calls_of recording rank)
+pub first_calls_stay : (recording longer : Lists) (rank place : ℕ) → GoesOn recording longer → place ≤ length (calls_of recording rank) → take place (calls_of longer rank) ≡ take place (calls_of recording rank)
 first_calls_stay recording longer rank place goes_on within =
     rw (goes_on.goes_on rank) (take-append-le place (calls_of recording rank) (goes_on.more rank) within)
 
@@ -74,12 +73,8 @@ carries_on groups recording longer stands rank goes_on = record {
   member = λ comm wave member place h reached. waves_stay recording longer comm wave member place goes_on h;
 }
 
--- each call of the longer recording that is reached at the stands is one of the recording's
-abbrev pub NoFurtherCallIsReached : Lists → Lists → State → Type 0
-NoFurtherCallIsReached recording longer stands = (rank place : ℕ) → place < length (calls_of longer rank) → place ≤ get_or stands rank 0 → place < length (calls_of recording rank)
-
 -- a place among the first of a list is the one with its number there too
-place_before : {A : Type 0} (test : A → Bool) (xs ys : List A) (k p : ℕ) → slice_get (places test (xs ++ ys)) k ≡ Some p → p < length xs → slice_get (places test xs) k ≡ Some p
+pub place_before : {A : Type 0} (test : A → Bool) (xs ys : List A) (k p : ℕ) → slice_get (places test (xs ++ ys)) k ≡ Some p → p < length xs → slice_get (places test xs) k ≡ Some p
 place_before test xs ys k p h within =
     let nth = nth_place 0 test (xs ++ ys) k p h in
     let same : nth.index ≡ p = omega (arith, nth.place) in
@@ -87,32 +82,3 @@ place_before test xs ys k p h within =
     let there : slice_get xs nth.index ≡ Some nth.element = sym (slice_get-front xs ys nth.index first) ∙ nth.stands_there in
     let number : length (places test (take nth.index xs)) ≡ k = rw (take-append-le nth.index xs ys (omega (arith, first))) at nth.before in
     rw number at (place_nth 0 test xs nth.index nth.element there nth.passes) ∙ ap (λ (m : ℕ). Some m) (omega (arith, same))
-
--- the number of a place of the longer list that is reached is its number in the list
-place_was_there : (recording longer : Lists) (stands : State) (rank : ℕ) (test : Call → Bool) (k p : ℕ) → GoesOn recording longer → NoFurtherCallIsReached recording longer stands → slice_get (places test (calls_of longer rank)) k ≡ Some p → p ≤ get_or stands rank 0 → slice_get (places test (calls_of recording rank)) k ≡ Some p
-place_was_there recording longer stands rank test k p goes_on no_further h reached =
-    let there = place_within test (calls_of longer rank) k p h in
-    place_before test (calls_of recording rank) (goes_on.more rank) k p (rw (goes_on.goes_on rank) at h) (no_further rank p there reached)
-
-partner_was_there : (groups : Groups) (recording longer : Lists) (stands : State) (rank place : ℕ) (half : Half) (partner there : ℕ) → GoesOn recording longer → NoFurtherCallIsReached recording longer stands → place < length (calls_of recording rank) → partner_of groups longer rank place half ≡ Some (partner, there) → there ≤ get_or stands partner 0 → partner_of groups recording rank place half ≡ Some (partner, there)
-partner_was_there groups recording longer stands rank place half partner there goes_on no_further within h reached =
-    let parts = partner_parts groups longer rank place half partner there h in
-    partner_from groups recording rank place half partner there
-    (record {
-      e = parts.e;
-      own = record { call = parts.own.call; stands_there = sym (call_stays recording longer rank place goes_on within) ∙ parts.own.stands_there; envelope = parts.own.envelope };
-      rank_there = parts.rank_there;
-      place_there =
-          rw (← first_calls_stay recording longer rank place goes_on (omega (arith, within)))
-          (place_was_there recording longer stands partner (has_envelope groups partner (other_half half) parts.e) (number_of groups longer rank half parts.e place) there goes_on no_further parts.place_there reached);
-    })
-
-pub carries_back : (groups : Groups) (recording longer : Lists) (stands : State) (rank : ℕ) → GoesOn recording longer → NoFurtherCallIsReached recording longer stands → Carries groups longer recording stands rank (length (calls_of recording rank))
-carries_back groups recording longer stands rank goes_on no_further = record {
-  call = λ place within. sym (call_stays recording longer rank place goes_on within);
-  wave = λ place within. sym (wave_stays recording longer rank place goes_on within);
-  start = λ place req within. sym (start_stays recording longer rank place req goes_on (omega (arith, within)));
-  start_within = λ place req start within h. start_is_a_call recording rank place req start (sym (start_stays recording longer rank place req goes_on (omega (arith, within))) ∙ h);
-  partner = λ place half partner there within h reached. partner_was_there groups recording longer stands rank place half partner there goes_on no_further within h reached;
-  member = λ comm wave member place h reached. place_was_there recording longer stands member (does_join comm) wave place goes_on no_further h reached;
-}

@@ -1,10 +1,29 @@
 -- What an analyser has of a run whose records are still coming.
+use Rattle.std.specs.Prelude.{ℕ, ◌+◌, ◌*◌, List, [], ◌∷◌, length, map}
+use Rattle.mpicall.specs.declared.call.Call.{Call}
 use Rattle.mpigroup.specs.Groups.{Groups}
 use Rattle.pairing.specs.Recordings.{Lists}
-use Rattle.moves.specs.Runs.{State}
+use Rattle.pairing.specs.Requests.{waits_for}
+use Rattle.moves.specs.Runs.{State, total}
+use Rattle.moves.specs.Stands.{calls_in}
 
--- the groups of a run's communicators, the calls of each rank that were accepted, and the ranks' stands
+-- the groups of a run's communicators, the calls of each rank that were accepted, the ranks' stands, and how
+-- often waiting ranks and waves were touched
 pub record Analysed : Type 0 where
   pub groups : Groups
   pub recording : Lists
   pub stands : State
+  pub touches : ℕ
+
+-- how many requests the waits of a list name, each as often as it is named
+abbrev pub requests_of : List Call → ℕ
+requests_of [] = 0
+requests_of (call ∷ calls) = length (waits_for call) + requests_of calls
+
+-- the same of all lists of a recording
+abbrev pub requests_in : Lists → ℕ
+requests_in recording = total (map requests_of recording)
+
+-- the most touches: 24 for each call that was accepted, and for each request that a wait among them names
+abbrev pub most_touches : Lists → ℕ
+most_touches recording = 24 * (calls_in recording + requests_in recording)

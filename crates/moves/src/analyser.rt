@@ -12,9 +12,12 @@ ghost use Rattle.moves.specs.Runs.{start, IsTheEnd, StandsNoLater};
 ghost use Rattle.moves.specs.Needs.{can_move};
 ghost use Rattle.moves.specs.Stands.{stands_of, is_at_finalize};
 ghost use Rattle.moves.specs.Arrivals.{IsKeptOn};
+ghost use Rattle.moves.specs.Analysed.{most_touches};
 
-use crate::advance::advance_at;
 use crate::need::stand_of;
+use crate::settle::arrive;
+use crate::waiters::Waiters;
+use crate::waves::Waves;
 use mpicall::record::Record;
 use mpigroup::head::Head;
 pub use pairing::added::PairFault as OfferFault;
@@ -24,29 +27,32 @@ use std::marker::Model;
 
 /// The calls of all ranks that were accepted so far, and where the ranks stand. Contracts see the groups of
 /// the run's head, each rank's list of calls, and each rank's stand: the number of its calls that it has
-/// completed. At any time the ranks stand where every maximal run over these calls ends.
+/// completed. At any time the ranks stand where every maximal run over these calls ends. They see too how
+/// often waiting ranks and waves were touched: what the arena of the waiting ranks counts, and the changes of
+/// how far waves are.
 #[derive(Drop)]
 pub struct Analyser {
     pairs: Pairs,
     stands: Vec<u32>,
+    waves: Waves,
+    waiters: Waiters,
 }
 
 impl Model for Analyser {
-    ghost use Rattle.std.specs.Prelude.{length};
-    ghost use Rattle.moves.specs.Runs.{IsTheEnd};
-    ghost use Rattle.moves.specs.Needs.{can_move};
     ghost use Rattle.moves.specs.Analysed.{Analysed};
+    ghost use Rattle.moves.specs.Waiting.{touches_of, IsSettled};
 
     ghost Value = { Analysed };
 
-    ghost view = { λ a. record { groups = a.pairs.groups; recording = a.pairs.recording; stands = a.stands.items } };
+    ghost view = { λ a. record { groups = a.pairs.groups; recording = a.pairs.recording; stands = a.stands.items; touches = touches_of a.waves a.waiters } };
 
-    ghost invariant = { λ a. IsTheEnd (can_move a.pairs.groups a.pairs.recording) (length a.pairs.recording) a.stands.items };
+    ghost invariant = { λ a. IsSettled a.pairs.groups a.pairs.recording a.stands.items a.waves a.waiters };
 }
 
 /// The place of the next call of a rank.
 fn next_place(pairs: &Pairs, rank: u16) -> u32
-    ensures { result ≡ length (calls_of pairs.now.recording rank) }
+    ensures value { result ≡ length (calls_of pairs.now.recording rank) }
+    ensures most { result ≤ most_calls }
 {
     pairs.accepted(rank).unwrap_or(0)
 }
@@ -72,10 +78,19 @@ impl Analyser {
         ensures recording { IfOk result (λ analyser. analyser.recording ≡ replicate (ranks_of head) []) }
         ensures stands { IfOk result (λ analyser. analyser.stands ≡ start (ranks_of head)) }
         ensures end { IfOk result (λ analyser. IsTheEnd (can_move analyser.groups analyser.recording) (length analyser.recording) analyser.stands) }
+        ensures touches { IfOk result (λ analyser. analyser.touches ≡ 0) }
     {
-        let stands = vec![in alloc; 0u32; usize::from(head.ranks())]?;
+        let (ranks, comms) = (head.ranks(), head.comms());
+        let stands = vec![in alloc; 0u32; usize::from(ranks)]?;
+        let waves = Waves::new(alloc, comms)?;
+        let waiters = Waiters::new(alloc, ranks, comms)?;
         let pairs = Pairs::new(alloc, head)?;
-        Ok(Analyser { pairs, stands })
+        Ok(Analyser {
+            pairs,
+            stands,
+            waves,
+            waiters,
+        })
     }
 
     /// Takes the next call of a rank, and moves the ranks on until none can move. The call is refused
@@ -93,15 +108,35 @@ impl Analyser {
         ensures end { IsTheEnd (can_move self.new.groups self.new.recording) (length self.new.recording) self.new.stands }
         ensures stands { self.new.stands ≡ stands_of self.new.groups self.new.recording }
         ensures no_lower { StandsNoLater self.old.stands self.new.stands }
+        ensures touches { self.new.touches ≤ most_touches self.new.recording }
+        ensures no_fewer { self.old.touches ≤ self.new.touches }
     {
         let place = next_place(&self.pairs, rank);
         match self.pairs.add(rank, place, call) {
             Ok(_) => {
-                advance_at(&self.pairs, &mut self.stands, rank, place);
+                arrive(
+                    &self.pairs,
+                    &mut self.stands,
+                    &mut self.waves,
+                    &mut self.waiters,
+                    rank,
+                    place,
+                );
                 Ok(())
             }
             Err(fault) => Err(fault),
         }
+    }
+
+    /// How much was done so far to have the ranks stand where they do: 1 each time that a rank was put into a
+    /// list of waiting ranks or of those to look at, or taken out of one, and 1 each time that it was noted
+    /// how far a communicator's waves are. Looks are not counted.
+    pub fn touches(&self) -> u64
+        ensures value { result ≡ self.now.touches }
+        ensures most { result ≤ most_touches self.now.recording }
+    {
+        let work = self.waiters.work();
+        work.saturating_add(self.waves.changes)
     }
 
     /// The head of the run.

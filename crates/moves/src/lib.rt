@@ -18,8 +18,11 @@
 //! call needs before its rank moves on, `Runs` and `Stands` where runs end. Which calls send, receive, start,
 //! complete and join is said by the tables of `pairing`, so a further call is a clause there.
 //!
-//! After an accepted call all ranks are looked at until none moves, and only where the call's rank stands at
-//! it: a call that is not reached wakes no rank. A look ends at the first need that is not met.
+//! A rank that cannot move on is linked where it waits: for the partner of one of its messages, or for a
+//! communicator's next wave. A call that is reached puts those that wait for it onto a worklist, and no rank is
+//! looked at that nothing woke. A look ends at the first need that is not met, and a look at a wave is a look
+//! at one number. All room that this takes is made when the analyser is: it grows with the ranks and the
+//! communicators, and not with the calls.
 //!
 //! ```text
 //! let head = Head::read(alloc, b"ranks 2\n")?;
@@ -34,13 +37,15 @@
 //! ```
 #![tactic(auto)]
 
-mod advance;
 pub mod analyser;
 pub mod arrival;
-mod met;
+mod look;
 pub mod need;
 pub mod run;
+mod settle;
 pub mod stand;
 #[cfg(test)]
 mod tests;
 pub mod verdict;
+mod waiters;
+mod waves;

@@ -432,3 +432,54 @@ fn long_runs_in_three_mixes(rt: HostRuntime) -> Result<(), Fail> {
     assert_eq!(rt; verdict_of_turns(rt.alloc(), &[(all, all)])?, Verdict::Free);
     Ok(())
 }
+
+/// How many touches a run of 64 ranks takes, the last one's list first, with so many barriers of each.
+fn touches_of_barriers(alloc: Global, barriers: u32) -> Result<u64, Fail> {
+    let mut run = run_of(alloc, "ranks 64\n")?;
+    for rank in (0..64).rev() {
+        for _ in 0..barriers {
+            offer_line(&mut run.0, rank, "barrier 0\n")?;
+        }
+        offer_line(&mut run.0, rank, "finalize\n")?;
+    }
+    Ok(run.0.touches())
+}
+
+/// How many touches a long run takes whose lists are offered one after the other.
+fn touches_of_messages(alloc: Global) -> Result<u64, Fail> {
+    let mut run = run_of(alloc, "ranks 2\n")?;
+    offer_next(&mut run.0, 0, MESSAGES + 1)?;
+    offer_next(&mut run.0, 1, MESSAGES + 1)?;
+    Ok(run.0.touches())
+}
+
+/// How many touches an exchange takes whose receives are started first.
+fn touches_of_an_exchange(alloc: Global) -> Result<u64, Fail> {
+    let files = [
+        "irecv 7 0 1 0\nsend 0 1 0\nwait 7\nfinalize\n",
+        "irecv 7 0 0 0\nsend 0 0 0\nwait 7\nfinalize\n",
+    ];
+    let mut run = run_of(alloc, "ranks 2\n")?;
+    offer_files(&mut run.0, &files)?;
+    Ok(run.0.touches())
+}
+
+#[test]
+fn touches_are_few(rt: HostRuntime) -> Result<(), Fail> {
+    let rows = [
+        ("a barrier", touches_of_barriers(rt.alloc(), 1)?, 63, 3_072),
+        ("messages", touches_of_messages(rt.alloc())?, 1, 48_048),
+        ("an exchange", touches_of_an_exchange(rt.alloc())?, 1, 240),
+        (
+            "barriers",
+            touches_of_barriers(rt.alloc(), 1_000)?,
+            63_000,
+            1_537_536,
+        ),
+    ];
+    for (run, touches, least, most) in rows {
+        assert!(rt; least <= touches, "of {run}: {touches}");
+        assert!(rt; touches <= most, "of {run}: {touches}");
+    }
+    Ok(())
+}

@@ -1,25 +1,25 @@
-use Rattle.std.proofs.Common.{◌≡◌, List, [], length, replicate, rules}
-use Rattle.std.proofs.lemmas.List.{length-replicate}
-use Rattle.mpicall.specs.declared.call.Call.{Call}
-use Rattle.mpigroup.specs.Groups.{Groups, ranks_of}
-use Rattle.pairing.specs.Recordings.{Lists}
-use Rattle.moves.specs.Runs.{State, start, IsTheEnd}
-use Rattle.moves.specs.Needs.{can_move}
-use Rattle.moves.proofs.AnalyserLemmas.{start_end}
+use Rattle.std.proofs.Common.{◌≡◌, ◌+◌, List, [], length, replicate, sym, ap, ◌∙◌, rules}
+use Rattle.moves.specs.Links.{Entries}
+use Rattle.moves.specs.Runs.{start}
+use Rattle.moves.proofs.SettleLemmas.{new_settled, settled_end}
 use Rattle.moves.proofs.analyser.Analyser.new.Goals as goal
-
--- the end over what was made
-end_of_new : (groups head : Groups) (recording : Lists) (s : State) → recording ≡ replicate (ranks_of head) [] → s ≡ start (ranks_of head) → IsTheEnd (can_move groups recording) (length recording) s
-end_of_new groups head recording s none zeros =
-    let lists : length {A = List Call} (replicate (ranks_of head) []) ≡ ranks_of head = length-replicate (ranks_of head) [] in
-    rw (none, lists, zeros) (start_end groups (ranks_of head))
 
 pub invariant_of-result : goal.invariant_of-result
 invariant_of-result c =
-    let zeros : c.in_ok-stands.stands.items ≡ start (ranks_of c.args.head) = search rules in
-    end_of_new c.in_ok-pairs.pairs.groups c.args.head c.in_ok-pairs.pairs.recording c.in_ok-stands.stands.items c.in_ok-pairs.ensures.recording zeros
+    let zeros : c.in_ok-stands.stands.items ≡ start c.ranks-ranks.result = search rules in
+    let comms : c.comms-comms.result ≡ length c.in_ok-pairs.pairs.groups = c.comms-comms.ensures.value ∙ ap (length {A = List _}) (sym c.in_ok-pairs.ensures.groups) in
+    new_settled c.in_ok-pairs.pairs.groups c.in_ok-pairs.pairs.recording c.in_ok-stands.stands.items c.in_ok-waves.waves c.in_ok-waiters.waiters c.ranks-ranks.result
+    (c.in_ok-pairs.ensures.recording ∙ ap (λ n. replicate n []) (sym c.ranks-ranks.ensures.value)) zeros
+    (c.in_ok-waves.ensures.complete ∙ ap (λ n. replicate n 0) comms) (c.in_ok-waves.ensures.met ∙ ap (λ n. replicate n 0) comms)
+    (c.in_ok-waiters.ensures.lists ∙ ap (λ n. replicate {A = Entries} (1 + c.ranks-ranks.result + n) []) comms) c.in_ok-waiters.ensures.spare c.in_ok-waiters.ensures.work c.in_ok-waves.ensures.changes c.in_ok-waiters.ensures.awaited
 
 pub returns-clause-end : goal.returns-clause-end
 returns-clause-end c =
-    let zeros : c.in_ok-stands.stands.items ≡ start (ranks_of c.args.head) = search rules in
-    end_of_new c.in_ok-pairs.pairs.groups c.args.head c.in_ok-pairs.pairs.recording c.in_ok-stands.stands.items c.in_ok-pairs.ensures.recording zeros
+    let zeros : c.in_ok-stands.stands.items ≡ start c.ranks-ranks.result = search rules in
+    let comms : c.comms-comms.result ≡ length c.in_ok-pairs.pairs.groups = c.comms-comms.ensures.value ∙ ap (length {A = List _}) (sym c.in_ok-pairs.ensures.groups) in
+    let settled =
+    new_settled c.in_ok-pairs.pairs.groups c.in_ok-pairs.pairs.recording c.in_ok-stands.stands.items c.in_ok-waves.waves c.in_ok-waiters.waiters c.ranks-ranks.result
+    (c.in_ok-pairs.ensures.recording ∙ ap (λ n. replicate n []) (sym c.ranks-ranks.ensures.value)) zeros
+    (c.in_ok-waves.ensures.complete ∙ ap (λ n. replicate n 0) comms) (c.in_ok-waves.ensures.met ∙ ap (λ n. replicate n 0) comms)
+    (c.in_ok-waiters.ensures.lists ∙ ap (λ n. replicate {A = Entries} (1 + c.ranks-ranks.result + n) []) comms) c.in_ok-waiters.ensures.spare c.in_ok-waiters.ensures.work c.in_ok-waves.ensures.changes c.in_ok-waiters.ensures.awaited in
+    settled_end c.in_ok-pairs.pairs.groups c.in_ok-pairs.pairs.recording c.in_ok-stands.stands.items c.in_ok-waves.waves c.in_ok-waiters.waiters settled

@@ -1,0 +1,13 @@
+use Rattle.std.proofs.Common.{◌≡◌, ◌≤◌, subst, rules}
+use Rattle.moves.specs.Analysed.{Analysed, most_touches}
+use Rattle.moves.specs.Waiting.{touches_of}
+use Rattle.moves.proofs.SettleLemmas.{touches_within}
+use Rattle.moves.proofs.analyser.Analyser.touches.Goals as goal
+
+pub returns-clause-most : goal.returns-clause-most
+returns-clause-most c =
+    let a = c.self.inside in
+    let is : touches_of a.waves a.waiters ≡ c.saturating_add.result = search rules in
+    let within = touches_within a.pairs.groups a.pairs.recording a.stands.items a.waves a.waiters c.self.invariant in
+    subst (λ n. n ≤ most_touches c.args.self.now.recording) is
+    (subst (λ (b : Analysed). touches_of a.waves a.waiters ≤ most_touches b.recording) c.self.view_is within)

@@ -1,0 +1,281 @@
+-- What a rank waits for that cannot move on: the partner of one of its messages, or a wave.
+use Rattle.std.specs.Prelude.{min, ◌≡◌, ℕ, ◌+◌, ◌-◌, ◌*◌, ◌<◌, ◌≤◌, ◌⊎◌, Bool, true, false, ◌&&◌, nat_le, nat_lt, Option, Some, None, is_some, option_and_then, if◌then◌else◌, List, [], ◌++◌, length, flat_map, slice_get, slice_index, slice_set, ◌==◌}
+use Rattle.std.specs.List.{list_all}
+use Rattle.std.specs.Option.{option_map_or}
+use Rattle.mpicall.specs.declared.call.Call.{Call}
+use Rattle.mpigroup.specs.Groups.{Groups, group_of, world_rank_of}
+use Rattle.pairing.specs.declared.envelope.Half.{Half}
+use Rattle.pairing.specs.declared.envelope.Half.TheVariants.{Send as SendHalf, Recv as RecvHalf}
+use Rattle.pairing.specs.Limits.{most_calls}
+use Rattle.pairing.specs.Recordings.{Lists, calls_of, appended as with_call}
+use Rattle.pairing.specs.Partners.{partner_of}
+use Rattle.pairing.specs.Pairs.{completed_of}
+use Rattle.pairing.specs.Requests.{starts, completes}
+use Rattle.pairing.specs.Waves.{place_in_wave, wave_of}
+use Rattle.moves.specs.declared.look.Look.{Look}
+use Rattle.moves.specs.declared.look.Look.TheVariants.{Over, Passes, Partner, Wave}
+use Rattle.moves.specs.declared.need.Need.{Need}
+use Rattle.moves.specs.declared.waves.Waves.{Waves}
+use Rattle.moves.specs.Links.{sum_to, Entries, in_all, held, IsLinked}
+use Rattle.moves.specs.Needs.{half_needs, is_buffered, operation_needs_at, request_needs, needs_of_call, is_met, may_pass, can_move}
+use Rattle.moves.specs.Runs.{State, IsReached, total}
+use Rattle.moves.specs.Stands.{calls_in}
+use Rattle.arenalist.specs.Numbers.{list_at}
+use Rattle.arenalist.specs.Arena.{linked, appended, counted}
+
+-- what the messages of the call at a place need: the partners of its halves
+abbrev pub message_needs : Groups → Lists → ℕ → ℕ → Call → List Need
+message_needs groups recording rank place call =
+    (if is_buffered call then [] else half_needs groups recording rank place SendHalf call)
+    ++ half_needs groups recording rank place RecvHalf call
+
+abbrev pub message_needs_at : Groups → Lists → ℕ → ℕ → List Need
+message_needs_at groups recording rank place =
+    option_map_or (message_needs groups recording rank place) (slice_get (calls_of recording rank) place) []
+
+-- the call at the place waits for the operation that the call at `start` is or starts
+pub record IsAwaited (recording : Lists) (rank place start : ℕ) : Type 0 where
+  pub call : Call
+  pub is_present : slice_get (calls_of recording rank) place ≡ Some call
+  pub starts_none : is_some (starts call) ≡ false
+  pub which : (start ≡ place) ⊎ ((index : ℕ) × (completed_of recording rank place index ≡ Some start))
+
+-- the rank has reached its call of the wave
+abbrev pub HasJoined : Lists → State → ℕ → ℕ → ℕ → Type 0
+HasJoined recording stands comm wave rank = (place : ℕ) × (place_in_wave recording comm wave rank ≡ Some place) × (place ≤ slice_index stands rank)
+
+-- how many waves of the communicator are complete, and how many members, from the first on, have reached
+-- their calls of the next one
+abbrev pub complete_of : Waves → ℕ → ℕ
+complete_of waves comm = slice_index waves.complete.items comm
+
+abbrev pub met_of : Waves → ℕ → ℕ
+met_of waves comm = slice_index waves.met.items comm
+
+-- Each member has reached its calls of the complete waves, and so many members theirs of the next wave. The
+-- member behind those has not, unless it is excepted.
+pub record AreWaves (groups : Groups) (recording : Lists) (stands : State) (waves : Waves) (IsExcepted : ℕ → ℕ → Type 0) : Type 0 where
+  pub completes : length waves.complete.items ≡ length groups
+  pub meets : length waves.met.items ≡ length groups
+  pub done : (comm wave g member : ℕ) → wave < complete_of waves comm → world_rank_of groups comm g ≡ Some member → HasJoined recording stands comm wave member
+  pub met : (comm g member : ℕ) → g < met_of waves comm → world_rank_of groups comm g ≡ Some member → HasJoined recording stands comm (complete_of waves comm) member
+  pub next : (comm : ℕ) → 0 < length (group_of groups comm) →
+      (member : ℕ) × (world_rank_of groups comm (met_of waves comm) ≡ Some member)
+      × (HasJoined recording stands comm (complete_of waves comm) member → IsExcepted comm member)
+
+abbrev pub IsNoException : ℕ → ℕ → Type 0
+IsNoException comm member = ⊥
+
+-- the wave isn't complete
+abbrev pub is_open : Groups → Waves → ℕ → ℕ → Bool
+is_open groups waves comm wave = nat_le (complete_of waves comm) wave && nat_lt 0 (length (group_of groups comm))
+
+-- the communicator of the wave that the call at the place joins, where that wave isn't complete
+abbrev pub open_wave : Groups → Lists → Waves → ℕ → ℕ → Option ℕ
+open_wave groups recording waves rank place =
+    option_and_then (λ wave. if is_open groups waves wave.0 wave.1 then Some wave.0 else None) (wave_of recording rank place)
+
+-- Touches, and what pays for them. A call that is accepted pays 3, one that is reached 9, one that is passed 2,
+-- and one whose wave is complete 4.
+abbrev pub is_done : Waves → Option (ℕ × ℕ) → ℕ
+is_done waves None = 0
+is_done waves (Some wave) = if nat_lt wave.1 (complete_of waves wave.0) then 1 else 0
+
+abbrev pub done_of : Lists → Waves → ℕ → ℕ
+done_of recording waves rank = sum_to (length (calls_of recording rank)) (λ place. is_done waves (wave_of recording rank place))
+
+abbrev pub reached_of : Lists → State → ℕ → ℕ
+reached_of recording stands rank = min (length (calls_of recording rank)) (slice_index stands rank + 1)
+
+abbrev pub paid_by : Lists → State → Waves → ℕ → ℕ
+paid_by recording stands waves rank =
+    3 * length (calls_of recording rank) + 9 * reached_of recording stands rank + 2 * slice_index stands rank + 4 * done_of recording waves rank
+
+abbrev pub paid : Lists → State → Waves → ℕ
+paid recording stands waves = sum_to (length recording) (paid_by recording stands waves)
+
+-- what the reaching of a place spends: less where no call is there
+abbrev pub cost_of : Option Call → ℕ
+cost_of None = 3
+cost_of (Some call) = 12
+
+-- what is told of the operation of the call at a place: that its needs are met, or what it waits for
+abbrev pub TellsOperation : Groups → Lists → State → Waves → ℕ → ℕ → Look → Type 0
+TellsOperation groups recording stands waves rank place Over = ⊥
+TellsOperation groups recording stands waves rank place Passes = list_all (is_met stands) (operation_needs_at groups recording rank place) ≡ true
+TellsOperation groups recording stands waves rank place (Partner start) = (start ≡ place) × (list_all (is_met stands) (message_needs_at groups recording rank place) ≡ false)
+TellsOperation groups recording stands waves rank place (Wave comm) = open_wave groups recording waves rank place ≡ Some comm
+
+-- the same of the operation that the call at a place completes with that index
+abbrev pub TellsRequest : Groups → Lists → State → Waves → ℕ → ℕ → ℕ → Look → Type 0
+TellsRequest groups recording stands waves rank place index Over = ⊥
+TellsRequest groups recording stands waves rank place index Passes =
+    list_all (is_met stands) (option_map_or (operation_needs_at groups recording rank) (completed_of recording rank place index) []) ≡ true
+TellsRequest groups recording stands waves rank place index (Partner start) =
+    (completed_of recording rank place index ≡ Some start) × (list_all (is_met stands) (message_needs_at groups recording rank start) ≡ false)
+TellsRequest groups recording stands waves rank place index (Wave comm) =
+    (start : ℕ) × (completed_of recording rank place index ≡ Some start) × (open_wave groups recording waves rank start ≡ Some comm)
+
+-- the same of the operations that the call at a place completes
+abbrev pub TellsCompleted : Groups → Lists → State → Waves → ℕ → ℕ → Call → Look → Type 0
+TellsCompleted groups recording stands waves rank place call Over = ⊥
+TellsCompleted groups recording stands waves rank place call Passes = list_all (is_met stands) (flat_map (request_needs groups recording rank place) (completes call)) ≡ true
+TellsCompleted groups recording stands waves rank place call (Partner start) =
+    (index : ℕ) × (completed_of recording rank place index ≡ Some start) × (list_all (is_met stands) (message_needs_at groups recording rank start) ≡ false)
+TellsCompleted groups recording stands waves rank place call (Wave comm) =
+    (index start : ℕ) × (completed_of recording rank place index ≡ Some start) × (open_wave groups recording waves rank start ≡ Some comm)
+
+-- the same of the call at a place
+abbrev pub TellsCall : Groups → Lists → State → Waves → ℕ → ℕ → Call → Look → Type 0
+TellsCall groups recording stands waves rank place call Over = ⊥
+TellsCall groups recording stands waves rank place call Passes = list_all (is_met stands) (needs_of_call groups recording rank place call) ≡ true
+TellsCall groups recording stands waves rank place call (Partner start) =
+    IsAwaited recording rank place start × (list_all (is_met stands) (message_needs_at groups recording rank start) ≡ false)
+TellsCall groups recording stands waves rank place call (Wave comm) =
+    (start : ℕ) × (IsAwaited recording rank place start) × (open_wave groups recording waves rank start ≡ Some comm)
+
+-- a message of an operation that the rank's present call waits for has no partner that is reached
+pub record NeedsPartner (groups : Groups) (recording : Lists) (stands : State) (rank start : ℕ) : Type 0 where
+  pub is_awaited : IsAwaited recording rank (slice_index stands rank) start
+  pub is_unmet : list_all (is_met stands) (message_needs_at groups recording rank start) ≡ false
+
+-- such an operation joins a wave of the communicator that isn't complete
+pub record NeedsWave (groups : Groups) (recording : Lists) (stands : State) (waves : Waves) (rank comm : ℕ) : Type 0 where
+  pub start : ℕ
+  pub is_awaited : IsAwaited recording rank (slice_index stands rank) start
+  pub is_joined : open_wave groups recording waves rank start ≡ Some comm
+
+-- what is told of a rank where it stands: that it can move on, what it waits for, or that it rests, as it
+-- has no call there or its Finalize
+abbrev pub Rests : Lists → State → ℕ → Type 0
+Rests recording stands rank = may_pass (slice_get (calls_of recording rank) (slice_index stands rank)) ≡ false
+
+abbrev pub TellsRank : Groups → Lists → State → Waves → ℕ → Look → Type 0
+TellsRank groups recording stands waves rank Over = Rests recording stands rank
+TellsRank groups recording stands waves rank Passes = can_move groups recording stands rank ≡ true
+TellsRank groups recording stands waves rank (Partner start) = NeedsPartner groups recording stands rank start
+TellsRank groups recording stands waves rank (Wave comm) = NeedsWave groups recording stands waves rank comm
+
+-- What the waiting ranks are seen as: the lists, how many nodes are spare, how much was done in the lists,
+-- and for each rank the place of the operation for whose partner it waits, or waited last.
+pub record Waiting : Type 0 where
+  pub lists : List Entries
+  pub spare : ℕ
+  pub work : ℕ
+  pub awaited : List ℕ
+
+-- the list of a rank that waits for a partner, and that of the ranks that wait for a wave
+abbrev pub own_list : ℕ → ℕ
+own_list rank = 1 + rank
+
+abbrev pub comm_list : ℕ → ℕ → ℕ
+comm_list ranks comm = 1 + ranks + comm
+
+-- the waiting ranks once those of a list are to be looked at
+abbrev pub woken : Waiting → ℕ → Waiting
+woken w list = record {
+  lists = appended w.lists 0 list;
+  spare = w.spare;
+  work = counted w.work (2 * length (list_at w.lists list));
+  awaited = w.awaited;
+}
+
+-- once a rank is put into a list, in the node
+abbrev pub with_rank : Waiting → ℕ → ℕ → ℕ → Waiting
+with_rank w list node rank = record {
+  lists = linked w.lists list node rank;
+  spare = w.spare - 1;
+  work = counted w.work 1;
+  awaited = w.awaited;
+}
+
+-- and once it is said for which operation's partner the rank waits
+abbrev pub with_awaited : Waiting → ℕ → ℕ → Waiting
+with_awaited w rank place = record { lists = w.lists; spare = w.spare; work = w.work; awaited = slice_set w.awaited rank place }
+
+-- the rank is known to wait, or to have waited last, for the partner of its operation at that place
+abbrev pub awaits : Waiting → ℕ → ℕ → Bool
+awaits w rank place = option_map_or (λ awaited. awaited == place) (slice_get w.awaited rank) false
+
+-- the waiting ranks once the one is to be looked at that waits for a call as the partner of its own
+abbrev pub woken_at : Waiting → ℕ × ℕ → Waiting
+woken_at w partner = if awaits w partner.0 partner.1 then woken w (own_list partner.0) else w
+
+abbrev pub woken_partner : Waiting → Option (ℕ × ℕ) → Waiting
+woken_partner w partner = option_map_or (woken_at w) partner w
+
+-- and once those are to be looked at that wait for the waves of a communicator, if it is one
+abbrev pub woken_comm : Waiting → Option ℕ → Waiting
+woken_comm w comm = option_map_or (λ comm. woken w (comm_list (length w.awaited) comm)) comm w
+
+-- the rank waits in that list, for a partner or for a wave
+abbrev pub WaitsIn : Groups → Lists → State → Waves → List ℕ → ℕ → ℕ → Type 0
+WaitsIn groups recording stands waves awaited rank list =
+    ((list ≡ own_list rank) × (rank < length recording) × NeedsPartner groups recording stands rank (slice_index awaited rank))
+    ⊎ ((comm : ℕ) × (list ≡ comm_list (length recording) comm) × NeedsWave groups recording stands waves rank comm)
+
+-- there is a list for each rank and for each communicator, and a node for each rank
+pub record HasLists (groups : Groups) (recording : Lists) (waiting : Waiting) : Type 0 where
+  pub lists : length waiting.lists ≡ 1 + length recording + length groups
+  pub nodes : waiting.spare + held waiting.lists ≡ length recording
+  pub awaited : length waiting.awaited ≡ length recording
+
+-- the touches: what was done in the lists, and each change of how far a wave is
+abbrev pub touches_of : Waves → Waiting → ℕ
+touches_of waves waiting = counted waiting.work waves.changes
+
+-- what is spent: the touches, and two for each rank that is to be looked at
+abbrev pub spent : Waves → Waiting → ℕ
+spent waves waiting = waiting.work + waves.changes + 2 * length (list_at waiting.lists 0)
+
+-- What holds between looks: each rank is to be looked at, or waits rightly, or rests. Some may be excepted
+-- from resting. What is spent is paid, and so much more is left.
+pub record IsKept (groups : Groups) (recording : Lists) (stands : State) (waves : Waves) (waiting : Waiting) (IsExcepted : ℕ → Type 0) (left : ℕ) : Type 0 where
+  pub has_lists : HasLists groups recording waiting
+  pub linked : IsLinked (length recording) waiting.lists (WaitsIn groups recording stands waves waiting.awaited) (λ rank. Rests recording stands rank ⊎ IsExcepted rank)
+  pub are_waves : AreWaves groups recording stands waves IsNoException
+  pub is_reached : IsReached (can_move groups recording) (length recording) stands
+  pub is_paid : spent waves waiting + left ≤ paid recording stands waves
+
+abbrev pub IsNobody : ℕ → Type 0
+IsNobody rank = ⊥
+
+-- the rank was taken off the worklist to be looked at
+pub record IsInHand (groups : Groups) (recording : Lists) (stands : State) (waves : Waves) (waiting : Waiting) (rank : ℕ) : Type 0 where
+  pub kept : IsKept groups recording stands waves waiting (λ other. other ≡ rank) 1
+  pub is_rank : rank < length recording
+  pub in_none : in_all rank waiting.lists ≡ 0
+
+-- no rank is to be looked at
+pub record IsSettled (groups : Groups) (recording : Lists) (stands : State) (waves : Waves) (waiting : Waiting) : Type 0 where
+  pub kept : IsKept groups recording stands waves waiting IsNobody 0
+  pub is_empty : list_at waiting.lists 0 ≡ []
+
+-- The rank has just reached its call at the place: the ranks that wait for it are still to be woken.
+pub record IsReaching (groups : Groups) (recording : Lists) (stands : State) (waves : Waves) (waiting : Waiting) (rank place : ℕ) : Type 0 where
+  pub has_lists : HasLists groups recording waiting
+  pub linked : IsLinked (length recording) waiting.lists
+      (λ other list. WaitsIn groups recording stands waves waiting.awaited other list
+      ⊎ ((list ≡ own_list other) × (other < length recording) × ((half : Half) × (partner_of groups recording rank place half ≡ Some (other, slice_index waiting.awaited other)))))
+      (λ other. Rests recording stands other ⊎ (other ≡ rank))
+  pub are_waves : AreWaves groups recording stands waves (λ comm member. (member ≡ rank) × (wave_of recording rank place ≡ Some (comm, complete_of waves comm)))
+  pub is_reached : IsReached (can_move groups recording) (length recording) stands
+  pub is_rank : rank < length recording
+  pub in_none : in_all rank waiting.lists ≡ 0
+  pub is_there : place ≡ slice_index stands rank
+  pub few : place ≤ most_calls
+  pub is_paid : spent waves waiting + cost_of (slice_get (calls_of recording rank) place) ≤ paid recording stands waves
+
+-- The rank's call has arrived at the place, and no rank was to be looked at before.
+pub record HasArrived (groups : Groups) (recording : Lists) (stands : State) (waves : Waves) (waiting : Waiting) (rank place : ℕ) : Type 0 where
+  pub before : Lists
+  pub call : Call
+  pub is : recording ≡ with_call before rank call
+  pub settled : IsSettled groups before stands waves waiting
+  pub is_rank : rank < length before
+  pub is_next : place ≡ length (calls_of before rank)
+  pub few : place ≤ most_calls
+
+-- what settling still has to do, at most: a call that is not passed makes each rank be looked at
+abbrev pub to_do : Lists → State → Waiting → ℕ
+to_do recording stands waiting = (calls_in recording - total stands) * (length recording + 1) + length (list_at waiting.lists 0)

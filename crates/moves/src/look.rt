@@ -1,0 +1,205 @@
+//! Looks: whether a rank can move on where it stands, and if not, what it waits for. A look takes no memory,
+//! and it ends at the first need that is not met.
+
+ghost use Rattle.std.specs.Prelude.{◌≡◌, ◌<◌, Some, true, false, nat_le, nat_lt, length, slice_get, slice_index};
+ghost use Rattle.std.specs.List.{list_all};
+ghost use Rattle.std.specs.Option.{option_map_or};
+ghost use Rattle.pairing.specs.Limits.{most_calls};
+ghost use Rattle.pairing.specs.Recordings.{calls_of};
+ghost use Rattle.pairing.specs.Partners.{partner_of};
+ghost use Rattle.moves.specs.Needs.{half_needs, is_buffered, is_met};
+ghost use Rattle.moves.specs.Waiting.{message_needs, AreWaves, IsNoException, TellsOperation, TellsRequest, TellsCompleted, TellsCall, TellsRank};
+
+use crate::need::{Need, is_met, stand_of};
+use crate::waves::Waves;
+use mpicall::call::Mode;
+use pairing::envelope::Half;
+use pairing::pairs::Pairs;
+use pairing::stored::StoredCall;
+
+/// What a look at a rank tells.
+#[derive(Clone, Copy)]
+pub(crate) enum Look {
+    /// The rank has no call where it stands, or its Finalize.
+    Over,
+    /// Each need of its call is met.
+    Passes,
+    /// A message of the operation at the place has no partner that is reached.
+    Partner { place: u32 },
+    /// A wave of the communicator is not complete.
+    Wave { comm: u16 },
+}
+
+/// Whether the call has a partner by its half, and the partner is reached.
+fn is_partner_met(pairs: &Pairs, stands: &[u32], rank: u16, place: u32, half: Half) -> bool
+    ensures { result ≡ option_map_or (λ partner. nat_le partner.1 (slice_index stands.now partner.0)) (partner_of pairs.now.groups pairs.now.recording rank place half) false }
+{
+    match pairs.partner(rank, place, half) {
+        Some((other, there)) => {
+            let need = Need::At {
+                rank: other,
+                place: there,
+            };
+            is_met(stands, &need)
+        }
+        None => false,
+    }
+}
+
+/// Whether a half of the call has what it needs: nothing where it has no message, else its partner.
+fn is_half_met(
+    pairs: &Pairs,
+    stands: &[u32],
+    rank: u16,
+    place: u32,
+    half: Half,
+    call: &StoredCall<'_>,
+) -> bool
+    ensures { result ≡ list_all (is_met stands.now) (half_needs pairs.now.groups pairs.now.recording rank place half call.now) }
+{
+    match call.message(half) {
+        Some(_) => is_partner_met(pairs, stands, rank, place, half),
+        None => true,
+    }
+}
+
+fn is_buffered(call: &StoredCall<'_>) -> bool
+    ensures { result ≡ is_buffered call.now }
+{
+    matches!(call.mode(), Some(Mode::Buffered))
+}
+
+/// Whether each message of the call has what it needs.
+fn are_messages_met(
+    pairs: &Pairs,
+    stands: &[u32],
+    rank: u16,
+    place: u32,
+    call: &StoredCall<'_>,
+) -> bool
+    ensures { result ≡ list_all (is_met stands.now) (message_needs pairs.now.groups pairs.now.recording rank place call.now) }
+{
+    (is_buffered(call) || is_half_met(pairs, stands, rank, place, Half::Send, call))
+        && is_half_met(pairs, stands, rank, place, Half::Recv, call)
+}
+
+/// What is told of the operation of the call at the place.
+fn look_at_operation(
+    pairs: &Pairs,
+    stands: &[u32],
+    waves: &Waves,
+    rank: u16,
+    place: u32,
+    call: &StoredCall<'_>,
+) -> Look
+    requires waves { AreWaves pairs.now.groups pairs.now.recording stands.now waves.now IsNoException }
+    requires call { slice_get (calls_of pairs.now.recording rank) place ≡ Some call.now }
+    ensures { TellsOperation pairs.now.groups pairs.now.recording stands.now waves.now rank place result }
+{
+    if !are_messages_met(pairs, stands, rank, place, call) {
+        return Look::Partner { place };
+    }
+    match waves.open_wave(pairs, rank, place) {
+        Some(comm) => Look::Wave { comm },
+        None => Look::Passes,
+    }
+}
+
+/// The same of the call that started a request.
+fn look_at_start(pairs: &Pairs, stands: &[u32], waves: &Waves, rank: u16, start: u32) -> Look
+    requires { AreWaves pairs.now.groups pairs.now.recording stands.now waves.now IsNoException }
+    ensures { TellsOperation pairs.now.groups pairs.now.recording stands.now waves.now rank start result }
+{
+    match pairs.call(rank, start) {
+        Some(call) => look_at_operation(pairs, stands, waves, rank, start, &call),
+        None => Look::Passes,
+    }
+}
+
+/// The same of the request with that index among those that the call at the place completes.
+fn look_at_request(
+    pairs: &Pairs,
+    stands: &[u32],
+    waves: &Waves,
+    rank: u16,
+    place: u32,
+    index: usize,
+) -> Look
+    requires { AreWaves pairs.now.groups pairs.now.recording stands.now waves.now IsNoException }
+    ensures { TellsRequest pairs.now.groups pairs.now.recording stands.now waves.now rank place index result }
+{
+    match pairs.completed(rank, place, index) {
+        Some(start) => look_at_start(pairs, stands, waves, rank, start),
+        None => Look::Passes,
+    }
+}
+
+/// What is told of the requests that the call at the place completes.
+fn look_at_requests(
+    pairs: &Pairs,
+    stands: &[u32],
+    waves: &Waves,
+    rank: u16,
+    place: u32,
+    call: &StoredCall<'_>,
+) -> Look
+    requires waves { AreWaves pairs.now.groups pairs.now.recording stands.now waves.now IsNoException }
+    requires call { slice_get (calls_of pairs.now.recording rank) place ≡ Some call.now }
+    ensures { TellsCompleted pairs.now.groups pairs.now.recording stands.now waves.now rank place call.now result }
+{
+    for index in 0..call.completed_count() {
+        match look_at_request(pairs, stands, waves, rank, place, index) {
+            Look::Passes => {}
+            look => return look,
+        }
+    }
+    Look::Passes
+}
+
+/// What is told of the call at the place: a call that starts a request needs nothing.
+fn look_at_call(
+    pairs: &Pairs,
+    stands: &[u32],
+    waves: &Waves,
+    rank: u16,
+    place: u32,
+    call: &StoredCall<'_>,
+) -> Look
+    requires waves { AreWaves pairs.now.groups pairs.now.recording stands.now waves.now IsNoException }
+    requires call { slice_get (calls_of pairs.now.recording rank) place ≡ Some call.now }
+    ensures { TellsCall pairs.now.groups pairs.now.recording stands.now waves.now rank place call.now result }
+{
+    if call.starts().is_some() {
+        return Look::Passes;
+    }
+    match look_at_operation(pairs, stands, waves, rank, place, call) {
+        Look::Passes => look_at_requests(pairs, stands, waves, rank, place, call),
+        look => look,
+    }
+}
+
+fn has_call(pairs: &Pairs, rank: u16, place: u32) -> bool
+    ensures value { result ≡ nat_lt place (length (calls_of pairs.now.recording rank)) }
+    ensures room { result ≡ true → place < most_calls }
+{
+    match pairs.accepted(rank) {
+        Some(count) => place < count,
+        None => false,
+    }
+}
+
+/// What is told of a rank where it stands.
+pub(crate) fn look_at(pairs: &Pairs, stands: &[u32], waves: &Waves, rank: u16) -> Look
+    requires waves { AreWaves pairs.now.groups pairs.now.recording stands.now waves.now IsNoException }
+    ensures tells { TellsRank pairs.now.groups pairs.now.recording stands.now waves.now rank result }
+    ensures room { result ≡ Look.Passes → slice_index stands.now rank < most_calls }
+{
+    let stand = stand_of(stands, rank);
+    if !has_call(pairs, rank, stand) {
+        return Look::Over;
+    }
+    match pairs.call(rank, stand) {
+        Some(call) if !call.is_finalize() => look_at_call(pairs, stands, waves, rank, stand, &call),
+        _ => Look::Over,
+    }
+}

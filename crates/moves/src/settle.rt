@@ -1,0 +1,129 @@
+//! Ranks that move on until none can, by looks at those alone that something woke.
+
+ghost use Rattle.std.specs.Prelude.{◌≡◌, ◌<◌, ◌≤◌, length, slice_index, IfSome};
+ghost use Rattle.pairing.specs.Limits.{most_calls};
+ghost use Rattle.pairing.specs.Partners.{partner_of};
+ghost use Rattle.moves.specs.Runs.{moved, StandsNoLater};
+ghost use Rattle.moves.specs.Waiting.{comm_list, woken_partner, woken_comm, IsKept, IsNobody, IsInHand, IsSettled, IsReaching, HasArrived, touches_of, to_do};
+
+use crate::look::{Look, look_at};
+use crate::need::stand_of;
+use crate::waiters::Waiters;
+use crate::waves::Waves;
+use pairing::envelope::Half;
+use pairing::pairs::Pairs;
+
+/// Moves the rank on by one.
+fn move_on(stands: &mut Vec<u32>, rank: u16)
+    requires is_rank { rank < length stands.old.items }
+    requires room { slice_index stands.old.items rank < most_calls }
+    ensures { stands.new.items ≡ moved stands.old.items rank }
+{
+    stands[usize::from(rank)] += 1;
+}
+
+/// Wakes the rank that waits for the call at the place as the partner of its own, if one does.
+fn wake_partner(pairs: &Pairs, waiters: &mut Waiters, rank: u16, place: u32, half: Half)
+    ensures { waiters.new ≡ woken_partner waiters.old (partner_of pairs.now.groups pairs.now.recording rank place half) }
+{
+    if let Some((other, there)) = pairs.partner(rank, place, half) {
+        waiters.wake_rank(other, there);
+    }
+}
+
+/// Wakes the ranks that wait for the waves of the communicator, if it is one.
+fn wake_members(waiters: &mut Waiters, comm: Option<u16>)
+    requires { IfSome comm (λ comm. comm_list (length waiters.old.awaited) comm < length waiters.old.lists) }
+    ensures { waiters.new ≡ woken_comm waiters.old comm }
+{
+    if let Some(comm) = comm {
+        waiters.wake_comm(comm);
+    }
+}
+
+/// Wakes all that wait for the call at the place, which its rank has just reached, and puts that rank onto
+/// the worklist.
+pub(crate) fn reach(
+    pairs: &Pairs,
+    stands: &[u32],
+    waves: &mut Waves,
+    waiters: &mut Waiters,
+    rank: u16,
+    place: u32,
+)
+    requires reaching { IsReaching pairs.now.groups pairs.now.recording stands.now waves.old waiters.old rank place }
+    requires room { 0 < waiters.old.spare }
+    ensures kept { IsKept pairs.now.groups pairs.now.recording stands.now waves.new waiters.new IsNobody 0 }
+    ensures counts { touches_of waves.old waiters.old ≤ touches_of waves.new waiters.new }
+{
+    wake_partner(pairs, waiters, rank, place, Half::Send);
+    wake_partner(pairs, waiters, rank, place, Half::Recv);
+    let complete = waves.reach(pairs, stands, rank, place);
+    wake_members(waiters, complete);
+    waiters.queue(rank);
+}
+
+/// Looks at the rank that was taken off the worklist: it moves on by one, or is linked where it waits, or is
+/// let go where it rests.
+fn settle_one(
+    pairs: &Pairs,
+    stands: &mut Vec<u32>,
+    waves: &mut Waves,
+    waiters: &mut Waiters,
+    rank: u16,
+)
+    requires in_hand { IsInHand pairs.now.groups pairs.now.recording stands.old.items waves.old waiters.old rank }
+    requires room { 0 < waiters.old.spare }
+    ensures kept { IsKept pairs.now.groups pairs.now.recording stands.new.items waves.new waiters.new IsNobody 0 }
+    ensures no_lower { StandsNoLater stands.old.items stands.new.items }
+    ensures counts { touches_of waves.old waiters.old ≤ touches_of waves.new waiters.new }
+    ensures falls { to_do pairs.now.recording stands.new.items waiters.new ≤ to_do pairs.now.recording stands.old.items waiters.old }
+{
+    match look_at(pairs, stands, waves, rank) {
+        Look::Over => {}
+        Look::Partner { place } => {
+            waiters.wait_for_partner(rank, place);
+        }
+        Look::Wave { comm } => {
+            waiters.wait_for_wave(rank, comm);
+        }
+        Look::Passes => {
+            move_on(stands, rank);
+            let place = stand_of(stands, rank);
+            reach(pairs, stands, waves, waiters, rank, place);
+        }
+    }
+}
+
+/// Looks at ranks until none is to be looked at. It takes no memory.
+pub(crate) fn settle(pairs: &Pairs, stands: &mut Vec<u32>, waves: &mut Waves, waiters: &mut Waiters)
+    requires { IsKept pairs.now.groups pairs.now.recording stands.old.items waves.old waiters.old IsNobody 0 }
+    ensures settled { IsSettled pairs.now.groups pairs.now.recording stands.new.items waves.new waiters.new }
+    ensures no_lower { StandsNoLater stands.old.items stands.new.items }
+    ensures counts { touches_of waves.old waiters.old ≤ touches_of waves.new waiters.new }
+{
+    while let Some(rank) = waiters.next() {
+        settle_one(pairs, stands, waves, waiters, rank);
+    }
+}
+
+/// Moves the ranks on once a rank's call has arrived at the place, at its list's end: only where the rank
+/// stands there is any rank woken.
+pub(crate) fn arrive(
+    pairs: &Pairs,
+    stands: &mut Vec<u32>,
+    waves: &mut Waves,
+    waiters: &mut Waiters,
+    rank: u16,
+    place: u32,
+)
+    requires { HasArrived pairs.now.groups pairs.now.recording stands.old.items waves.old waiters.old rank place }
+    ensures settled { IsSettled pairs.now.groups pairs.now.recording stands.new.items waves.new waiters.new }
+    ensures no_lower { StandsNoLater stands.old.items stands.new.items }
+    ensures counts { touches_of waves.old waiters.old ≤ touches_of waves.new waiters.new }
+{
+    if stand_of(stands, rank) == place {
+        reach(pairs, stands, waves, waiters, rank, place);
+        settle(pairs, stands, waves, waiters);
+    }
+}

@@ -1,0 +1,154 @@
+//! Waves: which of them are complete where the ranks stand.
+
+ghost use Rattle.std.specs.Prelude.{◌≡◌, ◌≢◌, ◌+◌, ◌<◌, ◌≤◌, ◌↔◌, ℕ, Some, None, true, false, length, replicate, slice_index, IfOk, IfSome};
+ghost use Rattle.mpigroup.specs.Groups.{group_of, world_rank_of};
+ghost use Rattle.pairing.specs.Limits.{most_calls};
+ghost use Rattle.pairing.specs.Waves.{wave_of};
+ghost use Rattle.moves.specs.Needs.{member_need, is_met};
+ghost use Rattle.moves.specs.Waiting.{complete_of, met_of, is_open, open_wave, AreWaves, IsNoException};
+
+use crate::need::{Need, is_met};
+use mpigroup::head::Head;
+use pairing::pairs::Pairs;
+use std::alloc::{AllocError, Global};
+
+/// How far the waves of each communicator are: how many are complete, the first ones, and how many members,
+/// from the first on, have reached their calls of the next one. So a look at a wave is a look at one number.
+/// `changes` counts how often one of these numbers was changed for a call that was reached.
+#[derive(Drop)]
+pub(crate) struct Waves {
+    pub complete: Vec<u32>,
+    pub met: Vec<u16>,
+    pub changes: u64,
+}
+
+/// Whether a member, by its rank in the group and its rank of the world, has reached its call of the wave.
+fn is_member_met(pairs: &Pairs, stands: &[u32], comm: u16, wave: u32, g: u16, member: u16) -> bool
+    requires { world_rank_of pairs.now.groups comm g ≡ Some member }
+    ensures { result ≡ is_met stands.now (member_need pairs.now.recording comm wave member) }
+{
+    match pairs.member(comm, wave, g) {
+        Some(place) => {
+            let need = Need::At {
+                rank: member,
+                place,
+            };
+            is_met(stands, &need)
+        }
+        None => false,
+    }
+}
+
+fn members(head: &Head, comm: u16) -> u16
+    ensures { result ≡ length (group_of head.now comm) }
+{
+    head.size(comm).unwrap_or(0)
+}
+
+/// The first member, from the one with that rank in the group on, that has not reached its call of the wave;
+/// the number of members where each has.
+fn next_missing(pairs: &Pairs, stands: &[u32], comm: u16, wave: u32, from: u16) -> u16
+    requires { from ≤ length (group_of pairs.now.groups comm) }
+    ensures least { from ≤ result }
+    ensures most { result ≤ length (group_of pairs.now.groups comm) }
+    ensures met { (g member : ℕ) → from ≤ g → g < result → world_rank_of pairs.now.groups comm g ≡ Some member → is_met stands.now (member_need pairs.now.recording comm wave member) ≡ true }
+    ensures missing { (member : ℕ) → world_rank_of pairs.now.groups comm result ≡ Some member → is_met stands.now (member_need pairs.now.recording comm wave member) ≡ false }
+{
+    let head = pairs.head();
+    let members = members(head, comm);
+    for g in from..members {
+        if let Some(member) = head.world_rank(comm, g) {
+            if !is_member_met(pairs, stands, comm, wave, g, member) {
+                return g;
+            }
+        }
+    }
+    members
+}
+
+impl Waves {
+    /// No wave of so many communicators is complete.
+    pub(crate) fn new(alloc: Global, comms: u16) -> Result<Waves, AllocError>
+        ensures complete { IfOk result (λ waves. waves.complete.items ≡ replicate comms 0) }
+        ensures met { IfOk result (λ waves. waves.met.items ≡ replicate comms 0) }
+        ensures changes { IfOk result (λ waves. waves.changes ≡ 0) }
+    {
+        Ok(Waves {
+            complete: vec![in alloc; 0u32; usize::from(comms)]?,
+            met: vec![in alloc; 0u16; usize::from(comms)]?,
+            changes: 0,
+        })
+    }
+
+    fn complete(&self, comm: u16) -> u32
+        ensures { result ≡ complete_of self.now comm }
+    {
+        self.complete.get(usize::from(comm)).copied().unwrap_or(0)
+    }
+
+    fn met(&self, comm: u16) -> u16
+        ensures { result ≡ met_of self.now comm }
+    {
+        self.met.get(usize::from(comm)).copied().unwrap_or(0)
+    }
+
+    fn is_open(&self, head: &Head, comm: u16, wave: u32) -> bool
+        ensures { result ≡ is_open head.now self.now comm wave }
+    {
+        self.complete(comm) <= wave && members(head, comm) > 0
+    }
+
+    /// Whether the wave is the next one of its communicator to be complete, and the rank the next member
+    /// whose call is wanting.
+    fn is_wanting(&self, head: &Head, comm: u16, wave: u32, rank: u16) -> bool
+        ensures { (result ≡ true) ↔ ((complete_of self.now comm ≡ wave) × (world_rank_of head.now comm (met_of self.now comm) ≡ Some rank)) }
+    {
+        self.complete(comm) == wave && head.world_rank(comm, self.met(comm)) == Some(rank)
+    }
+
+    /// The communicator of the wave that the call at the place joins, where that wave is not complete.
+    pub(crate) fn open_wave(&self, pairs: &Pairs, rank: u16, place: u32) -> Option<u16>
+        ensures { result ≡ open_wave pairs.now.groups pairs.now.recording self.now rank place }
+    {
+        match pairs.wave_of(rank, place) {
+            Some((comm, wave)) if self.is_open(pairs.head(), comm, wave) => Some(comm),
+            _ => None,
+        }
+    }
+
+    /// Notes that the rank has reached its call at the place, and answers the communicator whose next wave is
+    /// complete by it, if one is.
+    pub(crate) fn reach(
+        &mut self,
+        pairs: &Pairs,
+        stands: &[u32],
+        rank: u16,
+        place: u32,
+    ) -> Option<u16>
+        requires waves { AreWaves pairs.now.groups pairs.now.recording stands.now self.old (λ comm member. (member ≡ rank) × (wave_of pairs.now.recording rank place ≡ Some (comm, complete_of self.old comm))) }
+        requires is_there { place ≡ slice_index stands.now rank }
+        requires few { place ≤ most_calls }
+        ensures waves { AreWaves pairs.now.groups pairs.now.recording stands.now self.new IsNoException }
+        ensures others { (comm : ℕ) → result ≢ Some comm → complete_of self.new comm ≡ complete_of self.old comm }
+        ensures comm { IfSome result (λ comm. comm < length pairs.now.groups) }
+        ensures one { (comm : ℕ) → result ≡ Some comm → complete_of self.new comm ≡ complete_of self.old comm + 1 }
+        ensures counts { self.old.changes ≤ self.new.changes }
+        ensures changes { self.new.changes ≤ self.old.changes + 1 }
+        ensures none { wave_of pairs.now.recording rank place ≡ None → self.new.changes ≡ self.old.changes }
+    {
+        let (comm, wave) = pairs.wave_of(rank, place)?;
+        if !self.is_wanting(pairs.head(), comm, wave, rank) {
+            return None;
+        }
+        self.changes = self.changes.saturating_add(1);
+        let members = members(pairs.head(), comm);
+        let missing = next_missing(pairs, stands, comm, wave, self.met(comm) + 1);
+        if missing < members {
+            self.met[usize::from(comm)] = missing;
+            return None;
+        }
+        self.complete[usize::from(comm)] = wave + 1;
+        self.met[usize::from(comm)] = next_missing(pairs, stands, comm, wave + 1, 0);
+        Some(comm)
+    }
+}
