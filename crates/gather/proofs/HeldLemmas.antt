@@ -407,8 +407,8 @@ if_received : (P : Receipt → Type 0) (answer : Result Receipt Unsealed) → If
 if_received P (Ok receipt) is = is
 if_received P (Err fault) is = tt
 
-module _ {I : Type 0} (left : I → Option (List ℕ)) (failures : I → ℕ) (may_stop : ℕ → ℕ → Type 0) where
-  pub receipts_of_feeds : (sources : List (Source I)) (feeds : List Feed) (fed : List (Fed I)) → AreFedFrom left failures may_stop sources feeds fed → AreReceiptsOf (map feed_ring feeds) (map receipt_of fed)
+module _ {I : Type 0} (left : I → Option (List ℕ)) (may_stop : ℕ → ℕ → Type 0) where
+  pub receipts_of_feeds : (sources : List (Source I)) (feeds : List Feed) (fed : List Fed) → AreFedFrom left may_stop sources feeds fed → AreReceiptsOf (map feed_ring feeds) (map receipt_of fed)
   receipts_of_feeds [] [] [] are = tt
   receipts_of_feeds [] [] (x ∷ xs) are = absurd are
   receipts_of_feeds [] (f ∷ fs) xs are = absurd are
@@ -436,18 +436,18 @@ one_more_fed left may_stop first number source sources (Ok receipt) receipts own
   behind present,
 )
 
-pub fed_by_threads : {I : Type 0} (left : I → Option (List ℕ)) (failures : I → ℕ) (may_stop : ℕ → ℕ → Type 0) (first : ℕ) (sources : List (Source I)) (feeds : List Feed) (fed : List (Fed I)) → AreFedFrom left failures may_stop sources feeds fed → map rank_of feeds ≡ range_with_len first (length feeds) → missing_from first (map receipt_of fed) ≡ None → AreFedBy left may_stop first sources (items_held (map receipt_of fed))
+pub fed_by_threads : {I : Type 0} (left : I → Option (List ℕ)) (may_stop : ℕ → ℕ → Type 0) (first : ℕ) (sources : List (Source I)) (feeds : List Feed) (fed : List Fed) → AreFedFrom left may_stop sources feeds fed → map rank_of feeds ≡ range_with_len first (length feeds) → missing_from first (map receipt_of fed) ≡ None → AreFedBy left may_stop first sources (items_held (map receipt_of fed))
 unfolding items_held
-fed_by_threads left failures may_stop first [] [] [] are ranks present = tt
-fed_by_threads left failures may_stop first [] [] (x ∷ xs) are ranks present = absurd are
-fed_by_threads left failures may_stop first [] (f ∷ fs) xs are ranks present = absurd are
-fed_by_threads left failures may_stop first (s ∷ ss) [] xs are ranks present = absurd are
-fed_by_threads left failures may_stop first (s ∷ ss) (f ∷ fs) [] are ranks present = absurd are
-fed_by_threads left failures may_stop first (s ∷ ss) (f ∷ fs) (x ∷ xs) are ranks present =
+fed_by_threads left may_stop first [] [] [] are ranks present = tt
+fed_by_threads left may_stop first [] [] (x ∷ xs) are ranks present = absurd are
+fed_by_threads left may_stop first [] (f ∷ fs) xs are ranks present = absurd are
+fed_by_threads left may_stop first (s ∷ ss) [] xs are ranks present = absurd are
+fed_by_threads left may_stop first (s ∷ ss) (f ∷ fs) [] are ranks present = absurd are
+fed_by_threads left may_stop first (s ∷ ss) (f ∷ fs) (x ∷ xs) are ranks present =
     let number : rank_of f ≡ first = cc in
     let others : map rank_of fs ≡ range_with_len (first + 1) (length fs) = cc in
     one_more_fed left may_stop first (rank_of f) s ss x.receipt (map receipt_of xs) are.0.items number present
-    (λ behind. fed_by_threads left failures may_stop (first + 1) ss fs xs are.1 others behind)
+    (λ behind. fed_by_threads left may_stop (first + 1) ss fs xs are.1 others behind)
 
 -- the rank without a receipt is one of the ranks
 missing_below : (first : ℕ) (receipts : List (Option Receipt)) (rank : ℕ) → missing_from first receipts ≡ Some rank → rank < first + length receipts
@@ -469,18 +469,18 @@ feeds_of groups feeds ranks = sym (mapped_length rank_of feeds) ∙ ap (λ (ns :
 pub feeds_count : {I : Type 0} (groups : Groups) (feeds : List Feed) (sources : List (Source I)) → length sources ≡ ranks_of groups → map rank_of feeds ≡ range_with_len 0 (ranks_of groups) → length feeds ≡ length sources
 feeds_count groups feeds sources one ranks = feeds_of groups feeds ranks ∙ sym one
 
-module _ {I : Type 0} (left : I → Option (List ℕ)) (failures : I → ℕ) (may_stop : ℕ → ℕ → Type 0) (sources : List (Source I)) (feeds : List Feed) (fed : List (Fed I)) (collector now : Collector) (receipts : List (Option Receipt)) (groups : Groups) where
-  pub close_receipts : AreFedFrom left failures may_stop sources feeds fed → rings collector ≡ map feed_ring feeds → IsSameSession collector now → receipts ≡ map receipt_of fed → AreReceiptsOf (rings now) receipts
+module _ {I : Type 0} (left : I → Option (List ℕ)) (may_stop : ℕ → ℕ → Type 0) (sources : List (Source I)) (feeds : List Feed) (fed : List Fed) (collector now : Collector) (receipts : List (Option Receipt)) (groups : Groups) where
+  pub close_receipts : AreFedFrom left may_stop sources feeds fed → rings collector ≡ map feed_ring feeds → IsSameSession collector now → receipts ≡ map receipt_of fed → AreReceiptsOf (rings now) receipts
   close_receipts are rings_are same is =
-      rw is (subst (λ (names : List FeedName). AreReceiptsOf names (map receipt_of fed)) (sym (same.names ∙ rings_are)) (receipts_of_feeds left failures may_stop sources feeds fed are))
+      rw is (subst (λ (names : List FeedName). AreReceiptsOf names (map receipt_of fed)) (sym (same.names ∙ rings_are)) (receipts_of_feeds left may_stop sources feeds fed are))
 
-  all_fed : AreFedFrom left failures may_stop sources feeds fed → map rank_of feeds ≡ range_with_len 0 (ranks_of groups) → receipts ≡ map receipt_of fed → first_missing receipts ≡ None → AreFedBy left may_stop 0 sources (items_held receipts)
+  all_fed : AreFedFrom left may_stop sources feeds fed → map rank_of feeds ≡ range_with_len 0 (ranks_of groups) → receipts ≡ map receipt_of fed → first_missing receipts ≡ None → AreFedBy left may_stop 0 sources (items_held receipts)
   all_fed are ranks is present =
       let whole : map rank_of feeds ≡ range_with_len 0 (length feeds) = ranks ∙ ap (range_with_len 0) (sym (feeds_of groups feeds ranks)) in
       let every : first_missing (map receipt_of fed) ≡ None = ap first_missing (sym is) ∙ present in
-      rw is (fed_by_threads left failures may_stop 0 sources feeds fed are whole every)
+      rw is (fed_by_threads left may_stop 0 sources feeds fed are whole every)
 
-  outcome_of_feeds : (outcome : Outcome) → AreFedFrom left failures may_stop sources feeds fed → map rank_of feeds ≡ range_with_len 0 (ranks_of groups) → kept collector ≡ nothing_kept groups → IsSameSession collector now → receipts ≡ map receipt_of fed → (first_missing receipts ≡ None) × IsOutcomeOver (kept now).groups (traces_held receipts) outcome → IsOutcomeOfFeeds left may_stop sources groups outcome
+  outcome_of_feeds : (outcome : Outcome) → AreFedFrom left may_stop sources feeds fed → map rank_of feeds ≡ range_with_len 0 (ranks_of groups) → kept collector ≡ nothing_kept groups → IsSameSession collector now → receipts ≡ map receipt_of fed → (first_missing receipts ≡ None) × IsOutcomeOver (kept now).groups (traces_held receipts) outcome → IsOutcomeOfFeeds left may_stop sources groups outcome
   outcome_of_feeds outcome are ranks first same is answer =
       let head : (kept now).groups ≡ groups = same.groups ∙ ap (λ (k : Kept). k.groups) first in record {
         items = items_held receipts;
@@ -488,7 +488,7 @@ module _ {I : Type 0} (left : I → Option (List ℕ)) (failures : I → ℕ) (m
         over = subst (λ (ts : List Trace). IsOutcomeOver groups ts outcome) (held_traces receipts) (subst (λ (gs : Groups). IsOutcomeOver gs (traces_held receipts) outcome) head answer.1);
       }
 
-  refusal_of_feeds : (refusal : Refusal) → AreFedFrom left failures may_stop sources feeds fed → map rank_of feeds ≡ range_with_len 0 (ranks_of groups) → kept collector ≡ nothing_kept groups → IsSameSession collector now → receipts ≡ map receipt_of fed → (first_missing receipts ≡ None) × (refusal_of (kept now).groups (traces_held receipts) ≡ Some refusal) → IsRefusalOfFeeds left may_stop sources groups refusal
+  refusal_of_feeds : (refusal : Refusal) → AreFedFrom left may_stop sources feeds fed → map rank_of feeds ≡ range_with_len 0 (ranks_of groups) → kept collector ≡ nothing_kept groups → IsSameSession collector now → receipts ≡ map receipt_of fed → (first_missing receipts ≡ None) × (refusal_of (kept now).groups (traces_held receipts) ≡ Some refusal) → IsRefusalOfFeeds left may_stop sources groups refusal
   refusal_of_feeds refusal are ranks first same is answer =
       let head : (kept now).groups ≡ groups = same.groups ∙ ap (λ (k : Kept). k.groups) first in record {
         items = items_held receipts;
@@ -496,7 +496,7 @@ module _ {I : Type 0} (left : I → Option (List ℕ)) (failures : I → ℕ) (m
         over = ap (refusal_of groups) (sym (held_traces receipts)) ∙ ap (λ (gs : Groups). refusal_of gs (traces_held receipts)) (sym head) ∙ answer.1;
       }
 
-  fed_count : (ss : List (Source I)) (fs : List Feed) (xs : List (Fed I)) → AreFedFrom left failures may_stop ss fs xs → length xs ≡ length ss
+  fed_count : (ss : List (Source I)) (fs : List Feed) (xs : List Fed) → AreFedFrom left may_stop ss fs xs → length xs ≡ length ss
   fed_count [] [] [] so = refl
   fed_count [] [] (x ∷ xs) so = absurd so
   fed_count [] (f ∷ fs) xs so = absurd so
@@ -504,16 +504,16 @@ module _ {I : Type 0} (left : I → Option (List ℕ)) (failures : I → ℕ) (m
   fed_count (s ∷ ss) (f ∷ fs) [] so = absurd so
   fed_count (s ∷ ss) (f ∷ fs) (x ∷ xs) so = ap suc (fed_count ss fs xs so.1)
 
-  unproved_rank : (rank : ℕ) → AreFedFrom left failures may_stop sources feeds fed → length sources ≡ ranks_of groups → receipts ≡ map receipt_of fed → first_missing receipts ≡ Some rank → rank < ranks_of groups
+  unproved_rank : (rank : ℕ) → AreFedFrom left may_stop sources feeds fed → length sources ≡ ranks_of groups → receipts ≡ map receipt_of fed → first_missing receipts ≡ Some rank → rank < ranks_of groups
   unproved_rank rank are one is missing =
       let count : length receipts ≡ ranks_of groups = ap (λ (rs : List (Option Receipt)). length rs) is ∙ mapped_length receipt_of fed ∙ fed_count sources feeds fed are ∙ one in
       omega (arith, count, missing_rank receipts rank missing)
 
-  pub closes_well : (answer : Result Outcome CloseFault) → AreFedFrom left failures may_stop sources feeds fed → map rank_of feeds ≡ range_with_len 0 (ranks_of groups) → kept collector ≡ nothing_kept groups → IsSameSession collector now → receipts ≡ map receipt_of fed → Closes (kept now).groups receipts answer → IfOk answer (IsOutcomeOfFeeds left may_stop sources groups)
+  pub closes_well : (answer : Result Outcome CloseFault) → AreFedFrom left may_stop sources feeds fed → map rank_of feeds ≡ range_with_len 0 (ranks_of groups) → kept collector ≡ nothing_kept groups → IsSameSession collector now → receipts ≡ map receipt_of fed → Closes (kept now).groups receipts answer → IfOk answer (IsOutcomeOfFeeds left may_stop sources groups)
   closes_well (Ok outcome) are ranks first same is answer = outcome_of_feeds outcome are ranks first same is answer
   closes_well (Err fault) are ranks first same is answer = tt
 
-  pub closes_refusing : (answer : Result Outcome CloseFault) → AreFedFrom left failures may_stop sources feeds fed → length sources ≡ ranks_of groups → map rank_of feeds ≡ range_with_len 0 (ranks_of groups) → kept collector ≡ nothing_kept groups → IsSameSession collector now → receipts ≡ map receipt_of fed → Closes (kept now).groups receipts answer → IfErr answer (λ fault. RefusesFeeds left may_stop sources groups (of_close fault))
+  pub closes_refusing : (answer : Result Outcome CloseFault) → AreFedFrom left may_stop sources feeds fed → length sources ≡ ranks_of groups → map rank_of feeds ≡ range_with_len 0 (ranks_of groups) → kept collector ≡ nothing_kept groups → IsSameSession collector now → receipts ≡ map receipt_of fed → Closes (kept now).groups receipts answer → IfErr answer (λ fault. RefusesFeeds left may_stop sources groups (of_close fault))
   closes_refusing (Ok outcome) are one ranks first same is answer = tt
   closes_refusing (Err Memory) are one ranks first same is answer = tt
   closes_refusing (Err (Unproved rank)) are one ranks first same is answer = unproved_rank rank are one is answer

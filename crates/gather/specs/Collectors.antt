@@ -1,10 +1,16 @@
 -- What contracts see of a collector, and what a step with one rank's feed does.
-use Rattle.std.specs.Prelude.{◌≡◌, ◌≢◌, ℕ, true, List, map}
+use Rattle.std.specs.Prelude.{◌≡◌, ◌≢◌, ℕ, Bool, true, List, map}
+use Rattle.logbook.specs.Pages.{Book}
+use Rattle.moves.specs.Stands.{stands_of}
 use Rattle.rankfeed.specs.Rings.{FeedName, taker_ring}
 use Rattle.rankfeed.specs.declared.answer.Took.{Took}
 use Rattle.rankfeed.specs.declared.item.Item.{Item}
 use Rattle.gather.specs.Collected.{Kept, Enters}
+use Rattle.gather.specs.Publications.{ArePassed}
+use Rattle.gather.specs.Publishers.{published_by, book_published, is_watched, IsShown}
+use Rattle.gather.specs.Stands.{places_of}
 use Rattle.gather.specs.Takers.{received_in, left_in, Takes}
+use Rattle.gather.specs.declared.stands.Stands.{Stands}
 use Rattle.gather.specs.declared.ledger.Stepped.{Stepped}
 use Rattle.gather.specs.declared.collector.Collector.{Collector}
 
@@ -35,3 +41,41 @@ pub record ReceivesFrom (rank : ℕ) (old new : Collector) : Type 0 where
   pub groups : (kept new).groups ≡ (kept old).groups
   pub wanted : (kept old).wanted ≡ true → (kept new).wanted ≡ true
   pub others : (other : ℕ) → other ≢ rank → received_from new other ≡ received_from old other
+
+-- the publications of the session, in order
+abbrev pub published : Collector → List Stands
+published collector = published_by collector.publisher
+
+-- which session's list they are
+abbrev pub list_published : Collector → Book
+list_published collector = book_published collector.publisher
+
+-- there are watches to which publications are shown
+abbrev pub has_watches : Collector → Bool
+has_watches collector = is_watched collector.publisher
+
+-- where there are watches, they are shown the last publication
+abbrev pub ShowsTheLast : Collector → Type 0
+ShowsTheLast collector = IsShown collector.publisher
+
+-- the stands of now: where the ranks stand over what is kept
+abbrev pub stands_now : Collector → Stands
+stands_now collector = record { places = places_of (stands_of (kept collector).groups (kept collector).recording) }
+
+-- each publication is a state that some run over what is kept passes
+abbrev pub PublishesRuns : Collector → Type 0
+PublishesRuns collector = ArePassed (kept collector).groups (kept collector).recording (published collector)
+
+-- nothing was received, and no more is kept
+pub record TakesNothing (old new : Collector) : Type 0 where
+  pub names : rings new ≡ rings old
+  pub same : kept new ≡ kept old
+  pub received : (rank : ℕ) → received_from new rank ≡ received_from old rank
+  pub left : (rank : ℕ) → left_from new rank ≡ left_from old rank
+
+-- nothing was published, and watches are shown what they were shown
+pub record PublishesNothing (old new : Collector) : Type 0 where
+  pub list : list_published new ≡ list_published old
+  pub same : published new ≡ published old
+  pub watched : has_watches new ≡ has_watches old
+  pub shows : ShowsTheLast new

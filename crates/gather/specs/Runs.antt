@@ -32,7 +32,7 @@ abbrev pub receipt_in : {E : Type 0} → Result Receipt E → Option Receipt
 receipt_in (Ok receipt) = Some receipt
 receipt_in (Err fault) = None
 
-abbrev pub receipt_of : {I : Type 0} → Fed I → Option Receipt
+abbrev pub receipt_of : Fed → Option Receipt
 receipt_of fed = receipt_in fed.receipt
 
 -- the fault of a run whose session has no outcome

@@ -4,12 +4,19 @@ ghost use Rattle.std.specs.Prelude.{◌≡◌, ◌<◌, Some, length, map, slice
 ghost use Rattle.rankfeed.specs.Rings.{taker_ring, receipt_ring};
 ghost use Rattle.gather.specs.Takers.{Collects, Takes};
 ghost use Rattle.gather.specs.Receipts.{Meets};
+ghost use Rattle.gather.specs.Publications.{ArePassed};
+ghost use Rattle.gather.specs.Publishers.{published_by};
 
 use crate::ledger::Ledger;
 pub use crate::ledger::Stepped;
 use crate::outcome::{CloseFault, Outcome};
+pub use crate::publisher::PublishFault;
+use crate::publisher::Publisher;
+use crate::stands::Stands;
+use crate::watch::Told;
 use rankfeed::{Receipt, Taker, Took};
 use std::alloc::Global;
+use std::sync::Wait;
 
 /// The takers of all ranks' feeds, and what is kept of the records that came.
 ///
@@ -20,7 +27,9 @@ pub struct Collector {
     alloc: Global,
     takers: Vec<Taker>,
     ledger: Ledger,
+    publisher: Publisher,
     ghost collects: { Collects takers.items ledger },
+    ghost passed: { ArePassed ledger.groups ledger.recording (published_by publisher) },
 }
 
 /// Takes the item at the front of a rank's feed.
@@ -46,26 +55,40 @@ impl Collector {
     ghost use Rattle.gather.specs.Receipts.{AreAllOf, AreReceiptsOf, AllReceived, first_missing};
     ghost use Rattle.gather.specs.Closes.{Closes};
     ghost use Rattle.gather.specs.declared.outcome.CloseFault.TheVariants.{Memory};
+    ghost use Rattle.std.specs.Prelude.{IfOk, OnOk, OnErr, false};
     ghost use Rattle.gather.specs.Collectors.{rings, kept, received_from, left_from, Steps, ReceivesFrom};
+    ghost use Rattle.gather.specs.Collectors.{published, list_published, has_watches, stands_now, ShowsTheLast, PublishesRuns, TakesNothing, PublishesNothing};
+    ghost use Rattle.gather.specs.Publications.{Publishes};
+    ghost use Rattle.gather.specs.Watches.{told_by, list_told};
 
-    /// The collector of these takers, of which this much is kept.
-    pub(crate) fn of(alloc: Global, takers: Vec<Taker>, ledger: Ledger) -> Collector
-        requires { Collects takers.items ledger }
+    /// The collector of these takers, of which this much is kept, and of what publishes.
+    pub(crate) fn of(
+        alloc: Global,
+        takers: Vec<Taker>,
+        ledger: Ledger,
+        publisher: Publisher,
+    ) -> Collector
+        requires collects { Collects takers.items ledger }
+        requires passed { ArePassed ledger.groups ledger.recording (published_by publisher) }
         ensures rings { rings result ≡ map taker_ring takers.items }
         ensures received { received_from result ≡ received_in takers.items }
         ensures kept { kept result ≡ ledger }
+        ensures publisher { result.publisher ≡ publisher }
     {
         Collector {
             alloc,
             takers,
             ledger,
+            publisher,
         }
     }
 
-    /// Takes one item at most from the feed of a rank.
+    /// Takes one item at most from the feed of a rank. It publishes nothing.
     pub fn step(&mut self, rank: u16) -> Stepped
         requires { rank < length (rings self.old) }
-        ensures { Steps rank self.old result self.new }
+        ensures step { Steps rank self.old result self.new }
+        ensures publishes { PublishesNothing self.old self.new }
+        ensures passed { PublishesRuns self.new }
     {
         let took = take_from(&mut self.takers, rank);
         match took {
@@ -77,6 +100,36 @@ impl Collector {
                 Stepped::Ended
             }
         }
+    }
+
+    /// Publishes where the ranks stand now over what is kept, and tells of it. Where they stand as they did at
+    /// the last publication, that is told again. It may wait for a watch that is being read, and takes no
+    /// memory. Without watches the stands are recorded and told all the same.
+    pub fn publish(&mut self, wait: &impl Wait) -> Result<Told, PublishFault>
+        ensures published { OnOk result (Publishes (stands_now self.old) (published self.old) (published self.new)) }
+        ensures fault { OnErr result (published self.new ≡ published self.old) }
+        ensures told { IfOk result (λ told. told_by told ≡ published self.new) }
+        ensures list_told { IfOk result (λ told. list_told told ≡ list_published self.new) }
+        ensures list { list_published self.new ≡ list_published self.old }
+        ensures shows { ShowsTheLast self.new }
+        ensures watched { has_watches self.new ≡ has_watches self.old }
+        ensures passed { PublishesRuns self.new }
+        ensures nothing_taken { TakesNothing self.old self.new }
+    {
+        let mut stands = Stands::at_start();
+        stands.set(self.ledger.analyser());
+        self.publisher.publish(&stands, wait)
+    }
+
+    /// Shows nothing to watches from now on, and gives back what they read. It waits for those that are being
+    /// read. A collector that is closed without it leaves the last publication up for good.
+    pub fn withdraw(&mut self, wait: &impl Wait)
+        ensures list { list_published self.new ≡ list_published self.old }
+        ensures published { published self.new ≡ published self.old }
+        ensures watched { has_watches self.new ≡ false }
+        ensures nothing_taken { TakesNothing self.old self.new }
+    {
+        self.publisher.withdraw(wait);
     }
 
     /// Takes all that is left on a rank's feed, whose receipt was met.

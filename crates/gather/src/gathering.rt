@@ -25,11 +25,11 @@ fn in_scope<'s, E, I, G, R>(
     feeds: Vec<Feed>,
     collector: Collector,
     started: Vec<Started<I, G>>,
-    fed: Vec<Fed<I>>,
+    fed: Vec<Fed>,
     gate: &'s G,
     not_started: &'s NotStarted,
     stack_size: Option<usize>,
-) -> (Collector, Vec<Fed<I>>)
+) -> (Collector, Vec<Fed>)
 where
     I: Input + Drop + Send + 's,
     G: Gate + Sync,
@@ -43,7 +43,7 @@ where
     requires room_behind { vec_len sources ≤ vec_capacity fed }
     ensures same { IsSameSession collector result.0 }
     ensures len { vec_len result.1 ≡ vec_len sources }
-    ensures fed { AreFedFrom I.left I.failures (G.may_stop gate.now) sources.items feeds.items result.1.items }
+    ensures fed { AreFedFrom I.left (G.may_stop gate.now) sources.items feeds.items result.1.items }
 {
     let mut collector = collector;
     let all = Started::start_all(
@@ -70,11 +70,11 @@ pub(crate) fn in_threads<I, G, R>(
     feeds: Vec<Feed>,
     collector: Collector,
     started: Vec<Started<I, G>>,
-    fed: Vec<Fed<I>>,
+    fed: Vec<Fed>,
     gate: &G,
     not_started: &NotStarted,
     stack_size: Option<usize>,
-) -> (Collector, Vec<Fed<I>>)
+) -> (Collector, Vec<Fed>)
 where
     I: Input + Drop + Send,
     G: Gate + Sync,
@@ -88,12 +88,12 @@ where
     requires room_behind { vec_len sources ≤ vec_capacity fed }
     ensures same { IsSameSession collector result.0 }
     ensures len { vec_len result.1 ≡ vec_len sources }
-    ensures fed { AreFedFrom I.left I.failures (G.may_stop gate.now) sources.items feeds.items result.1.items }
+    ensures fed { AreFedFrom I.left (G.may_stop gate.now) sources.items feeds.items result.1.items }
 {
     thread::scope(
         thread::scope_env(),
         rt,
-        move |scope| -> (Collector, Vec<Fed<I>>)
+        move |scope| -> (Collector, Vec<Fed>)
             requires one_a_source { vec_len feeds ≡ vec_len sources }
             requires fresh { AreFresh sources.items }
             requires nothing_put { All (λ feed. sent_by feed ≡ []) feeds.items }
@@ -103,7 +103,7 @@ where
             requires room_behind { vec_len sources ≤ vec_capacity fed }
             ensures same { IsSameSession collector result.0 }
             ensures len { vec_len result.1 ≡ vec_len sources }
-            ensures fed { AreFedFrom I.left I.failures (G.may_stop gate.entry.now) sources.items feeds.items result.1.items }
+            ensures fed { AreFedFrom I.left (G.may_stop gate.entry.now) sources.items feeds.items result.1.items }
         {
             in_scope(
                 scope,

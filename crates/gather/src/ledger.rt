@@ -139,6 +139,14 @@ impl Ledger {
         None
     }
 
+    /// The analyser of the records that were accepted so far.
+    pub(crate) fn analyser(&self) -> &Analyser
+        ensures groups { result.now.groups ≡ self.now.groups }
+        ensures recording { result.now.recording ≡ self.now.recording }
+    {
+        &self.analyser
+    }
+
     /// The analyser of the records that were accepted.
     pub fn into_analyser(self) -> Analyser
         ensures groups { result.groups ≡ self.groups }

@@ -19,12 +19,15 @@
 //!   of each rank the records received before its first fault, and that fault is kept.
 //! - `Collector::close` takes what is left, by a receipt for each rank, and answers what the traces that the
 //!   receipts hold give, whatever steps came before.
+//! - `Collector::publish` publishes where the ranks stand over what is kept so far, and `watch::Watch` reads it: its
+//!   answers never wait and never fall, and each is a stand that some run over what is kept passes.
 //! - `feed::feed` puts the records of one source on a rank's feed and ends it; `threads` does so with a thread
 //!   for each source.
 //!
 //! The definitions stand in `specs/`: `Answers` says which refusal or verdict some traces have, `Told`
 //! what an answer says where the inputs tell their bytes, `Collected` and `Closes` what a session keeps and
-//! answers, `Fed` what is put on a feed, `Runs` what a run answers by what was put.
+//! answers, `Fed` what is put on a feed, `Runs` what a run answers by what was put, `Publications` and
+//! `Watches` what is published and read.
 //!
 //! ```text
 //! let head = Head::read(b"ranks 1\n")?;
@@ -33,6 +36,8 @@
 //! ```
 #![tactic(auto)]
 
+mod append;
+mod board;
 pub mod collector;
 pub mod fault;
 pub mod feed;
@@ -40,9 +45,13 @@ pub mod gate;
 mod gathering;
 pub mod ledger;
 pub mod outcome;
+mod publication;
+pub mod publisher;
 pub mod run;
 pub mod session;
+pub mod stands;
 mod sweep;
 #[cfg(test)]
 mod tests;
 pub mod threads;
+pub mod watch;

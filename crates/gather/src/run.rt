@@ -28,10 +28,7 @@ use std::thread::Threads;
 use waitgraph::report::{Format, ReportFault, write_report};
 
 /// The receipts that came of the sources, in their order. `receipts` has room for them.
-fn receipts_of<I: Input + Drop>(
-    fed: Vec<Fed<I>>,
-    receipts: Vec<Option<Receipt>>,
-) -> Vec<Option<Receipt>>
+fn receipts_of(fed: Vec<Fed>, receipts: Vec<Option<Receipt>>) -> Vec<Option<Receipt>>
     requires nothing { receipts.items ≡ [] }
     requires room { vec_len fed ≤ vec_capacity receipts }
     ensures { result.items ≡ map receipt_of fed.items }
@@ -68,7 +65,7 @@ where
     ensures stopped { IfErr result (λ fault. StopsWhereAllowed (G.may_stop gate.now) (of_close fault)) }
 {
     let ranks = sources.len();
-    let Ok((feeds, collector)) = Session::open(alloc, head, capacity) else {
+    let Ok((feeds, collector, _watches)) = Session::open(alloc, head, capacity, 0, rt) else {
         return Err(CloseFault::Memory);
     };
     let Ok(started) = Vec::with_capacity(alloc, ranks) else {

@@ -9,17 +9,16 @@ ghost use Rattle.gather.specs.Takers.{rank_of, IsFreshFeed};
 
 use crate::collector::Collector;
 use crate::ledger::Ledger;
+pub use crate::publisher::OpenFault;
+use crate::publisher::Publisher;
+use crate::watch::Watch;
 use mpigroup::head::Head;
 use rankfeed::{Feed, Taker};
 use std::alloc::{AllocError, Global};
-use thiserror::Error;
+use std::sync::Wait;
 
-/// Why a session wasn't opened.
-#[derive(Clone, Copy, Debug, PartialEq, Eq, Error)]
-pub enum OpenFault {
-    #[error("memory")]
-    Memory,
-}
+/// The most watches of a session.
+pub const MOST_WATCHES: u16 = 64;
 
 /// Feeds for so many ranks, and their takers.
 fn open_feeds(
@@ -47,28 +46,46 @@ fn open_feeds(
 pub struct Session;
 
 impl Session {
-    ghost use Rattle.gather.specs.Collectors.{rings, kept, received_from};
+    ghost use Rattle.std.specs.Prelude.{◌≤◌, ◌≢◌, ◌∷◌, Err, vec_len};
+    ghost use Rattle.gather.specs.Collectors.{rings, kept, received_from, published, list_published, PublishesRuns};
+    ghost use Rattle.gather.specs.Publications.{at_start};
+    ghost use Rattle.gather.specs.Watches.{IsWatchOf};
+    ghost use Rattle.gather.specs.declared.publisher.OpenFault.TheVariants.{Watch as WatchFault};
+    ghost use Rattle.gather.specs.declared.session.TheConstants.{MOST_WATCHES};
 
-    /// A feed with room for `capacity` records for each rank of the head, in rank order, and the collector of
-    /// their records. Nothing was sent or received, and nothing is kept.
+    /// A feed with room for `capacity` records for each rank of the head, in rank order, the collector of their
+    /// records, and so many watches. Nothing was sent or received, and nothing is kept. The stands 0 everywhere
+    /// are the first publication.
     pub fn open(
         alloc: Global,
         head: Head,
         capacity: u16,
-    ) -> Result<(Vec<Feed>, Collector), OpenFault>
-        requires { 0 < capacity }
+        watches: u16,
+        wait: &impl Wait,
+    ) -> Result<(Vec<Feed>, Collector, Vec<Watch>), OpenFault>
+        requires room { 0 < capacity }
+        requires few_watches { watches ≤ MOST_WATCHES }
         ensures rings { IfOk result (λ ends. rings ends.1 ≡ map feed_ring ends.0.items) }
         ensures ranks { IfOk result (λ ends. map rank_of ends.0.items ≡ range_with_len 0 (ranks_of head)) }
         ensures feeds { IfOk result (λ ends. All (IsFreshFeed capacity) ends.0.items) }
         ensures received { IfOk result (λ ends. (rank : ℕ) → received_from ends.1 rank ≡ []) }
         ensures kept { IfOk result (λ ends. kept ends.1 ≡ nothing_kept head) }
+        ensures published { IfOk result (λ ends. published ends.1 ≡ at_start ∷ []) }
+        ensures passed { IfOk result (λ ends. PublishesRuns ends.1) }
+        ensures watches { IfOk result (λ ends. vec_len ends.2 ≡ watches) }
+        ensures watch { IfOk result (λ ends. All (IsWatchOf (ranks_of head) (list_published ends.1) (published ends.1)) ends.2.items) }
+        ensures unwatched { watches ≡ 0 → result ≢ Err WatchFault }
     {
-        let Ok((feeds, takers)) = open_feeds(alloc, head.ranks(), capacity) else {
+        let ranks = head.ranks();
+        let Ok((feeds, takers)) = open_feeds(alloc, ranks, capacity) else {
             return Err(OpenFault::Memory);
         };
         let Ok(ledger) = Ledger::new(alloc, head) else {
             return Err(OpenFault::Memory);
         };
-        Ok((feeds, Collector::of(alloc, takers, ledger)))
+        match Publisher::open(alloc, ranks, watches, wait) {
+            Ok((publisher, all)) => Ok((feeds, Collector::of(alloc, takers, ledger, publisher), all)),
+            Err(fault) => Err(fault),
+        }
     }
 }

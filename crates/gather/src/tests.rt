@@ -46,7 +46,7 @@ const HEAD_TO_HEAD: [Line; 6] = [
 ];
 
 /// Puts a record on a rank's feed, where there is room.
-fn put_at(feeds: &mut Vec<Feed>, rank: u16, record: Record) -> bool
+pub(crate) fn put_at(feeds: &mut Vec<Feed>, rank: u16, record: Record) -> bool
     requires { rank < length feeds.old.items }
     ensures { map feed_ring feeds.new.items ≡ map feed_ring feeds.old.items }
 {
@@ -75,19 +75,20 @@ fn deal(
     Ok(took)
 }
 
-/// Ends a feed: sealed behind its Finalize, else torn with the fault.
-fn end_feed(feed: Feed, fault: SourceFault) -> Option<Receipt>
+/// Ends a feed: sealed behind its Finalize, else torn with the fault. The receipt may be lost.
+fn end_feed(feed: Feed, fault: SourceFault, is_lost: bool) -> Option<Receipt>
     ensures { IfSome result (λ receipt. receipt_ring receipt ≡ feed_ring feed) }
 {
-    if feed.is_done() {
+    let receipt = if feed.is_done() {
         feed.seal().ok()
     } else {
         feed.tear(fault).ok()
-    }
+    };
+    if is_lost { None } else { receipt }
 }
 
 /// Ends all feeds, and loses the receipt of one rank.
-fn end_feeds(
+pub(crate) fn end_feeds(
     alloc: Global,
     feeds: Vec<Feed>,
     fault: SourceFault,
@@ -98,8 +99,7 @@ fn end_feeds(
     let mut receipts = Vec::new(alloc);
     for feed in feeds {
         let is_lost = lost == Some(feed.rank());
-        let receipt = end_feed(feed, fault);
-        receipts.push(if is_lost { None } else { receipt })?;
+        receipts.push(end_feed(feed, fault, is_lost))?;
     }
     Ok(receipts)
 }
@@ -111,9 +111,10 @@ fn answer(
     order: &[Line],
     fault: SourceFault,
     lost: Option<u16>,
+    wait: &impl Wait,
 ) -> Result<(usize, Result<Verdict, CloseFault>), Fail> {
     let head = Head::read(alloc, b"ranks 2\n")?;
-    let (mut feeds, mut collector) = Session::open(alloc, head, 1)?;
+    let (mut feeds, mut collector, _watches) = Session::open(alloc, head, 1, 0, wait)?;
     let took = deal(&mut feeds, &mut collector, order)?;
     let receipts = end_feeds(alloc, feeds, fault, lost)?;
     match collector.close(receipts) {
@@ -138,7 +139,7 @@ fn ranks_by_turns(rt: HostRuntime) -> Result<(), Fail> {
         order.push(one_of_a_thousand(0, place))?;
         order.push(one_of_a_thousand(1, place))?;
     }
-    let answer = answer(rt.alloc(), &order, SourceFault::NoFinalize, None)?;
+    let answer = answer(rt.alloc(), &order, SourceFault::NoFinalize, None, &rt)?;
     assert_eq!(rt; answer, (2002, Ok(Verdict::Free)));
     Ok(())
 }
@@ -153,7 +154,7 @@ fn one_rank_wholly_first(rt: HostRuntime) -> Result<(), Fail> {
         for place in 0..=1000u32 {
             order.push(one_of_a_thousand(1 - first, place))?;
         }
-        let answer = answer(rt.alloc(), &order, SourceFault::NoFinalize, None)?;
+        let answer = answer(rt.alloc(), &order, SourceFault::NoFinalize, None, &rt)?;
         assert_eq!(rt; answer, (2002, Ok(Verdict::Free)));
     }
     Ok(())
@@ -182,7 +183,7 @@ fn what_a_close_answers(rt: HostRuntime) -> Result<(), Fail> {
         (&[(0, b"finalize\n")], not_started, None, (1, refused(1, 0, RankFault::OfSource(not_started)))),
     ];
     for (order, fault, lost, expected) in rows {
-        assert_eq!(rt; answer(rt.alloc(), order, fault, lost)?, expected);
+        assert_eq!(rt; answer(rt.alloc(), order, fault, lost, &rt)?, expected);
     }
     Ok(())
 }
@@ -199,7 +200,7 @@ fn put_all(feed: Feed, lines: &[Line], wait: &impl Wait) -> Option<Receipt>
             }
         }
     }
-    end_feed(feed, SourceFault::NoFinalize)
+    end_feed(feed, SourceFault::NoFinalize, false)
 }
 
 /// Puts two ranks' records, each in a thread of its own.
@@ -264,7 +265,7 @@ fn by_three_threads<R: Threads + Wait + Sync>(
 fn two_threads_put_and_a_third_steps(rt: HostRuntime) -> Result<(), Fail> {
     let head = Head::read(rt.alloc(), b"ranks 2\n")?;
     let receipts = Vec::with_capacity(rt.alloc(), 2)?;
-    let (mut feeds, collector) = Session::open(rt.alloc(), head, 1)?;
+    let (mut feeds, collector, _watches) = Session::open(rt.alloc(), head, 1, 0, &rt)?;
     if let (Some(second), Some(first), true) = (feeds.pop(), feeds.pop(), feeds.is_empty()) {
         assert!(rt; by_three_threads(first, second, collector, receipts, &rt));
     }

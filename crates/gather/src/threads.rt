@@ -44,10 +44,10 @@ fn stack_of(size: Option<usize>) -> Stack {
     }
 }
 
-/// What came of the feeding of one rank: its source as it is left, and the receipt of its feed.
+/// What came of the feeding of one rank: the receipt of its feed. The source was let go, so that a pipe which
+/// isn't read on is closed.
 #[derive(Drop)]
-pub struct Fed<I> {
-    pub source: Source<I>,
+pub struct Fed {
     pub receipt: Result<Receipt, Unsealed>,
 }
 
@@ -59,29 +59,29 @@ pub struct Feeding<I, G> {
     gate: Snapshot<G>,
 }
 
-impl<I: Input, G: Gate> Promise<Fed<I>> for Feeding<I, G> {
+impl<I: Input, G: Gate> Promise<Fed> for Feeding<I, G> {
     ghost use Rattle.gather.specs.Threads.{IsFedFrom};
 
-    ghost kept_by = { λ promise fed. IsFedFrom I.left I.failures (G.may_stop promise.gate.value) promise.source.value promise.feed.value fed };
+    ghost kept_by = { λ promise fed. IsFedFrom I.left (G.may_stop promise.gate.value) promise.source.value promise.feed.value fed };
 }
 
-impl<I: Input> Fed<I> {
+impl Fed {
     ghost use Rattle.std.specs.Prelude.{◌≡◌, [], None};
     ghost use Rattle.mpicall.specs.Source.{ended};
     ghost use Rattle.rankfeed.specs.Rings.{sent_by};
     ghost use Rattle.gather.specs.Threads.{IsFedFrom};
 
     /// Feeds a source to its end, or tears its feed where its thread didn't start.
-    fn of<G: Gate>(
+    fn of<I: Input + Drop, G: Gate>(
         source: Source<I>,
         feed_end: Feed,
         gate: &G,
         wait: &impl Wait,
         not_started: &NotStarted,
-    ) -> Fed<I>
+    ) -> Fed
         requires fresh { ended source ≡ None }
         requires nothing_put { sent_by feed_end ≡ [] }
-        ensures { IsFedFrom I.left I.failures (G.may_stop gate.now) source feed_end result }
+        ensures { IsFedFrom I.left (G.may_stop gate.now) source feed_end result }
     {
         let mut source = source;
         let rank = feed_end.rank();
@@ -90,15 +90,15 @@ impl<I: Input> Fed<I> {
         } else {
             feed(rank, &mut source, feed_end, gate, wait)
         };
-        Fed { source, receipt }
+        Fed { receipt }
     }
 }
 
 /// A feeding thread that was started, or what came of it where none could be.
 #[derive(Drop)]
 pub enum Started<I: Input, G: Gate> {
-    Running(PromisedHandle<Fed<I>, Feeding<I, G>>),
-    NotStarted(Fed<I>),
+    Running(PromisedHandle<Fed, Feeding<I, G>>),
+    NotStarted(Fed),
 }
 
 impl<I: Input, G: Gate> Started<I, G> {
@@ -125,7 +125,7 @@ impl<I: Input, G: Gate> Started<I, G> {
         G: Sync,
         requires fresh { ended source ≡ None }
         requires nothing_put { sent_by feed_end ≡ [] }
-        ensures { Promises I.left I.failures G.may_stop source feed_end gate.now result }
+        ensures { Promises I.left G.may_stop source feed_end gate.now result }
     {
         let rank = feed_end.rank();
         let promise = Feeding {
@@ -148,9 +148,9 @@ impl<I: Input, G: Gate> Started<I, G> {
     }
 
     /// Waits until the thread ended, and tells what came of it.
-    pub fn finish(self, rt: &impl Threads) -> Fed<I>
+    pub fn finish(self, rt: &impl Threads) -> Fed
         ensures { (source : SourceValue I) (feed : FeedValue) (gate : G) →
-            Promises I.left I.failures G.may_stop source feed gate self → IsFedFrom I.left I.failures (G.may_stop gate) source feed result }
+            Promises I.left G.may_stop source feed gate self → IsFedFrom I.left (G.may_stop gate) source feed result }
     {
         match self {
             Started::Running(handle) => handle.join(rt),
@@ -179,7 +179,7 @@ impl<I: Input, G: Gate> Started<I, G> {
         requires none_started { started.items ≡ [] }
         requires room { vec_len sources ≤ vec_capacity started }
         ensures len { vec_len result ≡ vec_len sources }
-        ensures promises { AllPromise I.left I.failures G.may_stop sources.items feeds.items gate.now result.items }
+        ensures promises { AllPromise I.left G.may_stop sources.items feeds.items gate.now result.items }
     {
         let mut started = started;
         let mut feeds = feeds.into_iter();
@@ -200,17 +200,17 @@ impl<I: Input, G: Gate> Started<I, G> {
     /// Waits until all threads ended, and tells what came of each. `fed` has room for them.
     pub fn finish_all(
         started: Vec<Started<I, G>>,
-        fed: Vec<Fed<I>>,
+        fed: Vec<Fed>,
         rt: &impl Threads,
-    ) -> Vec<Fed<I>>
+    ) -> Vec<Fed>
     where
         I: Drop,
         requires nothing { fed.items ≡ [] }
         requires room { vec_len started ≤ vec_capacity fed }
         ensures len { vec_len result ≡ vec_len started }
         ensures fed { (sources : List (SourceValue I)) (feeds : List FeedValue) (gate : G) →
-            AllPromise I.left I.failures G.may_stop sources feeds gate started.items →
-            AreFedFrom I.left I.failures (G.may_stop gate) sources feeds result.items }
+            AllPromise I.left G.may_stop sources feeds gate started.items →
+            AreFedFrom I.left (G.may_stop gate) sources feeds result.items }
     {
         let mut fed = fed;
         for thread in started {

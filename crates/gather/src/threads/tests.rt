@@ -23,10 +23,10 @@ fn start_and_finish<'s, E, I, G, R>(
     sources: Vec<Source<I>>,
     feeds: Vec<Feed>,
     started: Vec<Started<I, G>>,
-    fed: Vec<Fed<I>>,
+    fed: Vec<Fed>,
     gate: &'s G,
     not_started: &'s NotStarted,
-) -> Vec<Fed<I>>
+) -> Vec<Fed>
 where
     I: Input + Drop + Send + 's,
     G: Gate + Sync,
@@ -49,10 +49,10 @@ fn in_threads<I, G, R>(
     sources: Vec<Source<I>>,
     feeds: Vec<Feed>,
     started: Vec<Started<I, G>>,
-    fed: Vec<Fed<I>>,
+    fed: Vec<Fed>,
     gate: &G,
     not_started: &NotStarted,
-) -> Vec<Fed<I>>
+) -> Vec<Fed>
 where
     I: Input + Drop + Send,
     G: Gate + Sync,
@@ -68,7 +68,7 @@ where
     thread::scope(
         thread::scope_env(),
         rt,
-        move |scope| -> Vec<Fed<I>>
+        move |scope| -> Vec<Fed>
             requires one_a_source { vec_len feeds ≡ vec_len sources }
             requires fresh { AreFresh sources.items }
             requires nothing_put { All (λ feed. sent_by feed ≡ []) feeds.items }

@@ -13,17 +13,17 @@ in_threads-collector-requires-clause-nothing_put g c κs within = none_put c.arg
 
 pub close-requires : goal.close-requires
 close-requires g c =
-    close_receipts g.I.Input.left g.I.Input.failures (g.G.Gate.may_stop c.args.gate.now) c.args.sources.items c.in-Ok.feeds.items c.in_threads-collector.result.1.items c.in-Ok.collector c.in_threads-collector.result.0 c.receipts_of.result.items c.args.head
+    close_receipts g.I.Input.left (g.G.Gate.may_stop c.args.gate.now) c.args.sources.items c.in-Ok.feeds.items c.in_threads-collector.result.1.items c.in-Ok.collector c.in_threads-collector.result.0 c.receipts_of.result.items c.args.head
     c.in_threads-collector.ensures.fed c.in-Ok.ensures.rings c.in_threads-collector.ensures.same c.receipts_of.ensures
 
 pub returns-clause-ok : goal.returns-clause-ok
 returns-clause-ok g c =
-    closes_well g.I.Input.left g.I.Input.failures (g.G.Gate.may_stop c.args.gate.now) c.args.sources.items c.in-Ok.feeds.items c.in_threads-collector.result.1.items c.in-Ok.collector c.in_threads-collector.result.0 c.receipts_of.result.items c.args.head c.close.result
+    closes_well g.I.Input.left (g.G.Gate.may_stop c.args.gate.now) c.args.sources.items c.in-Ok.feeds.items c.in_threads-collector.result.1.items c.in-Ok.collector c.in_threads-collector.result.0 c.receipts_of.result.items c.args.head c.close.result
     c.in_threads-collector.ensures.fed c.in-Ok.ensures.ranks c.in-Ok.ensures.kept c.in_threads-collector.ensures.same c.receipts_of.ensures c.close.ensures.answer
 
 pub returns-clause-fault : goal.returns-clause-fault
 returns-clause-fault g c =
-    closes_refusing g.I.Input.left g.I.Input.failures (g.G.Gate.may_stop c.args.gate.now) c.args.sources.items c.in-Ok.feeds.items c.in_threads-collector.result.1.items c.in-Ok.collector c.in_threads-collector.result.0 c.receipts_of.result.items c.args.head c.close.result
+    closes_refusing g.I.Input.left (g.G.Gate.may_stop c.args.gate.now) c.args.sources.items c.in-Ok.feeds.items c.in_threads-collector.result.1.items c.in-Ok.collector c.in_threads-collector.result.0 c.receipts_of.result.items c.args.head c.close.result
     c.in_threads-collector.ensures.fed c.requires.one_a_rank c.in-Ok.ensures.ranks c.in-Ok.ensures.kept c.in_threads-collector.ensures.same c.receipts_of.ensures c.close.ensures.answer
 
 pub returns-clause-stopped : goal.returns-clause-stopped

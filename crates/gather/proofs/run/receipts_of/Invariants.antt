@@ -5,9 +5,9 @@ use Rattle.gather.specs.Runs.{receipt_of}
 use Rattle.gather.proofs.run.receipts_of.Given as goal
 
 abbrev pub invariant-loop-one : goal.invariant-loop-one
-invariant-loop-one g l = record {
-  can_next : (goal.iterator-loop-one g).can_next l.one-iterator;
-  is_finite : (goal.iterator-loop-one g).is_finite l.one-iterator;
+invariant-loop-one l = record {
+  can_next : (goal.iterator-loop-one).can_next l.one-iterator;
+  is_finite : (goal.iterator-loop-one).is_finite l.one-iterator;
   count : vec_len l.receipts + into_iter_len l.one-iterator ≡ vec_len l.fn.fed;
   rest_len : into_iter_len l.one-iterator ≡ length (into_iter_items l.one-iterator);
   room : vec_len l.fn.fed ≤ vec_capacity l.receipts;

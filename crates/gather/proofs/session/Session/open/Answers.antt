@@ -1,10 +1,15 @@
 use Rattle.std.proofs.Common.{ℕ, List, ap, ◌∙◌}
 use Rattle.rankfeed.specs.declared.item.Item.{Item}
+use Rattle.gather.specs.Publishers.{published_by}
 use Rattle.gather.proofs.OpenLemmas.{opened, nothing_received}
+use Rattle.gather.proofs.PassedLemmas.{first_passed}
 use Rattle.gather.proofs.session.Session.open.Goals as goal
 
-pub of-requires : goal.of-requires
-of-requires c = opened c.args.head c.in-Ok.feeds.items c.in-Ok.takers.items c.in-Ok-new.ledger c.ranks.result c.in-Ok.ensures.names c.in-Ok.ensures.ranks c.ranks.ensures.value c.in-Ok.ensures.takers c.in-Ok-new.ensures
+pub of-requires-clause-collects : goal.of-requires-clause-collects
+of-requires-clause-collects g c = opened c.args.head c.in-Ok.feeds.items c.in-Ok.takers.items c.in-Ok-new.ledger c.ranks-ranks.result c.in-Ok.ensures.names c.in-Ok.ensures.ranks c.ranks-ranks.ensures.value c.in-Ok.ensures.takers c.in-Ok-new.ensures
 
-pub returns-clause-received : goal.returns-clause-received
-returns-clause-received c rank = ap (λ (f : ℕ → List Item). f rank) c.of.ensures.received ∙ nothing_received c.in-Ok.takers.items rank c.in-Ok.ensures.takers
+pub of-requires-clause-passed : goal.of-requires-clause-passed
+of-requires-clause-passed g c = first_passed c.in-Ok-new.ledger.groups c.in-Ok-new.ledger.recording (published_by c.in-Ok-open.publisher) c.in-Ok-open.ensures.published
+
+pub returns-in-Ok-open-clause-received : goal.returns-in-Ok-open-clause-received
+returns-in-Ok-open-clause-received g c rank = ap (λ (f : ℕ → List Item). f rank) c.of.ensures.received ∙ nothing_received c.in-Ok.takers.items rank c.in-Ok.ensures.takers
