@@ -42,7 +42,7 @@ module _ {O : Type 0} (written : O → Option (List ℕ)) (failures : O → ℕ)
   text_output told old new text status.Fault ends = inr ends
 
   pub asked_output : (told : List ℕ → Option (List ℕ)) (old new : O) (asked : Words) (ended : Status) → EndsBy written failures told old new asked ended → EndsOutput written failures old new ended
-  asked_output told old new (Check head files format) ended ends = check_output told old new _ _ format ended ends
+  asked_output told old new (Check head files format capacity) ended ends = check_output told old new _ _ format ended ends
   asked_output told old new (Lint file) ended ends = lint_output told old new _ ended ends
   asked_output told old new (Said text false) ended ends = text_output told old new _ ended ends
   asked_output told old new (Said text true) ended ends = subst (λ (s : Status). EndsOutput written failures old new s) (sym ends.0) ends.1

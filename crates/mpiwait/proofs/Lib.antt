@@ -1,3 +1,4 @@
+pub mod CapacityLemmas
 pub mod AskedLemmas
 pub mod FrontLemmas
 pub mod TextLemmas

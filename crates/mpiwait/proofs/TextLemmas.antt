@@ -1,13 +1,15 @@
 -- How the answers over a check's sources follow for the texts of its files.
-use Rattle.std.proofs.Common.{◌≡◌, ℕ, Option, Some, None, List, [], ◌∷◌, map, option_map, ap, ◌∙◌, sym, refl, subst, arith, Result, Ok, Err, IfSome, take, Bool, true, false, if◌then◌else◌}
+use Rattle.std.proofs.Common.{◌≡◌, ◌<◌, ℕ, length, Option, Some, None, List, [], ◌∷◌, map, option_map, ap, ◌∙◌, sym, refl, subst, arith, Result, Ok, Err, IfSome, take, Bool, true, false, if◌then◌else◌}
+use Rattle.std.proofs.lemmas.List.{length-map}
 use Rattle.mpicall.specs.Trace.{Trace, trace_of}
 use Rattle.mpicall.specs.declared.source.Source.{Source}
 use Rattle.moves.specs.declared.verdict.Verdict.{Verdict}
 use Rattle.waitgraph.specs.declared.report.Format.{Format}
 use Rattle.mpigroup.proofs.FrontLemmas.{read_head-front}
-use Rattle.mpigroup.specs.Groups.{Groups}
+use Rattle.mpigroup.specs.Groups.{Groups, ranks_of}
 use Rattle.mpigroup.specs.HeadText.{read_head}
 use Rattle.mpigroup.specs.declared.fault.HeadFault.{HeadFault}
+use Rattle.gather.specs.Runs.{RefusesFeeds}
 use Rattle.gather.specs.Told.{RefusesOver, Tells}
 use Rattle.gather.specs.Written.{IsReportOver}
 use Rattle.gather.specs.declared.fault.Refusal.{Refusal}
@@ -16,7 +18,7 @@ use Rattle.gather.specs.declared.fault.RunFault.TheVariants as run
 use Rattle.mpiwait.specs.Faults.{is_failure, of_run}
 use Rattle.mpiwait.specs.Texts.{IsFaultOfHead, IsFaultOfTexts, IsHeadOf, IsRefusalOfTexts, IsReportOf}
 use Rattle.mpiwait.specs.declared.fault.Fault.{Fault}
-use Rattle.mpiwait.specs.declared.fault.Fault.TheVariants.{Open, ReadHead, Head, FileCount, Refused, Failed, LintRefused, LintFailed, Memory, Write}
+use Rattle.mpiwait.specs.declared.fault.Fault.TheVariants.{Open, ReadHead, Head, FileCount, Refused, Failed, LintRefused, LintFailed, Memory, Unproved, Write}
 use Rattle.mpiwait.specs.Front.{IsFrontOf, deciding_bytes}
 
 abbrev Text : Type 0
@@ -34,6 +36,10 @@ of_some (text ∷ texts) = ap (λ traces. Some (trace_of text) ∷ traces) (of_s
 pub tells_texts : {F : Type 0} (sources : List (Option Trace)) (told : F → Option Text) (files : List F) (texts : List Text) →
     sources ≡ map (λ file. option_map trace_of (told file)) files → map told files ≡ map Some texts → sources ≡ map Some (map trace_of texts)
 tells_texts sources told files texts of_files are = of_files ∙ of_told told files ∙ ap (map (option_map trace_of)) are ∙ of_some texts
+
+-- there are as many texts as files
+pub as_many : {F : Type 0} (told : F → Option Text) (files : List F) (texts : List Text) → map told files ≡ map Some texts → length files ≡ length texts
+as_many told files texts are = sym (length-map files told) ∙ ap length are ∙ length-map texts Some
 
 -- the head of a told text
 pub head_of_told : (told : Option Text) (text : Text) (groups : Groups) → IsHeadOf told groups → told ≡ Some text → read_head text ≡ Ok groups
@@ -74,6 +80,7 @@ fault_says told left front (Refused refusal) is of_left says = absurd says
 fault_says told left front (Failed refusal) is of_left says = absurd says
 fault_says told left front (LintRefused lint) is of_left says = absurd says
 fault_says told left front (LintFailed lint) is of_left says = absurd says
+fault_says told left front (Unproved rank) is of_left says = absurd says
 fault_says told left front Write is of_left says = absurd says
 
 by_failure : (head : Text) (texts : List Text) (refusal : Refusal) (fails : Bool) → IsRefusalOfTexts head texts refusal → is_failure refusal.fault ≡ fails → IsFaultOfTexts head texts (if fails then Failed refusal else Refused refusal)
@@ -81,8 +88,10 @@ by_failure head texts refusal true of_texts is = (of_texts, is)
 by_failure head texts refusal false of_texts is = (of_texts, is)
 
 -- the fault of a run over the sources is that of the texts
-pub run_fault_says : (groups : Groups) (head : Text) (texts : List Text) (fault : RunFault) → read_head head ≡ Ok groups → RefusesOver groups (map trace_of texts) fault → IsFaultOfTexts head texts (of_run fault)
-run_fault_says groups head texts run.Memory is refuses = tt
-run_fault_says groups head texts run.Write is refuses = tt
-run_fault_says groups head texts (run.Refused refusal) is refuses =
+pub run_fault_says : {I : Type 0} (left : I → Option Text) (may_stop : ℕ → ℕ → Type 0) (sources : List (Source I)) (groups : Groups) (head : Text) (texts : List Text) (fault : RunFault) →
+    read_head head ≡ Ok groups → ranks_of groups ≡ length texts → RefusesFeeds left may_stop sources groups fault → RefusesOver groups (map trace_of texts) fault → IsFaultOfTexts head texts (of_run fault)
+run_fault_says left may_stop sources groups head texts run.Memory is one_a_rank fed refuses = tt
+run_fault_says left may_stop sources groups head texts (run.Unproved rank) is one_a_rank fed refuses = subst (λ n. rank < n) one_a_rank fed
+run_fault_says left may_stop sources groups head texts run.Write is one_a_rank fed refuses = tt
+run_fault_says left may_stop sources groups head texts (run.Refused refusal) is one_a_rank fed refuses =
     by_failure head texts refusal (is_failure refusal.fault) (record { groups = groups; is_head = is; of_traces = refuses }) refl

@@ -62,7 +62,7 @@ module _ {O : Type 0} (written : O → Option (List ℕ)) (failures : O → ℕ)
 
   -- the end of the program, by what its words ask for
   abbrev pub EndsBy : Words → Status → Type 0
-  EndsBy (Check head files format) status = EndsCheck (told head.now) (map (λ file. told file.now) files.items) format status
+  EndsBy (Check head files format capacity) status = EndsCheck (told head.now) (map (λ file. told file.now) files.items) format status
   EndsBy (Lint file) status = EndsLint (told file.now) status
   EndsBy (Said text false) status = EndsText (string_bytes text) status
   EndsBy (Said text true) status = EndsAs Usage status

@@ -9,7 +9,7 @@ use Rattle.gather.specs.declared.fault.RunFault.{RunFault}
 use Rattle.gather.specs.declared.fault.RunFault.TheVariants as run
 use Rattle.mpicall.specs.declared.lint.LintFault.{LintFault}
 use Rattle.mpiwait.specs.declared.fault.Fault.{Fault}
-use Rattle.mpiwait.specs.declared.fault.Fault.TheVariants.{Open, ReadHead, Head, FileCount, Refused, Failed, LintRefused, LintFailed, Memory, Write}
+use Rattle.mpiwait.specs.declared.fault.Fault.TheVariants.{Open, ReadHead, Head, FileCount, Refused, Failed, LintRefused, LintFailed, Memory, Unproved, Write}
 use Rattle.mpiwait.specs.declared.status.Status.{Status}
 use Rattle.mpiwait.specs.declared.status.Status.TheVariants as status
 
@@ -24,6 +24,7 @@ status_of (Failed refusal) = status.Fault
 status_of (LintRefused fault) = status.Refused
 status_of (LintFailed fault) = status.Fault
 status_of Memory = status.Fault
+status_of (Unproved rank) = status.Fault
 status_of Write = status.Fault
 
 -- a source's fault that is no fault of its bytes
@@ -42,6 +43,7 @@ of_head fault = Head fault
 
 abbrev pub of_run : RunFault → Fault
 of_run run.Memory = Memory
+of_run (run.Unproved rank) = Unproved rank
 of_run run.Write = Write
 of_run (run.Refused refusal) = if is_failure refusal.fault then Failed refusal else Refused refusal
 

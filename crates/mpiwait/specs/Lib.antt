@@ -1,3 +1,4 @@
+pub mod Capacities
 pub mod Asked
 pub mod Front
 pub mod Statuses

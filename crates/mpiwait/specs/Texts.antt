@@ -1,7 +1,8 @@
 -- What a check says of the texts of its files.
-use Rattle.std.specs.Prelude.{◌≡◌, ◌≢◌, ℕ, true, false, Option, Some, Ok, Err, IfSome, List, length, map, ⊤}
+use Rattle.std.specs.Prelude.{◌≡◌, ◌≢◌, ◌<◌, ℕ, true, false, Option, Some, Ok, Err, IfSome, List, length, map, ⊤}
 use Rattle.std.specs.Io.KnownBytes.{Appends}
 use Rattle.mpicall.specs.Trace.{trace_of}
+use Rattle.mpicall.specs.declared.fault.SourceFault.TheVariants.{GateStopped}
 use Rattle.mpigroup.specs.Groups.{Groups, ranks_of}
 use Rattle.mpigroup.specs.HeadText.{read_head}
 use Rattle.moves.specs.declared.verdict.Verdict.{Verdict}
@@ -10,11 +11,12 @@ use Rattle.pairing.specs.Recordings.{Lists, IsClosed}
 use Rattle.waitgraph.specs.Reports.{report_of}
 use Rattle.waitgraph.specs.declared.report.Format.{Format}
 use Rattle.gather.specs.Answers.{lists_of}
+use Rattle.gather.specs.declared.fault.RankFault.TheVariants.{OfSource}
 use Rattle.gather.specs.declared.fault.Refusal.{Refusal}
 use Rattle.gather.specs.Told.{IsRefusalOver, IsVerdictOver}
 use Rattle.mpiwait.specs.Faults.{is_failure}
 use Rattle.mpiwait.specs.declared.fault.Fault.{Fault}
-use Rattle.mpiwait.specs.declared.fault.Fault.TheVariants.{Open, ReadHead, Head, FileCount, Refused, Failed, LintRefused, LintFailed, Memory}
+use Rattle.mpiwait.specs.declared.fault.Fault.TheVariants.{Open, ReadHead, Head, FileCount, Refused, Failed, LintRefused, LintFailed, Memory, Unproved}
 
 -- the head is the one that the text gives, where it is told
 abbrev pub IsHeadOf : Option (List ℕ) → Groups → Type 0
@@ -75,7 +77,7 @@ pub record IsRefusalOfTexts (head : List ℕ) (texts : List (List ℕ)) (refusal
   pub is_head : read_head head ≡ Ok groups
   pub of_traces : IsRefusalOver groups (map trace_of texts) refusal
 
--- the fault is that of the texts; of the machine's faults nothing is said
+-- the fault is that of the texts; of the machine's faults it is said only that a rank which they name is one
 abbrev pub IsFaultOfTexts : List ℕ → List (List ℕ) → Fault → Type 0
 IsFaultOfTexts head texts (Head fault) = read_head head ≡ Err fault
 IsFaultOfTexts head texts (FileCount ranks files) = IsWrongCount head texts ranks files
@@ -83,4 +85,11 @@ IsFaultOfTexts head texts (Refused refusal) = IsRefusalOfTexts head texts refusa
 IsFaultOfTexts head texts (Failed refusal) = IsRefusalOfTexts head texts refusal × (is_failure refusal.fault ≡ true)
 IsFaultOfTexts head texts (LintRefused fault) = ⊥
 IsFaultOfTexts head texts (LintFailed fault) = ⊥
+IsFaultOfTexts head texts (Unproved rank) = rank < length texts
 IsFaultOfTexts head texts fault = ⊤
+
+-- the fault isn't that a gate stopped the reading
+abbrev pub IsOfNoGate : Fault → Type 0
+IsOfNoGate (Refused refusal) = refusal.fault ≢ OfSource GateStopped
+IsOfNoGate (Failed refusal) = refusal.fault ≢ OfSource GateStopped
+IsOfNoGate fault = ⊤

@@ -8,10 +8,12 @@ ghost use Rattle.mpigroup.specs.HeadText.{read_head};
 ghost use Rattle.gather.specs.Told.{AreFresh};
 ghost use Rattle.mpiwait.specs.Front.{IsFrontFault, IsFrontOf};
 ghost use Rattle.mpiwait.specs.Outputs.{LeavesOutput};
-ghost use Rattle.mpiwait.specs.Texts.{IsFaultOfHead, IsFaultOfOpening, IsFaultOfTexts, IsHeadOf, IsVerdictOfTexts, WritesReport};
+ghost use Rattle.mpiwait.specs.Texts.{IsFaultOfHead, IsFaultOfOpening, IsFaultOfTexts, IsHeadOf, IsOfNoGate, IsVerdictOfTexts, WritesReport};
 
+use crate::capacity::Capacity;
 use crate::fault::Fault;
 use crate::opener::Opener;
+use gather::gate::OpenGate;
 use gather::run::run;
 use moves::verdict::Verdict;
 use mpicall::device::{DeviceFault, Input, Output};
@@ -19,6 +21,8 @@ use mpicall::source::Source;
 use mpigroup::fault::ReadFault;
 use mpigroup::head::{DECIDING_BYTES, Head};
 use std::alloc::Global;
+use std::sync::Wait;
+use std::thread::Threads;
 use waitgraph::report::Format;
 
 /// How many bytes of a head are read at once.
@@ -89,13 +93,16 @@ fn open_sources<'a, P: Opener>(
 }
 
 /// Checks the run of a head and its traces, and writes its report in the format. The traces are opened in
-/// rank order, once their number is known to be that of the ranks.
-pub fn check<'a, P: Opener, O: Output>(
+/// rank order, once their number is known to be that of the ranks, and then read at once; of each so many
+/// records may wait to be judged.
+pub fn check<'a, P: Opener, O: Output, R: Threads + Wait + Sync>(
     alloc: Global,
     head: &'a str,
     files: &[&'a str],
     format: Format,
+    capacity: Capacity,
     opener: &P,
+    rt: &R,
     out: &mut O,
 ) -> Result<Verdict, Fault<'a>>
     // The answer is that of the texts of the files, where the opener tells them.
@@ -111,6 +118,9 @@ pub fn check<'a, P: Opener, O: Output>(
     ensures written { IfOk result (WritesReport O.written out.old out.new format (P.told opener.now head.now) (map (λ file. P.told opener.now file.now) files.now)) }
     ensures no_write_failed { OnOk result (O.failures out.new ≡ O.failures out.old) }
     ensures output { IfErr result (LeavesOutput O.written O.failures out.old out.new) }
+
+    // No gate stops the reading.
+    ensures unstopped { IfErr result IsOfNoGate }
 {
     let head = open_head(alloc, opener, head)?;
     if files.len() != usize::from(head.ranks()) {
@@ -119,8 +129,9 @@ pub fn check<'a, P: Opener, O: Output>(
             files: files.len(),
         });
     }
-    let mut sources = open_sources(alloc, opener, files)?;
-    match run(alloc, head, sources.as_mut_slice(), format, out) {
+    let sources = open_sources(alloc, opener, files)?;
+    let records = capacity.records();
+    match run(alloc, head, sources, records, &OpenGate, format, out, rt) {
         Ok(verdict) => Ok(verdict),
         Err(fault) => Err(Fault::from(fault)),
     }

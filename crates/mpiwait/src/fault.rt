@@ -33,6 +33,8 @@ pub enum Fault<'a> {
     LintFailed(LintFault),
     #[error("fault memory")]
     Memory,
+    #[error("fault seal {0}")]
+    Unproved(u16),
     #[error("fault write")]
     Write,
 }
@@ -50,6 +52,7 @@ impl Fault<'_> {
             | Fault::Failed(_)
             | Fault::LintFailed(_)
             | Fault::Memory
+            | Fault::Unproved(_)
             | Fault::Write => Status::Fault,
         }
     }
@@ -85,6 +88,7 @@ impl From<RunFault> for Fault<'_> {
     fn from(fault: RunFault) -> Self {
         match fault {
             RunFault::Memory => Fault::Memory,
+            RunFault::Unproved(rank) => Fault::Unproved(rank),
             RunFault::Write => Fault::Write,
             RunFault::Refused(refusal) if is_failure(refusal.fault) => Fault::Failed(refusal),
             RunFault::Refused(refusal) => Fault::Refused(refusal),

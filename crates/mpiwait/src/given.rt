@@ -15,6 +15,7 @@ use std::alloc::{AllocError, Global};
 use std::env::Env;
 use std::process::{ExitCode, Termination};
 use std::sync::Wait;
+use std::thread::Threads;
 use std::{env, io};
 
 /// Why the words of the command line can't be read.
@@ -93,35 +94,41 @@ impl Termination for Ended {
 }
 
 /// The program on the words of the process.
-fn status_on<R: Env + AllocGlobal, P: Opener, O: Output, E: Output>(
-    rt: &R,
+fn status_on<G, P, O, E, R>(
+    given: &G,
     opener: &P,
-    wait: &impl Wait,
+    rt: &R,
     out: &mut O,
     err: &mut E,
 ) -> Result<Status, WordsFault>
+where
+    G: Env + AllocGlobal,
+    P: Opener,
+    O: Output,
+    E: Output,
+    R: Threads + Wait + Sync,
     ensures output { IfOk result (EndsOutput O.written O.failures out.old out.new) }
     ensures errors { IfOk result (EndsError E.written E.failures err.old err.new) }
     ensures untouched { OnErr result ((out.new ≡ out.old) × (err.new ≡ err.old)) }
 {
-    let words = words_given(rt)?;
-    let texts = as_texts(rt.alloc(), words.as_slice())?;
-    Ok(program(rt.alloc(), texts.as_slice(), opener, wait, out, err))
+    let words = words_given(given)?;
+    let texts = as_texts(given.alloc(), words.as_slice())?;
+    Ok(program(given.alloc(), texts.as_slice(), opener, rt, out, err))
 }
 
 /// Runs the program on the words of the process, over the opener's files, and tells words that can't be
 /// read.
-pub fn run<R: Env + AllocGlobal, P: Opener, O: Output, E: Output>(
-    rt: &R,
-    opener: &P,
-    wait: &impl Wait,
-    out: &mut O,
-    err: &mut E,
-) -> Ended
+pub fn run<G, P, O, E, R>(given: &G, opener: &P, rt: &R, out: &mut O, err: &mut E) -> Ended
+where
+    G: Env + AllocGlobal,
+    P: Opener,
+    O: Output,
+    E: Output,
+    R: Threads + Wait + Sync,
     ensures output { EndsOutput O.written O.failures out.old out.new (status_in result) }
     ensures errors { EndsError E.written E.failures err.old err.new (status_in result) }
 {
-    let status = match status_on(rt, opener, wait, out, err) {
+    let status = match status_on(given, opener, rt, out, err) {
         Ok(status) => status,
         Err(fault) => {
             let _ = write_all(err, fault.text().as_bytes());

@@ -1,6 +1,7 @@
 //! The program `mpiwait`: whether a recorded MPI run can hang.
 #![tactic(auto)]
 
+mod capacity;
 mod check;
 mod fault;
 mod given;

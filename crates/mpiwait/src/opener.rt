@@ -10,7 +10,7 @@ use std::rt::Files;
 /// What opens the inputs that paths name: `told` is the text of the file with a path, where the opener
 /// tells it.
 pub trait Opener {
-    type In: Input + Drop;
+    type In: Input + Drop + Send;
 
     ghost told: { Self → List ℕ → Option (List ℕ) };
 
@@ -23,7 +23,10 @@ pub trait Opener {
 #[derive(Drop)]
 pub struct Disk<'a, R>(pub &'a R);
 
-impl<R: Files> Opener for Disk<'_, R> {
+impl<R: Files> Opener for Disk<'_, R>
+where
+    R::File: Send,
+{
     type In = Counted<R::File>;
 
     ghost told = { λ _ _. None };

@@ -5,6 +5,7 @@ ghost use Rattle.mpiwait.specs.Answer.{AnswerEnds, CheckEnds, IsComplaint, LintE
 ghost use Rattle.mpiwait.specs.Ends.{Ends, EndsError};
 ghost use Rattle.mpiwait.specs.Statuses.{status_of};
 
+use crate::capacity::Capacity;
 use crate::check::check;
 use crate::fault::Fault;
 use crate::lint::lint_file;
@@ -15,6 +16,7 @@ use moves::verdict::Verdict;
 use mpicall::device::{Output, write_all};
 use std::alloc::Global;
 use std::sync::Wait;
+use std::thread::Threads;
 use waitgraph::report::Format;
 
 /// What goes to standard error: what clap says of wrong words, or a fault.
@@ -62,17 +64,19 @@ fn refuse<'a, O: Output>(
 }
 
 /// Checks a run.
-fn answer_check<'a, P: Opener, O: Output>(
+fn answer_check<'a, P: Opener, O: Output, R: Threads + Wait + Sync>(
     alloc: Global,
     head: &'a str,
     files: &[&'a str],
     format: Format,
+    capacity: Capacity,
     opener: &P,
+    rt: &R,
     out: &mut O,
 ) -> Result<Status, Complaint<'a>>
     ensures { CheckEnds O.written O.failures (P.told opener.now) out.old out.new (P.told opener.now head.now) (map (λ file. P.told opener.now file.now) files.now) format result }
 {
-    match check(alloc, head, files, format, opener, out) {
+    match check(alloc, head, files, format, capacity, opener, rt, out) {
         Ok(verdict) => Ok(status_of(verdict)),
         Err(fault) => refuse(alloc, fault, out),
     }
@@ -95,11 +99,11 @@ fn answer_lint<'a, P: Opener, O: Output>(
 }
 
 /// Does what the words ask for, and gives the exit status where that is told on standard output.
-fn answer<'a, P: Opener, O: Output>(
+fn answer<'a, P: Opener, O: Output, R: Threads + Wait + Sync>(
     alloc: Global,
     words: Words<'a>,
     opener: &P,
-    wait: &impl Wait,
+    rt: &R,
     out: &mut O,
 ) -> Result<Status, Complaint<'a>>
     ensures { AnswerEnds O.written O.failures (P.told opener.now) out.old out.new words.entry result }
@@ -109,8 +113,9 @@ fn answer<'a, P: Opener, O: Output>(
             head,
             files,
             format,
-        } => answer_check(alloc, head, &files, format, opener, out),
-        Words::Lint { file } => answer_lint(alloc, file, opener, wait, out),
+            capacity,
+        } => answer_check(alloc, head, &files, format, capacity, opener, rt, out),
+        Words::Lint { file } => answer_lint(alloc, file, opener, rt, out),
         Words::Said {
             text,
             is_error: false,
@@ -151,18 +156,18 @@ fn complain<E: Output>(alloc: Global, complaint: Complaint<'_>, err: &mut E) -> 
 
 /// Does what the words after the program's name ask for, over the opener's files, and gives the exit
 /// status. A trace may have no end, so it may wait.
-pub fn program<P: Opener, O: Output, E: Output>(
+pub fn program<P: Opener, O: Output, E: Output, R: Threads + Wait + Sync>(
     alloc: Global,
     words: &[&str],
     opener: &P,
-    wait: &impl Wait,
+    rt: &R,
     out: &mut O,
     err: &mut E,
 ) -> Status
     ensures ends { Ends O.written O.failures (P.told opener.now) out.old out.new (map (λ word. word.now) words.now) result }
     ensures errors { EndsError E.written E.failures err.old err.new result }
 {
-    match answer(alloc, parse(alloc, words), opener, wait, out) {
+    match answer(alloc, parse(alloc, words), opener, rt, out) {
         Ok(status) => status,
         Err(complaint) => complain(alloc, complaint, err),
     }

@@ -7,8 +7,10 @@ ghost use Rattle.clap.specs.Values.{kind_of};
 ghost use Rattle.clap.specs.Walk.{rows_of, rule_of};
 ghost use Rattle.clap.specs.declared.builder.command.Command.TheViews.{out-Command as fields_of};
 ghost use Rattle.clap.specs.declared.error.kind.ErrorKind.TheVariants.{OutOfMemory};
-ghost use Rattle.mpiwait.specs.Asked.{Answers, LintTrace, Names, Says, SaysError, check, check_of, format_of, head_rule, is_text, json_rule, lint, lint_of, program, run_of, task_of, trace_rule, traces_rule};
+ghost use Rattle.mpiwait.specs.Asked.{Answers, LintTrace, Names, Says, SaysError, capacity_of, capacity_rule, check, check_of, format_of, head_rule, is_text, json_rule, lint, lint_of, program, run_of, task_of, trace_rule, traces_rule};
 
+use crate::capacity::{Capacity, LEAST, MOST};
+use clap::builder::ValueParser;
 use clap::error::ErrorKind;
 use clap::{Arg, ArgAction, ArgMatches, Command, Error};
 use std::alloc::{AllocError, Global};
@@ -17,12 +19,13 @@ use waitgraph::report::Format;
 /// What the words ask for.
 #[derive(Debug, Drop)]
 pub enum Words<'a> {
-    /// To check a run, by the path of its head and those of its traces, at least one, in rank order, and to
-    /// report it in a format.
+    /// To check a run, by the path of its head and those of its traces, at least one, in rank order, to report
+    /// it in a format, and to let so many records of a rank wait to be judged.
     Check {
         head: &'a str,
         files: Vec<&'a str>,
         format: Format,
+        capacity: Capacity,
     },
     /// To read one trace alone, by its path.
     Lint {
@@ -77,7 +80,8 @@ Exit status:
   3  usage: the words, or the number of files
   4  fault: a file, the memory or the output";
 
-const USAGE: &str = "usage: mpiwait check [--json] HEAD FILE.. or mpiwait lint FILE\n";
+const USAGE: &str =
+    "usage: mpiwait check [--json] [--capacity N] HEAD FILE.. or mpiwait lint FILE\n";
 
 /// What clap is told of the head.
 fn head_argument<'a>(alloc: Global) -> Arg<'a>
@@ -111,6 +115,19 @@ fn json_argument<'a>(alloc: Global) -> Arg<'a>
         .help("Writes the report as one JSON value")
 }
 
+/// What clap is told of the number of records that may wait.
+fn capacity_argument<'a>(alloc: Global) -> Arg<'a>
+    ensures rule { rule_of result ≡ capacity_rule }
+    ensures local { result.global ≡ false }
+{
+    Arg::new(alloc, "capacity")
+        .long("capacity")
+        .value_name("N")
+        .default_value("64")
+        .value_parser(ValueParser::unsigned(u64::from(LEAST), u64::from(MOST)))
+        .help("How many records of a rank may be read ahead of the checking, 1 to 1024")
+}
+
 /// What clap is told of one trace.
 fn trace_argument<'a>(alloc: Global) -> Arg<'a>
     ensures rule { rule_of result ≡ trace_rule }
@@ -133,7 +150,8 @@ fn check_command<'a>(alloc: Global) -> Result<Command<'a>, AllocError>
         .version(VERSION)
         .arg(head_argument(alloc))?
         .arg(traces_argument(alloc))?
-        .arg(json_argument(alloc))
+        .arg(json_argument(alloc))?
+        .arg(capacity_argument(alloc))
 }
 
 /// What clap is told of `lint`.
@@ -207,8 +225,9 @@ fn run_named<'a>(
     head: Option<&'a str>,
     files: Option<&[&'a str]>,
     format: Format,
+    capacity: Option<Capacity>,
 ) -> Words<'a>
-    ensures { Names (run_of (option_map (λ path. path.now) head.entry) (option_map (λ paths. map (λ path. path.now) paths.now) files.entry) format) result }
+    ensures { Names (run_of (option_map (λ path. path.now) head.entry) (option_map (λ paths. map (λ path. path.now) paths.now) files.entry) format capacity) result }
 {
     let Some(head) = head else {
         return say(alloc, USAGE, true);
@@ -219,11 +238,15 @@ fn run_named<'a>(
     if files.is_empty() {
         return say(alloc, USAGE, true);
     }
+    let Some(capacity) = capacity else {
+        return say(alloc, USAGE, true);
+    };
     match Vec::from_slice(alloc, files) {
         Ok(files) => Words::Check {
             head,
             files,
             format,
+            capacity,
         },
         Err(_) => Words::NoMemory,
     }
@@ -239,6 +262,13 @@ fn format_of(flag: Option<&str>) -> Format
     }
 }
 
+/// The number of records that an option names.
+fn capacity_of(number: Option<&str>) -> Option<Capacity>
+    ensures { result ≡ capacity_of (option_map (λ text. text.now) number.entry) }
+{
+    Capacity::read(number?)
+}
+
 /// The run that the words after `check` name.
 fn check_of<'a>(alloc: Global, matches: &ArgMatches<'a>) -> Words<'a>
     ensures { Names (check_of (rows_of (found_of matches.now))) result }
@@ -248,6 +278,7 @@ fn check_of<'a>(alloc: Global, matches: &ArgMatches<'a>) -> Words<'a>
         matches.get_str("HEAD"),
         matches.get_strs("FILE"),
         format_of(matches.get_str("json")),
+        capacity_of(matches.get_str("capacity")),
     )
 }
 
@@ -344,6 +375,8 @@ mod tests {
         };
         for line in [
             "      --json\n",
+            "      --capacity <N>\n",
+            "[default: 64]",
             "  verdict free|hang\n",
             "  rank R at I CALL waits rank K (call J|none)\n",
             "  cycle R ..\n",
@@ -352,6 +385,23 @@ mod tests {
             "docs/FORMATS.md",
         ] {
             assert!(rt; text.as_str().contains(line), "{line} in {text}");
+        }
+        Ok(())
+    }
+
+    #[test]
+    fn reads_how_many_records_may_wait(rt: HostRuntime) -> Result<(), Fail> {
+        let rows: [(&[&str], u16); 4] = [
+            (&["check", "head", "r0"], 64),
+            (&["check", "--capacity", "1", "head", "r0"], 1),
+            (&["check", "head", "r0", "--capacity", "1024"], 1024),
+            (&["check", "--json", "--capacity=5", "head", "r0"], 5),
+        ];
+        for (words, wanted) in rows {
+            let Words::Check { capacity, .. } = parse(rt.alloc(), words) else {
+                return Err("no run to check".into());
+            };
+            assert_eq!(rt; capacity.records(), wanted, "of {words:?}");
         }
         Ok(())
     }

@@ -2,7 +2,9 @@
 
 use super::*;
 use crate::shelf::Shelf;
+use gather::fault::{RankFault, Refusal, RunFault};
 use mpicall::fails_at::FailsAt;
+use mpicall::fault::SourceFault;
 use mpicall::memory::MemoryOutput;
 use std::test::Fail;
 
@@ -18,8 +20,8 @@ const TWO: [(&str, &str); 3] = [
 
 /// What the program writes where each write succeeds. Its status must be this one, and all goes to one
 /// stream, by that status.
-fn told_of(
-    rt: &(impl AllocGlobal + Wait),
+fn told_of<R: AllocGlobal + Threads + Wait + Sync>(
+    rt: &R,
     shelf: &Shelf<'_>,
     words: &[&str],
     status: u8,
@@ -512,13 +514,30 @@ fn writes_whole_reports(rt: HostRuntime) -> Result<(), Fail> {
     Ok(())
 }
 
+/// However few or many records of a rank may wait.
 #[test]
 fn reports_a_run_of_a_thousand_sends(rt: HostRuntime) -> Result<(), Fail> {
     let first = long_trace(rt.alloc(), "send 0 1 0\n")?;
     let second = long_trace(rt.alloc(), "recv 0 0 0\n")?;
     let files = files_of("ranks 2\n", first.as_str(), second.as_str());
-    let shown = told_of(&rt, &Shelf::of(&files), &["check", "head", "r0", "r1"], 0)?;
-    assert_eq!(rt; shown.as_str(), "verdict free\n");
+    for capacity in ["1", "64"] {
+        let words = ["check", "--capacity", capacity, "head", "r0", "r1"];
+        let shown = told_of(&rt, &Shelf::of(&files), &words, 0)?;
+        assert_eq!(rt; shown.as_str(), "verdict free\n", "with {capacity}");
+    }
+    Ok(())
+}
+
+/// The lowest rank's fault is told, though the other rank's may be met before it.
+#[test]
+fn tells_the_lowest_rank_that_has_a_fault(rt: HostRuntime) -> Result<(), Fail> {
+    let files = files_of("ranks 2\n", "send 0 9 0\nfinalize\n", "recv 0 any 7\n");
+    for capacity in ["1", "64"] {
+        let words = ["check", "--capacity", capacity, "head", "r0", "r1"];
+        let shown = told_of(&rt, &Shelf::of(&files), &words, 2)?;
+        let wanted = "refused rank 0 call 0 C3 peer or root out of group\n";
+        assert_eq!(rt; shown.as_str(), wanted, "with {capacity}");
+    }
     Ok(())
 }
 
@@ -594,7 +613,7 @@ fn reads_no_more_of_a_head_than_decides_it(rt: HostRuntime) -> Result<(), Fail> 
 
 #[test]
 fn tells_what_the_words_ask_for(rt: HostRuntime) -> Result<(), Fail> {
-    let rows: [(&[&str], &str, u8); 23] = [
+    let rows: [(&[&str], &str, u8); 29] = [
         (&[], "error: 'mpiwait' requires a subcommand", 3),
         (&["frob"], "error: unrecognized subcommand 'frob'", 3),
         (&["help"], "error: unrecognized subcommand 'help'", 3),
@@ -605,6 +624,31 @@ fn tells_what_the_words_ask_for(rt: HostRuntime) -> Result<(), Fail> {
         (
             &["check", "--json", "head", "r0", "--json"],
             "error: the argument '--json' cannot be used multiple times",
+            3,
+        ),
+        (
+            &["check", "--capacity", "0", "head", "r0"],
+            "error: invalid value '0' for '--capacity <N>'",
+            3,
+        ),
+        (
+            &["check", "--capacity", "1025", "head", "r0"],
+            "error: invalid value '1025' for '--capacity <N>'",
+            3,
+        ),
+        (
+            &["check", "--capacity", "x", "head", "r0"],
+            "error: invalid value 'x' for '--capacity <N>'",
+            3,
+        ),
+        (
+            &["check", "head", "r0", "--capacity"],
+            "error: a value is required for '--capacity <N>'",
+            3,
+        ),
+        (
+            &["lint", "--capacity", "1", "r0"],
+            "error: unexpected argument '--capacity'",
             3,
         ),
         (&["lint"], "error: the following required arguments", 3),
@@ -621,6 +665,11 @@ fn tells_what_the_words_ask_for(rt: HostRuntime) -> Result<(), Fail> {
         (&["check", "head", "r0"], "verdict free\n", 0),
         (&["check", "--json", "head", "r0"], "{\"causes\":[],", 0),
         (&["check", "head", "r0", "--json"], "{\"causes\":[],", 0),
+        (
+            &["check", "head", "--capacity=1024", "r0"],
+            "verdict free\n",
+            0,
+        ),
         (&["lint", "r0"], "lint ok 1\n", 0),
     ];
     for (words, begins, status) in rows {
@@ -685,6 +734,45 @@ fn tells_a_lint_that_fails(rt: HostRuntime) -> Result<(), Fail> {
         assert_eq!(rt; shown.as_str(), told, "at {at} of {file}");
     }
     Ok(())
+}
+
+/// Faults of the machine, as they are told of a run: on standard error, with one status.
+#[test]
+fn tells_faults_of_the_machine(rt: HostRuntime) {
+    let of_source = |fault| {
+        RunFault::Refused(Refusal {
+            rank: 1,
+            call: 2,
+            fault: RankFault::OfSource(fault),
+        })
+    };
+    let rows: [(RunFault, &str); 6] = [
+        (
+            of_source(SourceFault::ReadFailed),
+            "fault rank 1 call 2 E2 read failed\n",
+        ),
+        (
+            of_source(SourceFault::GateStopped),
+            "fault rank 1 call 2 E3 gate stopped\n",
+        ),
+        (
+            of_source(SourceFault::ThreadNotStarted),
+            "fault rank 1 call 2 E4 thread not started\n",
+        ),
+        (RunFault::Memory, "fault memory\n"),
+        (RunFault::Unproved(1), "fault seal 1\n"),
+        (RunFault::Write, "fault write\n"),
+    ];
+    for (fault, told) in rows {
+        let mut out = MemoryOutput::new(rt.alloc());
+        let mut err = MemoryOutput::new(rt.alloc());
+        let Err(complaint) = refuse(rt.alloc(), Fault::from(fault), &mut out) else {
+            panic!(rt; "{told} is on standard output")
+        };
+        assert!(rt; out.bytes().is_empty());
+        assert_eq!(rt; complain(rt.alloc(), complaint, &mut err), Status::Fault);
+        assert_eq!(rt; err.bytes(), told.as_bytes());
+    }
 }
 
 #[test]
