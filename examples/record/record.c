@@ -7,12 +7,13 @@
  *
  * Nothing is written that didn't happen; what the format can't say is counted, and told at the end.
  * Whether the recorder itself communicates depends only on what all ranks concerned know alike, so it
- * can't hang a program by itself.
+ * can't hang a program by itself. Where `r0`, `r1`, .. are named pipes, it waits for who reads them.
  */
 #define _POSIX_C_SOURCE 200809L
 #include <limits.h>
 #include <mpi.h>
 #include <pthread.h>
+#include <signal.h>
 #include <stdbool.h>
 #include <stdint.h>
 #include <stdio.h>
@@ -60,6 +61,7 @@ static bool stopped;   /* this rank writes no more */
 static int rank, ranks;
 static const char *folder;
 static FILE *trace;
+static bool piped; /* the trace is a named pipe */
 static long calls;
 static pthread_t thread;
 static MPI_Comm own; /* the world, for the recorder's own messages */
@@ -810,17 +812,24 @@ static void name_file(char path[PATH_ROOM], const char *name, int number) {
         snprintf(path, PATH_ROOM, "%s/%s%d", folder, name, number);
 }
 
+/* Whether a named pipe stands there. It is written into, and never removed. */
+static bool is_pipe(const char *path) {
+    struct stat found;
+    return stat(path, &found) == 0 && S_ISFIFO(found.st_mode);
+}
+
 /* Traces of an older run with more ranks would be taken for this run's. */
 static void remove_older(void) {
     char path[PATH_ROOM];
     for (int older = ranks; older < MAX_RANKS; older++) {
         name_file(path, "r", older);
-        remove(path);
+        if (!is_pipe(path))
+            remove(path);
     }
 }
 
 /* The head is there from the beginning, without communicators, so that a run that is cut off is refused
- * for its traces. */
+ * for its traces. With pipes it was there before, since their reader reads it first. */
 static void write_head(const Comm *comms, int total) {
     char path[PATH_ROOM];
     name_file(path, "head", -1);
@@ -840,6 +849,15 @@ static void write_head(const Comm *comms, int total) {
         say("the head can't be written", "");
 }
 
+/* Opening a pipe waits until its reader has opened it. Where the reader ends early, a write fails, which
+ * ends the trace and not the program. */
+static FILE *open_pipe(const char *path) {
+    if (rank == 0)
+        say("waiting for the reader of the pipe ", path);
+    signal(SIGPIPE, SIG_IGN);
+    return fopen(path, "w");
+}
+
 /* Why this rank can't record, or NULL. */
 static const char *open_trace(void) {
     char path[PATH_ROOM];
@@ -856,7 +874,8 @@ static const char *open_trace(void) {
     if (rank == 0)
         remove_older();
     name_file(path, "r", rank);
-    trace = fopen(path, "w");
+    piped = is_pipe(path);
+    trace = piped ? open_pipe(path) : fopen(path, "w");
     if (!trace)
         return "a trace can't be opened in the folder that MPIWAIT_TRACES names";
     setvbuf(trace, NULL, _IOLBF, 0);
@@ -881,7 +900,7 @@ static void start(void) {
     for (int i = 0; i <= MAX_COMMS; i++)
         leaders[i] = -1;
     recording = true;
-    if (rank == 0)
+    if (rank == 0 && !piped)
         write_head(NULL, 0);
 }
 
@@ -946,6 +965,10 @@ static void renumber_line(char *line, const int final[], FILE *to) {
 /* Writes this rank's trace anew with the final numbers. */
 static void renumber(const int final[]) {
     char path[PATH_ROOM], new_path[PATH_ROOM], line[1100];
+    if (piped) {
+        stop("communicators need other numbers than those that went into its pipe");
+        return;
+    }
     name_file(path, "r", rank);
     name_file(new_path, "renumbered", rank);
     FILE *from = fopen(path, "r"), *to = fopen(new_path, "w");
