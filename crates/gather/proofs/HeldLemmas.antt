@@ -158,11 +158,11 @@ accepts_told groups rank None may_stop items calls fed are none = tt
 accepts_told groups rank (Some trace) may_stop items calls fed are none =
     let same = agrees groups rank trace may_stop items fed (ap outside_at none) in (
       ⊎_elim
-      (λ (own : IsFed (Some trace) may_stop items).
-      are ∙ ap calls_among own.are ∙ marked_calls own.calls own.end ∙ records_as groups rank trace own.calls own.end own.whole (sym (fault_held groups rank own.calls own.end items own.are) ∙ none))
-      (λ (not_started : items ≡ marked [] (Torn ThreadNotStarted)).
-      absurd (torn_never_none groups rank [] [] ThreadNotStarted (sym (fault_held groups rank [] (Torn ThreadNotStarted) items not_started) ∙ none)))
-      fed,
+          (λ (own : IsFed (Some trace) may_stop items).
+          are ∙ ap calls_among own.are ∙ marked_calls own.calls own.end ∙ records_as groups rank trace own.calls own.end own.whole (sym (fault_held groups rank own.calls own.end items own.are) ∙ none))
+          (λ (not_started : items ≡ marked [] (Torn ThreadNotStarted)).
+          absurd (torn_never_none groups rank [] [] ThreadNotStarted (sym (fault_held groups rank [] (Torn ThreadNotStarted) items not_started) ∙ none)))
+          fed,
       sym same ∙ none,
     )
 
@@ -223,7 +223,7 @@ stopped_there groups rank told may_stop items at fed is =
     ⊎_elim
     (λ (own : IsFed told may_stop items).
     stops_as may_stop own.calls own.end at own.stopped
-        (source_fault groups rank [] own.calls (end_by (Some own.end)) at GateStopped (sym (fault_held groups rank own.calls own.end items own.are) ∙ is)))
+    (source_fault groups rank [] own.calls (end_by (Some own.end)) at GateStopped (sym (fault_held groups rank own.calls own.end items own.are) ∙ is)))
     (λ (none : items ≡ marked [] (Torn ThreadNotStarted)).
     let e : Some (0, OfSource ThreadNotStarted) ≡ Some (at, OfSource GateStopped) = sym (fault_held groups rank [] (Torn ThreadNotStarted) items none) ∙ is in
     absurd (false≢true (ap gate_at e)))

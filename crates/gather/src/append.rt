@@ -79,7 +79,9 @@ pub(crate) fn append(count: &Count, known: Known, number: u64, stands: &Stands) 
     ensures { IfSome result (λ k. (k.log ≡ known.log ++ stands.now ∷ []) × (k.book ≡ known.book)) }
 {
     let mut longer = known;
-    let mut offer: Offer<Stands, u64, Listed, Nothing> = longer.plain::<Nothing, Stands, Appends>(stands);
+    let mut offer: Offer<Stands, u64, Listed, Nothing> = longer.plain::<Nothing, Stands, Appends>(
+        stands,
+    );
     let mut pen = longer.no_pen();
     let found = count.compare_exchange::<Appends, Nothing>(
         number,

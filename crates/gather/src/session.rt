@@ -84,7 +84,11 @@ impl Session {
             return Err(OpenFault::Memory);
         };
         match Publisher::open(alloc, ranks, watches, wait) {
-            Ok((publisher, all)) => Ok((feeds, Collector::of(alloc, takers, ledger, publisher), all)),
+            Ok((publisher, all)) => Ok((
+                feeds,
+                Collector::of(alloc, takers, ledger, publisher),
+                all,
+            )),
             Err(fault) => Err(fault),
         }
     }

@@ -54,11 +54,7 @@ pub(crate) fn put_at(feeds: &mut Vec<Feed>, rank: u16, record: Record) -> bool
 }
 
 /// Puts the records in this order, with a step behind each, and counts those that were accepted.
-fn deal(
-    feeds: &mut Vec<Feed>,
-    collector: &mut Collector,
-    order: &[Line],
-) -> Result<usize, Fail>
+fn deal(feeds: &mut Vec<Feed>, collector: &mut Collector, order: &[Line]) -> Result<usize, Fail>
     requires { rings collector.old ≡ map feed_ring feeds.old.items }
     ensures { rings collector.new ≡ map feed_ring feeds.new.items }
 {
@@ -173,14 +169,34 @@ fn what_a_close_answers(rt: HostRuntime) -> Result<(), Fail> {
         (0, b"bsend 0 1 0\n"),
         (0, b"send 0 9 0\n"),
     ];
-    let rows: [(&[Line], SourceFault, Option<u16>, (usize, Result<Verdict, CloseFault>)); 7] = [
+    let rows: [(
+        &[Line],
+        SourceFault,
+        Option<u16>,
+        (usize, Result<Verdict, CloseFault>),
+    ); 7] = [
         (&BUFFERED, none, None, (6, Ok(Verdict::Free))),
         (&HEAD_TO_HEAD, none, None, (6, Ok(Verdict::Hang))),
-        (&HEAD_TO_HEAD, none, Some(1), (6, Err(CloseFault::Unproved(1)))),
+        (
+            &HEAD_TO_HEAD,
+            none,
+            Some(1),
+            (6, Err(CloseFault::Unproved(1))),
+        ),
         (&bad, none, None, (2, refused(0, 1, out_of_group))),
         (&bad, none, Some(0), (2, Err(CloseFault::Unproved(0)))),
-        (&[(0, b"send 0 9 0\n")], wildcard, None, (0, refused(0, 0, out_of_group))),
-        (&[(0, b"finalize\n")], not_started, None, (1, refused(1, 0, RankFault::OfSource(not_started)))),
+        (
+            &[(0, b"send 0 9 0\n")],
+            wildcard,
+            None,
+            (0, refused(0, 0, out_of_group)),
+        ),
+        (
+            &[(0, b"finalize\n")],
+            not_started,
+            None,
+            (1, refused(1, 0, RankFault::OfSource(not_started))),
+        ),
     ];
     for (order, fault, lost, expected) in rows {
         assert_eq!(rt; answer(rt.alloc(), order, fault, lost, &rt)?, expected);

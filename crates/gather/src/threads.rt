@@ -187,9 +187,7 @@ impl<I: Input, G: Gate> Started<I, G> {
             let Some(feed_end) = feeds.next() else {
                 unreachable!()
             };
-            let thread = Started::start(
-                scope, rt, source, feed_end, gate, not_started, stack_size,
-            );
+            let thread = Started::start(scope, rt, source, feed_end, gate, not_started, stack_size);
             let Ok(()) = started.push(thread) else {
                 unreachable!()
             };
@@ -198,11 +196,7 @@ impl<I: Input, G: Gate> Started<I, G> {
     }
 
     /// Waits until all threads ended, and tells what came of each. `fed` has room for them.
-    pub fn finish_all(
-        started: Vec<Started<I, G>>,
-        fed: Vec<Fed>,
-        rt: &impl Threads,
-    ) -> Vec<Fed>
+    pub fn finish_all(started: Vec<Started<I, G>>, fed: Vec<Fed>, rt: &impl Threads) -> Vec<Fed>
     where
         I: Drop,
         requires nothing { fed.items ≡ [] }

@@ -124,7 +124,15 @@ fn no_thread_starts(rt: HostRuntime) -> Result<(), Fail> {
     if sources.len() != usize::from(head.ranks()) {
         return Err("one source a rank".into());
     }
-    let outcome = outcome_of(rt.alloc(), head, sources, 1, &OpenGate, &rt, Some(usize::MAX));
+    let outcome = outcome_of(
+        rt.alloc(),
+        head,
+        sources,
+        1,
+        &OpenGate,
+        &rt,
+        Some(usize::MAX),
+    );
     let refusal = Refusal {
         rank: 0,
         call: 0,

@@ -202,7 +202,10 @@ fn answers_of_two(alloc: Global, wait: &impl Wait) -> Result<[Result<Option<u32>
 #[test]
 fn watches_of_64_ranks(rt: HostRuntime) -> Result<(), Fail> {
     let answers = answers_of_two(rt.alloc(), &rt)?;
-    assert_eq!(rt; answers, [Ok(Some(0)), Ok(Some(1)), Ok(Some(1)), Ok(Some(1))]);
+    assert_eq!(rt;
+        answers,
+        [Ok(Some(0)), Ok(Some(1)), Ok(Some(1)), Ok(Some(1))]
+    );
     Ok(())
 }
 
@@ -226,7 +229,10 @@ fn rises_to_the_end(watch: Option<Watch>) -> bool {
 }
 
 /// What two watches see in threads of their own, while the ranks' records come.
-fn beside_the_collector<R: Threads + Wait + Sync>(rt: &R, alloc: Global) -> Result<[bool; 2], Fail> {
+fn beside_the_collector<R: Threads + Wait + Sync>(
+    rt: &R,
+    alloc: Global,
+) -> Result<[bool; 2], Fail> {
     let mut session = Opened::of(alloc, b"ranks 2\n", 2, rt)?;
     let first = session.watches.pop();
     let second = session.watches.pop();
