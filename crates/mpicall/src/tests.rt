@@ -1,5 +1,3 @@
-mod changed_texts;
-mod cut_texts;
 mod lines;
 mod sources;
 mod std_devices;
