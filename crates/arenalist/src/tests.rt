@@ -273,3 +273,103 @@ fn random_calls_agree_with_plain_vectors(rt: HostRuntime) -> Result<(), Fail> {
     assert!(rt; both.work > 2000);
     Ok(())
 }
+
+/// Two arenas to which the same is done, so that one shows what the other held before a refused call.
+#[derive(Drop)]
+struct Twins {
+    one: Lists<u32>,
+    other: Lists<u32>,
+}
+
+/// Whether both tell the same of a node.
+fn is_same_node(one: &Lists<u32>, other: &Lists<u32>, node: Node) -> bool {
+    if one.list_of(node) != other.list_of(node) {
+        return false;
+    }
+    if one.list_of(node).is_none() || other.list_of(node).is_none() {
+        return true;
+    }
+    one.get(node) == other.get(node) && one.next(node) == other.next(node)
+}
+
+/// Whether both tell the same first node of a list.
+fn is_same_list(one: &Lists<u32>, other: &Lists<u32>, list: ListId) -> bool {
+    if !has_list(one, list) || !has_list(other, list) {
+        return has_list(one, list) == has_list(other, list);
+    }
+    one.first(list) == other.first(list)
+}
+
+/// Puts a value at the back of a list. False where there is none, or memory is refused.
+fn push(lists: &mut Lists<u32>, list: ListId, value: u32) -> bool {
+    has_list(lists, list) && lists.push_back(list, value).is_ok()
+}
+
+impl Twins {
+    /// Whether both answer alike, for two lists and as many nodes as a test makes.
+    fn are_same(&self) -> bool {
+        for number in 0..200u32 {
+            if !is_same_node(&self.one, &self.other, Node::new(number)) {
+                return false;
+            }
+        }
+        for number in 0..2u32 {
+            if !is_same_list(&self.one, &self.other, ListId::new(number)) {
+                return false;
+            }
+        }
+        self.one.list_count() == self.other.list_count()
+            && self.one.spare() == self.other.spare()
+            && self.one.work() == self.other.work()
+    }
+
+    /// Makes a list in both, again where memory is refused, which changes nothing.
+    fn new_list(&mut self) -> bool {
+        if self.one.new_list().is_err() && !(self.are_same() && self.one.new_list().is_ok()) {
+            return false;
+        }
+        (self.other.new_list().is_ok() || self.other.new_list().is_ok()) && self.are_same()
+    }
+
+    /// Makes room in both, again where memory is refused, which changes nothing.
+    fn reserve(&mut self, nodes: usize) -> bool {
+        if self.one.reserve(nodes).is_err()
+            && !(self.are_same() && self.one.reserve(nodes).is_ok())
+        {
+            return false;
+        }
+        (self.other.reserve(nodes).is_ok() || self.other.reserve(nodes).is_ok()) && self.are_same()
+    }
+
+    /// Puts a value into both, again where memory is refused, which changes nothing and gives it back.
+    fn push(&mut self, list: ListId, value: u32) -> bool {
+        if !has_list(&self.one, list) {
+            return false;
+        }
+        if let Err(refused) = self.one.push_back(list, value) {
+            if refused.value != value || !self.are_same() || !push(&mut self.one, list, value) {
+                return false;
+            }
+        }
+        (push(&mut self.other, list, value) || push(&mut self.other, list, value))
+            && self.are_same()
+    }
+}
+
+/// The sweep of `bench/refuse` runs this with each request for memory refused in turn. The last call here is
+/// refused always.
+#[test]
+fn a_refused_call_changes_nothing(rt: HostRuntime) -> Result<(), Fail> {
+    let mut twins = Twins {
+        one: Lists::new(rt.alloc()),
+        other: Lists::new(rt.alloc()),
+    };
+    assert!(rt; twins.new_list() && twins.new_list());
+    for value in 0..40u32 {
+        assert!(rt; twins.push(ListId::new(value % 2), value));
+    }
+    assert!(rt; twins.reserve(100));
+    assert!(rt; twins.one.reserve(usize::MAX).is_err());
+    assert!(rt; twins.are_same());
+    Ok(())
+}

@@ -1,5 +1,5 @@
 -- How the trace of a source goes on behind the records that were put.
-use Rattle.std.proofs.Common.{◌≡◌, ℕ, ◌+◌, ◌-◌, ◌^◌, min, length, List, [], ◌∷◌, ◌++◌, sym, ap, ◌∙◌, refl, Option, Some, None, Result, Ok, Err, IfOk, append_assoc, append-nil, map, IfSome, Bool, true, false, ◌⊎◌, inl, inr, cond, arith, subst}
+use Rattle.std.proofs.Common.{◌≡◌, ℕ, ◌+◌, ◌-◌, ◌^◌, min, length, List, [], ◌∷◌, ◌++◌, sym, ap, ◌∙◌, refl, Option, Some, None, Result, Ok, Err, IfOk, append_assoc, append-nil, map, IfSome, Bool, true, false, not, ◌⊎◌, inl, inr, cond, arith, subst}
 use Rattle.std.specs.Prelude.{⊤}
 use Rattle.std.proofs.lemmas.Bool.{false≢true}
 use Rattle.std.proofs.lemmas.List.{map-append, length-map, length_push}
@@ -243,6 +243,14 @@ whole_torn (Some whole) (Some rest) next calls GateStopped c gives = begins_so (
 pub fed_torn : (told now next : Option Trace) (may_stop : ℕ → Type 0) (items all : List Item) (fault : SourceFault) → Continues told items now → IsOwnFault fault → Gives now next (Err fault) → all ≡ items ++ Mark (Torn fault) ∷ [] → IsFed told may_stop all
 fed_torn told now next may_stop items all fault c own gives is =
     fed_by told may_stop items all c.calls (Torn fault) c.are is (whole_torn told now next c.calls fault c.goes_on gives) (not_stopped may_stop c.calls fault (own_is fault own))
+
+was_true : (ends : Bool) → not ends ≡ false → ends ≡ true
+was_true true is = refl
+was_true false is = absurd (false≢true (sym is))
+
+-- a record that isn't taken comes behind the one that ends the list
+pub refused_at_end : (items : List Item) (taken : Bool) → taken ≡ not (end_the_list items) → taken ≡ false → end_the_list items ≡ true
+refused_at_end items taken is refused = was_true (end_the_list items) (sym is ∙ refused)
 
 -- How many reads failed.
 

@@ -4,8 +4,10 @@ use Rattle.std.proofs.Math.Seq.{map-set_same}
 use Rattle.std.proofs.lemmas.List.{length-map}
 use Rattle.std.proofs.lemmas.Option.{slice_get-map, get_or_from_slice_get, slice_get-get_or}
 use Rattle.rankfeed.specs.Items.{end_of, are_ended, IsFeed}
-use Rattle.rankfeed.specs.Answers.{Receives}
+use Rattle.mpicall.specs.declared.call.Call.{Call}
+use Rattle.rankfeed.specs.Answers.{Receives, came_with}
 use Rattle.rankfeed.specs.Rings.{taker_ring, received_by, left_for}
+use Rattle.rankfeed.specs.declared.answer.Came.{Came}
 use Rattle.rankfeed.specs.declared.answer.Took.{Took}
 use Rattle.rankfeed.specs.declared.item.Item.{Item}
 use Rattle.rankfeed.specs.declared.ring.Taker.{Taker}
@@ -58,3 +60,10 @@ takes_at takers place rank was now found same within read name receives feed lef
 -- as many takers as before
 pub takers_stay : {rank : ℕ} {found : Took} (old new : List Taker) → Takes rank found old new → length new ≡ length old
 takers_stay old new takes = sym (length-map new taker_ring) ∙ ap length takes.names ∙ length-map old taker_ring
+
+-- a taker with a place for records tells that nothing came where one without it does
+pub never_came_empty : (came : Came) (call : Call) → ¬ (came ≡ Came.Empty) → ¬ (came_with came call ≡ Took.Empty)
+never_came_empty Came.Record call never = λ e. cc
+never_came_empty Came.Empty call never = λ e. never refl
+never_came_empty Came.Sealed call never = λ e. cc
+never_came_empty (Came.Torn fault) call never = λ e. cc

@@ -2,6 +2,7 @@
 
 ghost use Rattle.std.specs.Prelude.{◌≡◌, ◌<◌, Some, length, map, slice_get};
 ghost use Rattle.rankfeed.specs.Rings.{taker_ring, receipt_ring};
+ghost use Rattle.rankfeed.specs.Answers.{came_with};
 ghost use Rattle.gather.specs.Takers.{Collects, Takes};
 ghost use Rattle.gather.specs.Receipts.{Meets};
 ghost use Rattle.gather.specs.Publications.{ArePassed};
@@ -14,7 +15,8 @@ pub use crate::publisher::PublishFault;
 use crate::publisher::Publisher;
 use crate::stands::Stands;
 use crate::watch::Told;
-use rankfeed::{Receipt, Taker, Took};
+use mpicall::record::Record;
+use rankfeed::{Came, Receipt, Taker};
 use std::alloc::Global;
 use std::sync::Wait;
 
@@ -32,12 +34,12 @@ pub struct Collector {
     ghost passed: { ArePassed ledger.groups ledger.recording (published_by publisher) },
 }
 
-/// Takes the item at the front of a rank's feed.
-fn take_from(takers: &mut Vec<Taker>, rank: u16) -> Took
+/// Takes the item at the front of a rank's feed; a record comes into the place.
+fn take_from(takers: &mut Vec<Taker>, rank: u16, into: &mut Record) -> Came
     requires { rank < length takers.old.items }
-    ensures { Takes rank result takers.old.items takers.new.items }
+    ensures { Takes rank (came_with result into.new) takers.old.items takers.new.items }
 {
-    takers[usize::from(rank)].try_take()
+    takers[usize::from(rank)].take_into(into)
 }
 
 /// Tells the taker of a rank's feed what is left, by the feed's receipt.
@@ -90,12 +92,12 @@ impl Collector {
         ensures publishes { PublishesNothing self.old self.new }
         ensures passed { PublishesRuns self.new }
     {
-        let took = take_from(&mut self.takers, rank);
-        match took {
-            Took::Record(call) => self.ledger.enter(rank, &call),
-            Took::Empty => Stepped::Empty,
-            Took::Sealed => Stepped::Ended,
-            Took::Torn(fault) => {
+        let mut call = Record::finalize();
+        match take_from(&mut self.takers, rank, &mut call) {
+            Came::Record => self.ledger.enter(rank, &call),
+            Came::Empty => Stepped::Empty,
+            Came::Sealed => Stepped::Ended,
+            Came::Torn(fault) => {
                 self.ledger.tear(rank, fault);
                 Stepped::Ended
             }

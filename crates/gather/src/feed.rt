@@ -11,6 +11,7 @@ ghost use Rattle.gather.specs.Fed.{IsFed, CountsReads, ended_here, mark_of, endi
 use crate::gate::Gate;
 use mpicall::device::Input;
 use mpicall::fault::SourceFault;
+use mpicall::record::Record;
 use mpicall::source::Source;
 use rankfeed::{Feed, Receipt, Unsealed};
 use std::sync::Wait;
@@ -49,18 +50,20 @@ pub fn feed<I: Input, G: Gate>(
     ensures count { CountsReads (I.failures (input_of source.old)) (I.failures (input_of source.new)) result }
 {
     let mut feed = feed;
+    let mut record = Record::finalize();
     let mut line = 0u32;
     for _ in wait.forever() {
         if !gate.ask(rank, line) {
             return feed.tear(SourceFault::GateStopped);
         }
         line = line.saturating_add(1);
-        match source.next() {
-            Ok(Some(record)) => match feed.put(record, wait) {
-                Ok(()) => {}
-                Err(_) => return feed.tear(SourceFault::TextAfterFinalize),
-            },
-            Ok(None) => return end(feed),
+        match source.next_into(&mut record) {
+            Ok(true) => {
+                if !feed.put_copy(&record, wait) {
+                    return feed.tear(SourceFault::TextAfterFinalize);
+                }
+            }
+            Ok(false) => return end(feed),
             Err(fault) => return feed.tear(fault),
         }
     }

@@ -20,7 +20,7 @@ struct Turn {
 }
 
 /// Takes what is there from the feed of a rank.
-fn take_from(collector: &mut Collector, rank: u16, turn: &mut Turn)
+fn take_some(collector: &mut Collector, rank: u16, turn: &mut Turn)
     requires { rank < length (rings collector.old) }
     ensures { IsSameSession collector.old collector.new }
 {
@@ -46,7 +46,7 @@ fn take_a_turn(collector: &mut Collector) -> Turn
         some_came: false,
     };
     for rank in 0..collector.ranks() {
-        take_from(collector, rank, &mut turn);
+        take_some(collector, rank, &mut turn);
     }
     turn
 }

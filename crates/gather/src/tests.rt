@@ -9,7 +9,7 @@ ghost use Rattle.gather.specs.Runs.{IsSameSession};
 use crate::collector::{Collector, Stepped};
 use crate::fault::{RankFault, Refusal};
 use crate::outcome::CloseFault;
-use crate::session::Session;
+use crate::session::{OpenFault, Session};
 use crate::sweep::take_all;
 use moves::verdict::Verdict;
 use mpicall::fault::{LineFault, SourceFault};
@@ -25,7 +25,7 @@ use std::thread;
 use std::thread::Threads;
 
 /// A record's line and its rank.
-type Line = (u16, &'static [u8]);
+pub(crate) type Line = (u16, &'static [u8]);
 
 const BUFFERED: [Line; 6] = [
     (0, b"bsend 0 1 0\n"),
@@ -120,7 +120,7 @@ fn answer(
 }
 
 /// The record that a rank has at a place, where rank 0 sends a thousand times to rank 1.
-fn one_of_a_thousand(rank: u16, place: u32) -> Line {
+pub(crate) fn one_of_a_thousand(rank: u16, place: u32) -> Line {
     match (rank, place) {
         (_, 1000) => (rank, b"finalize\n"),
         (0, _) => (rank, b"send 0 1 0\n"),
@@ -284,6 +284,160 @@ fn two_threads_put_and_a_third_steps(rt: HostRuntime) -> Result<(), Fail> {
     let (mut feeds, collector, _watches) = Session::open(rt.alloc(), head, 1, 0, &rt)?;
     if let (Some(second), Some(first), true) = (feeds.pop(), feeds.pop(), feeds.is_empty()) {
         assert!(rt; by_three_threads(first, second, collector, receipts, &rt));
+        Ok(())
+    } else {
+        Err("not two feeds".into())
+    }
+}
+
+/// Puts a record on its rank's feed, takes it, and tells what was found.
+fn deal_one(feeds: &mut Vec<Feed>, collector: &mut Collector, line: Line) -> Result<Stepped, Fail>
+    requires { rings collector.old ≡ map feed_ring feeds.old.items }
+    ensures { rings collector.new ≡ map feed_ring feeds.new.items }
+{
+    let (rank, line) = line;
+    let record = read_line(line)?;
+    if rank >= collector.ranks() || !put_at(feeds, rank, record) {
+        return Err("no such place".into());
+    }
+    Ok(collector.step(rank))
+}
+
+/// Deals the records of a thousand messages by turns, and counts those that were thrown away. Each has to be
+/// from the first one on.
+fn deal_a_thousand(feeds: &mut Vec<Feed>, collector: &mut Collector) -> Result<u32, Fail>
+    requires { rings collector.old ≡ map feed_ring feeds.old.items }
+    ensures { rings collector.new ≡ map feed_ring feeds.new.items }
+{
+    let mut discarded = 0u32;
+    for turn in 0..2002u32 {
+        let rank = if turn % 2 == 0 { 0 } else { 1 };
+        match deal_one(feeds, collector, one_of_a_thousand(rank, turn / 2))? {
+            Stepped::Took if discarded == 0 => {}
+            Stepped::Discarded => discarded = discarded.saturating_add(1),
+            _ => return Err("neither kept nor thrown away".into()),
+        }
+    }
+    Ok(discarded)
+}
+
+/// Ends two ranks' feeds and closes their session. None where a feed gives no receipt, of which `receipts` has
+/// room for two.
+fn close_two(
+    first: Feed,
+    second: Feed,
+    collector: Collector,
+    receipts: Vec<Option<Receipt>>,
+) -> Option<Result<Verdict, CloseFault>>
+    requires feeds { rings collector ≡ feed_ring first ∷ feed_ring second ∷ [] }
+    requires none { receipts.items ≡ [] }
+    requires room { 2 ≤ vec_capacity receipts }
+{
+    let mut receipts = receipts;
+    let first = end_feed(first, SourceFault::NoFinalize, false);
+    let second = end_feed(second, SourceFault::NoFinalize, false);
+    let are_there = first.is_some() && second.is_some();
+    receipts.push_reserved(first);
+    receipts.push_reserved(second);
+    let answer = match collector.close(receipts) {
+        Ok(outcome) => Ok(outcome.verdict()),
+        Err(fault) => Err(fault),
+    };
+    if are_there { Some(answer) } else { None }
+}
+
+/// Room for two receipts, asked for again where memory is refused.
+fn room_for_two(alloc: Global) -> Result<Vec<Option<Receipt>>, AllocError>
+    ensures none { IfOk result (λ receipts. receipts.items ≡ []) }
+    ensures room { IfOk result (λ receipts. 2 ≤ vec_capacity receipts) }
+{
+    match Vec::with_capacity(alloc, 2) {
+        Ok(receipts) => Ok(receipts),
+        Err(_) => Vec::with_capacity(alloc, 2),
+    }
+}
+
+/// A head, read again where memory is refused.
+pub(crate) fn head_again(alloc: Global, text: &[u8]) -> Result<Head, Fail> {
+    match Head::read(alloc, text) {
+        Ok(head) => Ok(head),
+        Err(_) => Ok(Head::read(alloc, text)?),
+    }
+}
+
+/// How many records of a thousand messages are thrown away, and what the close answers. None where the session
+/// isn't opened for want of memory.
+fn thrown_away(
+    alloc: Global,
+    wait: &impl Wait,
+) -> Result<Option<(u32, Option<Result<Verdict, CloseFault>>)>, Fail> {
+    let head = head_again(alloc, b"ranks 2\n")?;
+    let receipts = room_for_two(alloc)?;
+    let (mut feeds, mut collector, _watches) = match Session::open(alloc, head, 1, 0, wait) {
+        Ok(ends) => ends,
+        Err(OpenFault::Memory) => return Ok(None),
+        Err(fault) => return Err(fault.into()),
+    };
+    let discarded = deal_a_thousand(&mut feeds, &mut collector)?;
+    if let (Some(second), Some(first), true) = (feeds.pop(), feeds.pop(), feeds.is_empty()) {
+        Ok(Some((discarded, close_two(first, second, collector, receipts))))
+    } else {
+        Err("not two feeds".into())
+    }
+}
+
+/// The sweep of `bench/refuse` runs this with each request for memory refused in turn: by the opening, by a
+/// step, or by the close.
+#[test]
+fn records_are_thrown_away_for_want_of_memory(rt: HostRuntime) -> Result<(), Fail> {
+    match thrown_away(rt.alloc(), &rt)? {
+        None => {}
+        Some((0, answer)) => {
+            let is_free = answer == Some(Ok(Verdict::Free));
+            assert!(rt; is_free || answer == Some(Err(CloseFault::Memory)));
+        }
+        Some((_, answer)) => assert_eq!(rt; answer, Some(Err(CloseFault::Memory))),
     }
     Ok(())
+}
+
+/// Tears the second rank's feed at once, steps with it, and then puts the first rank's records: what the step
+/// answers, and the close. `receipts` has room for two.
+fn with_a_torn_feed(
+    first: Feed,
+    second: Feed,
+    collector: Collector,
+    receipts: Vec<Option<Receipt>>,
+    wait: &impl Wait,
+) -> (Stepped, Option<CloseFault>)
+    requires feeds { rings collector ≡ feed_ring first ∷ feed_ring second ∷ [] }
+    requires none { receipts.items ≡ [] }
+    requires room { 2 ≤ vec_capacity receipts }
+{
+    let mut collector = collector;
+    let mut receipts = receipts;
+    let torn = end_feed(second, SourceFault::ThreadNotStarted, false);
+    let stepped = collector.step(1);
+    receipts.push_reserved(put_all(first, &BUFFERED, wait));
+    receipts.push_reserved(torn);
+    (stepped, collector.close(receipts).err())
+}
+
+#[test]
+fn a_caller_tears_a_feed_at_once(rt: HostRuntime) -> Result<(), Fail> {
+    let head = Head::read(rt.alloc(), b"ranks 2\n")?;
+    let receipts = Vec::with_capacity(rt.alloc(), 2)?;
+    let (mut feeds, collector, _watches) = Session::open(rt.alloc(), head, 3, 0, &rt)?;
+    let refusal = Refusal {
+        rank: 1,
+        call: 0,
+        fault: RankFault::OfSource(SourceFault::ThreadNotStarted),
+    };
+    if let (Some(second), Some(first), true) = (feeds.pop(), feeds.pop(), feeds.is_empty()) {
+        let answer = with_a_torn_feed(first, second, collector, receipts, &rt);
+        let refused = Some(CloseFault::Refused(refusal));
+        assert_eq!(rt; answer, (Stepped::Ended, refused));
+        return Ok(());
+    }
+    Err("two feeds".into())
 }

@@ -112,8 +112,8 @@ impl Analyser {
         ensures no_fewer { self.old.touches ≤ self.new.touches }
     {
         let place = next_place(&self.pairs, rank);
-        match self.pairs.add(rank, place, call) {
-            Ok(_) => {
+        match self.pairs.admit(rank, place, call) {
+            Ok(()) => {
                 arrive(
                     &self.pairs,
                     &mut self.stands,

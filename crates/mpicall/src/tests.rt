@@ -1,3 +1,5 @@
+mod changed_texts;
+mod cut_texts;
 mod lines;
 mod sources;
 mod std_devices;

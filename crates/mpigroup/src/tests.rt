@@ -69,6 +69,21 @@ fn a_head_has_at_most_256_lines(rt: HostRuntime) -> Result<(), Fail> {
     Ok(())
 }
 
+/// Each line but the first has a fault; the second is too long.
+#[test]
+fn the_lowest_line_with_a_fault_is_told(rt: HostRuntime) -> Result<(), Fail> {
+    let mut text = b"ranks 3\n".to_vec(rt.alloc())?;
+    text.extend_from_slice(&[b'x'; 1024])?;
+    text.push(b'\n')?;
+    for _ in 0..254 {
+        text.extend_from_slice(b"x\n")?;
+    }
+    let fault = Head::read(rt.alloc(), &text).err().ok_or("no fault")?;
+    let kind = HeadFaultKind::LineForm;
+    assert_eq!(rt; fault, ReadFault::Text(HeadFault { line: 2, kind }));
+    Ok(())
+}
+
 #[test]
 fn looks_up_ranks_of_a_group(rt: HostRuntime) -> Result<(), Fail> {
     let head = Head::read(rt.alloc(), b"ranks 3\ncomm 2 0\n")?;

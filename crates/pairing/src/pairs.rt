@@ -250,15 +250,13 @@ impl Pairs {
         })
     }
 
-    /// Adds the next call of a rank, which comes to stand at `place`, and tells the partners that it has
-    /// and the wave that it joins. It is refused exactly where it has a fault, with the first one, or for
-    /// want of memory; and then all is as it was.
-    pub fn add(&mut self, rank: u16, place: u32, call: &Record) -> Result<Added, PairFault>
+    /// Adds the next call of a rank, which comes to stand at `place`. It is refused exactly where it has a
+    /// fault, with the first one, or for want of memory; and then all is as it was.
+    pub fn admit(&mut self, rank: u16, place: u32, call: &Record) -> Result<(), PairFault>
         requires is_rank { rank < length self.old.recording }
         requires is_next { place ≡ length (calls_of self.old.recording rank) }
         ensures ok { OnOk result (self.new ≡ with_call self.old rank call.now) }
         ensures lawful { OnOk result (fault_of self.old.groups rank (calls_of self.old.recording rank) call.now ≡ None) }
-        ensures added { IfOk result (λ added. added ≡ added_at self.new rank place) }
         ensures refused { IfSome (fault_of self.old.groups rank (calls_of self.old.recording rank) call.now) (λ fault. result ≡ Err (Refused fault)) }
         ensures fault { IfErr result (TellsFault (fault_of self.old.groups rank (calls_of self.old.recording rank) call.now)) }
         ensures err { OnErr result (self.new ≡ self.old) }
@@ -277,7 +275,25 @@ impl Pairs {
             place,
             call,
         );
-        Ok(added_at(&self.head, &self.notes, &self.tables, rank, place))
+        Ok(())
+    }
+
+    /// Adds the next call of a rank by the same rules, and tells the partners that it has and the wave that
+    /// it joins.
+    pub fn add(&mut self, rank: u16, place: u32, call: &Record) -> Result<Added, PairFault>
+        requires is_rank { rank < length self.old.recording }
+        requires is_next { place ≡ length (calls_of self.old.recording rank) }
+        ensures ok { OnOk result (self.new ≡ with_call self.old rank call.now) }
+        ensures lawful { OnOk result (fault_of self.old.groups rank (calls_of self.old.recording rank) call.now ≡ None) }
+        ensures added { IfOk result (λ added. added ≡ added_at self.new rank place) }
+        ensures refused { IfSome (fault_of self.old.groups rank (calls_of self.old.recording rank) call.now) (λ fault. result ≡ Err (Refused fault)) }
+        ensures fault { IfErr result (TellsFault (fault_of self.old.groups rank (calls_of self.old.recording rank) call.now)) }
+        ensures err { OnErr result (self.new ≡ self.old) }
+    {
+        match self.admit(rank, place, call) {
+            Ok(()) => Ok(added_at(&self.head, &self.notes, &self.tables, rank, place)),
+            Err(fault) => Err(fault),
+        }
     }
 
     /// The head of the run.

@@ -6,6 +6,8 @@ use Rattle.rankfeed.specs.declared.item.Item.{Item}
 use Rattle.rankfeed.specs.declared.item.Item.TheVariants.{Entry, Mark}
 use Rattle.rankfeed.specs.declared.answer.PutFault.{PutFault}
 use Rattle.rankfeed.specs.declared.answer.PutFault.TheVariants.{Full, Closed}
+use Rattle.rankfeed.specs.declared.answer.Came.{Came}
+use Rattle.rankfeed.specs.declared.answer.Came.TheVariants as Came
 use Rattle.rankfeed.specs.declared.answer.Took.{Took}
 use Rattle.rankfeed.specs.declared.answer.Took.TheVariants.{Record, Empty, Sealed, Torn}
 
@@ -14,10 +16,21 @@ abbrev pub handed_back : PutFault → Call
 handed_back (Full call) = call
 handed_back (Closed call) = call
 
--- how a taker tells an end mark
+-- what a taker found, where this came and its place holds that record
+abbrev pub came_with : Came → Call → Took
+came_with Came.Record call = Record call
+came_with Came.Empty call = Empty
+came_with Came.Sealed call = Sealed
+came_with (Came.Torn fault) call = Torn fault
+
+-- how a taker tells an end mark, and with a place for records
 abbrev pub told_end : Ending → Took
 told_end Ending.Sealed = Sealed
 told_end (Ending.Torn fault) = Torn fault
+
+abbrev pub came_end : Ending → Came
+came_end Ending.Sealed = Came.Sealed
+came_end (Ending.Torn fault) = Came.Torn fault
 
 -- what is received once an answer was given: where no end mark had come, the one item that it tells is
 -- added, and Empty adds nothing; an end mark that had come is told again, and nothing is added

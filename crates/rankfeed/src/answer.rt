@@ -1,7 +1,7 @@
 //! What the calls of a feed and of its taker answer.
 
 ghost use Rattle.std.specs.Prelude.{◌≡◌};
-ghost use Rattle.rankfeed.specs.Answers.{told_end};
+ghost use Rattle.rankfeed.specs.Answers.{told_end, came_with, came_end};
 
 use crate::item::Ending;
 use mpicall::fault::SourceFault;
@@ -38,6 +38,33 @@ pub enum Took {
     Torn(SourceFault),
 }
 
+/// What came where a taker has a place for records.
+#[derive(Clone, Copy, Debug, PartialEq, Eq)]
+pub enum Came {
+    /// The next record, which stands in the place now.
+    Record,
+    /// Nothing is there now.
+    Empty,
+    /// All records were taken, Finalize last. Each later call answers the same.
+    Sealed,
+    /// The records stopped, for the fault. Each later call answers the same.
+    Torn(SourceFault),
+}
+
+impl Came {
+    /// What a taker found, where what came is this and the place holds that record.
+    pub(crate) fn with(self, place: &Record) -> Took
+        ensures { result ≡ came_with self place.now }
+    {
+        match self {
+            Came::Record => Took::Record(*place),
+            Came::Empty => Took::Empty,
+            Came::Sealed => Took::Sealed,
+            Came::Torn(fault) => Took::Torn(fault),
+        }
+    }
+}
+
 /// What a taker learns from its feed's receipt.
 #[derive(Clone, Copy, Debug, PartialEq, Eq)]
 pub struct Met {
@@ -53,6 +80,16 @@ impl Ending {
         match self {
             Ending::Sealed => Took::Sealed,
             Ending::Torn(fault) => Took::Torn(fault),
+        }
+    }
+
+    /// The same, where the taker has a place for records.
+    pub(crate) fn came(self) -> Came
+        ensures { result ≡ came_end self }
+    {
+        match self {
+            Ending::Sealed => Came::Sealed,
+            Ending::Torn(fault) => Came::Torn(fault),
         }
     }
 }

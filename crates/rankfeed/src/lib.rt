@@ -40,6 +40,6 @@ pub mod ring;
 #[cfg(test)]
 mod tests;
 
-pub use answer::{Met, PutFault, Took, Unsealed};
+pub use answer::{Came, Met, PutFault, Took, Unsealed};
 pub use item::{Ending, Item};
 pub use ring::{Feed, Receipt, Taker};

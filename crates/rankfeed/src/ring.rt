@@ -4,7 +4,7 @@ ghost use Rattle.std.specs.Prelude.{◌≡◌, ◌<◌, ◌+◌, ◌≤◌, true
 ghost use Rattle.rtrb.specs.Ring.{sent, received, all_sent, known_free, producer_capacity};
 ghost use Rattle.rankfeed.specs.Items.{may_follow, last_item, are_in_order, end_the_list, end_of, are_ended};
 
-use crate::answer::{Met, PutFault, Took, Unsealed};
+use crate::answer::{Came, Met, PutFault, Took, Unsealed};
 use crate::item::{Ending, Item};
 use crate::pause::Pause;
 use mpicall::fault::SourceFault;
@@ -57,7 +57,7 @@ pub struct Receipt {
 }
 
 impl Feed {
-    ghost use Rattle.std.specs.Prelude.{◌↔◌, [], ◌∷◌, ◌++◌, ℕ, IsTrue, IsErr, IfOk, IfErr, OnOk, Ok, Err, MatchResult};
+    ghost use Rattle.std.specs.Prelude.{◌↔◌, [], ◌∷◌, ◌++◌, ℕ, not, IsTrue, IsErr, IfOk, IfErr, OnOk, Ok, Err, MatchResult};
     ghost use Rattle.rankfeed.specs.declared.item.Ending.TheVariants.{Sealed, Torn};
     ghost use Rattle.rankfeed.specs.declared.item.Item.TheVariants.{Entry, Mark};
     ghost use Rattle.rankfeed.specs.declared.answer.PutFault.TheVariants.{Full, Closed};
@@ -149,7 +149,6 @@ impl Feed {
     }
 
     /// Puts a record at the back, and waits for a place. It answers no other fault than `Closed`.
-    #[tactic(auto, using(crate::proofs::ItemLemmas::item_steps))]
     pub fn put(&mut self, call: Record, wait: &impl Wait) -> Result<(), PutFault>
         ensures name { feed_ring self.new ≡ feed_ring self.old }
         ensures capacity { feed_capacity self.new ≡ feed_capacity self.old }
@@ -157,14 +156,31 @@ impl Feed {
         ensures err { IfErr result (λ fault. (fault ≡ Closed call) × (sent_by self.new ≡ sent_by self.old)) }
         ensures closed { IsErr result ↔ IsTrue (end_the_list (sent_by self.old)) }
     {
+        if self.put_copy(&call, wait) {
+            Ok(())
+        } else {
+            Err(PutFault::Closed(call))
+        }
+    }
+
+    /// Puts a copy of a record at the back, and waits for a place, for those that put many: a record takes
+    /// some 264 bytes. False where Finalize was put before; then nothing is put.
+    #[tactic(auto, using(crate::proofs::ItemLemmas::item_steps))]
+    pub fn put_copy(&mut self, call: &Record, wait: &impl Wait) -> bool
+        ensures name { feed_ring self.new ≡ feed_ring self.old }
+        ensures capacity { feed_capacity self.new ≡ feed_capacity self.old }
+        ensures put { IsTrue result → sent_by self.new ≡ sent_by self.old ++ Entry call.now ∷ [] }
+        ensures same { result ≡ false → sent_by self.new ≡ sent_by self.old }
+        ensures closed { result ≡ not (end_the_list (sent_by self.old)) }
+    {
         if self.done {
-            return Err(PutFault::Closed(call));
+            return false;
         }
         let mut pause = Pause::new();
         for _ in wait.forever() {
             if self.has_room() {
-                self.push(&call);
-                return Ok(());
+                self.push(call);
+                return true;
             }
             pause.rest(wait);
         }
@@ -214,9 +230,11 @@ impl Feed {
 
 impl Taker {
     ghost use Rattle.std.specs.Prelude.{◌↔◌, [], ◌∷◌, ◌++◌, ℕ, IsTrue, IfOk};
+    ghost use Rattle.std.specs.Prelude.{◌≢◌};
     ghost use Rattle.rankfeed.specs.declared.answer.Took.TheVariants as Took;
+    ghost use Rattle.rankfeed.specs.declared.answer.Came.TheVariants as Came;
     ghost use Rattle.rankfeed.specs.Items.{IsFeed};
-    ghost use Rattle.rankfeed.specs.Answers.{Receives};
+    ghost use Rattle.rankfeed.specs.Answers.{Receives, came_with};
     ghost use Rattle.rankfeed.specs.Rings.{taker_ring, received_by, left_for, receipt_ring, sent_whole};
 
     /// The rank whose records are taken.
@@ -227,7 +245,6 @@ impl Taker {
     }
 
     /// Takes the item at the front.
-    #[tactic(auto, using(crate::proofs::ItemLemmas::item_steps))]
     pub fn try_take(&mut self) -> Took
         ensures name { taker_ring self.new ≡ taker_ring self.old }
         ensures received { Receives (end_of (received_by self.old)) result (received_by self.old) (received_by self.new) }
@@ -235,17 +252,35 @@ impl Taker {
         ensures order { IsFeed (received_by self.new) }
         ensures never_empty { are_ended (received_by self.old ++ left_for self.old) ≡ true → ¬ (result ≡ Took.Empty) }
     {
+        let mut call = Record::finalize();
+        self.take_into(&mut call).with(&call)
+    }
+
+    /// Takes the item at the front, for those that take many: a record comes into one place, since it takes
+    /// some 264 bytes. Another answer leaves the place as it was.
+    #[tactic(auto, using(crate::proofs::ItemLemmas::item_steps))]
+    pub fn take_into(&mut self, into: &mut Record) -> Came
+        ensures name { taker_ring self.new ≡ taker_ring self.old }
+        ensures received { Receives (end_of (received_by self.old)) (came_with result into.new) (received_by self.old) (received_by self.new) }
+        ensures left { are_ended (received_by self.old ++ left_for self.old) ≡ true → received_by self.new ++ left_for self.new ≡ received_by self.old ++ left_for self.old }
+        ensures order { IsFeed (received_by self.new) }
+        ensures never_empty { are_ended (received_by self.old ++ left_for self.old) ≡ true → ¬ (result ≡ Came.Empty) }
+        ensures kept { result ≢ Came.Record → into.new ≡ into.old }
+    {
         if let Some(end) = self.end {
-            return end.told();
+            return end.came();
         }
         if self.ring.cached_slots() == 0 && self.ring.slots() == 0 {
-            return Took::Empty;
+            return Came::Empty;
         }
         match self.ring.pop_known() {
-            Item::Entry(call) => Took::Record(call),
+            Item::Entry(call) => {
+                *into = call;
+                Came::Record
+            }
             Item::Mark(end) => {
                 self.end = Some(end);
-                end.told()
+                end.came()
             }
         }
     }

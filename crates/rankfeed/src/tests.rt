@@ -1,4 +1,4 @@
-use crate::{Feed, Met, PutFault, Taker, Took};
+use crate::{Came, Feed, Met, PutFault, Taker, Took};
 use mpicall::fault::SourceFault;
 use mpicall::line::read_line;
 use mpicall::record::Record;
@@ -39,6 +39,21 @@ fn a_feed_of_two_places(rt: HostRuntime) -> Result<(), Fail> {
     assert_eq!(rt; feed.is_done(), true);
     assert_eq!(rt; feed.try_put(finalize), Err(PutFault::Closed(finalize)));
     assert_eq!(rt; feed.put(bsend, &rt), Err(PutFault::Closed(bsend)));
+    Ok(())
+}
+
+#[test]
+fn a_record_comes_into_a_place(rt: HostRuntime) -> Result<(), Fail> {
+    let send = record(&rt, b"send 0 0 0\n");
+    let finalize = record(&rt, b"finalize\n");
+    let (mut feed, mut taker) = Feed::open(rt.alloc(), 0, 2)?;
+    let mut place = finalize;
+    assert_eq!(rt; taker.take_into(&mut place), Came::Empty);
+    assert!(rt; feed.put_copy(&send, &rt));
+    assert_eq!(rt; taker.take_into(&mut place), Came::Record);
+    assert_eq!(rt; place, send);
+    assert!(rt; feed.put_copy(&finalize, &rt));
+    assert!(rt; !feed.put_copy(&send, &rt));
     Ok(())
 }
 

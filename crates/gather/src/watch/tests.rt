@@ -5,9 +5,9 @@ ghost use Rattle.rankfeed.specs.Rings.{feed_ring};
 ghost use Rattle.gather.specs.Collectors.{rings, list_published};
 ghost use Rattle.gather.specs.Watches.{list_watched, list_told};
 
-use crate::collector::Collector;
-use crate::session::Session;
-use crate::tests::{end_feeds, put_at};
+use crate::collector::{Collector, Stepped};
+use crate::session::{OpenFault, Session};
+use crate::tests::{end_feeds, head_again, one_of_a_thousand, put_at};
 use crate::watch::{Gone, Told, Watch};
 use moves::verdict::Verdict;
 use mpicall::fault::SourceFault;
@@ -51,25 +51,40 @@ impl Drop for Opened {
 
 impl Opened {
     fn of(alloc: Global, head: &[u8], watches: u16, wait: &impl Wait) -> Result<Opened, Fail> {
-        let head = Head::read(alloc, head)?;
-        let (feeds, collector, watches) = Session::open(alloc, head, 4, watches.min(2), wait)?;
-        Ok(Opened {
-            feeds,
-            collector,
-            watches,
-        })
+        match Opened::unless_refused(alloc, head, watches, wait)? {
+            Some(session) => Ok(session),
+            None => Err("memory".into()),
+        }
     }
 
-    /// Puts a line's record on a rank's feed, and takes it.
-    fn deal(&mut self, rank: u16, line: &[u8]) -> Result<(), Fail>
+    /// None where the session isn't opened for want of memory.
+    fn unless_refused(
+        alloc: Global,
+        head: &[u8],
+        watches: u16,
+        wait: &impl Wait,
+    ) -> Result<Option<Opened>, Fail> {
+        let head = head_again(alloc, head)?;
+        match Session::open(alloc, head, 4, watches.min(2), wait) {
+            Ok((feeds, collector, watches)) => Ok(Some(Opened {
+                feeds,
+                collector,
+                watches,
+            })),
+            Err(OpenFault::Memory) => Ok(None),
+            Err(fault) => Err(fault.into()),
+        }
+    }
+
+    /// Puts a line's record on a rank's feed, takes it, and tells what was found.
+    fn deal(&mut self, rank: u16, line: &[u8]) -> Result<Stepped, Fail>
         ensures { list_published self.new.collector ≡ list_published self.old.collector }
     {
         let record = read_line(line)?;
         if rank >= self.collector.ranks() || !put_at(&mut self.feeds, rank, record) {
             return Err("no such place".into());
         }
-        self.collector.step(rank);
-        Ok(())
+        Ok(self.collector.step(rank))
     }
 
     /// Deals a barrier and a Finalize to each of these ranks.
@@ -248,5 +263,72 @@ fn beside_the_collector<R: Threads + Wait + Sync>(
 #[test]
 fn watches_read_beside_the_collector(rt: HostRuntime) -> Result<(), Fail> {
     assert_eq!(rt; beside_the_collector(&rt, rt.alloc())?, [true, true]);
+    Ok(())
+}
+
+/// What a watch is told of two ranks' stands behind each record of a thousand messages.
+#[derive(Drop)]
+struct Seen {
+    /// The stands behind the last record.
+    stands: [Result<Option<u32>, Gone>; 2],
+    /// How many records were thrown away, and how many of them changed the stands.
+    discarded: u32,
+    changed: u32,
+}
+
+impl Opened {
+    /// Deals one of a thousand messages' records, publishes, and tells a watch of it.
+    fn deal_and_tell(&mut self, turn: u32, seen: &mut Seen, wait: &impl Wait) -> Result<(), Fail> {
+        let rank = if turn % 2 == 0 { 0 } else { 1 };
+        let (rank, line) = one_of_a_thousand(rank, turn / 2);
+        let stepped = self.deal(rank, line)?;
+        let told = self.publish(wait)?;
+        self.learn(0, &told);
+        let stands = [self.read(0, 0), self.read(0, 1)];
+        if stepped == Stepped::Discarded {
+            seen.discarded = seen.discarded.saturating_add(1);
+            if stands != seen.stands {
+                seen.changed = seen.changed.saturating_add(1);
+            }
+        }
+        seen.stands = stands;
+        Ok(())
+    }
+}
+
+/// What a watch is told of a thousand messages. None where the session isn't opened for want of memory.
+fn seen_of_a_thousand(alloc: Global, wait: &impl Wait) -> Result<Option<Seen>, Fail> {
+    let Some(mut session) = Opened::unless_refused(alloc, b"ranks 2\n", 1, wait)? else {
+        return Ok(None);
+    };
+    let mut seen = Seen {
+        stands: [Ok(Some(0)), Ok(Some(0))],
+        discarded: 0,
+        changed: 0,
+    };
+    for turn in 0..2002u32 {
+        session.deal_and_tell(turn, &mut seen, wait)?;
+    }
+    Ok(Some(seen))
+}
+
+/// The sweep of `bench/refuse` runs this with each request for memory refused in turn: by the opening or by a
+/// step. Each publication is answered all the same.
+#[test]
+fn stands_stay_where_memory_was_wanted(rt: HostRuntime) -> Result<(), Fail> {
+    if let Some(seen) = seen_of_a_thousand(rt.alloc(), &rt)? {
+        assert_eq!(rt; seen.changed, 0);
+        let are_at_end = seen.stands == [Ok(Some(1000)), Ok(Some(1000))];
+        assert!(rt; are_at_end || seen.discarded > 0);
+    }
+    Ok(())
+}
+
+/// The sweep of `bench/refuse` runs this with each request for memory refused in turn.
+#[test]
+fn an_opening_is_refused_for_want_of_memory_alone(rt: HostRuntime) -> Result<(), Fail> {
+    if let Some(mut session) = Opened::unless_refused(rt.alloc(), b"ranks 64\n", 2, &rt)? {
+        assert_eq!(rt; session.read(1, 63), Ok(Some(0)));
+    }
     Ok(())
 }

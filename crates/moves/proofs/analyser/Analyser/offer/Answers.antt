@@ -29,23 +29,23 @@ arrive-requires c =
 pub returns-in-Ok-clause-kept : goal.returns-in-Ok-clause-kept
 returns-in-Ok-clause-kept c other =
     let a = c.self.inside in
-    subst (λ (b : Analysed). IsKeptOn b.groups b.recording c.add.new.self.recording (c.args.rank, c.args.call.now)) c.self.view_is
-    (accepted_kept a.pairs.groups a.pairs.recording c.add.new.self.recording c.args.rank c.args.call.now c.in-Ok.ensures.lawful (ap (λ (p : Paired). p.recording) c.in-Ok.ensures.ok))
+    subst (λ (b : Analysed). IsKeptOn b.groups b.recording c.admit.new.self.recording (c.args.rank, c.args.call.now)) c.self.view_is
+    (accepted_kept a.pairs.groups a.pairs.recording c.admit.new.self.recording c.args.rank c.args.call.now c.in-Ok.ensures.lawful (ap (λ (p : Paired). p.recording) c.in-Ok.ensures.ok))
 
 pub returns-in-Ok-clause-end : goal.returns-in-Ok-clause-end
 returns-in-Ok-clause-end c =
-    settled_end c.add.new.self.groups c.add.new.self.recording c.arrive.new.stands.items c.arrive.new.waves c.arrive.new.waiters c.arrive.ensures.settled
+    settled_end c.admit.new.self.groups c.admit.new.self.recording c.arrive.new.stands.items c.arrive.new.waves c.arrive.new.waiters c.arrive.ensures.settled
 
 pub returns-in-Ok-clause-stands : goal.returns-in-Ok-clause-stands
 returns-in-Ok-clause-stands c =
-    end_stands c.add.new.self.groups c.add.new.self.recording c.arrive.new.stands.items
-    (settled_end c.add.new.self.groups c.add.new.self.recording c.arrive.new.stands.items c.arrive.new.waves c.arrive.new.waiters c.arrive.ensures.settled)
+    end_stands c.admit.new.self.groups c.admit.new.self.recording c.arrive.new.stands.items
+    (settled_end c.admit.new.self.groups c.admit.new.self.recording c.arrive.new.stands.items c.arrive.new.waves c.arrive.new.waiters c.arrive.ensures.settled)
 
 pub returns-in-Err-clause-kept : goal.returns-in-Err-clause-kept
 returns-in-Err-clause-kept c other =
     let a = c.self.inside in
-    subst (λ (b : Analysed). IsKeptOn b.groups b.recording c.add.new.self.recording (c.args.rank, c.args.call.now)) c.self.view_is
-    (refused_kept a.pairs.groups a.pairs.recording c.add.new.self.recording c.args.rank c.args.call.now c.in-Err.fault c.in-Err.ensures.fault (λ e. other (ap (λ (f : PairFault). Err f) e)) (ap (λ (p : Paired). p.recording) c.in-Err.ensures.err))
+    subst (λ (b : Analysed). IsKeptOn b.groups b.recording c.admit.new.self.recording (c.args.rank, c.args.call.now)) c.self.view_is
+    (refused_kept a.pairs.groups a.pairs.recording c.admit.new.self.recording c.args.rank c.args.call.now c.in-Err.fault c.in-Err.ensures.fault (λ e. other (ap (λ (f : PairFault). Err f) e)) (ap (λ (p : Paired). p.recording) c.in-Err.ensures.err))
 
 pub returns-in-Err-clause-end : goal.returns-in-Err-clause-end
 returns-in-Err-clause-end c =
@@ -61,7 +61,7 @@ returns-in-Err-clause-stands c =
 
 pub returns-in-Ok-clause-touches : goal.returns-in-Ok-clause-touches
 returns-in-Ok-clause-touches c =
-    touches_within c.add.new.self.groups c.add.new.self.recording c.arrive.new.stands.items c.arrive.new.waves c.arrive.new.waiters c.arrive.ensures.settled
+    touches_within c.admit.new.self.groups c.admit.new.self.recording c.arrive.new.stands.items c.arrive.new.waves c.arrive.new.waiters c.arrive.ensures.settled
 
 pub returns-in-Err-clause-touches : goal.returns-in-Err-clause-touches
 returns-in-Err-clause-touches c =

@@ -1,6 +1,6 @@
 use Rattle.std.proofs.Common.{◌≡◌, false}
 use Rattle.rankfeed.specs.Rings.{feed_ring, feed_capacity, sent_by}
-use Rattle.rankfeed.proofs.ring.Feed.put.Given as goal
+use Rattle.rankfeed.proofs.ring.Feed.put_copy.Given as goal
 
 abbrev pub invariant-loop : goal.invariant-loop
 invariant-loop g l = record {

@@ -1,6 +1,6 @@
 -- More room leaves all as it was.
 use Rattle.pairing.proofs.KeptLemmas.{kept_still}
-use Rattle.pairing.proofs.pairs.Pairs.add.Goals as goal
+use Rattle.pairing.proofs.pairs.Pairs.admit.Goals as goal
 
 pub invariant_of-self : goal.invariant_of-self
 invariant_of-self c = kept_still _ c.self.inside.notes.lists _ c.self.inside.tables _ c.self.invariant c.reserve.ensures.notes c.reserve.ensures.tables
