@@ -10,8 +10,4 @@ pub mod CloseLemmas
 pub mod FedLemmas
 pub mod AlongLemmas
 pub mod ThreadLemmas
-pub mod PrefixLemmas
-pub mod AppendLemmas
-pub mod RisingLemmas
-pub mod ViewLemmas
 pub mod PassedLemmas

@@ -6,11 +6,11 @@ use Rattle.rankfeed.specs.Rings.{FeedName, taker_ring}
 use Rattle.rankfeed.specs.declared.answer.Took.{Took}
 use Rattle.rankfeed.specs.declared.item.Item.{Item}
 use Rattle.gather.specs.Collected.{Kept, Enters}
-use Rattle.gather.specs.Publications.{ArePassed}
-use Rattle.gather.specs.Publishers.{published_by, book_published, is_watched, IsShown}
-use Rattle.gather.specs.Stands.{places_of}
+use Rattle.watches.specs.Publications.{ArePassed}
+use Rattle.watches.specs.Publishers.{published_by, book_published, is_watched, IsShown}
+use Rattle.watches.specs.Stands.{places_of}
 use Rattle.gather.specs.Takers.{received_in, left_in, Takes}
-use Rattle.gather.specs.declared.stands.Stands.{Stands}
+use Rattle.watches.specs.declared.stands.Stands.{Stands}
 use Rattle.gather.specs.declared.ledger.Stepped.{Stepped}
 use Rattle.gather.specs.declared.collector.Collector.{Collector}
 

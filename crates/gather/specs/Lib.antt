@@ -12,10 +12,3 @@ pub mod Fed
 pub mod Threads
 pub mod Along
 pub mod Runs
-pub mod Stands
-pub mod Publications
-pub mod Published
-pub mod Boards
-pub mod Shown
-pub mod Watches
-pub mod Publishers

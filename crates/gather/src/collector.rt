@@ -5,16 +5,16 @@ ghost use Rattle.rankfeed.specs.Rings.{taker_ring, receipt_ring};
 ghost use Rattle.rankfeed.specs.Answers.{came_with};
 ghost use Rattle.gather.specs.Takers.{Collects, Takes};
 ghost use Rattle.gather.specs.Receipts.{Meets};
-ghost use Rattle.gather.specs.Publications.{ArePassed};
-ghost use Rattle.gather.specs.Publishers.{published_by};
+ghost use Rattle.watches.specs.Publications.{ArePassed};
+ghost use Rattle.watches.specs.Publishers.{published_by};
 
 use crate::ledger::Ledger;
 pub use crate::ledger::Stepped;
 use crate::outcome::{CloseFault, Outcome};
-pub use crate::publisher::PublishFault;
-use crate::publisher::Publisher;
-use crate::stands::Stands;
-use crate::watch::Told;
+pub use watches::publisher::PublishFault;
+use watches::publisher::Publisher;
+use watches::stands::Stands;
+use watches::watch::Told;
 use mpicall::record::Record;
 use rankfeed::{Came, Receipt, Taker};
 use std::alloc::Global;
@@ -60,8 +60,8 @@ impl Collector {
     ghost use Rattle.std.specs.Prelude.{IfOk, OnOk, OnErr, false};
     ghost use Rattle.gather.specs.Collectors.{rings, kept, received_from, left_from, Steps, ReceivesFrom};
     ghost use Rattle.gather.specs.Collectors.{published, list_published, has_watches, stands_now, ShowsTheLast, PublishesRuns, TakesNothing, PublishesNothing};
-    ghost use Rattle.gather.specs.Publications.{Publishes};
-    ghost use Rattle.gather.specs.Watches.{told_by, list_told};
+    ghost use Rattle.watches.specs.Publications.{Publishes};
+    ghost use Rattle.watches.specs.Watches.{told_by, list_told};
 
     /// The collector of these takers, of which this much is kept, and of what publishes.
     pub(crate) fn of(

@@ -26,8 +26,8 @@
 //!
 //! The definitions stand in `specs/`: `Answers` says which refusal or verdict some traces have, `Told`
 //! what an answer says where the inputs tell their bytes, `Collected` and `Closes` what a session keeps and
-//! answers, `Fed` what is put on a feed, `Runs` what a run answers by what was put, `Publications` and
-//! `Watches` what is published and read.
+//! answers, `Fed` what is put on a feed, `Runs` what a run answers by what was put. Those of the crate `watches`
+//! say what is published and read.
 //!
 //! ```text
 //! let head = Head::read(b"ranks 1\n")?;
@@ -36,8 +36,6 @@
 //! ```
 #![tactic(auto)]
 
-mod append;
-mod board;
 pub mod collector;
 pub mod fault;
 pub mod feed;
@@ -45,11 +43,8 @@ pub mod gate;
 mod gathering;
 pub mod ledger;
 pub mod outcome;
-mod publication;
-pub mod publisher;
 pub mod run;
 pub mod session;
-pub mod stands;
 mod sweep;
 #[cfg(test)]
 mod tests;

@@ -9,9 +9,9 @@ ghost use Rattle.gather.specs.Takers.{rank_of, IsFreshFeed};
 
 use crate::collector::Collector;
 use crate::ledger::Ledger;
-pub use crate::publisher::OpenFault;
-use crate::publisher::Publisher;
-use crate::watch::Watch;
+pub use watches::publisher::OpenFault;
+use watches::publisher::Publisher;
+use watches::watch::Watch;
 use mpigroup::head::Head;
 use rankfeed::{Feed, Taker};
 use std::alloc::{AllocError, Global};
@@ -48,9 +48,9 @@ pub struct Session;
 impl Session {
     ghost use Rattle.std.specs.Prelude.{◌≤◌, ◌≢◌, ◌∷◌, Err, vec_len};
     ghost use Rattle.gather.specs.Collectors.{rings, kept, received_from, published, list_published, PublishesRuns};
-    ghost use Rattle.gather.specs.Publications.{at_start};
-    ghost use Rattle.gather.specs.Watches.{IsWatchOf};
-    ghost use Rattle.gather.specs.declared.publisher.OpenFault.TheVariants.{Watch as WatchFault};
+    ghost use Rattle.watches.specs.Publications.{at_start};
+    ghost use Rattle.watches.specs.Watches.{IsWatchOf};
+    ghost use Rattle.watches.specs.declared.publisher.OpenFault.TheVariants.{Watch as WatchFault};
     ghost use Rattle.gather.specs.declared.session.TheConstants.{MOST_WATCHES};
 
     /// A feed with room for `capacity` records for each rank of the head, in rank order, the collector of their

@@ -3,12 +3,12 @@
 ghost use Rattle.std.specs.Prelude.{◌≡◌, All, IfOk, map};
 ghost use Rattle.rankfeed.specs.Rings.{feed_ring};
 ghost use Rattle.gather.specs.Collectors.{rings, list_published};
-ghost use Rattle.gather.specs.Watches.{list_watched, list_told};
+ghost use Rattle.watches.specs.Watches.{list_watched, list_told};
 
 use crate::collector::{Collector, Stepped};
 use crate::session::{OpenFault, Session};
 use crate::tests::{end_feeds, head_again, one_of_a_thousand, put_at};
-use crate::watch::{Gone, Told, Watch};
+use watches::watch::{Gone, Told, Watch};
 use moves::verdict::Verdict;
 use mpicall::fault::SourceFault;
 use mpicall::line::read_line;

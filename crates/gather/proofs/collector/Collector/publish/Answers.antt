@@ -1,8 +1,8 @@
 use Rattle.std.proofs.Common.{rules, ◌≡◌, sym, ap, ◌∙◌}
 use Rattle.moves.specs.Stands.{stands_of}
-use Rattle.gather.specs.Stands.{places_of}
-use Rattle.gather.specs.Publishers.{published_by}
-use Rattle.gather.proofs.PassedLemmas.{still_passed}
+use Rattle.watches.specs.Stands.{places_of}
+use Rattle.watches.specs.Publishers.{published_by}
+use Rattle.watches.proofs.PassedLemmas.{still_passed}
 use Rattle.gather.proofs.collector.Collector.publish.Goals as goal
 
 pub invariant_of-self : goal.invariant_of-self

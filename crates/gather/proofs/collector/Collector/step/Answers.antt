@@ -1,7 +1,7 @@
 use Rattle.std.proofs.Common.{refl}
 use Rattle.gather.proofs.CollectedLemmas.{step_collects}
 use Rattle.gather.proofs.PassedLemmas.{step_passed, is_one_of}
-use Rattle.gather.specs.Publishers.{published_by}
+use Rattle.watches.specs.Publishers.{published_by}
 use Rattle.rankfeed.specs.declared.answer.Took.{Took}
 use Rattle.gather.specs.declared.ledger.Stepped.TheVariants.{Empty, Ended}
 use Rattle.gather.proofs.collector.Collector.step.Goals as goal

@@ -1,8 +1,8 @@
 use Rattle.std.proofs.Common.{ℕ, List, ap, ◌∙◌}
 use Rattle.rankfeed.specs.declared.item.Item.{Item}
-use Rattle.gather.specs.Publishers.{published_by}
+use Rattle.watches.specs.Publishers.{published_by}
 use Rattle.gather.proofs.OpenLemmas.{opened, nothing_received}
-use Rattle.gather.proofs.PassedLemmas.{first_passed}
+use Rattle.watches.proofs.PassedLemmas.{first_passed}
 use Rattle.gather.proofs.session.Session.open.Goals as goal
 
 pub of-requires-clause-collects : goal.of-requires-clause-collects

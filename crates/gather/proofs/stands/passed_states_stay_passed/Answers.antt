@@ -1,5 +1,0 @@
-use Rattle.gather.proofs.PassedLemmas.{passed_states_stay_passed}
-use Rattle.gather.proofs.stands.passed_states_stay_passed.Goals as goal
-
-pub returns : goal.returns
-returns c = passed_states_stay_passed

@@ -1,0 +1,5 @@
+pub mod PrefixLemmas
+pub mod AppendLemmas
+pub mod RisingLemmas
+pub mod ViewLemmas
+pub mod PassedLemmas

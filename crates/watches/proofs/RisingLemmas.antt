@@ -1,0 +1,90 @@
+-- No stand falls along the publications.
+use Rattle.std.proofs.Common.{◌≡◌, ℕ, ◌≤◌, ◌<◌, Bool, true, false, ◌&&◌, if◌then◌else◌, nat_le, nat_lt, List, [], ◌∷◌, ◌++◌, Option, Some, None, sum, refl, sym, ap, ◌∙◌, arith, slice_index, length}
+use Rattle.std.specs.List.{list_all, range_with_len}
+use Rattle.std.proofs.lemmas.Bool.Decides.{nat_tests}
+use Rattle.std.proofs.lemmas.List.Sums.{AllPass-from_list_all, list_all-from_AllPass}
+use Rattle.mpigroup.specs.declared.limits.TheConstants.{MOST_RANKS}
+use mathlib.Core.List.{IsPrefix}
+use Rattle.watches.specs.declared.stands.Stands.{Stands}
+use Rattle.watches.specs.Stands.{is_no_lower, is_further}
+use Rattle.watches.specs.Publications.{last_of, is_rising, NeverFalls}
+
+then_of : (b r : Bool) → (if b then r else false) ≡ true → (b ≡ true) × (r ≡ true)
+then_of true r e = (refl, e)
+then_of false r e = absurd cc
+
+then_is : (b r : Bool) → b ≡ true → r ≡ true → (if b then r else false) ≡ true
+then_is b r e f = rw e f
+
+both_of : (b r : Bool) → (b && r) ≡ true → (b ≡ true) × (r ≡ true)
+both_of true r e = (refl, e)
+both_of false r e = absurd cc
+
+both_are : (b r : Bool) → b ≡ true → r ≡ true → (b && r) ≡ true
+both_are b r e f = rw e f
+
+no_lower_self : (xs : List ℕ) → is_no_lower xs xs ≡ true
+unfolding is_no_lower
+no_lower_self xs = list_all-from_AllPass (λ rank. nat_le (slice_index xs rank) (slice_index xs rank)) (range_with_len 0 MOST_RANKS) (λ k d below. grind (arith, nat_tests))
+
+no_lower_trans : (xs ys zs : List ℕ) → is_no_lower xs ys ≡ true → is_no_lower ys zs ≡ true → is_no_lower xs zs ≡ true
+unfolding is_no_lower
+no_lower_trans xs ys zs p q =
+    let p' = AllPass-from_list_all (λ rank. nat_le (slice_index xs rank) (slice_index ys rank)) (range_with_len 0 MOST_RANKS) p in
+    let q' = AllPass-from_list_all (λ rank. nat_le (slice_index ys rank) (slice_index zs rank)) (range_with_len 0 MOST_RANKS) q in
+    list_all-from_AllPass (λ rank. nat_le (slice_index xs rank) (slice_index zs rank)) (range_with_len 0 MOST_RANKS) (λ k d below.
+    let p'' = p' k d below in
+    let q'' = q' k d below in grind (arith, nat_tests, p'', q''))
+
+further_is_no_lower : (xs ys : List ℕ) → is_further xs ys ≡ true → is_no_lower xs ys ≡ true
+further_is_no_lower xs ys e = (both_of (is_no_lower xs ys) (nat_lt (sum xs) (sum ys)) e).0
+
+pub further_is_more : (xs ys : List ℕ) → is_further xs ys ≡ true → sum xs < sum ys
+further_is_more xs ys e =
+    let more = (both_of (is_no_lower xs ys) (nat_lt (sum xs) (sum ys)) e).1 in grind (arith, nat_tests, more)
+
+pub further_is : (xs ys : List ℕ) → is_no_lower xs ys ≡ true → sum xs < sum ys → is_further xs ys ≡ true
+further_is xs ys within more = both_are (is_no_lower xs ys) (nat_lt (sum xs) (sum ys)) within (grind (arith, nat_tests, more))
+
+-- what may stand behind the last of a list
+abbrev pub may_follow : Option Stands → Stands → Bool
+may_follow None stands = true
+may_follow (Some last) stands = is_further last.places stands.places
+
+pub rising_snoc : (xs : List Stands) (e : Stands) → is_rising xs ≡ true → may_follow (last_of xs) e ≡ true → is_rising (xs ++ e ∷ []) ≡ true
+rising_snoc [] e r m = refl
+rising_snoc (x ∷ []) e r m = then_is (is_further x.places e.places) true m refl
+rising_snoc (x ∷ y ∷ ys) e r m =
+    let r' = then_of (is_further x.places y.places) (is_rising (y ∷ ys)) r in
+    then_is (is_further x.places y.places) (is_rising (y ∷ ys ++ e ∷ [])) r'.0 (rising_snoc (y ∷ ys) e r'.1 m)
+
+passes_to : (x y : Stands) (last : Option Stands) → is_no_lower x.places y.places ≡ true → NeverFalls (Some y) last → NeverFalls (Some x) last
+passes_to x y None p q = tt
+passes_to x y (Some z) p q = no_lower_trans x.places y.places z.places p q
+
+passes : (x y : Stands) (ys : List Stands) → is_further x.places y.places ≡ true → NeverFalls (Some y) (last_of (y ∷ ys)) → NeverFalls (Some x) (last_of (y ∷ ys))
+passes x y ys p q = passes_to x y (last_of (y ∷ ys)) (further_is_no_lower x.places y.places p) q
+
+-- the last is no lower than the first
+pub first_below : (x : Stands) (xs : List Stands) → is_rising (x ∷ xs) ≡ true → NeverFalls (Some x) (last_of (x ∷ xs))
+first_below x [] r = no_lower_self x.places
+first_below x (y ∷ ys) r =
+    let r' = then_of (is_further x.places y.places) (is_rising (y ∷ ys)) r in
+    passes x y ys r'.0 (first_below y ys r'.1)
+
+pub never_falls : (xs ys : List Stands) → IsPrefix xs ys → is_rising ys ≡ true → NeverFalls (last_of xs) (last_of ys)
+never_falls [] ys p r = tt
+never_falls (x ∷ []) [] p r = absurd (cc p.1)
+never_falls (x ∷ []) (y ∷ ys) p r = let e : x ≡ y = cc p.1 in rw e (first_below y ys r)
+never_falls (x ∷ x' ∷ xs) [] p r = absurd (cc p.1)
+never_falls (x ∷ x' ∷ xs) (y ∷ []) p r = absurd (cc p.1)
+never_falls (x ∷ x' ∷ xs) (y ∷ y' ∷ ys) p r =
+    let r' = then_of (is_further y.places y'.places) (is_rising (y' ∷ ys)) r in
+    never_falls (x' ∷ xs) (y' ∷ ys) (p.0, cc p.1) r'.1
+
+self_of : (last : Option Stands) → NeverFalls last last
+self_of None = tt
+self_of (Some x) = no_lower_self x.places
+
+pub never_falls_self : (xs : List Stands) → NeverFalls (last_of xs) (last_of xs)
+never_falls_self xs = self_of (last_of xs)

@@ -1,0 +1,29 @@
+use Rattle.std.proofs.Common.{◌≡◌, ℕ, ◌+◌, ◌<◌, get_or, set, length, length-set, sym, ap, subst, ◌∙◌, arith}
+use Rattle.std.proofs.lemmas.List.FromFn.{fill_by_all}
+use Rattle.std.proofs.lemmas.List.Edits.{fill_by_more}
+use Rattle.std.proofs.lemmas.Option.{unwrap_or-slice_get}
+use Rattle.std.specs.Option.{unwrap_or}
+use Rattle.moves.specs.Runs.{State}
+use Rattle.moves.specs.Stands.{stands_of}
+use Rattle.watches.specs.Stands.{places_of}
+use Rattle.watches.proofs.stands.Stands.set.Goals as goal
+
+-- one more place is that of its rank
+one_more : (stands places : State) (rank at stand : ℕ) → at ≡ rank → stand ≡ get_or stands rank 0 → rank < 64 → length places ≡ 64 → ((k : ℕ) → k < rank → get_or places k 0 ≡ get_or stands k 0) → (k : ℕ) → k < rank + 1 → get_or (set places at stand) k 0 ≡ get_or stands k 0
+one_more stands places rank at stand here is below len so_far =
+    rw (here, is) (fill_by_more (λ k. get_or stands k 0) places rank 0 (omega (arith, below, len)) so_far)
+
+pub loop-rank-preserved : goal.loop-rank-preserved
+loop-rank-preserved c =
+    let stands = stands_of c.args.analyser.now.groups c.args.analyser.now.recording in
+    let stand : c.unwrap_or.result ≡ get_or stands c.loop-rank.rank 0 =
+    c.unwrap_or.ensures ∙ ap (λ found. unwrap_or found 0) c.stand.ensures.value
+    ∙ unwrap_or-slice_get c.args.analyser.now.stands c.loop-rank.rank 0
+    ∙ ap (λ (s : State). get_or s c.loop-rank.rank 0) c.stand.ensures.stands in record {
+      len = length-set c.loop-rank.places c.from.result c.unwrap_or.result ∙ c.loop-rank.invariant.len;
+      stands = one_more stands c.loop-rank.places c.loop-rank.rank c.from.result c.unwrap_or.result c.from.ensures stand c.loop-rank-test.true c.loop-rank.invariant.len c.loop-rank.invariant.stands;
+    }
+
+pub returns : goal.returns
+unfolding places_of
+returns c = fill_by_all (λ k. get_or (stands_of c.args.analyser.now.groups c.args.analyser.now.recording) k 0) c.loop-rank.places 64 0 c.loop-rank.invariant.len (λ k below. c.loop-rank.invariant.stands k (omega (arith, below, c.loop-rank-test.false)))

@@ -1,0 +1,49 @@
+-- The list of publications: what each shows, and how one more is written behind it.
+use Rattle.std.specs.Prelude.{◌≡◌, ◌⊎◌, ℕ, ◌==◌, Bool, true, false, List, [], ◌∷◌, ◌++◌, length, replicate, if◌then◌else◌, Option, Some, None, IfSome, MatchBool, All}
+use Rattle.logbook.specs.Pages.{Book, Cell, Named, Step, View}
+use Rattle.mpigroup.specs.Groups.{Groups}
+use Rattle.mpigroup.specs.declared.limits.TheConstants.{MOST_RANKS}
+use Rattle.pairing.specs.Recordings.{Lists}
+use Rattle.watches.specs.Stands.{is_no_lower, is_further, IsPassed}
+use Rattle.watches.specs.declared.stands.Stands.{Stands}
+
+-- the stands 0 everywhere
+abbrev pub at_start : Stands
+at_start = record { places = replicate MOST_RANKS 0 }
+
+-- the last of a list, if it has one
+abbrev pub last_of : List Stands → Option Stands
+last_of [] = None
+last_of (x ∷ []) = Some x
+last_of (x ∷ y ∷ ys) = last_of (y ∷ ys)
+
+-- each is further than the one before it, and no rank stands lower there
+abbrev pub is_rising : List Stands → Bool
+is_rising [] = true
+is_rising (x ∷ []) = true
+is_rising (x ∷ y ∷ ys) = if is_further x.places y.places then is_rising (y ∷ ys) else false
+
+-- no rank stands lower in the later stands, where there are any
+abbrev pub NeverFalls : Option Stands → Option Stands → Type 0
+NeverFalls earlier later = IfSome earlier (λ a. IfSome later (λ b. is_no_lower a.places b.places ≡ true))
+
+-- the stands are published: they are one more, or they were the last already
+abbrev pub Publishes : Stands → List Stands → List Stands → Type 0
+Publishes stands old new = (new ≡ old ++ stands ∷ []) ⊎ ((new ≡ old) × (last_of old ≡ Some stands))
+
+-- each is a state that some run over the recording passes
+abbrev pub ArePassed : Groups → Lists → List Stands → Type 0
+ArePassed groups recording list = All (λ stands. IsPassed groups recording stands.places) list
+
+-- Below is how the list is kept: a book that only grows, and a shared number, which is the list's length.
+
+pub record IsListed (cells : List Cell) (log : List Stands) : Type 0 where
+  pub words : cells ≡ (length log, true) ∷ (0, true) ∷ []
+
+-- the shared number of a book
+abbrev pub head_of : Book → Named
+head_of book = record { tracked = true; key = 0; book = book }
+
+-- where the number was what it should be, the stands are one more; else it says how long the list is
+abbrev pub AppendsOne : Step Stands → View Stands ℕ → ℕ → View Stands ℕ → Type 0
+AppendsOne step before found after = MatchBool (found == step.old) (after.0 ≡ before.0 ++ step.ask ∷ []) (length after.0 ≡ found)

@@ -1,0 +1,23 @@
+-- What a board and its readers know of each other: which list the publications are of.
+use Rattle.std.specs.Prelude.{ℕ, ◌≡◌, ◌⊎◌, List}
+use mathlib.Core.Option.{some}
+use lib.ListN.{get_elem?}
+use Rattle.watches.specs.Published.{book_of}
+use Rattle.watches.specs.declared.publication.Publication.{Publication}
+use Rattle.watches.specs.declared.board.View.{View}
+
+-- no list is known
+abbrev pub nobody : View
+nobody = record { known = 0; number = 0; log_name = 0; cells_name = 0 }
+
+-- the list of a publication
+abbrev pub name_of : Publication → View
+name_of p = record { known = 1; number = (book_of p).number; log_name = (book_of p).log_name; cells_name = (book_of p).cells_name }
+
+-- whoever knows a list knows that of the publication on the board
+abbrev pub KnowOneList : Publication → List View → Type 0
+KnowOneList shown views = (seat : ℕ) (view : View) → get_elem? views seat ≡ some view → (view ≡ nobody) ⊎ (view ≡ name_of shown)
+
+-- who turns the board, or looks at it, then knows the list of what it shows, and knew no other
+abbrev pub SeesList : View → Publication → Publication → View → Type 0
+SeesList before old new after = ((before ≡ nobody) ⊎ (before ≡ name_of new)) × (after ≡ name_of new)

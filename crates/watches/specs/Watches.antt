@@ -1,0 +1,39 @@
+-- What contracts see of a watch, and of what it is told.
+use Rattle.std.specs.Prelude.{◌≡◌, ℕ, ◌<◌, ◌≤◌, List, Option, Some, None, IfSome, slice_get}
+use Rattle.logbook.specs.Pages.{Book}
+use Rattle.watches.specs.Publications.{last_of}
+use Rattle.watches.specs.Published.{list_of, book_of}
+use Rattle.watches.specs.declared.stands.Stands.{Stands}
+use Rattle.watches.specs.declared.watch.Watch.{Watch}
+use Rattle.watches.specs.declared.watch.Told.{Told}
+
+-- the publications that the watch has seen or was told of
+abbrev pub seen_by : Watch → List Stands
+seen_by watch = list_of watch.known
+
+-- which session's list it reads
+abbrev pub list_watched : Watch → Book
+list_watched watch = book_of watch.known
+
+-- how many ranks the session has
+abbrev pub ranks_watched : Watch → ℕ
+ranks_watched watch = watch.ranks
+
+-- the publications that are told of
+abbrev pub told_by : Told → List Stands
+told_by told = list_of told.publication
+
+-- which session's list they are of
+abbrev pub list_told : Told → Book
+list_told told = book_of told.publication
+
+-- the answer for a rank is its stand in the last of what was seen; none exactly where there is no such rank
+abbrev pub ReadsAt : ℕ → Watch → Option ℕ → Type 0
+ReadsAt rank watch (Some stand) = (rank < ranks_watched watch) × IfSome (last_of (seen_by watch)) (λ stands. slice_get stands.places rank ≡ Some stand)
+ReadsAt rank watch None = ranks_watched watch ≤ rank
+
+-- the watch is of so many ranks, reads this list, and knows these publications of it
+pub record IsWatchOf (ranks : ℕ) (book : Book) (list : List Stands) (watch : Watch) : Type 0 where
+  pub few : ranks_watched watch ≡ ranks
+  pub reads : list_watched watch ≡ book
+  pub seen : seen_by watch ≡ list

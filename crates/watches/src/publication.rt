@@ -1,0 +1,88 @@
+//! A publication of the stands, and what is known of those before it.
+
+ghost use Rattle.std.specs.Prelude.{◌≡◌, ◌≤◌, ◌+◌, [], ◌∷◌, ◌++◌, length, sum, true, Some};
+ghost use mathlib.Core.List.{IsPrefix};
+ghost use Rattle.watches.specs.Publications.{at_start, head_of, last_of, is_rising};
+
+use crate::append::{Count, Known, append};
+use crate::stands::Stands;
+
+/// Stands that were published, and the list of the publications up to them.
+#[derive(Drop)]
+pub struct Publication {
+    stands: Stands,
+    /// How many publications there are up to this one.
+    number: u64,
+    known: Known,
+    ghost counts: { number ≡ length known.log },
+    ghost last: { last_of known.log ≡ Some stands },
+    ghost rising: { is_rising known.log ≡ true },
+    // Each publication is further than the one before it, so their number doesn't run out.
+    ghost few: { number ≤ sum stands.places + 1 },
+}
+
+impl Publication {
+    ghost use Rattle.std.specs.Prelude.{IfSome};
+    ghost use Rattle.watches.specs.Published.{list_of, book_of};
+
+    /// The first one.
+    pub(crate) fn first(known: Known) -> Publication
+        requires { known.log ≡ at_start ∷ [] }
+        ensures list { list_of result ≡ at_start ∷ [] }
+        ensures book { book_of result ≡ known.book }
+    {
+        Publication {
+            stands: Stands::at_start(),
+            number: 1,
+            known,
+        }
+    }
+
+    /// The same once more.
+    pub(crate) fn again(&self) -> Publication
+        ensures { result ≡ self.now }
+    {
+        Publication {
+            stands: self.stands,
+            number: self.number,
+            known: self.known.again(),
+        }
+    }
+
+    /// The stands that it shows.
+    pub(crate) fn stands(&self) -> &Stands
+        ensures { last_of (list_of self.now) ≡ Some result.now }
+    {
+        &self.stands
+    }
+
+    /// Becomes the other one, if that is the later of the two.
+    pub(crate) fn become_newer(&mut self, other: &Publication)
+        requires { book_of other.now ≡ book_of self.old }
+        ensures book { book_of self.new ≡ book_of self.old }
+        ensures this { IsPrefix (list_of self.old) (list_of self.new) }
+        ensures that { IsPrefix (list_of other.now) (list_of self.new) }
+    {
+        let mut both = self.known.again();
+        both.learn(&other.known);
+        if self.number < other.number {
+            *self = other.again();
+        }
+    }
+
+    /// The publication of these stands behind this one, which is the last. None where the ranks are no further.
+    pub(crate) fn followed_by(&self, count: &Count, stands: &Stands) -> Option<Publication>
+        requires { count.now ≡ head_of (book_of self.now) }
+        ensures { IfSome result (λ next. (list_of next ≡ list_of self.now ++ stands.now ∷ []) × (book_of next ≡ book_of self.now)) }
+    {
+        if !self.stands.is_behind(stands) {
+            return None;
+        }
+        let known = append(count, self.known.again(), self.number, stands)?;
+        Some(Publication {
+            stands: *stands,
+            number: self.number + 1,
+            known,
+        })
+    }
+}

@@ -1,0 +1,164 @@
+//! What publishes the stands: their list, and the board that shows the last of them where there are watches.
+
+ghost use Rattle.std.specs.Prelude.{◌≡◌, ◌≤◌, [], ◌∷◌, All, IfOk, IfSome, vec_len, vec_capacity};
+ghost use Rattle.std.specs.Option.{ForSome};
+ghost use Rattle.core.specs.Mem.{manually_drop_value};
+ghost use Rattle.mpigroup.specs.declared.limits.TheConstants.{MOST_RANKS};
+ghost use Rattle.watches.specs.Boards.{shown};
+ghost use Rattle.watches.specs.Published.{list_of, book_of};
+ghost use Rattle.watches.specs.Publications.{head_of};
+ghost use Rattle.watches.specs.Watches.{IsWatchOf};
+
+use crate::append::{Count, begin};
+use crate::board::Board;
+use crate::publication::Publication;
+use crate::stands::Stands;
+use crate::watch::{Told, Watch};
+use core::mem::ManuallyDrop;
+use std::alloc::Global;
+use std::sync::Wait;
+use thiserror::Error;
+
+/// Why a session wasn't opened.
+#[derive(Clone, Copy, Debug, PartialEq, Eq, Error)]
+pub enum OpenFault {
+    #[error("memory")]
+    Memory,
+    /// A watch found no place.
+    #[error("watch")]
+    Watch,
+}
+
+/// Why stands weren't published.
+#[derive(Clone, Copy, Debug, PartialEq, Eq, Error)]
+pub enum PublishFault {
+    #[error("memory")]
+    Memory,
+}
+
+/// The publications of a session, and the board that shows the last one. There is a board only where there are
+/// watches. It isn't taken down when this is dropped, since that would wait for the watches.
+#[derive(Drop)]
+pub struct Publisher {
+    count: Count,
+    last: Publication,
+    board: Option<ManuallyDrop<Board>>,
+    ghost head: { count ≡ head_of (book_of last) },
+    ghost shown: { ForSome board (λ board. shown (manually_drop_value board) ≡ last) },
+}
+
+/// A board that may be let go of.
+fn left_up(board: Board) -> ManuallyDrop<Board>
+    ensures { manually_drop_value result ≡ board }
+{
+    unsafe { ManuallyDrop::new_unchecked(board) }
+}
+
+/// So many watches of a board. None where one found no place.
+fn watch_all(board: &mut Board, watches: u16, ranks: u16, all: Vec<Watch>) -> Option<Vec<Watch>>
+    requires ranks { ranks ≤ MOST_RANKS }
+    requires nothing { all.items ≡ [] }
+    requires room { watches ≤ vec_capacity all }
+    ensures kept { shown board.new ≡ shown board.old }
+    ensures len { IfSome result (λ all. vec_len all ≡ watches) }
+    ensures watches { IfSome result (λ all. All (IsWatchOf ranks (book_of (shown board.old)) (list_of (shown board.old))) all.items) }
+{
+    let mut all = all;
+    for _ in 0..watches {
+        let watch = board.watch(ranks)?;
+        let Ok(()) = all.push(watch) else {
+            unreachable!()
+        };
+    }
+    Some(all)
+}
+
+impl Publisher {
+    ghost use Rattle.std.specs.Prelude.{◌≢◌, Err, OnOk, OnErr, is_some, false};
+    ghost use Rattle.watches.specs.declared.publisher.OpenFault.TheVariants.{Watch as WatchFault};
+    ghost use Rattle.watches.specs.declared.stands.Stands.{Stands as StandsValue};
+    ghost use Rattle.watches.specs.Publications.{at_start, Publishes};
+    ghost use Rattle.watches.specs.Publishers.{published_by, book_published, is_watched, IsShown};
+    ghost use Rattle.watches.specs.Watches.{told_by, list_told};
+
+    /// A new list, whose first publication are the stands 0 everywhere, and so many watches.
+    pub fn open(
+        alloc: Global,
+        ranks: u16,
+        watches: u16,
+        wait: &impl Wait,
+    ) -> Result<(Publisher, Vec<Watch>), OpenFault>
+        requires { ranks ≤ MOST_RANKS }
+        ensures published { IfOk result (λ ends. published_by ends.0 ≡ at_start ∷ []) }
+        ensures len { IfOk result (λ ends. vec_len ends.1 ≡ watches) }
+        ensures watches { IfOk result (λ ends. All (IsWatchOf ranks (book_published ends.0) (at_start ∷ [])) ends.1.items) }
+        ensures unwatched { watches ≡ 0 → result ≢ Err WatchFault }
+    {
+        let (count, known) = begin();
+        let last = Publication::first(known);
+        let Ok(all) = Vec::with_capacity(alloc, usize::from(watches)) else {
+            return Err(OpenFault::Memory);
+        };
+        if watches == 0 {
+            let publisher = Publisher {
+                count,
+                last,
+                board: None,
+            };
+            return Ok((publisher, all));
+        }
+        let Ok(mut board) = Board::open(alloc, &last, watches, wait) else {
+            return Err(OpenFault::Memory);
+        };
+        let Some(all) = watch_all(&mut board, watches, ranks, all) else {
+            board.end(wait);
+            return Err(OpenFault::Watch);
+        };
+        let publisher = Publisher {
+            count,
+            last,
+            board: Some(left_up(board)),
+        };
+        Ok((publisher, all))
+    }
+
+    /// Publishes stands, unless they were published last. It takes no memory.
+    pub fn publish(
+        &mut self,
+        stands: &Stands,
+        wait: &impl Wait,
+    ) -> Result<Told, PublishFault>
+        ensures ok { OnOk result (Publishes stands.now (published_by self.old) (published_by self.new)) }
+        ensures err { OnErr result (published_by self.new ≡ published_by self.old) }
+        ensures told { IfOk result (λ told. told_by told ≡ published_by self.new) }
+        ensures list_told { IfOk result (λ told. list_told told ≡ book_published self.new) }
+        ensures list { book_published self.new ≡ book_published self.old }
+        ensures shown { IsShown self.new }
+        ensures watched { is_watched self.new ≡ is_watched self.old }
+    {
+        if *stands == *self.last.stands() {
+            return Ok(Told::of(&self.last));
+        }
+        let Some(next) = self.last.followed_by(&self.count, stands) else {
+            return Err(PublishFault::Memory);
+        };
+        let told = Told::of(&next);
+        self.board = match self.board.take() {
+            Some(board) => Some(left_up(ManuallyDrop::into_inner(board).show(next.again(), wait))),
+            None => None,
+        };
+        self.last = next;
+        Ok(told)
+    }
+
+    /// Takes the board down. It waits for the watches that still read it.
+    pub fn withdraw(&mut self, wait: &impl Wait)
+        ensures published { published_by self.new ≡ published_by self.old }
+        ensures list { book_published self.new ≡ book_published self.old }
+        ensures watched { is_watched self.new ≡ false }
+    {
+        if let Some(board) = self.board.take() {
+            ManuallyDrop::into_inner(board).end(wait);
+        }
+    }
+}

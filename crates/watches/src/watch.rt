@@ -1,0 +1,164 @@
+//! A watch: it tells how far each rank has come, and never waits.
+//!
+//! A watch answers by the last publication that it has seen or was told of. What it knows only grows, so its answers
+//! for a rank never fall, and none is below what it was told. A thread that shows where each rank stands while a
+//! session runs, another thread steps and publishes:
+//!
+//! ```text
+//! let (feeds, mut collector, mut watches) = Session::open(alloc, head, 64, 1, &rt)?;
+//!
+//! // One thread takes the records, and publishes now and then.
+//! collector.step(rank);
+//! let told = collector.publish(&rt)?;
+//!
+//! // Another one has the watch, and shows how far the ranks are whenever it likes.
+//! while let Ok(Some(stand)) = watch.read(rank) {
+//!     println!(rt; "rank {rank}: {stand} calls")?;
+//!     thread::yield_now();
+//! }
+//!
+//! // Whoever hands it what was told makes sure that it shows no less from then on.
+//! watch.learn(&told);
+//! ```
+
+ghost use Rattle.std.specs.Prelude.{◌≡◌, ◌≤◌, false, None, Ok, IfOk, OnErr};
+ghost use mathlib.Core.List.{IsPrefix};
+ghost use Rattle.left_right.specs.Sides.{view};
+ghost use Rattle.mpigroup.specs.declared.limits.TheConstants.{MOST_RANKS};
+ghost use Rattle.watches.specs.Published.{list_of, book_of};
+ghost use Rattle.watches.specs.Publications.{last_of, NeverFalls};
+ghost use Rattle.watches.specs.Shown.{name_of};
+
+use crate::board::{OneList, Sees, View};
+use crate::publication::Publication;
+use core::mem::replace_with;
+use left_right::reader::Reader;
+use thiserror::Error;
+
+/// The collector was withdrawn, so nothing more will be shown.
+#[derive(Clone, Copy, Debug, PartialEq, Eq, Error)]
+#[error("gone")]
+pub struct Gone;
+
+type BoardReader = Reader<Publication, View, OneList>;
+
+/// A reader of the stands of a session's ranks. A thread of its own may have it.
+#[derive(Drop)]
+pub struct Watch {
+    ranks: u16,
+    reader: BoardReader,
+    known: Publication,
+    ghost few: { ranks ≤ MOST_RANKS },
+    ghost same: { view reader.place ≡ name_of known },
+}
+
+/// What is told of a publication. Threads may share it.
+#[derive(Drop)]
+pub struct Told {
+    publication: Publication,
+}
+
+impl Told {
+    ghost use Rattle.watches.specs.Watches.{told_by, list_told};
+
+    pub(crate) fn of(publication: &Publication) -> Told
+        ensures told { told_by result ≡ list_of publication.now }
+        ensures list { list_told result ≡ book_of publication.now }
+    {
+        Told {
+            publication: publication.again(),
+        }
+    }
+}
+
+/// Looks at the board, and keeps what is shown there if it is later than what is known. It tells whether the
+/// board was there.
+fn look(reader: BoardReader, known: &mut Publication) -> (BoardReader, bool)
+    requires same { view reader.place ≡ name_of known.old }
+    ensures same { view result.0.place ≡ name_of known.new }
+    ensures this { IsPrefix (list_of known.old) (list_of known.new) }
+    ensures gone { result.1 ≡ false → known.new ≡ known.old }
+    ensures list { book_of known.new ≡ book_of known.old }
+{
+    match reader.enter_as::<Sees>() {
+        Ok(reading) => {
+            known.become_newer(reading.get());
+            (reading.leave(), true)
+        }
+        Err(reader) => (reader, false),
+    }
+}
+
+impl Watch {
+    ghost use Rattle.watches.specs.Watches.{seen_by, list_watched, ranks_watched, told_by, list_told, IsWatchOf, ReadsAt};
+
+    pub(crate) fn new(ranks: u16, reader: BoardReader, known: Publication) -> Watch
+        requires few { ranks ≤ MOST_RANKS }
+        requires same { view reader.place ≡ name_of known }
+        ensures { IsWatchOf ranks (book_of known) (list_of known) result }
+    {
+        Watch {
+            ranks,
+            reader,
+            known,
+        }
+    }
+
+    /// Where a rank stands in the last publication that is then known. None where there is no such rank, which
+    /// is looked at first. Where the board is gone the watch stays as it was.
+    #[tactic(auto, using(crate::proofs::RisingLemmas::never_falls))]
+    pub fn read(&mut self, rank: u16) -> Result<Option<u32>, Gone>
+        ensures none { ranks_watched self.old ≤ rank → result ≡ Ok None }
+        ensures ok { IfOk result (λ stand. ReadsAt rank self.new stand) }
+        ensures grows { IsPrefix (seen_by self.old) (seen_by self.new) }
+        ensures never_falls { NeverFalls (last_of (seen_by self.old)) (last_of (seen_by self.new)) }
+        ensures gone { OnErr result (seen_by self.new ≡ seen_by self.old) }
+        ensures list { list_watched self.new ≡ list_watched self.old }
+        ensures ranks { ranks_watched self.new ≡ ranks_watched self.old }
+    {
+        if rank >= self.ranks {
+            return Ok(None);
+        }
+        if replace_with(self, (), |watch, ()| watch.looked()) {
+            Ok(Some(self.known.stands().of(rank)))
+        } else {
+            Err(Gone)
+        }
+    }
+
+    fn looked(self) -> (Watch, bool)
+        ensures grows { IsPrefix (seen_by self) (seen_by result.0) }
+        ensures gone { result.1 ≡ false → seen_by result.0 ≡ seen_by self }
+        ensures list { list_watched result.0 ≡ list_watched self }
+        ensures ranks { ranks_watched result.0 ≡ ranks_watched self }
+    {
+        let Watch {
+            ranks,
+            reader,
+            mut known,
+        } = self;
+        let (reader, is_there) = look(reader, &mut known);
+        (
+            Watch {
+                ranks,
+                reader,
+                known,
+            },
+            is_there,
+        )
+    }
+
+    /// Learns what was told. From then on no answer is below it.
+    #[tactic(auto, using(crate::proofs::RisingLemmas::never_falls))]
+    pub fn learn(&mut self, told: &Told)
+        requires { list_told told.now ≡ list_watched self.old }
+        ensures told { IsPrefix (told_by told.now) (seen_by self.new) }
+        ensures no_less { NeverFalls (last_of (told_by told.now)) (last_of (seen_by self.new)) }
+        ensures grows { IsPrefix (seen_by self.old) (seen_by self.new) }
+        ensures never_falls { NeverFalls (last_of (seen_by self.old)) (last_of (seen_by self.new)) }
+        ensures list { list_watched self.new ≡ list_watched self.old }
+        ensures ranks { ranks_watched self.new ≡ ranks_watched self.old }
+    {
+        self.known.become_newer(&told.publication);
+    }
+}
