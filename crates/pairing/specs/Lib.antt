@@ -10,10 +10,8 @@ pub mod Holdings
 pub mod Starts
 pub mod Faults
 pub mod Pairs
-pub mod Beside
-pub mod Work
+pub mod Filed
 pub mod Matched
-pub mod Seats
 pub mod Joined
 pub mod Codes
 pub mod Notes

@@ -33,7 +33,6 @@
 #![tactic(auto)]
 
 pub mod answer;
-mod bell;
 pub mod channel;
 pub mod item;
 pub mod pause;

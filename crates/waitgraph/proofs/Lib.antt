@@ -17,4 +17,3 @@ pub mod CalledLemmas
 pub mod StuckLemmas
 pub mod SpelledLemmas
 pub mod TellingLemmas
-pub mod AlikeLemmas
