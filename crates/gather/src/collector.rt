@@ -11,14 +11,14 @@ ghost use Rattle.watches.specs.Publishers.{published_by};
 use crate::ledger::Ledger;
 pub use crate::ledger::Stepped;
 use crate::outcome::{CloseFault, Outcome};
-pub use watches::publisher::PublishFault;
-use watches::publisher::Publisher;
-use watches::stands::Stands;
-use watches::watch::Told;
 use mpicall::record::Record;
 use rankfeed::{Came, Receipt, Taker};
 use std::alloc::Global;
 use std::sync::Wait;
+pub use watches::publisher::PublishFault;
+use watches::publisher::Publisher;
+use watches::stands::Stands;
+use watches::watch::Told;
 
 /// The takers of all ranks' feeds, and what is kept of the records that came.
 ///

@@ -9,13 +9,13 @@ ghost use Rattle.gather.specs.Takers.{rank_of, IsFreshFeed};
 
 use crate::collector::Collector;
 use crate::ledger::Ledger;
-pub use watches::publisher::OpenFault;
-use watches::publisher::Publisher;
-use watches::watch::Watch;
 use mpigroup::head::Head;
 use rankfeed::{Feed, Taker};
 use std::alloc::{AllocError, Global};
 use std::sync::Wait;
+pub use watches::publisher::OpenFault;
+use watches::publisher::Publisher;
+use watches::watch::Watch;
 
 /// The most watches of a session.
 pub const MOST_WATCHES: u16 = 64;

@@ -123,11 +123,7 @@ impl Publisher {
     }
 
     /// Publishes stands, unless they were published last. It takes no memory.
-    pub fn publish(
-        &mut self,
-        stands: &Stands,
-        wait: &impl Wait,
-    ) -> Result<Told, PublishFault>
+    pub fn publish(&mut self, stands: &Stands, wait: &impl Wait) -> Result<Told, PublishFault>
         ensures ok { OnOk result (Publishes stands.now (published_by self.old) (published_by self.new)) }
         ensures err { OnErr result (published_by self.new ≡ published_by self.old) }
         ensures told { IfOk result (λ told. told_by told ≡ published_by self.new) }

@@ -8,7 +8,6 @@ ghost use Rattle.watches.specs.Watches.{list_watched, list_told};
 use crate::collector::{Collector, Stepped};
 use crate::session::{OpenFault, Session};
 use crate::tests::{end_feeds, head_again, one_of_a_thousand, put_at};
-use watches::watch::{Gone, Told, Watch};
 use moves::verdict::Verdict;
 use mpicall::fault::SourceFault;
 use mpicall::line::read_line;
@@ -19,6 +18,7 @@ use std::sync::Wait;
 use std::test::Fail;
 use std::thread;
 use std::thread::Threads;
+use watches::watch::{Gone, Told, Watch};
 
 /// Two ranks that send to each other in buffered mode, receive and end.
 const FREE: [(u16, &[u8]); 6] = [
