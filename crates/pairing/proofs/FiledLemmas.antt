@@ -1,248 +1,316 @@
--- Places filed by keys: a new key shows no places, and a list that is written shows for its own key alone.
-use Rattle.std.proofs.Common.{◌≡◌, ◌≢◌, ℕ, zero, suc, ◌+◌, ◌<◌, ◌≤◌, ◌⊎◌, inl, inr, Bool, true, false, cond, ltb, eqb, Option, Some, None, List, [], ◌∷◌, ◌++◌, length, set, get_or, refl, sym, ap, ◌∙◌, ⊎_elim, arith, length-append, length-set, get_or-set_same}
-use Rattle.std.specs.Prelude.{if◌then◌else◌, option_and_then, not, position, Result, Ok, Err, OnOk}
-use Rattle.std.specs.List.{slice_get, list_any, position_or_len}
-use Rattle.std.specs.Option.{option_map_or}
-use Rattle.std.specs.Cmp.{IsEquivalence}
-use Rattle.indexmap.specs.IndexSet.{insert_key}
-use Rattle.std.proofs.lemmas.List.Folds.{position_or_len_push}
-use Rattle.std.proofs.lemmas.List.Sums.{prefix_len-le-length}
-use Rattle.std.proofs.lemmas.List.Quantifiers.{position-Some}
-use Rattle.std.proofs.lemmas.Option.{none-some, same_Some, cond_some, slice_get_within, slice_get-get_or, slice_get_read}
-use Rattle.std.proofs.lemmas.Bool.{true≢false, not-true, cases_Bool, cases_eq, both_ways, ltb-true, ltb-false, lt-ltb, eq-eqb, ne_eqb}
-use Rattle.pairing.specs.Filed.{Listed, Filed, places_by, HasRoomBy}
+-- The halves of a recording are filed in the order of their ranks' lists, and go on with a call.
+use Rattle.std.proofs.Common.{◌≡◌, ◌≢◌, ℕ, zero, suc, ◌+◌, ◌<◌, Bool, true, false, Option, Some, None, List, [], ◌∷◌, ◌++◌, length, drop, replicate, refl, sym, ap, subst, ◌∙◌, ⊎_elim, arith}
+use Rattle.std.specs.Prelude.{if◌then◌else◌, is_some, IfSome}
+use Rattle.std.specs.List.{slice_get}
+use Rattle.std.specs.Option.{option_map, option_map_or, option_and_then}
+use Rattle.std.proofs.lemmas.Bool.{cases_Bool, cases_eq}
+use Rattle.std.proofs.lemmas.Option.{none-some, same_Some, slice_get_within}
+use Rattle.arenalist.specs.Arena.{counted}
+use Rattle.mpicall.specs.declared.call.Call.{Call}
+use Rattle.mpigroup.specs.Groups.{Groups}
+use Rattle.pairing.specs.declared.envelope.Envelope.{Envelope}
+use Rattle.pairing.specs.declared.envelope.Half.{Half}
+use Rattle.pairing.specs.declared.envelope.Half.TheVariants.{Send as SendHalf, Recv as RecvHalf}
+use Rattle.pairing.specs.declared.matches.Halves.{Halves}
+use Rattle.pairing.specs.declared.matches.Numbered.{Numbered}
+use Rattle.pairing.specs.Envelopes.{other_half, envelope_of, same_envelope, rank_of_half, has_envelope}
+use Rattle.pairing.specs.Kept.{AreNoted, ArePartnered}
+use Rattle.pairing.specs.Matched.{halves_of, pending_of, Matching, Filing, filed_on, filed_halves, worked_if, worked, number_in, pending_at, pending_by, IsGrown, IsMatched, ArePaired, IsNext}
+use Rattle.pairing.specs.Work.{count_halves, halves_in, halves_from, work_of}
+use Rattle.pairing.specs.Notes.{Noted, notes_of, recording_of, with_note, kept_at}
+use Rattle.pairing.specs.Beside.{partner_in}
+use Rattle.pairing.specs.Partners.{envelope_at, places_of, number_of, numbered, partner_of}
+use Rattle.pairing.specs.Places.{places}
+use Rattle.pairing.specs.Recordings.{Lists, calls_of, appended}
+use Rattle.pairing.proofs.MeetingLemmas.{filed_other_half, get_end, drop_past}
+use Rattle.pairing.proofs.NotedLemmas.{notes_of-same, notes_of-other}
+use Rattle.pairing.proofs.PartnerLemmas.{map_parts, own_rank, own_place, numbered_half, has_it, envelope_at_parts, partner_parts, HasHalf}
 use Rattle.pairing.proofs.PlaceLemmas.{slice_get-front}
+use Rattle.pairing.proofs.PlacesLemmas.{with_place, places_on, no_calls}
+use Rattle.pairing.proofs.RecordingLemmas.{calls_of-appended, calls_of-appended_other}
 
--- the places of the list with a number
-abbrev pub places_at : List Listed → Option ℕ → List ℕ
-places_at lists number = option_map_or (λ list. list.places) (option_and_then (slice_get lists) number) []
+-- the halves of an envelope are the places of their rank
+halves_by : (groups : Groups) (recording : Lists) (half : Half) (e : Envelope) (rank : ℕ) → rank_of_half groups half e ≡ Some rank → halves_of groups recording half e ≡ places_of groups recording rank half e
+halves_by groups recording half e rank is = ap (λ (o : Option ℕ). option_map_or (λ r. places_of groups recording r half e) o []) is
 
-abbrev pub room_at : List Listed → Option ℕ → ℕ
-room_at lists number = option_map_or (λ list. list.room) (option_and_then (slice_get lists) number) 0
-
-pub by_number : {K : Type 0} (eq : K → K → Bool) (table : Filed K) (q : K) → places_by eq table q ≡ places_at table.lists (position (eq q) table.keys)
-unfolding places_by
-by_number eq table q = refl
-
-pub room_from : {K : Type 0} (eq : K → K → Bool) (table : Filed K) (q : K) → length (places_at table.lists (position (eq q) table.keys)) < room_at table.lists (position (eq q) table.keys) → HasRoomBy eq table q
-unfolding places_by HasRoomBy
-room_from eq table q h = h
-
-pub room_parts : {K : Type 0} (eq : K → K → Bool) (table : Filed K) (q : K) → HasRoomBy eq table q → length (places_at table.lists (position (eq q) table.keys)) < room_at table.lists (position (eq q) table.keys)
-unfolding places_by HasRoomBy
-room_parts eq table q h = h
-
--- a number is found, or none
-position_cases : {K : Type 0} (p : K → Bool) (xs : List K) → ((i : ℕ) × (position p xs ≡ Some i) × (i < length xs) × (position_or_len p xs ≡ i)) ⊎ ((position p xs ≡ None) × (position_or_len p xs ≡ length xs))
-position_cases p xs =
-    ⊎_elim
-    (λ (below : ltb (position_or_len p xs) (length xs) ≡ true).
-    inl (position_or_len p xs, ap (λ b. cond b (Some (position_or_len p xs)) None) below, ltb-true _ _ below, refl))
-    (λ (past : ltb (position_or_len p xs) (length xs) ≡ false).
-    let most : position_or_len p xs ≤ length xs = prefix_len-le-length (λ x. not (p x)) xs in
-    inr (ap (λ b. cond b (Some (position_or_len p xs)) None) past, omega (arith, most, ltb-false _ _ past)))
-    (cases_Bool (ltb (position_or_len p xs) (length xs)))
-
-position_at : {K : Type 0} (p : K → Bool) (xs : List K) (i : ℕ) → position_or_len p xs ≡ i → i < length xs → position p xs ≡ Some i
-position_at p xs i same within =
-    ap (λ b. cond b (Some (position_or_len p xs)) None) (lt-ltb (position_or_len p xs) (length xs) (omega (arith, same, within)))
-    ∙ ap (λ (m : ℕ). Some m) same
-
-length_push : {K : Type 0} (xs : List K) (y : K) → length (xs ++ y ∷ []) ≡ length xs + 1
-length_push xs y = length-append xs (y ∷ [])
-
--- a key keeps its number where another gets one
-pub number_stays : {K : Type 0} (p : K → Bool) (xs : List K) (y : K) (i : ℕ) → position p xs ≡ Some i → position p (xs ++ y ∷ []) ≡ Some i
-number_stays p xs y i h =
-    let was = cond_some (ltb (position_or_len p xs) (length xs)) (position_or_len p xs) i h in
-    let less : position_or_len p xs < length xs = ltb-true _ _ was.0 in
-    let one_more = length_push xs y in
-    let differs : eqb (position_or_len p xs) (length xs) ≡ false = ne_eqb _ _ (λ e. absurd (omega (arith, less, e))) in
-    position_at p (xs ++ y ∷ []) i
-    (position_or_len_push p xs y ∙ ap (λ b. cond b (length xs + cond (p y) 0 1) (position_or_len p xs)) differs ∙ was.1)
-    (omega (arith, was.1, less, one_more))
-
--- a new key gets the next number
-pub number_next : {K : Type 0} (p : K → Bool) (xs : List K) (y : K) → position_or_len p xs ≡ length xs → p y ≡ true → position p (xs ++ y ∷ []) ≡ Some (length xs)
-number_next p xs y absent passes =
-    let one_more = length_push xs y in
-    position_at p (xs ++ y ∷ []) (length xs)
-    (position_or_len_push p xs y ∙ ap (λ b. cond b (length xs + cond (p y) 0 1) (position_or_len p xs)) (eq-eqb _ _ absent) ∙ ap (λ b. length xs + cond b 0 1) passes ∙ omega arith)
-    (omega (arith, one_more))
-
--- a number beyond the lists shows no places, nor does that of an empty list
-shows_none : (lists : List Listed) (list : Listed) (number : Option ℕ) → list.places ≡ [] → ((i : ℕ) → number ≡ Some i → length lists ≤ i) → places_at (lists ++ list ∷ []) number ≡ []
-shows_none lists list None empty past = refl
-shows_none [] list (Some zero) empty past = empty
-shows_none [] list (Some (suc i)) empty past = refl
-shows_none (other ∷ lists) list (Some zero) empty past = absurd (omega (arith, past 0 refl))
-shows_none (other ∷ lists) list (Some (suc i)) empty past =
-    shows_none lists list (Some i) empty (λ j same. let more : suc (length lists) ≤ suc i = past (suc i) refl in omega (arith, more, same_Some i j same))
-
--- a new key with an empty list leaves all places
-pub key_added : {K : Type 0} (eq : K → K → Bool) (keys : List K) (lists : List Listed) (key : K) (list : Listed) → list.places ≡ [] → length lists ≡ length keys → (q : K) → places_by eq (record { keys = keys ++ key ∷ []; lists = lists ++ list ∷ [] }) q ≡ places_by eq (record { keys = keys; lists = lists }) q
-key_added eq keys lists key list empty as_many q =
-    ⊎_elim
-    (λ found.
-    by_number eq _ q
-    ∙ ap (places_at (lists ++ list ∷ [])) (number_stays (eq q) keys key found.0 found.1)
-    ∙ ap (λ (o : Option Listed). option_map_or (λ l. l.places) o []) (slice_get-front lists (list ∷ []) found.0 (omega (arith, found.2, as_many)))
-    ∙ sym (by_number eq _ q ∙ ap (places_at lists) found.1))
-    (λ absent.
-    by_number eq _ q
-    ∙ shows_none lists list (position (eq q) (keys ++ key ∷ [])) empty (past absent.1)
-    ∙ sym (by_number eq _ q ∙ ap (places_at lists) absent.0))
-    (position_cases (eq q) keys)
+-- the place of a half with a number is that of the envelope's half
+place_numbered : (groups : Groups) (recording : Lists) (half : Half) (e : Envelope) (number : ℕ) → option_map (λ partner. partner.1) (numbered groups recording half e number) ≡ slice_get (halves_of groups recording half e) number
+place_numbered groups recording half e number = by_rank (rank_of_half groups half e)
   where
-    past : position_or_len (eq q) keys ≡ length keys → (i : ℕ) → position (eq q) (keys ++ key ∷ []) ≡ Some i → length lists ≤ i
-    past absent i h =
-        let number = cond_some (ltb (position_or_len (eq q) (keys ++ key ∷ [])) (length (keys ++ key ∷ []))) (position_or_len (eq q) (keys ++ key ∷ [])) i h in
-        let one_on = position_or_len_push (eq q) keys key ∙ ap (λ b. cond b (length keys + cond (eq q key) 0 1) (position_or_len (eq q) keys)) (eq-eqb _ _ absent) in
-        omega (arith, number.1, one_on, as_many)
+    by_place : (rank : ℕ) (o : Option ℕ) → option_map (λ partner. partner.1) (option_map {U = ℕ × ℕ} (λ place. (rank, place)) o) ≡ o
+    by_place rank None = refl
+    by_place rank (Some place) = refl
 
--- a key that is not there has no number yet
-pub absent_number : {K : Type 0} (p : K → Bool) (xs : List K) → list_any p xs ≡ false → position_or_len p xs ≡ length xs
-absent_number p [] h = refl
-absent_number p (x ∷ xs) h =
-    ⊎_elim
-    (λ (here : p x ≡ true). absurd (true≢false (rw here at h)))
-    (λ (fails : p x ≡ false). rw fails (omega (arith, absent_number p xs (rw fails at h))))
-    (cases_Bool (p x))
+    by_rank : (o : Option ℕ) → option_map (λ partner. partner.1) (option_and_then (λ rank. option_map {U = ℕ × ℕ} (λ place. (rank, place)) (slice_get (places_of groups recording rank half e) number)) o) ≡ slice_get (option_map_or (λ rank. places_of groups recording rank half e) o []) number
+    by_rank None = refl
+    by_rank (Some rank) = by_place rank (slice_get (places_of groups recording rank half e) number)
 
--- the number of a key is its own, and of a new key the next
-pub number_is : {K : Type 0} {eq : K → K → Bool} → IsEquivalence eq → (keys : List K) (key : K) → position_or_len (eq key) keys < length (insert_key eq keys key) → position (eq key) (insert_key eq keys key) ≡ Some (position_or_len (eq key) keys)
-number_is {K} {eq} laws keys key within =
-    ⊎_elim
-    (λ (there : list_any (eq key) keys ≡ true). rw there (position_at (eq key) keys (position_or_len (eq key) keys) refl (rw there at within)))
-    (λ (new : list_any (eq key) keys ≡ false).
-    let absent = absent_number (eq key) keys new in
-    rw new (number_next (eq key) keys key absent (laws.refl key) ∙ ap (λ (m : ℕ). Some m) (sym absent)))
-    (cases_Bool (list_any (eq key) keys))
+-- the place of the partner of a half that is filed
+partner_filed : (groups : Groups) (recording : Lists) (half : Half) (e : Envelope) (number rank place : ℕ) → rank_of_half groups half e ≡ Some rank → slice_get (halves_of groups recording half e) number ≡ Some place → option_map (λ partner. partner.1) (partner_of groups recording rank place half) ≡ slice_get (halves_of groups recording (other_half half) e) number
+partner_filed groups recording half e number rank place theirs found =
+    let has = numbered_half groups recording rank place half e number (ap (λ (ps : List ℕ). slice_get ps number) (sym (halves_by groups recording half e rank theirs)) ∙ found) in
+    rw (has.0.stands_there, has.0.envelope, has.1) (place_numbered groups recording (other_half half) e number)
 
-slice_get-set_same : {X : Type 0} (xs : List X) (i : ℕ) (y : X) → i < length xs → slice_get (set xs i y) i ≡ Some y
-slice_get-set_same xs i y within =
-    slice_get-get_or (set xs i y) i y (omega (arith, within, length-set xs i y)) ∙ ap (λ x. Some x) (get_or-set_same xs i y y within)
+envelope_filed : (groups : Groups) (recording : Lists) (half : Half) (e : Envelope) (number rank place : ℕ) → rank_of_half groups half e ≡ Some rank → slice_get (halves_of groups recording half e) number ≡ Some place → HasHalf groups recording rank place half e
+envelope_filed groups recording half e number rank place theirs found =
+    (numbered_half groups recording rank place half e number (ap (λ (ps : List ℕ). slice_get ps number) (sym (halves_by groups recording half e rank theirs)) ∙ found)).0
 
-slice_get-set_other : {X : Type 0} (xs : List X) (i j : ℕ) (y : X) → j ≢ i → slice_get (set xs i y) j ≡ slice_get xs j
-slice_get-set_other [] i j y differs = refl
-slice_get-set_other (x ∷ xs) zero zero y differs = absurd (differs refl)
-slice_get-set_other (x ∷ xs) zero (suc j) y differs = refl
-slice_get-set_other (x ∷ xs) (suc i) zero y differs = refl
-slice_get-set_other (x ∷ xs) (suc i) (suc j) y differs = slice_get-set_other xs i j y (λ same. differs (ap (λ m. suc m) same))
+half_at : (groups : Groups) (recording : Lists) (rank place : ℕ) (half : Half) (e : Envelope) → HasHalf groups recording rank place half e → envelope_at groups recording rank place half ≡ Some e
+half_at groups recording rank place half e has = rw has.stands_there has.envelope
 
-abbrev shown : Option Listed → List ℕ
-shown o = option_map_or (λ list. list.places) o []
-
--- a list written under a number shows for the keys with that number
-shows_written : (lists : List Listed) (i : ℕ) (list : Listed) → i < length lists → places_at (set lists i list) (Some i) ≡ list.places
-shows_written lists i list within = ap shown (slice_get-set_same lists i list within)
-
-shows_other : (lists : List Listed) (i j : ℕ) (list : Listed) → j ≢ i → places_at (set lists i list) (Some j) ≡ places_at lists (Some j)
-shows_other lists i j list differs = ap shown (slice_get-set_other lists i j list differs)
-
--- and changes nothing that keys of another number, or of none, show
-others_stay : {K : Type 0} (eq : K → K → Bool) (keys : List K) (lists : List Listed) (i : ℕ) (list : Listed) (q : K) → (position (eq q) keys ≡ Some i → ⊥) → places_by eq (record { keys = keys; lists = set lists i list }) q ≡ places_by eq (record { keys = keys; lists = lists }) q
-others_stay eq keys lists i list q differs =
-    by_number eq _ q
-    ∙ ⊎_elim
-    (λ found.
-    ap (places_at (set lists i list)) found.1
-    ∙ shows_other lists i found.0 list (λ same. differs (found.1 ∙ ap (λ (m : ℕ). Some m) same))
-    ∙ sym (ap (places_at lists) found.1))
-    (λ absent. ap (places_at (set lists i list)) absent.0 ∙ sym (ap (places_at lists) absent.0))
-    (position_cases (eq q) keys)
-    ∙ sym (by_number eq _ q)
-
-pub shows_own : {K : Type 0} (eq : K → K → Bool) (keys : List K) (lists : List Listed) (i : ℕ) (list : Listed) (q : K) → position (eq q) keys ≡ Some i → slice_get lists i ≡ Some list → places_by eq (record { keys = keys; lists = lists }) q ≡ list.places
-shows_own eq keys lists i list q number own =
-    by_number eq _ q ∙ ap (places_at lists) number ∙ ap shown own
-
-pub shows_new : {K : Type 0} (eq : K → K → Bool) (keys : List K) (lists : List Listed) (i : ℕ) (list : Listed) (q : K) → position (eq q) keys ≡ Some i → i < length lists → places_by eq (record { keys = keys; lists = set lists i list }) q ≡ list.places
-shows_new eq keys lists i list q number within =
-    by_number eq _ q ∙ ap (places_at (set lists i list)) number ∙ shows_written lists i list within
-
-option_cases : {K : Type 0} (p : K → Bool) (xs : List K) (i : ℕ) → (position p xs ≡ Some i) ⊎ (position p xs ≡ Some i → ⊥)
-option_cases p xs i =
-    ⊎_elim
-    (λ found.
-    ⊎_elim
-    (λ same. inl (found.1 ∙ ap (λ (m : ℕ). Some m) same))
-    (λ differs. inr (λ h. differs (same_Some found.0 i (sym found.1 ∙ h))))
-    (cases_eq found.0 i))
-    (λ absent. inr (λ h. none-some i (sym absent.0 ∙ h)))
-    (position_cases p xs)
-
--- a list that shows the same changes nothing
-pub list_kept : {K : Type 0} (eq : K → K → Bool) (keys : List K) (lists : List Listed) (i : ℕ) (list list' : Listed) → slice_get lists i ≡ Some list → list'.places ≡ list.places → (q : K) → places_by eq (record { keys = keys; lists = set lists i list' }) q ≡ places_by eq (record { keys = keys; lists = lists }) q
-list_kept eq keys lists i list list' own same q =
-    ⊎_elim
-    (λ number. shows_new eq keys lists i list' q number (slice_get_within lists i list own) ∙ same ∙ sym (shows_own eq keys lists i list q number own))
-    (λ differs. others_stay eq keys lists i list' q differs)
-    (option_cases (eq q) keys i)
-
--- equal keys have one number, and others have others
-same_number : {K : Type 0} {eq : K → K → Bool} → IsEquivalence eq → (keys : List K) (key q : K) → eq key q ≡ true → position (eq q) keys ≡ position (eq key) keys
-same_number {K} {eq} laws keys key q equal =
-    let tests : eq q ≡ eq key = (λ j z. sym (laws.congr key q z equal) j) in
-    ap (λ (test : K → Bool). position test keys) tests
-
-other_number : {K : Type 0} {eq : K → K → Bool} → IsEquivalence eq → (keys : List K) (key q : K) (i : ℕ) → eq key q ≡ false → position (eq key) keys ≡ Some i → position (eq q) keys ≡ Some i → ⊥
-other_number {K} {eq} laws keys key q i other number number' =
-    let own = (position-Some (eq key) keys i key number).1 in
-    let theirs = (position-Some (eq q) keys i key number').1 in
-    both_ways (eq key q) other (laws.congr key (get_or keys i key) q own ∙ laws.symm (get_or keys i key) q ∙ theirs)
-
--- one more place under the number of a key shows for the key alone
-pub list_pushed : {K : Type 0} {eq : K → K → Bool} → IsEquivalence eq → (keys : List K) (lists : List Listed) (key : K) (i : ℕ) (list list' : Listed) (place : ℕ) → position (eq key) keys ≡ Some i → slice_get lists i ≡ Some list → list'.places ≡ list.places ++ place ∷ [] → (q : K) → places_by eq (record { keys = keys; lists = set lists i list' }) q ≡ (if eq key q then places_by eq (record { keys = keys; lists = lists }) q ++ place ∷ [] else places_by eq (record { keys = keys; lists = lists }) q)
-list_pushed {K} {eq} laws keys lists key i list list' place number own more q =
-    ⊎_elim
-    (λ (equal : eq key q ≡ true).
-    let number' = same_number laws keys key q equal ∙ number in
-    shows_new eq keys lists i list' q number' (slice_get_within lists i list own)
-    ∙ more
-    ∙ ap (λ (ns : List ℕ). ns ++ place ∷ []) (sym (shows_own eq keys lists i list q number' own))
-    ∙ sym (chosen equal))
-    (λ (other : eq key q ≡ false).
-    others_stay eq keys lists i list' q (other_number laws keys key q i other number) ∙ sym (chosen other))
-    (cases_Bool (eq key q))
+filed_once : (groups : Groups) (recording : Lists) (half : Half) (e : Envelope) (number other place : ℕ) → slice_get (halves_of groups recording half e) number ≡ Some place → slice_get (halves_of groups recording half e) other ≡ Some place → number ≡ other
+filed_once groups recording half e number other place found found' = by_rank (rank_of_half groups half e) found found'
   where
-    chosen : {b : Bool} → eq key q ≡ b → (if eq key q then places_by eq (record { keys = keys; lists = lists }) q ++ place ∷ [] else places_by eq (record { keys = keys; lists = lists }) q) ≡ (if b then places_by eq (record { keys = keys; lists = lists }) q ++ place ∷ [] else places_by eq (record { keys = keys; lists = lists }) q)
-    chosen e = ap (λ c. if c then places_by eq (record { keys = keys; lists = lists }) q ++ place ∷ [] else places_by eq (record { keys = keys; lists = lists }) q) e
+    by_rank : (o : Option ℕ) → slice_get (option_map_or (λ rank. places_of groups recording rank half e) o []) number ≡ Some place → slice_get (option_map_or (λ rank. places_of groups recording rank half e) o []) other ≡ Some place → number ≡ other
+    by_rank None one two = absurd (none-some place one)
+    by_rank (Some rank) one two =
+        sym (numbered_half groups recording rank place half e number one).1 ∙ (numbered_half groups recording rank place half e other two).1
 
--- what is read under the number of a key
-pub read_list : {K : Type 0} (eq : K → K → Bool) (keys : List K) (lists : List Listed) (i : ℕ) (list : Listed) (q : K) → length lists ≡ length keys → Some i ≡ position (eq q) keys → list ≡ get_or lists i list → places_by eq (record { keys = keys; lists = lists }) q ≡ list.places
-read_list eq keys lists i list q as_many number read =
-    let within = (position-Some (eq q) keys i q (sym number)).0 in
-    shows_own eq keys lists i list q (sym number) (slice_get_read lists (length lists) i list refl (omega (arith, within, as_many)) read)
+-- a half stays as the recording goes on by a call
+half_on : (groups : Groups) (recording : Lists) (rank : ℕ) (call : Call) (r place : ℕ) (half : Half) (e : Envelope) → rank < length recording → HasHalf groups recording r place half e → HasHalf groups (appended recording rank call) r place half e
+half_on groups recording rank call r place half e is_rank has = record { call = has.call; stands_there = stands; envelope = has.envelope }
+  where
+    stands : slice_get (calls_of (appended recording rank call) r) place ≡ Some has.call
+    stands =
+        ⊎_elim
+        (λ (is_r : r ≡ rank).
+        subst (λ (x : ℕ). slice_get (calls_of recording x) place ≡ Some has.call → slice_get (calls_of (appended recording rank call) x) place ≡ Some has.call) (sym is_r)
+        (λ there.
+        ap (λ (calls : List Call). slice_get calls place) (calls_of-appended recording rank call is_rank)
+        ∙ slice_get-front (calls_of recording rank) (call ∷ []) place (slice_get_within (calls_of recording rank) place has.call there)
+        ∙ there)
+        has.stands_there)
+        (λ (isnt_r : r ≢ rank). ap (λ (calls : List Call). slice_get calls place) (calls_of-appended_other recording rank r call isnt_r) ∙ has.stands_there)
+        (cases_eq r rank)
 
-pub read_none : {K : Type 0} (eq : K → K → Bool) (keys : List K) (lists : List Listed) (q : K) → None ≡ position (eq q) keys → places_by eq (record { keys = keys; lists = lists }) q ≡ []
-read_none eq keys lists q none = by_number eq _ q ∙ ap (places_at lists) (sym none)
+-- what is kept stays as a call is noted that has no partner yet
+kept_more : (notes : List (List Noted)) (rank : ℕ) (noted : Noted) → rank < length notes → ((half : Half) → partner_in half noted.beside ≡ None) → (half : Half) (r place : ℕ) → kept_at (with_note notes rank noted) half r place ≡ kept_at notes half r place
+kept_more notes rank noted is_rank alone half r place =
+    ⊎_elim
+    (λ (is_r : r ≡ rank).
+    subst (λ (x : ℕ). kept_at (with_note notes rank noted) half x place ≡ kept_at notes half x place) (sym is_r)
+    (ap (λ (list : List Noted). option_and_then (λ note. partner_in half note.beside) (slice_get list place)) (notes_of-same notes rank noted is_rank)
+    ∙ in_list (notes_of notes rank) place))
+    (λ (isnt_r : r ≢ rank).
+    ap (λ (list : List Noted). option_and_then (λ note. partner_in half note.beside) (slice_get list place)) (notes_of-other notes rank r noted isnt_r))
+    (cases_eq r rank)
+  where
+    in_list : (list : List Noted) (p : ℕ) → option_and_then (λ note. partner_in half note.beside) (slice_get (list ++ noted ∷ []) p) ≡ option_and_then (λ note. partner_in half note.beside) (slice_get list p)
+    in_list [] zero = alone half
+    in_list [] (suc p) = refl
+    in_list (n ∷ list) zero = refl
+    in_list (n ∷ list) (suc p) = in_list list p
 
--- a call that numbered a new key
-pub new_added : {K : Type 0} (eq : K → K → Bool) (keys keys' : List K) (lists lists' lists'' : List Listed) (key : K) (list : Listed) (added : Bool) → added ≡ not (list_any (eq key) keys) → added ≡ true → keys' ≡ insert_key eq keys key → lists' ≡ lists → lists'' ≡ lists' ++ list ∷ [] → list.places ≡ [] → length lists ≡ length keys → (q : K) → places_by eq (record { keys = keys'; lists = lists'' }) q ≡ places_by eq (record { keys = keys; lists = lists }) q
-new_added eq keys keys' lists lists' lists'' key list added is_new is_added same_keys same_lists pushed empty as_many q =
-    let absent : list_any (eq key) keys ≡ false = not-true (list_any (eq key) keys) (sym is_new ∙ is_added) in
-    let all_keys : keys' ≡ keys ++ key ∷ [] = same_keys ∙ ap (λ b. if b then keys else keys ++ key ∷ []) absent in
-    let all_lists : lists'' ≡ lists ++ list ∷ [] = pushed ∙ ap (λ ls. ls ++ list ∷ []) same_lists in
-    rw (all_keys, all_lists) (key_added eq keys lists key list empty as_many q)
+-- so the halves of a recording are paired, as its next call is noted
+pub paired_from : (groups : Groups) (notes : List (List Noted)) (rank : ℕ) (noted : Noted) (matching : Matching) → rank < length notes → rank < length (recording_of notes) → recording_of (with_note notes rank noted) ≡ appended (recording_of notes) rank noted.call → ((half : Half) → partner_in half noted.beside ≡ None) → AreNoted (with_note notes rank noted) → ArePartnered groups notes → IsMatched groups (recording_of notes) matching → ArePaired groups (with_note notes rank noted) (halves_of groups (recording_of notes)) matching
+paired_from groups notes rank noted matching is_rank in_recording longer alone are_noted partnered matched = record {
+  noted = are_noted;
+  pending = matched.pending;
+  kept = λ half e number r place theirs found.
+      kept_more notes rank noted is_rank alone half r place
+      ∙ partnered half r place
+      ∙ partner_filed groups (recording_of notes) half e number r place theirs found;
+  filed = λ half r place there is.
+      let was = map_parts (λ partner. partner.1) (partner_of groups (recording_of notes) r place half) there
+      (sym (kept_more notes rank noted is_rank alone half r place ∙ partnered half r place) ∙ is) in
+      let parts = partner_parts groups (recording_of notes) r place half was.0.0 was.0.1 was.1 in
+      let theirs = own_rank groups r half parts.own.call parts.e parts.own.envelope in (
+        parts.e,
+        number_of groups (recording_of notes) r half parts.e place,
+        theirs,
+        ap (λ (ps : List ℕ). slice_get ps (number_of groups (recording_of notes) r half parts.e place)) (halves_by groups (recording_of notes) half parts.e r theirs)
+            ∙ own_place groups (recording_of notes) r place half parts.e parts.own,
+      );
+  placed = λ half e number r place theirs found.
+      ap (λ (recording : Lists). envelope_at groups recording r place half) longer
+      ∙ half_at groups (appended (recording_of notes) rank noted.call) r place half e
+      (half_on groups (recording_of notes) rank noted.call r place half e in_recording
+      (envelope_filed groups (recording_of notes) half e number r place theirs found));
+  once = filed_once groups (recording_of notes);
+  ranked = λ half e none. ap (λ (o : Option ℕ). option_map_or (λ r. places_of groups (recording_of notes) r half e) o []) none;
+}
 
--- room under the number of a key is room for the key
-pub room_made : {K : Type 0} (eq : K → K → Bool) (keys : List K) (lists : List Listed) (i : ℕ) (list : Listed) (q : K) → i < length lists → length list.places < list.room → position (eq q) keys ≡ Some i → HasRoomBy eq (record { keys = keys; lists = set lists i list }) q
-room_made eq keys lists i list q within room number =
-    room_from eq (record { keys = keys; lists = set lists i list }) q
-    (rw (number, slice_get-set_same lists i list within) room)
+-- the halves of the rank's next call come next
+pub comes_next : (groups : Groups) (recording longer : Lists) (rank place : ℕ) (call : Call) (half : Half) (e : Envelope) → longer ≡ appended recording rank call → rank < length recording → place ≡ length (calls_of recording rank) → envelope_of groups rank half call ≡ Some e → IsNext groups longer (halves_of groups recording) rank place half e
+comes_next groups recording longer rank place call half e is is_rank next at_envelope = record {
+  here =
+      ap (λ (lists : Lists). envelope_at groups lists rank place half) is
+      ∙ half_at groups (appended recording rank call) rank place half e
+      (record {
+        call = call;
+        stands_there =
+            ap (λ (calls : List Call). slice_get calls place) (calls_of-appended recording rank call is_rank)
+            ∙ ap (λ (p : ℕ). slice_get (calls_of recording rank ++ call ∷ []) p) next
+            ∙ get_end (calls_of recording rank) call;
+        envelope = at_envelope;
+      });
+  last = λ f number before theirs found.
+      let has = envelope_filed groups recording half f number rank before theirs found in
+      let within = slice_get_within (calls_of recording rank) before has.call has.stands_there in
+      omega (arith, within, next);
+}
 
-pub room_read : {K : Type 0} (eq : K → K → Bool) (keys : List K) (lists : List Listed) (i : ℕ) (list : Listed) (q : K) → length lists ≡ length keys → Some i ≡ position (eq q) keys → list ≡ get_or lists i list → HasRoomBy eq (record { keys = keys; lists = lists }) q → length list.places < list.room
-room_read eq keys lists i list q as_many number read room =
-    let within = (position-Some (eq q) keys i q (sym number)).0 in
-    let own = slice_get_read lists (length lists) i list refl (omega (arith, within, as_many)) read in
-    rw (← number, own) at (room_parts eq (record { keys = keys; lists = lists }) q room)
+pub come_next : (groups : Groups) (recording longer : Lists) (rank place : ℕ) (call : Call) (half : Half) (o : Option Numbered) → longer ≡ appended recording rank call → rank < length recording → place ≡ length (calls_of recording rank) → option_map (λ it. it.envelope) o ≡ envelope_of groups rank half call → IfSome o (λ it. IsNext groups longer (halves_of groups recording) rank place half it.envelope)
+come_next groups recording longer rank place call half None is is_rank next at_envelope = tt
+come_next groups recording longer rank place call half (Some it) is is_rank next at_envelope =
+    comes_next groups recording longer rank place call half it.envelope is is_rank next (sym at_envelope)
 
-pub room_none : {K : Type 0} (eq : K → K → Bool) (keys : List K) (lists : List Listed) (q : K) → None ≡ position (eq q) keys → HasRoomBy eq (record { keys = keys; lists = lists }) q → ⊥
-room_none eq keys lists q none room =
-    let less = rw (← none) at (room_parts eq (record { keys = keys; lists = lists }) q room) in
-    absurd (omega (arith, less))
+-- the other half comes next still, once one is filed
+pub next_still : (groups : Groups) (recording : Lists) (filing : Filing) (rank place : ℕ) (half : Half) (o : Option Envelope) (e : Envelope) → IsNext groups recording filing rank place (other_half half) e → IsNext groups recording (filed_on half o place filing) rank place (other_half half) e
+next_still groups recording filing rank place half o e next = record {
+  here = next.here;
+  last = λ f number before theirs found. next.last f number before theirs (sym (ap (λ (ps : List ℕ). slice_get ps number) (filed_other_half half o f place filing)) ∙ found);
+}
 
-pub on_ok_then : {T E : Type 0} (r : Result T E) {P Q : Type 0} → (P → Q) → OnOk r P → OnOk r Q
-on_ok_then (Ok x) step h = step h
-on_ok_then (Err e) step h = h
+pub recv_next_still : (groups : Groups) (recording : Lists) (filing : Filing) (rank place : ℕ) (o : Option Envelope) (recv : Option Numbered) → IfSome recv (λ it. IsNext groups recording filing rank place RecvHalf it.envelope) → IfSome recv (λ it. IsNext groups recording (filed_on SendHalf o place filing) rank place RecvHalf it.envelope)
+recv_next_still groups recording filing rank place o None next = tt
+recv_next_still groups recording filing rank place o (Some it) next = next_still groups recording filing rank place SendHalf o it.envelope next
+
+-- the halves of a recording with one more call
+halves_put : (groups : Groups) (recording : Lists) (rank place : ℕ) (call : Call) (half : Half) (e : Envelope) → rank < length recording → place ≡ length (calls_of recording rank) → with_place (has_envelope groups rank half e call) (halves_of groups recording half e) place ≡ halves_of groups (appended recording rank call) half e
+halves_put groups recording rank place call half e is_rank next = by_rank (rank_of_half groups half e) refl
+  where
+    of_rank : (has : Bool) → has_envelope groups rank half e call ≡ has → has ≡ true → rank_of_half groups half e ≡ Some rank
+    of_rank has is passes = own_rank groups rank half call e (has_it e (envelope_of groups rank half call) (is ∙ passes))
+
+    fails : (o : Option ℕ) → rank_of_half groups half e ≡ o → (o ≡ Some rank → ⊥) → has_envelope groups rank half e call ≡ false
+    fails o is differs =
+        ⊎_elim
+        (λ (passes : has_envelope groups rank half e call ≡ true). absurd (differs (sym is ∙ of_rank true passes refl)))
+        (λ (fails' : has_envelope groups rank half e call ≡ false). fails')
+        (cases_Bool (has_envelope groups rank half e call))
+
+    by_rank : (o : Option ℕ) → rank_of_half groups half e ≡ o → with_place (has_envelope groups rank half e call) (option_map_or (λ r. places_of groups recording r half e) o []) place ≡ option_map_or (λ r. places_of groups (appended recording rank call) r half e) o []
+    by_rank None is = ap (λ b. with_place b [] place) (fails None is (λ same. none-some rank same))
+    by_rank (Some other) is =
+        ⊎_elim
+        (λ (same : other ≡ rank).
+        subst (λ (r : ℕ). with_place (has_envelope groups rank half e call) (places_of groups recording r half e) place ≡ places_of groups (appended recording rank call) r half e) (sym same)
+        (ap (λ (m : ℕ). with_place (has_envelope groups rank half e call) (places_of groups recording rank half e) m) next
+        ∙ sym (ap (λ calls. places (has_envelope groups rank half e) calls) (calls_of-appended recording rank call is_rank)
+        ∙ places_on (has_envelope groups rank half e) (calls_of recording rank) call)))
+        (λ (differs : other ≢ rank).
+        ap (λ b. with_place b (places_of groups recording other half e) place) (fails (Some other) is (λ same. differs (same_Some other rank same)))
+        ∙ sym (ap (λ calls. places (has_envelope groups other half e) calls) (calls_of-appended_other recording rank other call differs)))
+        (cases_eq other rank)
+
+abbrev pub envelopes : Option Numbered → Option Envelope
+envelopes o = option_map (λ it. it.envelope) o
+
+pub filed_call : (groups : Groups) (recording : Lists) (rank place : ℕ) (call : Call) (halves : Halves) → rank < length recording → place ≡ length (calls_of recording rank) → envelopes halves.send ≡ envelope_of groups rank SendHalf call → envelopes halves.recv ≡ envelope_of groups rank RecvHalf call → (half : Half) (e : Envelope) → filed_halves halves place (halves_of groups recording) half e ≡ halves_of groups (appended recording rank call) half e
+filed_call groups recording rank place call halves is_rank next sends recvs SendHalf e =
+    ap (λ (o : Option Envelope). with_place (option_map_or (same_envelope e) o false) (halves_of groups recording SendHalf e) place) sends
+    ∙ halves_put groups recording rank place call SendHalf e is_rank next
+filed_call groups recording rank place call halves is_rank next sends recvs RecvHalf e =
+    ap (λ (o : Option Envelope). with_place (option_map_or (same_envelope e) o false) (halves_of groups recording RecvHalf e) place) recvs
+    ∙ halves_put groups recording rank place call RecvHalf e is_rank next
+
+-- and what is paired is kept and pending as the recording gives it
+module _ (groups : Groups) (notes : List (List Noted)) (filing : Filing) (matching : Matching) (recording : Lists) (same : recording_of notes ≡ recording)
+    (filed : (half : Half) (e : Envelope) → filing half e ≡ halves_of groups recording half e) (paired : ArePaired groups notes filing matching) where
+  pub pending_to : (half : Half) (e : Envelope) → pending_by matching half e ≡ pending_of groups recording half e
+  pending_to half e =
+      paired.pending half e
+      ∙ ap (λ (ps : List ℕ). drop (length ps) (filing half e)) (filed (other_half half) e)
+      ∙ ap (λ (ps : List ℕ). drop (length (halves_of groups recording (other_half half) e)) ps) (filed half e)
+
+  partnered_by : (half : Half) (rank place : ℕ) (o : Option Envelope) → envelope_at groups recording rank place half ≡ o → kept_at notes half rank place ≡ option_map (λ partner. partner.1) (partner_of groups recording rank place half)
+  partnered_by half rank place None none =
+      not_kept (kept_at notes half rank place) refl
+      ∙ sym (ap (λ (o : Option Envelope). option_map (λ partner. partner.1) (option_and_then (λ e. numbered groups recording (other_half half) e (number_of groups recording rank half e place)) o)) none)
+    where
+      not_kept : (o : Option ℕ) → kept_at notes half rank place ≡ o → kept_at notes half rank place ≡ None
+      not_kept None is = is
+      not_kept (Some x) is =
+          let found = paired.filed half rank place x is in
+          absurd
+          (none-some found.0
+          (sym none ∙ ap (λ (lists : Lists). envelope_at groups lists rank place half) (sym same) ∙ paired.placed half found.0 found.1 rank place found.2 found.3))
+  partnered_by half rank place (Some e) at_envelope =
+      let has = envelope_at_parts groups recording rank place half e at_envelope in
+      let theirs = own_rank groups rank half has.call e has.envelope in
+      let number = number_of groups recording rank half e place in
+      let found : slice_get (halves_of groups recording half e) number ≡ Some place =
+      ap (λ (ps : List ℕ). slice_get ps number) (halves_by groups recording half e rank theirs) ∙ own_place groups recording rank place half e has in
+      paired.kept half e number rank place theirs (ap (λ (ps : List ℕ). slice_get ps number) (filed half e) ∙ found)
+      ∙ ap (λ (ps : List ℕ). slice_get ps number) (filed (other_half half) e)
+      ∙ sym (partner_filed groups recording half e number rank place theirs found)
+
+  pub partnered_to : ArePartnered groups notes
+  partnered_to half rank place =
+      subst (λ (lists : Lists). kept_at notes half rank place ≡ option_map (λ partner. partner.1) (partner_of groups lists rank place half)) (sym same)
+      (partnered_by half rank place (envelope_at groups recording rank place half) refl)
+
+-- the work of a recording with one more call
+halves_in_push : (groups : Groups) (rank : ℕ) (calls : List Call) (call : Call) → halves_in groups rank (calls ++ call ∷ []) ≡ halves_in groups rank calls + count_halves groups rank call
+halves_in_push groups rank [] call = omega arith
+halves_in_push groups rank (first ∷ calls) call =
+    let rest = halves_in_push groups rank calls call in
+    omega (arith, rest)
+
+halves_more : (groups : Groups) (from : ℕ) (recording : Lists) (rank : ℕ) (call : Call) → rank < length recording → halves_from groups from (appended recording rank call) ≡ halves_from groups from recording + count_halves groups (from + rank) call
+halves_more groups from [] rank call is_rank = absurd (omega arith)
+halves_more groups from (calls ∷ lists) zero call is_rank =
+    let here : from + 0 ≡ from = omega arith in
+    let push = halves_in_push groups from calls call in
+    rw here (omega (arith, push))
+halves_more groups from (calls ∷ lists) (suc rank) call is_rank =
+    let there : from + suc rank ≡ from + 1 + rank = omega arith in
+    let rest = halves_more groups (from + 1) lists rank call (omega arith) in
+    rw there (omega (arith, rest))
+
+has : (o : Option Numbered) → is_some o ≡ is_some (envelopes o)
+has None = refl
+has (Some it) = refl
+
+worked_one : (b : Bool) (a : ℕ) → worked_if b (counted 0 a) ≡ counted 0 (a + (if b then 1 else 0))
+worked_one true a = omega arith
+worked_one false a = omega arith
+
+pub work_on : (groups : Groups) (recording : Lists) (rank : ℕ) (call : Call) (halves : Halves) (old new : ℕ) → rank < length recording → envelopes halves.send ≡ envelope_of groups rank SendHalf call → envelopes halves.recv ≡ envelope_of groups rank RecvHalf call → old ≡ work_of groups recording → new ≡ worked halves old → new ≡ work_of groups (appended recording rank call)
+work_on groups recording rank call halves old new is_rank sends recvs was is =
+    let more = halves_more groups 0 recording rank call is_rank in
+    let zero_on : 0 + rank ≡ rank = omega arith in
+    let total : ℕ = halves_from groups 0 recording in
+    let send : is_some halves.send ≡ is_some (envelope_of groups rank SendHalf call) = has halves.send ∙ ap (λ (o : Option Envelope). is_some o) sends in
+    let recv : is_some halves.recv ≡ is_some (envelope_of groups rank RecvHalf call) = has halves.recv ∙ ap (λ (o : Option Envelope). is_some o) recvs in
+    is
+    ∙ ap (λ (m : ℕ). worked halves m) was
+    ∙ ap (λ b. worked_if (is_some halves.recv) (worked_if b (counted 0 total))) send
+    ∙ ap (λ b. worked_if b (worked_if (is_some (envelope_of groups rank SendHalf call)) (counted 0 total))) recv
+    ∙ ap (λ (m : ℕ). worked_if (is_some (envelope_of groups rank RecvHalf call)) m) (worked_one (is_some (envelope_of groups rank SendHalf call)) total)
+    ∙ worked_one (is_some (envelope_of groups rank RecvHalf call)) (total + (if is_some (envelope_of groups rank SendHalf call) then 1 else 0))
+    ∙ ap (λ (m : ℕ). counted 0 m)
+    (regroup total (if is_some (envelope_of groups rank SendHalf call) then 1 else 0) (if is_some (envelope_of groups rank RecvHalf call) then 1 else 0)
+    ∙ sym (more ∙ ap (λ (r : ℕ). total + count_halves groups r call) zero_on))
+  where
+    regroup : (a b c : ℕ) → a + b + c ≡ a + (b + c)
+    regroup a b c = omega arith
+
+-- more room leaves all as it was
+pub matched_grown : (groups : Groups) (recording : Lists) (old new : Matching) → IsGrown old new → IsMatched groups recording old → IsMatched groups recording new
+matched_grown groups recording old new grown matched = record {
+  pending = λ half e. grown.pending half e ∙ matched.pending half e;
+  work = grown.work ∙ matched.work;
+}
+
+-- nothing is pending where there are no calls
+pub matched_new : (groups : Groups) (ranks : ℕ) (matching : Matching) → matching.keys ≡ [] → matching.work ≡ 0 → IsMatched groups (replicate ranks []) matching
+matched_new groups ranks matching keys work = record {
+  pending = λ half e.
+      ap (λ (ks : List Envelope). option_map_or (pending_at matching.lists half) (number_in ks e) []) keys
+      ∙ sym (ap (λ (ps : List ℕ). drop (length (halves_of groups (replicate ranks []) (other_half half) e)) ps) (no_halves half e (rank_of_half groups half e))
+      ∙ drop_past (length (halves_of groups (replicate ranks []) (other_half half) e)) [] (omega arith));
+  work = work ∙ sym (ap (λ (m : ℕ). counted 0 m) (no_work 0 ranks) ∙ none_counted);
+}
+  where
+    no_halves : (half : Half) (e : Envelope) (o : Option ℕ) → option_map_or (λ rank. places_of groups (replicate ranks []) rank half e) o [] ≡ []
+    no_halves half e None = refl
+    no_halves half e (Some rank) = ap (λ calls. places (has_envelope groups rank half e) calls) (no_calls ranks rank)
+
+    no_work : (from n : ℕ) → halves_from groups from (replicate n []) ≡ 0
+    no_work from zero = refl
+    no_work from (suc n) = let rest = no_work (from + 1) n in omega (arith, rest)
+
+    none_counted : counted 0 0 ≡ 0
+    none_counted = omega arith

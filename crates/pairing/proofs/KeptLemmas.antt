@@ -3,24 +3,31 @@ use Rattle.std.proofs.Common.{◌≡◌, ◌≢◌, ℕ, zero, suc, ◌+◌, ◌
 use Rattle.std.specs.Prelude.{option_map, option_and_then}
 use Rattle.std.specs.List.{slice_get, list_any, position, position_or_len}
 use Rattle.std.proofs.lemmas.List.{take-map, drop-map, length-map, length-replicate}
-use Rattle.std.proofs.lemmas.Option.{slice_get-map, none-some}
+use Rattle.std.proofs.lemmas.Option.{slice_get-map, none-some, same_Some}
 use Rattle.std.proofs.lemmas.Bool.{cases_Bool, cases_eq, cases_lt, eqb-true, lt-ltb, le-ltb}
 use Rattle.mpicall.specs.declared.call.Call.TheVariants.{Send, Recv, Isend, Irecv, Sendrecv, Wait, Waitall, Waitany, Coll, Icoll, Dup, Split, Finalize}
 use Rattle.mpicall.specs.declared.call.Call.{Call}
-use Rattle.mpigroup.specs.Groups.{Groups, ranks_of}
+use Rattle.mpigroup.specs.Groups.{Groups, ranks_of, world_rank_of, group_rank_of}
 use Rattle.pairing.specs.declared.envelope.Envelope.{Envelope}
 use Rattle.pairing.specs.declared.envelope.Half.{Half}
-use Rattle.pairing.specs.Notes.{Noted, notes_of, completed_among, completed_starts, start_of, calls_in, recording_of}
-use Rattle.pairing.specs.Kept.{number_by, IsNoted, AreNoted}
+use Rattle.pairing.specs.Notes.{Noted, notes_of, completed_among, completed_starts, start_of, calls_in, recording_of, kept_at}
+use Rattle.pairing.specs.declared.envelope.Half.TheVariants.{Send as SendHalf, Recv as RecvHalf}
+use Rattle.pairing.specs.declared.envelope.Message.{Message}
+use Rattle.pairing.specs.declared.matches.Halves.{Halves}
+use Rattle.pairing.specs.Beside.{partner_in, wave_in}
+use Rattle.pairing.specs.Kept.{IsNoted, AreNoted, ArePartnered}
+use Rattle.pairing.specs.Matched.{halves_of, filed_halves, worked, ArePaired}
+use Rattle.pairing.proofs.FiledLemmas.{envelopes, filed_call, pending_to, partnered_to, paired_from, work_on}
+use Rattle.pairing.proofs.PartnerLemmas.{map_parts, partner_parts}
 use Rattle.pairing.specs.Recordings.{Lists, calls_of, appended, has_end, is_ended}
 use Rattle.pairing.specs.Places.{count_before}
-use Rattle.pairing.specs.Envelopes.{envelope_of, other_half}
+use Rattle.pairing.specs.Envelopes.{message_of, envelope_by, envelope_of, other_half, rank_of_half}
 use Rattle.pairing.specs.Partners.{number_of, numbered, partner_of}
 use Rattle.pairing.specs.Requests.{waits_for, completes, started_in, started_of}
 use Rattle.pairing.specs.Waves.{joins, does_join, wave_of}
 use Rattle.pairing.specs.Pairs.{completed_of}
 use Rattle.pairing.specs.Faults.{fault_of, IsLawfulList, IsLawful}
-use Rattle.pairing.specs.Tables.{AreTables, GoOnBy, IsKept}
+use Rattle.pairing.specs.Tables.{AreOthers, AreTables, GoOnBy, IsKept}
 use Rattle.pairing.specs.declared.tables.Tables.{Tables}
 use Rattle.pairing.proofs.FaultLemmas.{lawful_push, lawful_end}
 use Rattle.pairing.proofs.RecordingLemmas.{calls_of-appended, calls_of-appended_other}
@@ -40,24 +47,69 @@ pub its_call : (notes : List (List Noted)) (rank place : ℕ) (noted : Noted) �
 its_call notes rank place noted h = call_noted notes rank place ∙ ap (option_map (λ (n : Noted). n.call)) h
 
 -- what is noted is right over the calls before
-its_note : (groups : Groups) (notes : List (List Noted)) (rank place : ℕ) (noted : Noted) → AreNoted groups notes → slice_get (notes_of notes rank) place ≡ Some noted → IsNoted groups rank (take place (calls_of (recording_of notes) rank)) noted
-its_note groups notes rank place noted are_noted h =
-    subst (λ (calls : List Call). IsNoted groups rank (take place calls) noted) (sym (calls_of-recorded notes rank)) (are_noted rank place noted h)
+its_note : (notes : List (List Noted)) (rank place : ℕ) (noted : Noted) → AreNoted notes → slice_get (notes_of notes rank) place ≡ Some noted → IsNoted (take place (calls_of (recording_of notes) rank)) noted
+its_note notes rank place noted are_noted h =
+    subst (λ (calls : List Call). IsNoted (take place calls) noted) (sym (calls_of-recorded notes rank)) (are_noted rank place noted h)
 
-pub partner_noted : (groups : Groups) (notes : List (List Noted)) (rank place : ℕ) (half : Half) (noted : Noted) (e : Envelope) → AreNoted groups notes → slice_get (notes_of notes rank) place ≡ Some noted → envelope_of groups rank half noted.call ≡ Some e → partner_of groups (recording_of notes) rank place half ≡ numbered groups (recording_of notes) (other_half half) e (number_by half noted)
-partner_noted groups notes rank place half noted e are_noted h at_envelope =
-    let number : number_by half noted ≡ number_of groups (recording_of notes) rank half e place = (its_note groups notes rank place noted are_noted h).numbers half e at_envelope in
-    rw (its_call notes rank place noted h, at_envelope) (ap (numbered groups (recording_of notes) (other_half half) e) (sym number))
+-- what is kept beside a call that is noted
+pub kept_there : (notes : List (List Noted)) (rank place : ℕ) (half : Half) (noted : Noted) → slice_get (notes_of notes rank) place ≡ Some noted → kept_at notes half rank place ≡ partner_in half noted.beside
+kept_there notes rank place half noted h = ap (λ (o : Option Noted). option_and_then (λ note. partner_in half note.beside) o) h
 
-pub no_partner : (groups : Groups) (notes : List (List Noted)) (rank place : ℕ) (half : Half) (noted : Noted) → slice_get (notes_of notes rank) place ≡ Some noted → envelope_of groups rank half noted.call ≡ None → partner_of groups (recording_of notes) rank place half ≡ None
-no_partner groups notes rank place half noted h at_envelope = rw (its_call notes rank place noted h, at_envelope) refl
+-- the other half's rank is that of the peer
+peer_rank : (groups : Groups) (half : Half) (m : Message) (own : ℕ) → rank_of_half groups (other_half half) (envelope_by half m own) ≡ world_rank_of groups m.comm m.peer
+peer_rank groups SendHalf m own = refl
+peer_rank groups RecvHalf m own = refl
+
+peer_of : (groups : Groups) (rank : ℕ) (half : Half) (call : Call) (m : Message) (e : Envelope) → envelope_of groups rank half call ≡ Some e → message_of half call ≡ Some m → rank_of_half groups (other_half half) e ≡ world_rank_of groups m.comm m.peer
+peer_of groups rank half call m e at_envelope message =
+    let at_rank = map_parts (envelope_by half m) (group_rank_of groups m.comm rank) e
+    (sym (ap (λ (o : Option Message). option_and_then (λ m'. option_map (envelope_by half m') (group_rank_of groups m'.comm rank)) o) message) ∙ at_envelope) in
+    ap (λ e'. rank_of_half groups (other_half half) e') (sym at_rank.2) ∙ peer_rank groups half m at_rank.0
+
+as_pair : (o : Option (ℕ × ℕ)) (pair : ℕ × ℕ) (other there : ℕ) → o ≡ Some pair → pair.0 ≡ other → pair.1 ≡ there → o ≡ Some (other, there)
+as_pair o pair other there is first second = is ∙ ap (λ (r : ℕ). Some (r, pair.1)) first ∙ ap (λ (t : ℕ). Some (other, t)) second
+
+rank_by : (o : Option ℕ) (a other : ℕ) (p : Option ℕ) → o ≡ Some a → o ≡ p → p ≡ Some other → a ≡ other
+rank_by o a other p is same peer = same_Some a other (sym is ∙ same ∙ peer)
+
+pub partner_kept : (groups : Groups) (notes : List (List Noted)) (rank place : ℕ) (half : Half) (there : ℕ) (noted : Noted) (m : Message) (other : ℕ) → ArePartnered groups notes → slice_get (notes_of notes rank) place ≡ Some noted → partner_in half noted.beside ≡ Some there → message_of half noted.call ≡ Some m → world_rank_of groups m.comm m.peer ≡ Some other → partner_of groups (recording_of notes) rank place half ≡ Some (other, there)
+partner_kept groups notes rank place half there noted m other partnered h kept message peer =
+    let was = map_parts (λ partner. partner.1) (partner_of groups (recording_of notes) rank place half) there
+    (sym (partnered half rank place) ∙ kept_there notes rank place half noted h ∙ kept) in
+    let parts = partner_parts groups (recording_of notes) rank place half was.0.0 was.0.1 was.1 in
+    let same_call : parts.own.call ≡ noted.call = same_Some parts.own.call noted.call (sym parts.own.stands_there ∙ its_call notes rank place noted h) in
+    as_pair (partner_of groups (recording_of notes) rank place half) was.0 other there was.1
+    (rank_by (rank_of_half groups (other_half half) parts.e) was.0.0 other (world_rank_of groups m.comm m.peer) parts.rank_there
+    (peer_of groups rank half parts.own.call m parts.e parts.own.envelope (ap (λ (call : Call). message_of half call) same_call ∙ message))
+    peer)
+    was.2
+
+pub no_partner_kept : (groups : Groups) (notes : List (List Noted)) (rank place : ℕ) (half : Half) (noted : Noted) → ArePartnered groups notes → slice_get (notes_of notes rank) place ≡ Some noted → partner_in half noted.beside ≡ None → partner_of groups (recording_of notes) rank place half ≡ None
+no_partner_kept groups notes rank place half noted partnered h none =
+    no_pair (partner_of groups (recording_of notes) rank place half)
+    (sym (partnered half rank place) ∙ kept_there notes rank place half noted h ∙ none)
+  where
+    no_pair : (o : Option (ℕ × ℕ)) → option_map (λ partner. partner.1) o ≡ None → o ≡ None
+    no_pair None h' = refl
+    no_pair (Some partner) h' = absurd (none-some partner.1 (sym h'))
+
+pub no_message : (groups : Groups) (notes : List (List Noted)) (rank place : ℕ) (half : Half) (noted : Noted) → slice_get (notes_of notes rank) place ≡ Some noted → message_of half noted.call ≡ None → partner_of groups (recording_of notes) rank place half ≡ None
+no_message groups notes rank place half noted h none = rw (its_call notes rank place noted h, none) refl
+
+pub no_peer : (groups : Groups) (notes : List (List Noted)) (rank place : ℕ) (half : Half) (noted : Noted) (m : Message) → slice_get (notes_of notes rank) place ≡ Some noted → message_of half noted.call ≡ Some m → world_rank_of groups m.comm m.peer ≡ None → partner_of groups (recording_of notes) rank place half ≡ None
+no_peer groups notes rank place half noted m h message none =
+    rw (its_call notes rank place noted h, message) (by_rank (group_rank_of groups m.comm rank))
+  where
+    by_rank : (o : Option ℕ) → option_and_then (λ e. numbered groups (recording_of notes) (other_half half) e (number_of groups (recording_of notes) rank half e place)) (option_map (envelope_by half m) o) ≡ None
+    by_rank None = refl
+    by_rank (Some own) = rw (peer_rank groups half m own, none) refl
 
 pub no_partner_past : (groups : Groups) (notes : List (List Noted)) (rank place : ℕ) (half : Half) → slice_get (notes_of notes rank) place ≡ None → partner_of groups (recording_of notes) rank place half ≡ None
 no_partner_past groups notes rank place half h = rw (no_call notes rank place h) refl
 
-pub wave_noted : (groups : Groups) (notes : List (List Noted)) (rank place comm : ℕ) (noted : Noted) → AreNoted groups notes → slice_get (notes_of notes rank) place ≡ Some noted → joins noted.call ≡ Some comm → wave_of (recording_of notes) rank place ≡ Some (comm, noted.joined)
-wave_noted groups notes rank place comm noted are_noted h at_comm =
-    let number : noted.joined ≡ count_before (does_join comm) (calls_of (recording_of notes) rank) place = (its_note groups notes rank place noted are_noted h).wave comm at_comm in
+pub wave_noted : (notes : List (List Noted)) (rank place comm : ℕ) (noted : Noted) → AreNoted notes → slice_get (notes_of notes rank) place ≡ Some noted → joins noted.call ≡ Some comm → wave_of (recording_of notes) rank place ≡ Some (comm, wave_in noted.beside)
+wave_noted notes rank place comm noted are_noted h at_comm =
+    let number : wave_in noted.beside ≡ count_before (does_join comm) (calls_of (recording_of notes) rank) place = (its_note notes rank place noted are_noted h).wave comm at_comm in
     rw (its_call notes rank place noted h, at_comm) (ap (λ (wave : ℕ). Some (comm, wave)) (sym number))
 
 pub no_wave : (notes : List (List Noted)) (rank place : ℕ) (noted : Noted) → slice_get (notes_of notes rank) place ≡ Some noted → joins noted.call ≡ None → wave_of (recording_of notes) rank place ≡ None
@@ -109,10 +161,10 @@ among_maps f (Dup comm new) numbers = refl
 among_maps f (Split comm colour key new) numbers = refl
 among_maps f Finalize numbers = refl
 
-pub completed_noted : (groups : Groups) (notes : List (List Noted)) (rank place index : ℕ) (noted : Noted) → AreNoted groups notes → slice_get (notes_of notes rank) place ≡ Some noted → completed_of (recording_of notes) rank place index ≡ slice_get (completed_starts noted) index
-completed_noted groups notes rank place index noted are_noted h =
+pub completed_noted : (notes : List (List Noted)) (rank place index : ℕ) (noted : Noted) → AreNoted notes → slice_get (notes_of notes rank) place ≡ Some noted → completed_of (recording_of notes) rank place index ≡ slice_get (completed_starts noted) index
+completed_noted notes rank place index noted are_noted h =
     let before : List Call = take place (calls_of (recording_of notes) rank) in
-    let started = (its_note groups notes rank place noted are_noted h).started in
+    let started = (its_note notes rank place noted are_noted h).started in
     let same : map (λ start. Some start) (completed_starts noted) ≡ map (started_in before) (completes noted.call) =
     among_maps (λ start. Some start) noted.call noted.starts
     ∙ ap (picked_among noted.call) started
@@ -141,10 +193,10 @@ at_position f (start ∷ starts) (r ∷ reqs) req h =
         (λ (past : length reqs ≤ n). rw (is, le-ltb (suc n) (suc (length reqs)) (omega (arith, past))) (rw (le-ltb n (length reqs) past) at rest))
         (cases_lt n (length reqs))
 
-pub started_noted : (groups : Groups) (notes : List (List Noted)) (rank place req : ℕ) (noted : Noted) → AreNoted groups notes → slice_get (notes_of notes rank) place ≡ Some noted → started_of (recording_of notes) rank place req ≡ start_of noted req
-started_noted groups notes rank place req noted are_noted h =
+pub started_noted : (notes : List (List Noted)) (rank place req : ℕ) (noted : Noted) → AreNoted notes → slice_get (notes_of notes rank) place ≡ Some noted → started_of (recording_of notes) rank place req ≡ start_of noted req
+started_noted notes rank place req noted are_noted h =
     rw (its_call notes rank place noted h)
-    (sym (at_position (started_in (take place (calls_of (recording_of notes) rank))) noted.starts (waits_for noted.call) req (its_note groups notes rank place noted are_noted h).started))
+    (sym (at_position (started_in (take place (calls_of (recording_of notes) rank))) noted.starts (waits_for noted.call) req (its_note notes rank place noted are_noted h).started))
 
 pub no_start_past : (notes : List (List Noted)) (rank place req : ℕ) → slice_get (notes_of notes rank) place ≡ None → started_of (recording_of notes) rank place req ≡ None
 no_start_past notes rank place req h = rw (no_call notes rank place h) refl
@@ -172,24 +224,44 @@ lawful_on groups recording rank call is_rank lawful fine other there =
     subst (λ (calls : List Call). IsLawfulList groups other calls) (sym (calls_of-appended_other recording rank other call differs)) (lawful other within))
     (cases_eq other rank)
 
--- what goes on by a call without a fault is kept, with tables of the call too
-pub goes_on_as : (groups : Groups) (old new : List (List Noted)) (rank : ℕ) (call : Call) → GoOnBy groups old new rank call → recording_of new ≡ appended (recording_of old) rank call
-goes_on_as groups old new rank call goes =
+-- the recording goes on by the call that is noted
+pub goes_on_as : (old new : List (List Noted)) (rank : ℕ) (call : Call) → GoOnBy old new rank call → recording_of new ≡ appended (recording_of old) rank call
+goes_on_as old new rank call goes =
     ap (λ (notes : List (List Noted)). recording_of notes) goes.added
     ∙ recording_of-more old rank goes.noted
     ∙ ap (λ (c : Call). appended (recording_of old) rank c) goes.is_call
 
-pub kept_on : (groups : Groups) (old new : List (List Noted)) (before after : Tables) (rank : ℕ) (call : Call) → rank < length old → IsKept groups old before → fault_of groups rank (calls_of (recording_of old) rank) call ≡ None → GoOnBy groups old new rank call → AreTables groups (appended (recording_of old) rank call) after → IsKept groups new after
-kept_on groups old new before after rank call is_rank kept fine goes tables =
-    let is : recording_of new ≡ appended (recording_of old) rank call = goes_on_as groups old new rank call goes in
+-- what goes on by a call without a fault, whose halves have met the others, is kept
+pub kept_on : (groups : Groups) (old noted met : List (List Noted)) (before after : Tables) (rank place : ℕ) (call : Call) (halves : Halves) → rank < length old → place ≡ length (calls_of (recording_of old) rank) → IsKept groups old before → fault_of groups rank (calls_of (recording_of old) rank) call ≡ None → GoOnBy old noted rank call →
+    envelopes halves.send ≡ envelope_of groups rank SendHalf call → envelopes halves.recv ≡ envelope_of groups rank RecvHalf call →
+    recording_of met ≡ recording_of noted → ArePaired groups met (filed_halves halves place (halves_of groups (recording_of old))) after.matches →
+    after.matches.work ≡ worked halves before.matches.work → AreOthers groups (appended (recording_of old) rank call) after → IsKept groups met after
+kept_on groups old noted met before after rank place call halves is_rank next kept fine goes sends recvs same paired worked others =
+    let is : recording_of met ≡ appended (recording_of old) rank call = same ∙ goes_on_as old noted rank call goes in
+    let in_recording : rank < length (recording_of old) = omega (arith, is_rank, ranks_noted old) in
+    let filed = filed_call groups (recording_of old) rank place call halves in_recording next sends recvs in
     record {
-      ranks = ap (λ (notes : List (List Noted)). length notes) goes.added ∙ length-set old rank (notes_of old rank ++ goes.noted ∷ []) ∙ kept.ranks;
+      ranks = sym (ranks_noted met) ∙ ap (λ (lists : Lists). length lists) is ∙ length-set (recording_of old) rank (calls_of (recording_of old) rank ++ call ∷ []) ∙ ranks_noted old ∙ kept.ranks;
       lawful = subst (λ (lists : Lists). IsLawful groups lists) (sym is)
-          (lawful_on groups (recording_of old) rank call (omega (arith, is_rank, ranks_noted old)) kept.lawful fine);
-      noted = subst (λ (notes : List (List Noted)). AreNoted groups notes) (sym goes.added)
-          (are_noted-more groups old rank goes.noted is_rank kept.noted goes.is_noted);
-      tables = subst (λ (lists : Lists). AreTables groups lists after) (sym is) tables;
+          (lawful_on groups (recording_of old) rank call in_recording kept.lawful fine);
+      noted = paired.noted;
+      partnered = partnered_to groups met (filed_halves halves place (halves_of groups (recording_of old))) after.matches (appended (recording_of old) rank call) is filed paired;
+      tables = subst (λ (lists : Lists). AreTables groups lists after) (sym is)
+          (record {
+            matched = record {
+              pending = pending_to groups met (filed_halves halves place (halves_of groups (recording_of old))) after.matches (appended (recording_of old) rank call) is filed paired;
+              work = work_on groups (recording_of old) rank call halves before.matches.work after.matches.work in_recording sends recvs kept.tables.matched.work worked;
+            };
+            others = others;
+          });
     }
+
+-- the halves before a call is noted are paired as it is
+pub paired_as : (groups : Groups) (old noted : List (List Noted)) (before : Tables) (rank : ℕ) (call : Call) → rank < length old → IsKept groups old before → GoOnBy old noted rank call → ArePaired groups noted (halves_of groups (recording_of old)) before.matches
+paired_as groups old noted before rank call is_rank kept goes =
+    subst (λ (notes : List (List Noted)). ArePaired groups notes (halves_of groups (recording_of old)) before.matches) (sym goes.added)
+    (paired_from groups old rank goes.noted before.matches is_rank (omega (arith, is_rank, ranks_noted old))
+    (recording_of-more old rank goes.noted) goes.alone (are_noted-more old rank goes.noted is_rank kept.noted goes.is_noted) kept.partnered kept.tables.matched)
 
 -- whether a list is over is told by its last call, where it is lawful
 pub is_over_by : (groups : Groups) (notes : List (List Noted)) (tables : Tables) (rank : ℕ) → rank < length notes → IsKept groups notes tables → is_ended (calls_of (recording_of notes) rank) ≡ has_end (calls_of (recording_of notes) rank)
@@ -208,6 +280,7 @@ nothing_kept groups notes tables is are_tables =
       ranks = length-replicate (ranks_of groups) [];
       lawful = λ rank there place call found. absurd (no_calls (ranks_of groups) rank place call found);
       noted = λ rank place noted found. absurd (no_notes (ranks_of groups) rank place noted found);
+      partnered = λ half rank place. none_kept (ranks_of groups) half rank place;
       tables = subst (λ (lists : Lists). AreTables groups lists tables) (sym (recording_of-none (ranks_of groups))) (are_tables (ranks_of groups));
     })
   where
@@ -225,8 +298,14 @@ nothing_kept groups notes tables is are_tables =
         (subst (λ (calls : List Call). slice_get calls place ≡ Some call)
         (calls_of-recorded (replicate n []) rank ∙ ap (λ (list : List Noted). calls_in list) (none_noted n rank)) found)
 
+    none_kept : (n : ℕ) (half : Half) (rank place : ℕ) → kept_at (replicate n []) half rank place ≡ option_map (λ partner. partner.1) (partner_of groups (recording_of (replicate n [])) rank place half)
+    none_kept n half rank place =
+        ap (λ (list : List Noted). option_and_then (λ note. partner_in half note.beside) (slice_get list place)) (none_noted n rank)
+        ∙ sym (ap (λ (o : Option (ℕ × ℕ)). option_map (λ partner. partner.1) o)
+        (no_partner_past groups (replicate n []) rank place half (ap (λ (list : List Noted). slice_get list place) (none_noted n rank))))
+
 -- with more room all is kept
 pub kept_still : (groups : Groups) (old new : List (List Noted)) (before after : Tables) → IsKept groups old before → new ≡ old → ((recording : Lists) → AreTables groups recording before → AreTables groups recording after) → IsKept groups new after
 kept_still groups old new before after kept is tables =
     subst (λ (notes : List (List Noted)). IsKept groups notes after) (sym is)
-    (record { ranks = kept.ranks; lawful = kept.lawful; noted = kept.noted; tables = tables (recording_of old) kept.tables })
+    (record { ranks = kept.ranks; lawful = kept.lawful; noted = kept.noted; partnered = kept.partnered; tables = tables (recording_of old) kept.tables })

@@ -10,8 +10,14 @@ pub mod NotedLemmas
 pub mod KeptLemmas
 pub mod PackedLemmas
 pub mod StartLemmas
-pub mod FiledLemmas
+pub mod NumberLemmas
+pub mod PlacesLemmas
 pub mod MatchedLemmas
+pub mod PartneredLemmas
+pub mod MeetingLemmas
+pub mod PairedLemmas
+pub mod FiledLemmas
+pub mod SeatLemmas
 pub mod JoinedLemmas
 pub mod HoldingLemmas
 pub mod ActiveLemmas

@@ -1,218 +1,219 @@
--- Places filed by envelopes are those of a recording, and stay so as it goes on.
-use Rattle.std.proofs.Common.{◌≡◌, ◌≢◌, ℕ, zero, suc, ◌+◌, ◌<◌, ◌≤◌, ◌==◌, ◌&&◌, Bool, true, false, Option, Some, None, List, [], ◌∷◌, ◌++◌, length, take, replicate, refl, sym, ap, subst, ◌∙◌, ⊎_elim, arith}
-use Rattle.std.specs.Prelude.{if◌then◌else◌, IfSome, option_and_then}
+-- Pending halves by the numbers of their envelopes.
+use Rattle.std.proofs.Common.{◌≡◌, ℕ, zero, suc, ◌+◌, ◌*◌, ◌<◌, ◌≤◌, ◌==◌, ◌&&◌, Bool, true, false, Option, Some, None, List, [], ◌∷◌, ◌++◌, length, length-set, map, set, drop, get_or, refl, sym, ap, ◌∙◌, ⊎_elim, arith, length-append, get_or-set_same, get_or-set_other}
+use Rattle.std.specs.Prelude.{is_some, if◌then◌else◌}
+use Rattle.std.specs.List.{slice_get, list_any, position_or_len}
 use Rattle.std.specs.Option.{option_map_or}
-use Rattle.std.proofs.lemmas.Bool.{true≢false, cases_Bool, cases_eq, both_ways}
-use Rattle.std.proofs.lemmas.Option.{same_Some}
-use Rattle.mpicall.specs.declared.call.Call.{Call}
-use Rattle.mpigroup.specs.Groups.{Groups}
+use Rattle.std.proofs.lemmas.List.{map-set}
+use Rattle.std.proofs.lemmas.List.Quantifiers.{position-Some}
+use Rattle.std.proofs.lemmas.Bool.{cases_Bool, eqb-true, eq-eqb}
+use Rattle.indexmap.specs.IndexSet.{insert_key}
+use Rattle.arenalist.specs.Arena.{contents, first_value, linked}
+use Rattle.arenalist.specs.Numbers.{list_at}
 use Rattle.pairing.specs.declared.envelope.Envelope.{Envelope}
 use Rattle.pairing.specs.declared.envelope.Half.{Half}
 use Rattle.pairing.specs.declared.envelope.Half.TheVariants.{Send as SendHalf, Recv as RecvHalf}
-use Rattle.pairing.specs.declared.matches.Matches.{Matches}
-use Rattle.pairing.specs.Recordings.{Lists, calls_of, appended}
-use Rattle.pairing.specs.Places.{places_from, places}
-use Rattle.pairing.specs.Envelopes.{other_half, same_envelope, envelope_of, rank_of_half, has_envelope}
-use Rattle.pairing.specs.Partners.{envelope_at, places_of, number_of, numbered, partner_of}
-use Rattle.pairing.specs.Filed.{Filed, places_by, HasRoomBy}
-use Rattle.pairing.specs.Matched.{table_of, IsMatched, HasRoomFor}
-use Rattle.pairing.proofs.PartnerLemmas.{own_rank, same_envelope_true, same_envelope_refl}
-use Rattle.pairing.proofs.RecordingLemmas.{calls_of-appended, calls_of-appended_other}
+use Rattle.pairing.specs.Envelopes.{other_half}
+use Rattle.pairing.specs.Matched.{Matching, AreIds, equal_fields, number_in, list_no, pending_at, met_if, met, IsGrown}
+use Rattle.pairing.proofs.NumberLemmas.{position_cases, number_stays, number_past, number_is}
 
--- the places of a list with one more element
-places_push : {A : Type 0} (n : ℕ) (test : A → Bool) (xs : List A) (x : A) → test x ≡ true → places_from n test (xs ++ x ∷ []) ≡ places_from n test xs ++ (n + length xs) ∷ []
-places_push n test [] x passes = rw passes (ap (λ (m : ℕ). m ∷ []) (omega arith))
-places_push n test (y ∷ ys) x passes =
-    let rest = places_push (n + 1) test ys x passes in
-    let end : n + 1 + length ys ≡ n + suc (length ys) = omega arith in
-    ⊎_elim
-    (λ (here : test y ≡ true). rw here (ap (λ (ns : List ℕ). n ∷ ns) (rw end at rest)))
-    (λ (fails : test y ≡ false). rw fails (rw end at rest))
-    (cases_Bool (test y))
+-- the places of a list
+abbrev pub values : List (ℕ × ℕ) → List ℕ
+values list = map (λ entry. entry.1) list
 
-places_push_not : {A : Type 0} (n : ℕ) (test : A → Bool) (xs : List A) (x : A) → test x ≡ false → places_from n test (xs ++ x ∷ []) ≡ places_from n test xs
-places_push_not n test [] x fails = rw fails refl
-places_push_not n test (y ∷ ys) x fails_last =
-    let rest = places_push_not (n + 1) test ys x fails_last in
-    ⊎_elim
-    (λ (here : test y ≡ true). rw here (ap (λ (ns : List ℕ). n ∷ ns) rest))
-    (λ (fails : test y ≡ false). rw fails rest)
-    (cases_Bool (test y))
+pub contents_at : (lists : List (List (ℕ × ℕ))) (l : ℕ) → list_at (contents lists) l ≡ values (list_at lists l)
+contents_at [] l = refl
+contents_at (list ∷ lists) zero = refl
+contents_at (list ∷ lists) (suc l) = contents_at lists l
 
--- what the places are where one more place comes, or none
-abbrev pub with_place : Bool → List ℕ → ℕ → List ℕ
-with_place comes ns place = if comes then ns ++ place ∷ [] else ns
+contents_set : (lists : List (List (ℕ × ℕ))) (l : ℕ) (list : List (ℕ × ℕ)) → contents (set lists l list) ≡ set (contents lists) l (values list)
+contents_set lists l list = map-set values lists l list
 
-pub places_on : {A : Type 0} (test : A → Bool) (xs : List A) (x : A) → places test (xs ++ x ∷ []) ≡ with_place (test x) (places test xs) (length xs)
-places_on test xs x =
-    ⊎_elim
-    (λ (passes : test x ≡ true).
-    let end : 0 + length xs ≡ length xs = omega arith in
-    places_push 0 test xs x passes
-    ∙ ap (λ (m : ℕ). places test xs ++ m ∷ []) end
-    ∙ ap (λ b. with_place b (places test xs) (length xs)) (sym passes))
-    (λ (fails : test x ≡ false).
-    places_push_not 0 test xs x fails ∙ ap (λ b. with_place b (places test xs) (length xs)) (sym fails))
-    (cases_Bool (test x))
+values_drop : (list : List (ℕ × ℕ)) → values (drop 1 list) ≡ drop 1 (values list)
+values_drop [] = refl
+values_drop (entry ∷ list) = refl
 
--- no more places than elements
-pub places_most : {A : Type 0} (n : ℕ) (test : A → Bool) (xs : List A) → length (places_from n test xs) ≤ length xs
-places_most n test [] = omega arith
-places_most n test (x ∷ xs) =
-    let rest = places_most (n + 1) test xs in
-    ⊎_elim
-    (λ (here : test x ≡ true). rw here (omega (arith, rest)))
-    (λ (fails : test x ≡ false). rw fails (omega (arith, rest)))
-    (cases_Bool (test x))
+values_push : (list : List (ℕ × ℕ)) (node place : ℕ) → values (list ++ (node, place) ∷ []) ≡ values list ++ place ∷ []
+values_push [] node place = refl
+values_push (entry ∷ list) node place = ap (λ (ps : List ℕ). entry.1 ∷ ps) (values_push list node place)
 
-take_whole : {A : Type 0} (xs ys : List A) → take (length xs) (xs ++ ys) ≡ xs
-take_whole [] ys = refl
-take_whole (x ∷ xs) ys = ap (λ zs. x ∷ zs) (take_whole xs ys)
+first_is : (list : List (ℕ × ℕ)) → first_value list ≡ slice_get (values list) 0
+first_is [] = refl
+first_is (entry ∷ list) = refl
 
--- no calls in a recording that begins
-pub no_calls : (ranks rank : ℕ) → calls_of (replicate ranks []) rank ≡ []
-no_calls zero rank = refl
-no_calls (suc ranks) zero = refl
-no_calls (suc ranks) (suc rank) = no_calls ranks rank
+-- the first pending place
+pub first_pending : (lists : List (List (ℕ × ℕ))) (half : Half) (number : ℕ) → first_value (list_at lists (list_no half number)) ≡ slice_get (pending_at (contents lists) half number) 0
+first_pending lists half number = first_is (list_at lists (list_no half number)) ∙ ap (λ (ps : List ℕ). slice_get ps 0) (sym (contents_at lists (list_no half number)))
 
-same_swap : (e f : Envelope) → same_envelope e f ≡ same_envelope f e
-same_swap e f =
-    ⊎_elim
-    (λ (same : same_envelope e f ≡ true). same ∙ sym (ap (λ x. same_envelope x e) (sym (same_envelope_true e f same)) ∙ same_envelope_refl e))
-    (λ (differ : same_envelope e f ≡ false).
-    ⊎_elim
-    (λ (same : same_envelope f e ≡ true).
-    absurd (both_ways (same_envelope e f) differ (ap (λ x. same_envelope e x) (same_envelope_true f e same) ∙ same_envelope_refl e)))
-    (λ (differ' : same_envelope f e ≡ false). differ ∙ sym differ')
-    (cases_Bool (same_envelope f e)))
-    (cases_Bool (same_envelope e f))
+-- a place is taken out of a list, or put into one
+pub met_popped : (lists : List (List (ℕ × ℕ))) (half : Half) (number place there l : ℕ) → l ≡ list_no (other_half half) number → first_value (list_at lists l) ≡ Some there → contents (set lists l (drop 1 (list_at lists l))) ≡ met (contents lists) half number place
+met_popped lists half number place there l is front =
+    let first : slice_get (pending_at (contents lists) (other_half half) number) 0 ≡ Some there = sym (first_pending lists (other_half half) number) ∙ ap (λ (m : ℕ). first_value (list_at lists m)) (sym is) ∙ front in
+    ap (λ (m : ℕ). contents (set lists m (drop 1 (list_at lists m)))) is
+    ∙ contents_set lists (list_no (other_half half) number) (drop 1 (list_at lists (list_no (other_half half) number)))
+    ∙ ap (λ (ps : List ℕ). set (contents lists) (list_no (other_half half) number) ps)
+    (values_drop (list_at lists (list_no (other_half half) number)) ∙ ap (λ (ps : List ℕ). drop 1 ps) (sym (contents_at lists (list_no (other_half half) number))))
+    ∙ ap (λ (o : Option ℕ). met_if (is_some o) (contents lists) half number place) (sym first)
 
--- the fields compared from the last to the first are those compared from the first
-abbrev pub equal_fields : Envelope → Envelope → Bool
-equal_fields e f = e.comm == f.comm && (e.source == f.source && (e.dest == f.dest && e.tag == f.tag))
+pub met_pushed : (lists : List (List (ℕ × ℕ))) (half : Half) (number place node l m : ℕ) → l ≡ list_no half number → m ≡ list_no (other_half half) number → first_value (list_at lists m) ≡ None → contents (linked lists l node place) ≡ met (contents lists) half number place
+met_pushed lists half number place node l m is other front =
+    let first : slice_get (pending_at (contents lists) (other_half half) number) 0 ≡ None = sym (first_pending lists (other_half half) number) ∙ ap (λ (k : ℕ). first_value (list_at lists k)) (sym other) ∙ front in
+    ap (λ (k : ℕ). contents (linked lists k node place)) is
+    ∙ contents_set lists (list_no half number) (list_at lists (list_no half number) ++ (node, place) ∷ [])
+    ∙ ap (λ (ps : List ℕ). set (contents lists) (list_no half number) ps)
+    (values_push (list_at lists (list_no half number)) node place ∙ ap (λ (ps : List ℕ). ps ++ place ∷ []) (sym (contents_at lists (list_no half number))))
+    ∙ ap (λ (o : Option ℕ). met_if (is_some o) (contents lists) half number place) (sym first)
 
-regrouped : (a b c d : Bool) → (a && (b && (c && d))) ≡ (((a && b) && c) && d)
-regrouped false b c d = refl
-regrouped true false c d = refl
-regrouped true true c d = refl
+-- the numbers of lists
+pub list_no_most : (half : Half) (number : ℕ) → list_no half number ≤ 2 * number + 1
+list_no_most SendHalf number = omega arith
+list_no_most RecvHalf number = omega arith
 
-pub equal_is_same : equal_fields ≡ same_envelope
-equal_is_same = λ j e f. regrouped (e.comm == f.comm) (e.source == f.source) (e.dest == f.dest) (e.tag == f.tag) j
+pub list_no_least : (half : Half) (number : ℕ) → 2 * number ≤ list_no half number
+list_no_least SendHalf number = omega arith
+list_no_least RecvHalf number = omega arith
 
--- what the tables say of equal fields they say of one envelope
-pub kept_under : (old new : Filed Envelope) → ((e : Envelope) → places_by equal_fields new e ≡ places_by equal_fields old e) → (e : Envelope) → places_by same_envelope new e ≡ places_by same_envelope old e
-kept_under old new kept = subst (λ eq. (e : Envelope) → places_by eq new e ≡ places_by eq old e) equal_is_same kept
+-- writing one list leaves the ids right
+pub ids_set : (ids : List ℕ) (lists : List (List (ℕ × ℕ))) (keys number : ℕ) (half : Half) (list : List (ℕ × ℕ)) → number < keys → AreIds ids lists keys → AreIds ids (set lists (list_no half number) list) keys
+ids_set ids lists keys number half list within ids_are = record {
+  many = ids_are.many ∙ sym (length-set lists (list_no half number) list);
+  each = λ i there. ids_are.each i (omega (arith, there, length-set lists (list_no half number) list));
+  enough = omega (arith, ids_are.enough, length-set lists (list_no half number) list);
+  unused = λ l past. get_or-set_other lists (list_no half number) l list [] (λ is. absurd (omega (arith, past, is, list_no_most half number))) ∙ ids_are.unused l past;
+}
 
-pub counted_under : (table own : Filed Envelope) (e : Envelope) (ns : List ℕ) (count : ℕ) → count ≡ length (places_by equal_fields table e) → table ≡ own → places_by same_envelope own e ≡ ns → count ≡ length ns
-counted_under table own e ns count is same places =
-    is
-    ∙ ap (λ eq. length (places_by eq table e)) equal_is_same
-    ∙ ap (λ t. length (places_by same_envelope t e)) same
-    ∙ ap (λ (xs : List ℕ). length xs) places
+-- equal fields are equal envelopes
+and_parts : (a b : Bool) → (a && b) ≡ true → (a ≡ true) × (b ≡ true)
+and_parts true b h = (refl, h)
+and_parts false b h = cc
 
--- a place put under an envelope comes for it alone
-pub put_under : (old new : Filed Envelope) (key : Envelope) (o : Option Envelope) (place : ℕ) (e : Envelope) → o ≡ Some key → places_by equal_fields new e ≡ with_place (equal_fields key e) (places_by equal_fields old e) place → places_by same_envelope new e ≡ with_place (option_map_or (same_envelope e) o false) (places_by same_envelope old e) place
-put_under old new key o place e is h =
-    subst (λ eq. places_by eq new e ≡ with_place (eq key e) (places_by eq old e) place) equal_is_same h
-    ∙ ap (λ b. with_place b (places_by same_envelope old e) place)
-    (same_swap key e ∙ sym (ap (λ x. option_map_or (same_envelope e) x false) is))
-
--- the test for an envelope passes at the calls whose half has it
-has_it : (e : Envelope) (o : Option Envelope) → option_map_or (same_envelope e) o false ≡ true → o ≡ Some e
-has_it e None h = absurd (true≢false (sym h))
-has_it e (Some f) h = ap (λ (x : Envelope). Some x) (sym (same_envelope_true e f h))
-
--- a half's places once its rank's next call is put in
-own_put : (groups : Groups) (recording : Lists) (rank place : ℕ) (call : Call) (half : Half) (e : Envelope) (old new : List ℕ) → rank < length recording → place ≡ length (calls_of recording rank) → old ≡ places_of groups recording rank half e → new ≡ with_place (has_envelope groups rank half e call) old place → new ≡ places_of groups (appended recording rank call) rank half e
-own_put groups recording rank place call half e old new is_rank next was is =
-    is
-    ∙ ap (λ ns. with_place (has_envelope groups rank half e call) ns place) was
-    ∙ ap (λ (m : ℕ). with_place (has_envelope groups rank half e call) (places_of groups recording rank half e) m) next
-    ∙ sym (ap (λ calls. places (has_envelope groups rank half e) calls) (calls_of-appended recording rank call is_rank)
-    ∙ places_on (has_envelope groups rank half e) (calls_of recording rank) call)
-
--- and those of another rank
-other_put : (groups : Groups) (recording : Lists) (rank other place : ℕ) (call : Call) (half : Half) (e : Envelope) (old new : List ℕ) → other ≢ rank → rank_of_half groups half e ≡ Some other → old ≡ places_of groups recording other half e → new ≡ with_place (has_envelope groups rank half e call) old place → new ≡ places_of groups (appended recording rank call) other half e
-other_put groups recording rank other place call half e old new differs theirs was is =
-    let fails : has_envelope groups rank half e call ≡ false =
-    ⊎_elim
-    (λ (passes : has_envelope groups rank half e call ≡ true).
-    absurd (differs (same_Some other rank (sym theirs ∙ own_rank groups rank half call e (has_it e (envelope_of groups rank half call) passes)))))
-    (λ (fails : has_envelope groups rank half e call ≡ false). fails)
-    (cases_Bool (has_envelope groups rank half e call)) in
-    is
-    ∙ ap (λ b. with_place b old place) fails
-    ∙ was
-    ∙ sym (ap (λ calls. places (has_envelope groups other half e) calls) (calls_of-appended_other recording rank other call differs))
-
--- what is put under the envelope of a half
-abbrev pub IsPut : Groups → ℕ → ℕ → Call → Half → Matches → Matches → Type 0
-IsPut groups rank place call half old new =
-    (e : Envelope) → places_by same_envelope (table_of new half) e ≡ with_place (has_envelope groups rank half e call) (places_by same_envelope (table_of old half) e) place
-
-half_put : (groups : Groups) (recording : Lists) (rank place : ℕ) (call : Call) (old new : Matches) (half : Half) → IsPut groups rank place call half old new → IsMatched groups recording old → rank < length recording → place ≡ length (calls_of recording rank) → (e : Envelope) (other : ℕ) → rank_of_half groups half e ≡ Some other → places_by same_envelope (table_of new half) e ≡ places_of groups (appended recording rank call) other half e
-half_put groups recording rank place call old new half put matched is_rank next e other theirs =
-    ⊎_elim
-    (λ (same : other ≡ rank).
-    subst (λ (r : ℕ). places_by same_envelope (table_of new half) e ≡ places_of groups (appended recording rank call) r half e) (sym same)
-    (own_put groups recording rank place call half e _ _ is_rank next (matched.places half e rank (theirs ∙ ap (λ (m : ℕ). Some m) same)) (put e)))
-    (λ (differs : other ≢ rank). other_put groups recording rank other place call half e _ _ differs theirs (matched.places half e other theirs) (put e))
-    (cases_eq other rank)
-
--- the recording goes on by a call whose halves are put in
-pub matched_put : (groups : Groups) (recording : Lists) (rank place : ℕ) (call : Call) (old new : Matches) → IsPut groups rank place call SendHalf old new → IsPut groups rank place call RecvHalf old new → IsMatched groups recording old → rank < length recording → place ≡ length (calls_of recording rank) → IsMatched groups (appended recording rank call) new
-matched_put groups recording rank place call old new sends recvs matched is_rank next = record { places = of_half }
+pub equal_true : (e f : Envelope) → equal_fields e f ≡ true → e ≡ f
+equal_true e f h =
+    let first = and_parts (e.comm == f.comm) (e.source == f.source && (e.dest == f.dest && e.tag == f.tag)) h in
+    let second = and_parts (e.source == f.source) (e.dest == f.dest && e.tag == f.tag) first.1 in
+    let third = and_parts (e.dest == f.dest) (e.tag == f.tag) second.1 in
+    made e.comm f.comm e.source f.source e.dest f.dest e.tag f.tag (eqb-true _ _ first.0) (eqb-true _ _ second.0) (eqb-true _ _ third.0) (eqb-true _ _ third.1)
   where
-    of_half : (half : Half) (e : Envelope) (other : ℕ) → rank_of_half groups half e ≡ Some other → places_by same_envelope (table_of new half) e ≡ places_of groups (appended recording rank call) other half e
-    of_half SendHalf = half_put groups recording rank place call old new SendHalf sends matched is_rank next
-    of_half RecvHalf = half_put groups recording rank place call old new RecvHalf recvs matched is_rank next
+    made : (a a' b b' c c' d d' : ℕ) → a ≡ a' → b ≡ b' → c ≡ c' → d ≡ d' → ◌≡◌ {A = Envelope} (record { comm = a; source = b; dest = c; tag = d }) (record { comm = a'; source = b'; dest = c'; tag = d' })
+    made a a' b b' c c' d d' p q r s = rw (p, q, r, s) refl
 
--- tables that show the same
-pub matched_kept : (groups : Groups) (recording : Lists) (old new : Matches) → ((e : Envelope) → places_by same_envelope new.sends e ≡ places_by same_envelope old.sends e) → ((e : Envelope) → places_by same_envelope new.recvs e ≡ places_by same_envelope old.recvs e) → IsMatched groups recording old → IsMatched groups recording new
-matched_kept groups recording old new sends recvs matched = record { places = of_half }
+-- two envelopes with one number are one
+pub one_number : (keys : List Envelope) (e f : Envelope) (number : ℕ) → number_in keys e ≡ Some number → number_in keys f ≡ Some number → f ≡ e
+one_number keys e f number is is' =
+    let own = (position-Some (equal_fields e) keys number e is).1 in
+    let theirs = (position-Some (equal_fields f) keys number e is').1 in
+    equal_true f (get_or keys number e) theirs ∙ sym (equal_true e (get_or keys number e) own)
+
+-- more keys: the same ones, or one more at the end, whose lists are empty
+pub grown_same : (old new : Matching) → new.keys ≡ old.keys → new.lists ≡ old.lists → old.spare ≤ new.spare → new.work ≡ old.work → IsGrown old new
+grown_same old new keys lists spare work = record {
+  numbers = λ e number is. ap (λ (ks : List Envelope). number_in ks e) keys ∙ is;
+  pending = λ half e. ap (λ (ks : List Envelope). option_map_or (pending_at new.lists half) (number_in ks e) []) keys ∙ ap (λ (ls : List (List ℕ)). option_map_or (pending_at ls half) (number_in old.keys e) []) lists;
+  spare = spare;
+  work = work;
+}
+
+pub grown_key : (old new : Matching) (key : Envelope) → new.keys ≡ old.keys ++ key ∷ [] → new.lists ≡ old.lists → ((l : ℕ) → 2 * length old.keys ≤ l → list_at old.lists l ≡ []) → old.spare ≤ new.spare → new.work ≡ old.work → IsGrown old new
+grown_key old new key keys lists unused spare work = record {
+  numbers = λ e number is. ap (λ (ks : List Envelope). number_in ks e) keys ∙ number_stays (equal_fields e) old.keys key number is;
+  pending = λ half e. ap (λ (ls : List (List ℕ)). option_map_or (pending_at ls half) (number_in new.keys e) []) lists ∙ ap (λ (ks : List Envelope). option_map_or (pending_at old.lists half) (number_in ks e) []) keys ∙ shows half e;
+  spare = spare;
+  work = work;
+}
   where
-    of_half : (half : Half) (e : Envelope) (rank : ℕ) → rank_of_half groups half e ≡ Some rank → places_by same_envelope (table_of new half) e ≡ places_of groups recording rank half e
-    of_half SendHalf e rank theirs = sends e ∙ matched.places SendHalf e rank theirs
-    of_half RecvHalf e rank theirs = recvs e ∙ matched.places RecvHalf e rank theirs
+    shows_past : (half : Half) (o : Option ℕ) → ((number : ℕ) → o ≡ Some number → length old.keys ≤ number) → option_map_or (pending_at old.lists half) o [] ≡ []
+    shows_past half None past = refl
+    shows_past half (Some number) past = unused (list_no half number) (omega (arith, past number refl, list_no_least half number))
 
--- empty tables, and a recording with no calls
-pub matched_new : (groups : Groups) (ranks : ℕ) (new : Matches) → ((e : Envelope) → places_by equal_fields new.sends e ≡ []) → ((e : Envelope) → places_by equal_fields new.recvs e ≡ []) → IsMatched groups (replicate ranks []) new
-matched_new groups ranks new sends recvs = record { places = of_half }
+    shows : (half : Half) (e : Envelope) → option_map_or (pending_at old.lists half) (number_in (old.keys ++ key ∷ []) e) [] ≡ option_map_or (pending_at old.lists half) (number_in old.keys e) []
+    shows half e =
+        ⊎_elim
+        (λ found. ap (λ (o : Option ℕ). option_map_or (pending_at old.lists half) o []) (number_stays (equal_fields e) old.keys key found.0 found.1 ∙ sym found.1))
+        (λ absent.
+        shows_past half (number_in (old.keys ++ key ∷ []) e) (past_end e absent.0 absent.1)
+        ∙ sym (ap (λ (o : Option ℕ). option_map_or (pending_at old.lists half) o []) absent.0))
+        (position_cases (equal_fields e) old.keys)
+      where
+        past_end : (f : Envelope) → number_in old.keys f ≡ None → position_or_len (equal_fields f) old.keys ≡ length old.keys → (number : ℕ) → number_in (old.keys ++ key ∷ []) f ≡ Some number → length old.keys ≤ number
+        past_end f none len number is = number_past (equal_fields f) old.keys key len number is
+
+-- where an envelope gets a number
+abbrev pub matching : List Envelope → List (List (ℕ × ℕ)) → ℕ → ℕ → Matching
+matching keys lists spare work = record { keys = keys; lists = contents lists; spare = spare; work = work }
+
+contents_unused : (lists : List (List (ℕ × ℕ))) (keys : ℕ) → ((l : ℕ) → 2 * keys ≤ l → list_at lists l ≡ []) → (l : ℕ) → 2 * keys ≤ l → list_at (contents lists) l ≡ []
+contents_unused lists keys unused l past = contents_at lists l ∙ ap values (unused l past)
+
+pub insert_grown : (keys keys' : List Envelope) (key : Envelope) (lists : List (List (ℕ × ℕ))) (spare work : ℕ) (ids : List ℕ) → keys' ≡ insert_key equal_fields keys key → AreIds ids lists (length keys) → IsGrown (matching keys lists spare work) (matching keys' lists spare work)
+insert_grown keys keys' key lists spare work ids is ids_are =
+    ⊎_elim
+    (λ (there : list_any (equal_fields key) keys ≡ true).
+    grown_same (matching keys lists spare work) (matching keys' lists spare work)
+    (is ∙ ap (λ b. if b then keys else keys ++ key ∷ []) there) refl (omega arith) refl)
+    (λ (absent : list_any (equal_fields key) keys ≡ false).
+    grown_key (matching keys lists spare work) (matching keys' lists spare work) key
+    (is ∙ ap (λ b. if b then keys else keys ++ key ∷ []) absent) refl
+    (contents_unused lists (length keys) ids_are.unused) (omega arith) refl)
+    (cases_Bool (list_any (equal_fields key) keys))
+
+pub insert_ids : (keys keys' : List Envelope) (key : Envelope) (lists : List (List (ℕ × ℕ))) (ids : List ℕ) → keys' ≡ insert_key equal_fields keys key → 2 * length keys + 2 ≤ length lists → AreIds ids lists (length keys) → AreIds ids lists (length keys')
+insert_ids keys keys' key lists ids is wide ids_are =
+    let same = ap (λ (ks : List Envelope). length ks) is in
+    let few : length keys' ≤ length keys + 1 = omega (arith, same, few_more (list_any (equal_fields key) keys)) in
+    let more : length keys ≤ length keys' = omega (arith, same, no_fewer (list_any (equal_fields key) keys)) in
+    record {
+      many = ids_are.many;
+      each = ids_are.each;
+      enough = omega (arith, few, wide);
+      unused = λ l past. ids_are.unused l (omega (arith, more, past));
+    }
   where
-    none : (table : Filed Envelope) → ((e : Envelope) → places_by equal_fields table e ≡ []) → (e : Envelope) → places_by same_envelope table e ≡ []
-    none table empty = subst (λ eq. (e : Envelope) → places_by eq table e ≡ []) equal_is_same empty
+    few_more : (b : Bool) → length (if b then keys else keys ++ key ∷ []) ≤ length keys + 1
+    few_more true = omega arith
+    few_more false = omega (arith, length-append keys (key ∷ []))
 
-    of_half : (half : Half) (e : Envelope) (rank : ℕ) → rank_of_half groups half e ≡ Some rank → places_by same_envelope (table_of new half) e ≡ places_of groups (replicate ranks []) rank half e
-    of_half SendHalf e rank theirs = none new.sends sends e ∙ sym (ap (λ calls. places (has_envelope groups rank SendHalf e) calls) (no_calls ranks rank))
-    of_half RecvHalf e rank theirs = none new.recvs recvs e ∙ sym (ap (λ calls. places (has_envelope groups rank RecvHalf e) calls) (no_calls ranks rank))
+    no_fewer : (b : Bool) → length keys ≤ length (if b then keys else keys ++ key ∷ [])
+    no_fewer true = omega arith
+    no_fewer false = omega (arith, length-append keys (key ∷ []))
 
--- room for both halves is room for the call
-pub room_for : (groups : Groups) (rank : ℕ) (call : Call) (matches : Matches) (send recv : Option Envelope) → send ≡ envelope_of groups rank SendHalf call → recv ≡ envelope_of groups rank RecvHalf call → IfSome send (λ e. HasRoomBy same_envelope matches.sends e) → IfSome recv (λ e. HasRoomBy same_envelope matches.recvs e) → HasRoomFor groups rank call matches
-room_for groups rank call matches send recv send_is recv_is sends recvs = record { room = of_half }
+equal_refl : (e : Envelope) → equal_fields e e ≡ true
+equal_refl e = rw (eq-eqb e.comm e.comm refl, eq-eqb e.source e.source refl, eq-eqb e.dest e.dest refl, eq-eqb e.tag e.tag refl) refl
+
+pub insert_number : (keys keys' : List Envelope) (key : Envelope) (number : ℕ) → keys' ≡ insert_key equal_fields keys key → number ≡ position_or_len (equal_fields key) keys → number < length keys' → number_in keys' key ≡ Some number
+insert_number keys keys' key number is index within =
+    ap (λ (ks : List Envelope). number_in ks key) is
+    ∙ number_is equal_fields keys key (equal_refl key) (omega (arith, within, index, ap (λ (ks : List Envelope). length ks) is))
+    ∙ ap (λ (m : ℕ). Some m) (sym index)
+
+-- what is pending once a list is written: the new places in it, and the same in the others
+list_no_one : (h half : Half) (m number : ℕ) → list_no h m ≡ list_no half number → (h ≡ half) × (m ≡ number)
+list_no_one SendHalf SendHalf m number same = (refl, omega (arith, same))
+list_no_one RecvHalf RecvHalf m number same = (refl, omega (arith, same))
+list_no_one SendHalf RecvHalf m number same = absurd (omega (arith, same))
+list_no_one RecvHalf SendHalf m number same = absurd (omega (arith, same))
+
+pub written_own : (keys : List Envelope) (lists : List (List ℕ)) (half : Half) (e : Envelope) (number : ℕ) (ps : List ℕ) → number_in keys e ≡ Some number → list_no half number < length lists → option_map_or (pending_at (set lists (list_no half number) ps) half) (number_in keys e) [] ≡ ps
+written_own keys lists half e number ps is within =
+    ap (λ (o : Option ℕ). option_map_or (pending_at (set lists (list_no half number) ps) half) o []) is
+    ∙ get_or-set_same lists (list_no half number) ps [] within
+
+pub written_rest : (keys : List Envelope) (lists : List (List ℕ)) (half : Half) (e : Envelope) (number : ℕ) (ps : List ℕ) → number_in keys e ≡ Some number → (h : Half) (f : Envelope) → ((h ≡ half) × (f ≡ e) → ⊥) → option_map_or (pending_at (set lists (list_no half number) ps) h) (number_in keys f) [] ≡ option_map_or (pending_at lists h) (number_in keys f) []
+written_rest keys lists half e number ps is h f differs = by_number (number_in keys f) refl
   where
-    at_some : (table : Filed Envelope) (o : Option Envelope) (e : Envelope) → o ≡ Some e → IfSome o (λ f. HasRoomBy same_envelope table f) → HasRoomBy same_envelope table e
-    at_some table o e is room = subst (λ (x : Option Envelope). IfSome x (λ f. HasRoomBy same_envelope table f)) is room
+    by_number : (o : Option ℕ) → number_in keys f ≡ o → option_map_or (pending_at (set lists (list_no half number) ps) h) o [] ≡ option_map_or (pending_at lists h) o []
+    by_number None theirs = refl
+    by_number (Some m) theirs =
+        get_or-set_other lists (list_no half number) (list_no h m) ps []
+        (λ same.
+        let one = list_no_one h half m number same in
+        differs (one.0, one_number keys e f number is (theirs ∙ ap (λ (k : ℕ). Some k) one.1)))
 
-    of_half : (half : Half) (e : Envelope) → envelope_of groups rank half call ≡ Some e → HasRoomBy same_envelope (table_of matches half) e
-    of_half SendHalf e is = at_some matches.sends send e (send_is ∙ is) sends
-    of_half RecvHalf e is = at_some matches.recvs recv e (recv_is ∙ is) recvs
+-- the id of a list is its number
+same_default : {A : Type 0} (xs : List A) (i : ℕ) (d d' : A) → i < length xs → get_or xs i d ≡ get_or xs i d'
+same_default [] i d d' within = absurd (omega arith)
+same_default (x ∷ xs) zero d d' within = refl
+same_default (x ∷ xs) (suc i) d d' within = same_default xs i d d' (omega (arith, within))
 
--- and back
-pub room_of_half : (groups : Groups) (rank : ℕ) (call : Call) (matches : Matches) (half : Half) (o : Option Envelope) → o ≡ envelope_of groups rank half call → HasRoomFor groups rank call matches → IfSome o (λ e. HasRoomBy same_envelope (table_of matches half) e)
-room_of_half groups rank call matches half None is room = tt
-room_of_half groups rank call matches half (Some e) is room = room.room half e (sym is)
-
--- the partner of a half whose envelope and number are known
-pub partner_at_number : (groups : Groups) (recording : Lists) (rank place : ℕ) (half : Half) (e : Envelope) (number : ℕ) → envelope_at groups recording rank place half ≡ Some e → number ≡ number_of groups recording rank half e place → numbered groups recording (other_half half) e number ≡ partner_of groups recording rank place half
-partner_at_number groups recording rank place half e number own is =
-    ap (λ (k : ℕ). numbered groups recording (other_half half) e k) is
-    ∙ sym (ap (λ (o : Option Envelope). option_and_then (λ f. numbered groups recording (other_half half) f (number_of groups recording rank half f place)) o) own)
-
--- the number of a half of a rank's next call, once it is put in
-pub next_number : (groups : Groups) (recording : Lists) (rank place : ℕ) (call : Call) (half : Half) (e : Envelope) → rank < length recording → place ≡ length (calls_of recording rank) → number_of groups (appended recording rank call) rank half e place ≡ length (places_of groups recording rank half e)
-next_number groups recording rank place call half e is_rank next =
-    let front : take place (calls_of (appended recording rank call) rank) ≡ calls_of recording rank =
-    ap (λ calls. take place calls) (calls_of-appended recording rank call is_rank)
-    ∙ ap (λ (m : ℕ). take m (calls_of recording rank ++ call ∷ [])) next
-    ∙ take_whole (calls_of recording rank) (call ∷ []) in
-    ap (λ calls. length (places (has_envelope groups rank half e) calls)) front
+pub id_is : (ids : List ℕ) (lists : List (List (ℕ × ℕ))) (keys number l id : ℕ) (half : Half) → AreIds ids lists keys → number < keys → l ≡ list_no half number → id ≡ get_or ids l id → id ≡ list_no half number
+id_is ids lists keys number l id half ids_are within is read =
+    let there : l < length lists = omega (arith, within, is, list_no_most half number, ids_are.enough) in
+    read ∙ same_default ids l id 0 (omega (arith, there, ids_are.many)) ∙ ids_are.each l there ∙ is

@@ -6,7 +6,8 @@ use Rattle.std.proofs.lemmas.List.{map-set, map-append, get_or-map, length-map}
 use Rattle.std.proofs.lemmas.Option.{unwrap_or-slice_get}
 use Rattle.mpicall.specs.declared.call.Call.{Call}
 use Rattle.pairing.specs.Recordings.{calls_of, appended}
-use Rattle.pairing.specs.Notes.{Noted, Room, NotedList, no_room, notes_of, with_note, calls_in, recording_of}
+use Rattle.pairing.specs.declared.envelope.Half.{Half}
+use Rattle.pairing.specs.Notes.{Noted, Room, NotedList, no_room, notes_of, with_note, partnered_in, partnered, calls_in, recording_of}
 
 -- the rank's room is that of its list
 pub room_set : (lists : List NotedList) (rank : ℕ) (list : NotedList) → rank < length lists → unwrap_or (slice_get (map (λ (it : NotedList). it.room) (set lists rank list)) rank) no_room ≡ list.room
@@ -37,3 +38,13 @@ recording_of-with_note lists rank note =
     ∙ ap (λ (calls : List Call). set (recording_of lists) rank calls)
     (map-append (λ (it : Noted). it.call) (notes_of lists rank) (note ∷ [])
     ∙ ap (λ (calls : List Call). calls ++ note.call ∷ []) (sym (calls_of-recording lists rank)))
+
+-- the rank's list has another partner beside a call
+pub partnered_set : (lists : List NotedList) (rank place : ℕ) (half : Half) (there : ℕ) (old new : NotedList) → rank < length lists → old ≡ get_or lists rank old → new.calls ≡ partnered_in old.calls place half there → map (λ (it : NotedList). it.calls) (set lists rank new) ≡ partnered (map (λ (it : NotedList). it.calls) lists) rank place half there
+partnered_set lists rank place half there old new is_rank read more =
+    let before : notes_of (map (λ (it : NotedList). it.calls) lists) rank ≡ old.calls =
+    unwrap_or-slice_get (map (λ (it : NotedList). it.calls) lists) rank []
+    ∙ get_or-map (λ (it : NotedList). it.calls) lists rank old [] is_rank
+    ∙ ap (λ (it : NotedList). it.calls) (sym read) in
+    map-set (λ (it : NotedList). it.calls) lists rank new
+    ∙ ap (λ (calls : List Noted). set (map (λ (it : NotedList). it.calls) lists) rank calls) (more ∙ ap (λ (calls : List Noted). partnered_in calls place half there) (sym before))

@@ -6,7 +6,6 @@ use Rattle.std.proofs.lemmas.List.{take-append-le, take_all, map_push, length-ma
 use Rattle.std.proofs.lemmas.Option.{none-some, same_Some, unwrap_or-slice_get}
 use Rattle.std.proofs.lemmas.Bool.{cases_eq, cases_lt}
 use Rattle.mpicall.specs.declared.call.Call.{Call}
-use Rattle.mpigroup.specs.Groups.{Groups}
 use Rattle.pairing.specs.Notes.{Noted, notes_of, with_note, calls_in, recording_of}
 use Rattle.pairing.specs.Kept.{IsNoted, AreNoted}
 use Rattle.pairing.specs.Recordings.{calls_of, appended}
@@ -29,11 +28,11 @@ recording_of-more notes rank noted =
     ∙ ap (λ (list : List Call). slice_set (recording_of notes) rank list)
     (map_push (λ n. n.call) (notes_of notes rank) noted ∙ ap (λ (calls : List Call). calls ++ noted.call ∷ []) (sym (calls_of-recorded notes rank)))
 
-notes_of-same : (notes : List (List Noted)) (rank : ℕ) (noted : Noted) → rank < length notes → notes_of (with_note notes rank noted) rank ≡ notes_of notes rank ++ noted ∷ []
+pub notes_of-same : (notes : List (List Noted)) (rank : ℕ) (noted : Noted) → rank < length notes → notes_of (with_note notes rank noted) rank ≡ notes_of notes rank ++ noted ∷ []
 notes_of-same notes rank noted is_rank =
     unwrap_or-slice_get (with_note notes rank noted) rank [] ∙ get_or-set_same notes rank (notes_of notes rank ++ noted ∷ []) [] is_rank
 
-notes_of-other : (notes : List (List Noted)) (rank other : ℕ) (noted : Noted) → other ≢ rank → notes_of (with_note notes rank noted) other ≡ notes_of notes other
+pub notes_of-other : (notes : List (List Noted)) (rank other : ℕ) (noted : Noted) → other ≢ rank → notes_of (with_note notes rank noted) other ≡ notes_of notes other
 notes_of-other notes rank other noted differs =
     unwrap_or-slice_get (with_note notes rank noted) other []
     ∙ get_or-set_other notes rank other (notes_of notes rank ++ noted ∷ []) [] differs
@@ -52,31 +51,31 @@ get_last (x ∷ list) noted zero behind found h = absurd (omega arith)
 get_last (x ∷ list) noted (suc place) behind found h =
     let rest = get_last list noted place (omega (arith, behind)) found h in (ap (λ m. suc m) rest.0, rest.1)
 
-among_more : (groups : Groups) (rank : ℕ) (list : List Noted) (noted : Noted) → ((place : ℕ) (found : Noted) → slice_get list place ≡ Some found → IsNoted groups rank (take place (calls_in list)) found) → IsNoted groups rank (calls_in list) noted → (place : ℕ) (found : Noted) → slice_get (list ++ noted ∷ []) place ≡ Some found → IsNoted groups rank (take place (calls_in (list ++ noted ∷ []))) found
-among_more groups rank list noted are_noted is_noted place found h =
+among_more : (list : List Noted) (noted : Noted) → ((place : ℕ) (found : Noted) → slice_get list place ≡ Some found → IsNoted (take place (calls_in list)) found) → IsNoted (calls_in list) noted → (place : ℕ) (found : Noted) → slice_get (list ++ noted ∷ []) place ≡ Some found → IsNoted (take place (calls_in (list ++ noted ∷ []))) found
+among_more list noted are_noted is_noted place found h =
     ⊎_elim
     (λ (within : place < length list).
-    subst (λ (before : List Call). IsNoted groups rank before found) (sym (before_stays list noted place (omega (arith, within))))
+    subst (λ (before : List Call). IsNoted before found) (sym (before_stays list noted place (omega (arith, within))))
     (are_noted place found (sym (slice_get-front list (noted ∷ []) place within) ∙ h)))
     (λ (behind : length list ≤ place).
     let last = get_last list noted place behind found h in
     let all : take place (calls_in (list ++ noted ∷ [])) ≡ calls_in list =
     before_stays list noted place (omega (arith, last.0)) ∙ take_all place (calls_in list) (omega (arith, last.0, length-map list (λ (n : Noted). n.call))) in
-    subst (λ (before : List Call). IsNoted groups rank before found) (sym all)
-    (subst (λ (n : Noted). IsNoted groups rank (calls_in list) n) last.1 is_noted))
+    subst (λ (before : List Call). IsNoted before found) (sym all)
+    (subst (λ (n : Noted). IsNoted (calls_in list) n) last.1 is_noted))
     (cases_lt place (length list))
 
 -- one more note that is right leaves all right
-pub are_noted-more : (groups : Groups) (notes : List (List Noted)) (rank : ℕ) (noted : Noted) → rank < length notes → AreNoted groups notes → IsNoted groups rank (calls_in (notes_of notes rank)) noted → AreNoted groups (with_note notes rank noted)
-are_noted-more groups notes rank noted is_rank are_noted is_noted other place found h =
+pub are_noted-more : (notes : List (List Noted)) (rank : ℕ) (noted : Noted) → rank < length notes → AreNoted notes → IsNoted (calls_in (notes_of notes rank)) noted → AreNoted (with_note notes rank noted)
+are_noted-more notes rank noted is_rank are_noted is_noted other place found h =
     ⊎_elim
     (λ (same : other ≡ rank).
-    subst (λ (r : ℕ). slice_get (notes_of (with_note notes rank noted) r) place ≡ Some found → IsNoted groups r (take place (calls_in (notes_of (with_note notes rank noted) r))) found) (sym same)
+    subst (λ (r : ℕ). slice_get (notes_of (with_note notes rank noted) r) place ≡ Some found → IsNoted (take place (calls_in (notes_of (with_note notes rank noted) r))) found) (sym same)
     (λ h'.
-    subst (λ (list : List Noted). IsNoted groups rank (take place (calls_in list)) found) (sym (notes_of-same notes rank noted is_rank))
-    (among_more groups rank (notes_of notes rank) noted (are_noted rank) is_noted place found
+    subst (λ (list : List Noted). IsNoted (take place (calls_in list)) found) (sym (notes_of-same notes rank noted is_rank))
+    (among_more (notes_of notes rank) noted (are_noted rank) is_noted place found
     (subst (λ (list : List Noted). slice_get list place ≡ Some found) (notes_of-same notes rank noted is_rank) h'))) h)
     (λ (differs : other ≢ rank).
-    subst (λ (list : List Noted). IsNoted groups other (take place (calls_in list)) found) (sym (notes_of-other notes rank other noted differs))
+    subst (λ (list : List Noted). IsNoted (take place (calls_in list)) found) (sym (notes_of-other notes rank other noted differs))
     (are_noted other place found (subst (λ (list : List Noted). slice_get list place ≡ Some found) (notes_of-other notes rank other noted differs) h)))
     (cases_eq other rank)

@@ -1,10 +1,10 @@
 -- Entries of a rank, whose lists of calls and of starts go on.
-use Rattle.std.proofs.Common.{◌≡◌, ℕ, zero, suc, ◌+◌, ◌<◌, ◌≤◌, Option, Some, IsSome, is_some, List, [], ◌∷◌, ◌++◌, length, map, drop, refl, sym, ap, ◌∙◌, Bool, true, false, ◌&&◌, leb, arith, length-append}
+use Rattle.std.proofs.Common.{◌≡◌, ℕ, zero, suc, ◌+◌, ◌<◌, ◌≤◌, Option, Some, IsSome, is_some, List, [], ◌∷◌, ◌++◌, length, map, drop, refl, sym, ap, ◌∙◌, Bool, true, false, ◌&&◌, leb, arith, length-append, length-set, set}
 use Rattle.std.specs.Prelude.{unwrap_or}
 use Rattle.std.specs.List.{list_all, All}
 use Rattle.std.proofs.lemmas.Bool.{false≢true, leb-true}
-use Rattle.std.proofs.lemmas.List.{take-append-le, drop-append-le, map-append, length-drop, length-map}
-use Rattle.std.proofs.lemmas.List.Elements.{All-nil, All-cons, All-head, All-tail, All-push, All-weaker}
+use Rattle.std.proofs.lemmas.List.{take-append-le, drop-append-le, map-append, map-set, length-drop, length-map}
+use Rattle.std.proofs.lemmas.List.Elements.{All-nil, All-cons, All-head, All-tail, All-push, All-weaker, All-set, All-get_or}
 use Rattle.mpicall.specs.Limits.{few_enough, names_enough, in_ranges}
 use Rattle.mpicall.specs.Argument.{is_in_range}
 use Rattle.mpicall.specs.Spelling.{arguments_of}
@@ -14,9 +14,15 @@ use Rattle.mpicall.specs.declared.call.Call.TheVariants as made
 use Rattle.pairing.specs.declared.packed.Packed.{Packed}
 use Rattle.pairing.specs.declared.packed.Packed.TheVariants.{Send, Recv, Isend, Irecv, Sendrecv, Wait, Waitall, Waitany, Coll, Icoll, Dup, Split, Finalize}
 use Rattle.pairing.specs.declared.packed.Entry.{Entry}
+use Rattle.std.specs.Option.{option_map, option_map_or}
+use Rattle.std.specs.List.{slice_get}
+use Rattle.std.proofs.lemmas.Option.{same_Some, slice_get-map, slice_get_within, get_or_from_slice_get}
+use Rattle.pairing.specs.declared.beside.Beside.{Beside}
+use Rattle.pairing.specs.declared.envelope.Half.{Half}
+use Rattle.pairing.specs.Beside.{with_partner}
 use Rattle.pairing.specs.Limits.{most_calls}
 use Rattle.pairing.specs.Requests.{starts as starts_of, waits_for}
-use Rattle.pairing.specs.Notes.{Noted, calls_in, request_at as request_among, AreStarts}
+use Rattle.pairing.specs.Notes.{Noted, listed, calls_in, note_with, partnered_in, request_at as request_among, AreStarts}
 use Rattle.pairing.specs.Packed.{request_of, request_at, req_at, reqs_at, part, unpack, unpack_starts, end_of, noted, noted_of, StartRequests, IsStored, AreStored, listed_starts}
 use Rattle.pairing.proofs.FrontLemmas.{same_map}
 
@@ -86,8 +92,8 @@ unpack_more entries entries' starts starts' Finalize within started = refl
 -- so an entry stands for the same, and is stored
 noted_more : (entries entries' : List Entry) (starts starts' : List ℕ) (entry : Entry) → IsStored entries starts entry → noted_of (entries ++ entries') (starts ++ starts') entry ≡ noted_of entries starts entry
 noted_more entries entries' starts starts' entry stored =
-    ap (λ (call : Call). noted call entry.numbers (unpack_starts (starts ++ starts') entry.call)) (unpack_more entries entries' starts starts' entry.call stored.within stored.started)
-    ∙ ap (λ (xs : List ℕ). noted (unpack entries starts entry.call) entry.numbers xs) (starts_more starts starts' entry.call stored.within)
+    ap (λ (call : Call). noted call entry.beside (unpack_starts (starts ++ starts') entry.call)) (unpack_more entries entries' starts starts' entry.call stored.within stored.started)
+    ∙ ap (λ (xs : List ℕ). noted (unpack entries starts entry.call) entry.beside xs) (starts_more starts starts' entry.call stored.within)
 
 stored_more : (entries entries' : List Entry) (starts starts' : List ℕ) (entry : Entry) → IsStored entries starts entry → IsStored (entries ++ entries') (starts ++ starts') entry
 stored_more entries entries' starts starts' entry stored = record {
@@ -179,10 +185,10 @@ packed_stored entries starts places call entry ranged start is starts_are end = 
 }
 
 -- and is the same call
-pub packed_noted : (entries : List Entry) (starts places : List ℕ) (call : Call) (entry : Entry) → unpack entries (starts ++ listed_starts call places) entry.call ≡ call → unpack_starts (starts ++ listed_starts call places) entry.call ≡ places → noted_of entries (starts ++ listed_starts call places) entry ≡ noted call entry.numbers places
+pub packed_noted : (entries : List Entry) (starts places : List ℕ) (call : Call) (entry : Entry) → unpack entries (starts ++ listed_starts call places) entry.call ≡ call → unpack_starts (starts ++ listed_starts call places) entry.call ≡ places → noted_of entries (starts ++ listed_starts call places) entry ≡ noted call entry.beside places
 packed_noted entries starts places call entry is starts_are =
-    ap (λ (it : Call). noted it entry.numbers (unpack_starts (starts ++ listed_starts call places) entry.call)) is
-    ∙ ap (λ (xs : List ℕ). noted call entry.numbers xs) starts_are
+    ap (λ (it : Call). noted it entry.beside (unpack_starts (starts ++ listed_starts call places) entry.call)) is
+    ∙ ap (λ (xs : List ℕ). noted call entry.beside xs) starts_are
 
 -- a wait for several lists no more starts than it may name requests
 right : (a b : Bool) → (a && b) ≡ true → b ≡ true
@@ -199,3 +205,79 @@ few_listed call places ranged same = by_names call places (right (list_all is_in
     by_names (made.Waitall reqs) places few same = omega (arith, same, most_of reqs few)
     by_names (made.Waitany chosen reqs) places few same = omega (arith, same, most_of reqs few)
     by_names _ places few same = omega arith
+
+same_maps : {X Y : Type 0} (f g : X → Y) (xs : List X) → ((x : X) → f x ≡ g x) → map f xs ≡ map g xs
+same_maps f g [] agree = refl
+same_maps {Y = Y} f g (x ∷ xs) agree =
+    let first : f x ≡ g x = agree x in
+    let rest : map f xs ≡ map g xs = same_maps f g xs agree in
+    cc
+
+-- what stands beside an entry's call is another: all calls stay
+request_beside : (entries : List Entry) (i : ℕ) (old : Entry) (beside : Beside) → slice_get entries i ≡ Some old → (place : ℕ) → request_at (set entries i (record { call = old.call; beside = beside })) place ≡ request_at entries place
+request_beside [] i old beside h place = refl
+request_beside (entry ∷ entries) zero old beside h zero = ap (λ (e : Entry). request_of e.call) (sym (same_Some entry old h))
+request_beside (entry ∷ entries) zero old beside h (suc place) = refl
+request_beside (entry ∷ entries) (suc i) old beside h zero = refl
+request_beside (entry ∷ entries) (suc i) old beside h (suc place) = request_beside entries i old beside h place
+
+module _ (entries entries' : List Entry) (same : (place : ℕ) → request_at entries' place ≡ request_at entries place) where
+  reqs_same : (places : List ℕ) → reqs_at entries' places ≡ reqs_at entries places
+  reqs_same places = same_maps (req_at entries') (req_at entries) places (λ place. ap (λ (o : Option ℕ). unwrap_or o 0) (same place))
+
+  unpack_same : (starts : List ℕ) (packed : Packed) → unpack entries' starts packed ≡ unpack entries starts packed
+  unpack_same starts (Wait start) = ap (λ (o : Option ℕ). made.Wait (unwrap_or o 0)) (same start)
+  unpack_same starts (Waitall first count) = ap (λ (reqs : List ℕ). made.Waitall reqs) (reqs_same (part starts first count))
+  unpack_same starts (Waitany chosen first count) = ap (λ (reqs : List ℕ). made.Waitany chosen reqs) (reqs_same (part starts first count))
+  unpack_same starts (Send mode comm dest tag) = refl
+  unpack_same starts (Recv comm source tag) = refl
+  unpack_same starts (Isend req mode comm dest tag) = refl
+  unpack_same starts (Irecv req comm source tag) = refl
+  unpack_same starts (Sendrecv comm dest send_tag source recv_tag) = refl
+  unpack_same starts (Coll comm kind) = refl
+  unpack_same starts (Icoll req comm kind) = refl
+  unpack_same starts (Dup comm new) = refl
+  unpack_same starts (Split comm colour key new) = refl
+  unpack_same starts Finalize = refl
+
+  noted_same : (starts : List ℕ) (entry : Entry) → noted_of entries' starts entry ≡ noted_of entries starts entry
+  noted_same starts entry = ap (λ (call : Call). noted call entry.beside (unpack_starts starts entry.call)) (unpack_same starts entry.call)
+
+  stored_same : (starts : List ℕ) (entry : Entry) → IsStored entries starts entry → IsStored entries' starts entry
+  stored_same starts entry stored = record {
+    ranged = ap in_ranges (unpack_same starts entry.call) ∙ stored.ranged;
+    within = stored.within;
+    started = All-weaker (λ (p : ℕ). IsSome (request_at entries p)) (λ (p : ℕ). IsSome (request_at entries' p))
+        (λ p some. ap (λ (o : Option ℕ). is_some o) (same p) ∙ some) (unpack_starts starts entry.call) stored.started;
+  }
+
+-- so all is stored as before, and the notes have another beside the one
+stored_as : (entries : List Entry) (starts : List ℕ) (old : Entry) (beside : Beside) → IsStored entries starts old → IsStored entries starts (record { call = old.call; beside = beside })
+stored_as entries starts old beside stored = record { ranged = stored.ranged; within = stored.within; started = stored.started }
+
+pub stored_beside : (entries : List Entry) (starts : List ℕ) (i : ℕ) (old : Entry) (beside : Beside) → slice_get entries i ≡ Some old → AreStored entries starts → AreStored (set entries i (record { call = old.call; beside = beside })) starts
+stored_beside entries starts i old beside h stored =
+    let entry : Entry = record { call = old.call; beside = beside } in
+    let same = request_beside entries i old beside h in
+    record {
+      each = All-set (IsStored (set entries i entry) starts) entries i entry
+          (stored_same entries (set entries i entry) same starts entry (stored_as entries starts old beside (rw (get_or_from_slice_get entries i old old h) at (All-get_or (IsStored entries starts) entries i old (slice_get_within entries i old h) stored.each))))
+          (All-weaker (IsStored entries starts) (IsStored (set entries i entry) starts) (stored_same entries (set entries i entry) same starts) entries stored.each);
+      few_starts = omega (arith, stored.few_starts, length-set entries i entry);
+      few = omega (arith, stored.few, length-set entries i entry);
+    }
+
+pub notes_beside : (entries : List Entry) (starts : List ℕ) (i : ℕ) (old : Entry) (half : Half) (there : ℕ) → slice_get entries i ≡ Some old → map (noted_of (set entries i (record { call = old.call; beside = with_partner half there old.beside })) starts) (set entries i (record { call = old.call; beside = with_partner half there old.beside })) ≡ partnered_in (map (noted_of entries starts) entries) i half there
+notes_beside entries starts i old half there h =
+    let entry : Entry = record { call = old.call; beside = with_partner half there old.beside } in
+    let same = request_beside entries i old (with_partner half there old.beside) h in
+    same_maps (noted_of (set entries i entry) starts) (noted_of entries starts) (set entries i entry) (noted_same entries (set entries i entry) same starts)
+    ∙ map-set (noted_of entries starts) entries i entry
+    ∙ sym (ap (λ (o : Option Noted). option_map_or (λ note. set (map (noted_of entries starts) entries) i (note_with half there note)) o (map (noted_of entries starts) entries))
+    (slice_get-map (noted_of entries starts) entries i ∙ ap (option_map (noted_of entries starts)) h))
+
+-- as many starts are listed as requests
+pub listed_few : (call : Call) (places : List ℕ) → length places ≡ length (waits_for call) → length (listed_starts call places) ≤ length (listed call)
+listed_few (made.Waitall reqs) places same = omega (arith, same)
+listed_few (made.Waitany chosen reqs) places same = omega (arith, same)
+listed_few _ places same = omega arith

@@ -70,14 +70,14 @@ pub same_envelope_refl : (e : Envelope) → same_envelope e e ≡ true
 same_envelope_refl e = rw (eq-eqb e.comm e.comm refl, eq-eqb e.source e.source refl, eq-eqb e.dest e.dest refl, eq-eqb e.tag e.tag refl) refl
 
 -- the test for an envelope passes at the calls whose half has it
-has_it : (e : Envelope) (o : Option Envelope) → option_map_or (same_envelope e) o false ≡ true → o ≡ Some e
+pub has_it : (e : Envelope) (o : Option Envelope) → option_map_or (same_envelope e) o false ≡ true → o ≡ Some e
 has_it e None h = cc
 has_it e (Some f) h = ap (λ (x : Envelope). Some x) (sym (same_envelope_true e f h))
 
 it_has : (e : Envelope) (o : Option Envelope) → o ≡ Some e → option_map_or (same_envelope e) o false ≡ true
 it_has e o h = rw h (same_envelope_refl e)
 
-other_other : (half : Half) → other_half (other_half half) ≡ half
+pub other_other : (half : Half) → other_half (other_half half) ≡ half
 other_other SendHalf = refl
 other_other RecvHalf = refl
 
@@ -119,13 +119,13 @@ partner_from groups recording rank place half other there h =
     rw (h.own.stands_there, h.own.envelope, h.rank_there, h.place_there) refl
 
 -- the place of a half is the one with its number
-own_place : (groups : Groups) (recording : Lists) (rank place : ℕ) (half : Half) (e : Envelope) → HasHalf groups recording rank place half e → slice_get (places_of groups recording rank half e) (number_of groups recording rank half e place) ≡ Some place
+pub own_place : (groups : Groups) (recording : Lists) (rank place : ℕ) (half : Half) (e : Envelope) → HasHalf groups recording rank place half e → slice_get (places_of groups recording rank half e) (number_of groups recording rank half e place) ≡ Some place
 own_place groups recording rank place half e own =
     place_nth 0 (has_envelope groups rank half e) (calls_of recording rank) place own.call own.stands_there (it_has e (envelope_of groups rank half own.call) own.envelope)
     ∙ ap (λ (m : ℕ). Some m) (omega arith)
 
 -- what stands at a numbered place
-numbered_half : (groups : Groups) (recording : Lists) (rank place : ℕ) (half : Half) (e : Envelope) (number : ℕ) → slice_get (places_of groups recording rank half e) number ≡ Some place → HasHalf groups recording rank place half e × (number_of groups recording rank half e place ≡ number)
+pub numbered_half : (groups : Groups) (recording : Lists) (rank place : ℕ) (half : Half) (e : Envelope) (number : ℕ) → slice_get (places_of groups recording rank half e) number ≡ Some place → HasHalf groups recording rank place half e × (number_of groups recording rank half e place ≡ number)
 numbered_half groups recording rank place half e number h =
     let nth = nth_place 0 (has_envelope groups rank half e) (calls_of recording rank) number place h in
     let same : nth.index ≡ place = omega (arith, nth.place) in (
@@ -158,7 +158,7 @@ partners_are_not_shared groups recording rank place rank' place' half partner h 
     let back' = partners_are_mutual groups recording rank' place' half partner.0 partner.1 h' in
     some_pair_parts rank rank' place place' (sym back ∙ back')
 
-half_stays : (groups : Groups) (recording longer : Lists) (rank place : ℕ) (half : Half) (e : Envelope) → GoesOn recording longer → HasHalf groups recording rank place half e → HasHalf groups longer rank place half e
+pub half_stays : (groups : Groups) (recording longer : Lists) (rank place : ℕ) (half : Half) (e : Envelope) → GoesOn recording longer → HasHalf groups recording rank place half e → HasHalf groups longer rank place half e
 half_stays groups recording longer rank place half e goes_on own =
     let within : place < length (calls_of recording rank) = slice_get_within (calls_of recording rank) place own.call own.stands_there in
     record {

@@ -10,8 +10,10 @@ pub mod Holdings
 pub mod Starts
 pub mod Faults
 pub mod Pairs
-pub mod Filed
+pub mod Beside
+pub mod Work
 pub mod Matched
+pub mod Seats
 pub mod Joined
 pub mod Codes
 pub mod Notes

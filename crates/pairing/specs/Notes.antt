@@ -1,19 +1,21 @@
--- Notes: the calls of each rank, each with three numbers and, at a wait, the places that started the
+-- Notes: the calls of each rank, each with what is kept beside it and, at a wait, the places that started the
 -- requests which it names.
 use Rattle.std.specs.Prelude.{◌≡◌, ℕ, ◌≤◌, ◌==◌, Option, Some, unwrap_or, option_and_then, List, [], ◌∷◌, ◌++◌, map, length, take, drop, slice_get, slice_set}
 use Rattle.std.specs.List.{position}
 use Rattle.mpicall.specs.declared.call.Call.{Call}
 use Rattle.mpicall.specs.declared.call.Call.TheVariants.{Waitall, Waitany}
+use Rattle.std.specs.Option.{option_map_or}
+use Rattle.pairing.specs.declared.beside.Beside.{Beside}
+use Rattle.pairing.specs.declared.envelope.Half.{Half}
+use Rattle.pairing.specs.Beside.{partner_in, with_partner}
 use Rattle.pairing.specs.Recordings.{Lists}
 use Rattle.pairing.specs.Requests.{starts, waits_for}
 
--- a call, the numbers kept with it, and the places that started the requests which it names: one place
+-- a call, what is kept beside it, and the places that started the requests which it names: one place
 -- for each request, in its order
 pub record Noted : Type 0 where
   pub call : Call
-  pub sent : ℕ
-  pub received : ℕ
-  pub joined : ℕ
+  pub beside : Beside
   pub starts : List ℕ
 
 -- how many more calls of a rank can be noted without memory, and how many more starts of waits for several
@@ -46,6 +48,22 @@ calls_in notes = map (λ note. note.call) notes
 
 abbrev pub recording_of : List (List Noted) → Lists
 recording_of lists = map calls_in lists
+
+-- the place of a half's partner that is kept beside the rank's call at the place
+abbrev pub kept_at : List (List Noted) → Half → ℕ → ℕ → Option ℕ
+kept_at lists half rank place = option_and_then (λ note. partner_in half note.beside) (slice_get (notes_of lists rank) place)
+
+-- a note with the place of a half's partner
+abbrev pub note_with : Half → ℕ → Noted → Noted
+note_with half there note = record { call = note.call; beside = with_partner half there note.beside; starts = note.starts }
+
+-- the notes of a rank with the place of a partner beside the call at the place, if one stands there
+abbrev pub partnered_in : List Noted → ℕ → Half → ℕ → List Noted
+partnered_in notes place half there = option_map_or (λ note. slice_set notes place (note_with half there note)) (slice_get notes place) notes
+
+-- and those of all ranks
+abbrev pub partnered : List (List Noted) → ℕ → ℕ → Half → ℕ → List (List Noted)
+partnered lists rank place half there = slice_set lists rank (partnered_in (notes_of lists rank) place half there)
 
 -- the requests of a wait that may name several
 abbrev pub listed : Call → List ℕ

@@ -10,7 +10,7 @@ use Rattle.mpicall.specs.declared.call.Call.TheVariants as made
 use Rattle.pairing.specs.declared.packed.Packed.{Packed}
 use Rattle.pairing.specs.declared.packed.Packed.TheVariants.{Send, Recv, Isend, Irecv, Sendrecv, Wait, Waitall, Waitany, Coll, Icoll, Dup, Split, Finalize}
 use Rattle.pairing.specs.declared.packed.Entry.{Entry}
-use Rattle.pairing.specs.declared.packed.Numbers.{Numbers}
+use Rattle.pairing.specs.declared.beside.Beside.{Beside}
 use Rattle.pairing.specs.Limits.{most_calls}
 use Rattle.pairing.specs.Notes.{Noted}
 
@@ -67,12 +67,11 @@ end_of (Waitany chosen first count) = first + count
 end_of _ = 0
 
 -- a call with what is kept beside it
-abbrev pub noted : Call → Numbers → List ℕ → Noted
-noted call numbers starts =
-    record { call = call; sent = numbers.sent; received = numbers.received; joined = numbers.joined; starts = starts }
+abbrev pub noted : Call → Beside → List ℕ → Noted
+noted call beside starts = record { call = call; beside = beside; starts = starts }
 
 abbrev pub noted_of : List Entry → List ℕ → Entry → Noted
-noted_of entries starts entry = noted (unpack entries starts entry.call) entry.numbers (unpack_starts starts entry.call)
+noted_of entries starts entry = noted (unpack entries starts entry.call) entry.beside (unpack_starts starts entry.call)
 
 -- the calls at the places start requests
 abbrev pub StartRequests : List Entry → List ℕ → Type 0

@@ -2,7 +2,8 @@
 use Rattle.std.specs.Prelude.{◌≡◌, ℕ, Option, Some, None, option_map, option_and_then, slice_get}
 use Rattle.mpicall.specs.declared.call.Mode.{Mode}
 use Rattle.mpicall.specs.declared.call.Call.{Call}
-use Rattle.mpicall.specs.declared.call.Call.TheVariants.{Send, Isend}
+use Rattle.mpicall.specs.declared.call.Call.TheVariants.{Send, Isend, Coll}
+use Rattle.mpicall.specs.declared.call.Kind.{Kind}
 use Rattle.mpigroup.specs.Groups.{Groups}
 use Rattle.pairing.specs.declared.envelope.Half.TheVariants.{Send as SendHalf, Recv as RecvHalf}
 use Rattle.pairing.specs.declared.added.Added.{Added}
@@ -29,6 +30,11 @@ abbrev pub mode_of : Call → Option Mode
 mode_of (Send mode comm dest tag) = Some mode
 mode_of (Isend req mode comm dest tag) = Some mode
 mode_of _ = None
+
+-- the kind of a collective that isn't started alone
+abbrev pub kind_of : Call → Option Kind
+kind_of (Coll comm kind) = Some kind
+kind_of _ = None
 
 -- the wave that a call joins, and whether each member has its call of it
 abbrev pub joined_at : Paired → ℕ → ℕ → Option Joined

@@ -16,8 +16,9 @@
 //!   faults each request that a wait names has its start, and no request is started while it is active;
 //!   partners and waves stay as a recording goes on.
 //!
-//! A call takes 32 bytes with the numbers that its look-ups start from, and each request that a wait for
-//! several names 4 more; the tables have 4 for each half of a message and for each collective.
+//! A call takes 32 bytes with the partners of its halves or the number of its wave, and each request that a
+//! wait for several names 4 more; each collective has 4 in the table of waves. Only the halves that have no
+//! partner yet stand in an arena of lists, and `work` tells what was done there: 1 for each half.
 //!
 //! ```text
 //! let mut pairs = Pairs::new(alloc, head)?;
@@ -31,6 +32,7 @@
 
 mod active;
 pub mod added;
+mod beside;
 pub mod comm;
 pub mod envelope;
 pub mod fault;
@@ -39,6 +41,7 @@ mod held;
 mod joined;
 pub mod limits;
 mod matches;
+mod meeting;
 mod note;
 mod notes;
 #[cfg(test)]
@@ -47,9 +50,9 @@ mod packed;
 mod packing;
 pub mod pairs;
 pub mod partner;
+mod place_lists;
 #[cfg(test)]
 mod place_tests;
-mod places_by;
 mod rank_notes;
 pub mod request;
 pub mod stored;

@@ -1,146 +1,179 @@
-//! Sends and receives by their envelopes, so that a call's partner is found without a look at other calls.
+//! Pending sends and receives by their envelopes, so that a call's partner is found without a look at other
+//! calls.
 
-ghost use Rattle.std.specs.Prelude.{◌≡◌, ◌<◌, ◌≤◌, ℕ, Some, [], ◌∷◌, ◌++◌, false, length, replicate, slice_get, if◌then◌else◌, IfSome, OnOk};
-ghost use Rattle.std.specs.Option.{option_map_or};
-ghost use Rattle.mpigroup.specs.Groups.{Groups};
-ghost use Rattle.pairing.specs.declared.envelope.Envelope.{Envelope};
-ghost use Rattle.pairing.specs.Envelopes.{same_envelope, rank_of_half, other_half};
-ghost use Rattle.pairing.specs.Filed.{places_by, HasRoomBy};
-ghost use Rattle.pairing.specs.Limits.{most_calls};
-ghost use Rattle.pairing.specs.Matched.{table_of, IsMatched, HasRoomFor};
-ghost use Rattle.pairing.specs.Partners.{places_of, numbered};
-ghost use Rattle.pairing.specs.Recordings.{Lists, calls_of, appended};
+ghost use Rattle.std.specs.Prelude.{◌≡◌, ◌+◌, ◌*◌, ◌<◌, ◌≤◌, ◌^◌, [], Some, length, slice_get, min, option_map, IfOk, IfSome, OnOk};
+ghost use Rattle.arenalist.specs.Arena.{counted};
+ghost use Rattle.pairing.specs.Envelopes.{other_half};
+ghost use Rattle.pairing.specs.Matched.{list_no, number_in, pending_at, met, HasNumber, HasRoomFor, IsGrown};
 
-use crate::envelope::{Envelope, Half, envelope_of, rank_of_half};
-use crate::limits::MOST_CALLS;
-use crate::places_by::PlacesBy;
+use crate::envelope::{Envelope, Half, envelope_of};
+use arenalist::lists::Lists;
+use arenalist::node::ListId;
+use indexmap::IndexSet;
 use mpicall::record::Record;
 use mpigroup::head::Head;
 use std::alloc::{AllocError, Global};
+use std::marker::Model;
 
-/// Makes room for one more place of the envelope, where there is one. All places stay.
-fn reserve_half(
-    table: &mut PlacesBy<Envelope>,
-    envelope: Option<Envelope>,
-) -> Result<(), AllocError>
-    ensures room { OnOk result (IfSome envelope (λ e. HasRoomBy same_envelope table.new e)) }
-    ensures places { (other : Envelope) → places_by same_envelope table.new other ≡ places_by same_envelope table.old other }
+/// The envelope of a half of a call, with its number.
+#[derive(Clone, Copy)]
+pub(crate) struct Numbered {
+    pub envelope: Envelope,
+    pub number: usize,
+}
+
+/// The halves of a call that have messages.
+#[derive(Clone, Copy)]
+pub(crate) struct Halves {
+    pub send: Option<Numbered>,
+    pub recv: Option<Numbered>,
+}
+
+/// The number of the list of an envelope's half.
+fn list_no(half: Half, number: usize) -> usize
+    requires { 2 * number + 1 < 2 ^ 64 }
+    ensures { result ≡ list_no half number }
 {
-    match envelope {
-        Some(envelope) => table.reserve(envelope),
-        None => Ok(()),
+    match half {
+        Half::Send => 2 * number,
+        Half::Recv => 2 * number + 1,
     }
 }
 
-/// Adds a place of the envelope, where there is one. Those of other envelopes stay.
-fn put_half(table: &mut PlacesBy<Envelope>, envelope: Option<Envelope>, place: u32)
-    requires { IfSome envelope (λ e. HasRoomBy same_envelope table.old e) }
-    ensures { (other : Envelope) → places_by same_envelope table.new other
-        ≡ (if option_map_or (same_envelope other) envelope false
-        then places_by same_envelope table.old other ++ place ∷ []
-        else places_by same_envelope table.old other) }
-{
-    if let Some(envelope) = envelope {
-        table.push_reserved(&envelope, place);
-    }
-}
-
-/// The places of sends and receives by their envelopes, in the order of their ranks' lists. What they are
-/// is said over each recording whose calls were put in so far, and no others.
+/// The places of sends and receives that have no partner yet, by their envelopes. An envelope has its number
+/// from the first call that makes room for it.
 #[derive(Drop)]
 pub(crate) struct Matches {
-    sends: PlacesBy<Envelope>,
-    recvs: PlacesBy<Envelope>,
+    envelopes: IndexSet<Envelope>,
+    // Of the envelope with number n list 2n has the pending sends, and list 2n + 1 the pending receives.
+    ids: Vec<ListId>,
+    pending: Lists<u32>,
+}
+
+impl Model for Matches {
+    ghost use Rattle.std.specs.Prelude.{length};
+    ghost use Rattle.arenalist.specs.Arena.{contents};
+    ghost use Rattle.pairing.specs.Matched.{Matching, AreIds};
+
+    ghost Value = { Matching };
+
+    ghost view = { λ m. record {
+      keys = m.envelopes.keys;
+      lists = contents m.pending.lists;
+      spare = m.pending.spare;
+      work = m.pending.work;
+    } };
+
+    ghost invariant = { λ m. AreIds m.ids.items m.pending.lists (length m.envelopes.keys) };
 }
 
 impl Matches {
-    /// No calls yet.
+    /// No envelopes yet.
     pub(crate) fn new(alloc: Global) -> Matches
-        ensures { (groups : Groups) (ranks : ℕ) → IsMatched groups (replicate ranks []) result }
+        ensures keys { result.keys ≡ [] }
+        ensures work { result.work ≡ 0 }
     {
         Matches {
-            sends: PlacesBy::new(alloc),
-            recvs: PlacesBy::new(alloc),
+            envelopes: IndexSet::new(alloc),
+            ids: Vec::new(alloc),
+            pending: Lists::new(alloc),
         }
     }
 
-    /// Makes room for the halves of a rank's call. All places stay.
+    /// Makes a list, where a further envelope lacks one.
+    fn add_list(&mut self) -> Result<(), AllocError>
+        ensures grown { IsGrown self.old self.new }
+        ensures keys { self.new.keys ≡ self.old.keys }
+        ensures enough { 2 * length self.old.keys ≤ length self.old.lists }
+        ensures more { OnOk result (min (length self.old.lists + 1) (2 * length self.old.keys + 2) ≤ length self.new.lists) }
+    {
+        if self.ids.len() / 2 > self.envelopes.len() {
+            return Ok(());
+        }
+        self.ids.reserve(1)?;
+        let list = self.pending.new_list()?;
+        self.ids.push_reserved(list);
+        Ok(())
+    }
+
+    /// The number of an envelope, which has one from then on. There are lists for one more.
+    fn insert(&mut self, envelope: Envelope) -> Result<usize, AllocError>
+        requires { 2 * length self.old.keys + 2 ≤ length self.old.lists }
+        ensures grown { IsGrown self.old self.new }
+        ensures number { IfOk result (λ number. number_in self.new.keys envelope ≡ Some number) }
+    {
+        let (number, _) = self.envelopes.insert_full(envelope)?;
+        Ok(number)
+    }
+
+    /// The number of an envelope, which has one from then on.
+    fn number(&mut self, envelope: Envelope) -> Result<usize, AllocError>
+        ensures grown { IsGrown self.old self.new }
+        ensures number { IfOk result (λ number. number_in self.new.keys envelope ≡ Some number) }
+    {
+        self.add_list()?;
+        self.add_list()?;
+        self.insert(envelope)
+    }
+
+    /// The same, for a half that may have no message.
+    fn number_half(&mut self, envelope: Option<Envelope>) -> Result<Option<Numbered>, AllocError>
+        ensures grown { IsGrown self.old self.new }
+        ensures number { IfOk result (λ half. IfSome half (HasNumber self.new)) }
+        ensures envelope { IfOk result (λ half. option_map (λ it. it.envelope) half ≡ envelope) }
+    {
+        match envelope {
+            Some(envelope) => {
+                let number = self.number(envelope)?;
+                Ok(Some(Numbered { envelope, number }))
+            }
+            None => Ok(None),
+        }
+    }
+
+    /// Makes room for the halves of a rank's call, and answers them. Nothing else changes.
     pub(crate) fn reserve(
         &mut self,
         head: &Head,
         rank: u16,
         call: &Record,
-    ) -> Result<(), AllocError>
-        ensures room { OnOk result (HasRoomFor head.now rank call.now self.new) }
-        ensures matched { (groups : Groups) (recording : Lists) → IsMatched groups recording self.old → IsMatched groups recording self.new }
+    ) -> Result<Halves, AllocError>
+        ensures grown { IsGrown self.old self.new }
+        ensures room { IfOk result (λ halves. HasRoomFor head.now rank call.now halves self.new) }
     {
-        match reserve_half(&mut self.sends, envelope_of(head, rank, Half::Send, call)) {
-            Ok(()) => reserve_half(&mut self.recvs, envelope_of(head, rank, Half::Recv, call)),
-            Err(_) => Err(AllocError),
+        let send = self.number_half(envelope_of(head, rank, Half::Send, call))?;
+        let recv = self.number_half(envelope_of(head, rank, Half::Recv, call))?;
+        self.pending.reserve(2)?;
+        Ok(Halves { send, recv })
+    }
+
+    /// Takes the first of the envelope's pending other halves off its list, and answers its place; where there
+    /// is none, the half's own place is put into its list.
+    pub(crate) fn meet(&mut self, half: Half, number: usize, place: u32) -> Option<u32>
+        requires number { number < length self.old.keys }
+        requires room { 0 < self.old.spare }
+        ensures value { result ≡ slice_get (pending_at self.old.lists (other_half half) number) 0 }
+        ensures lists_there { 2 * number + 2 ≤ length self.old.lists }
+        ensures lists { self.new.lists ≡ met self.old.lists half number place }
+        ensures keys { self.new.keys ≡ self.old.keys }
+        ensures spare { self.old.spare ≤ self.new.spare + 1 }
+        ensures work { self.new.work ≡ counted self.old.work 1 }
+    {
+        let own = self.ids[list_no(half, number)];
+        let other = self.ids[list_no(half.other(), number)];
+        match self.pending.pop_front(other) {
+            Some(there) => Some(there),
+            None => {
+                self.pending.push_reserved(own, place);
+                None
+            }
         }
     }
 
-    /// Puts in a rank's next call, for whose halves there is room.
-    pub(crate) fn put(&mut self, head: &Head, rank: u16, place: u32, call: &Record)
-        requires { HasRoomFor head.now rank call.now self.old }
-        ensures { (recording : Lists) → IsMatched head.now recording self.old → rank < length recording
-            → place ≡ length (calls_of recording rank) → IsMatched head.now (appended recording rank call.now) self.new }
+    /// How much was done in the lists.
+    pub(crate) fn work(&self) -> u64
+        ensures { result ≡ self.now.work }
     {
-        put_half(
-            &mut self.sends,
-            envelope_of(head, rank, Half::Send, call),
-            place,
-        );
-        put_half(
-            &mut self.recvs,
-            envelope_of(head, rank, Half::Recv, call),
-            place,
-        );
-    }
-
-    /// The table of the sends, or of the receives.
-    fn table(&self, half: Half) -> &PlacesBy<Envelope>
-        ensures { result.now ≡ table_of self.now half }
-    {
-        match half {
-            Half::Send => &self.sends,
-            Half::Recv => &self.recvs,
-        }
-    }
-
-    /// How many sends of the envelope there are so far, or receives.
-    pub(crate) fn number(&self, half: Half, envelope: &Envelope) -> u32
-        ensures { (groups : Groups) (recording : Lists) (rank : ℕ) → IsMatched groups recording self.now
-            → rank_of_half groups half envelope.now ≡ Some rank → length (calls_of recording rank) ≤ most_calls
-            → result ≡ length (places_of groups recording rank half envelope.now) }
-    {
-        // A rank has at most so many calls.
-        self.table(half).count(envelope).min(MOST_CALLS) as u32
-    }
-
-    /// The place of the envelope's send, or receive, with that number, counted from 0.
-    pub(crate) fn place(&self, half: Half, envelope: &Envelope, number: u32) -> Option<u32>
-        ensures { (groups : Groups) (recording : Lists) (rank : ℕ) → IsMatched groups recording self.now
-            → rank_of_half groups half envelope.now ≡ Some rank
-            → result ≡ slice_get (places_of groups recording rank half envelope.now) number }
-    {
-        self.table(half).get(envelope, number as usize)
-    }
-
-    /// The rank and place of the partner of a half with that envelope and number: the other half of the
-    /// envelope with the same number. None where there is none yet.
-    pub(crate) fn partner(
-        &self,
-        head: &Head,
-        half: Half,
-        envelope: &Envelope,
-        number: u32,
-    ) -> Option<(u16, u32)>
-        ensures { (recording : Lists) → IsMatched head.now recording self.now
-            → result ≡ numbered head.now recording (other_half half) envelope.now number }
-    {
-        let rank = rank_of_half(head, half.other(), envelope)?;
-        let place = self.place(half.other(), envelope, number)?;
-        Some((rank, place))
+        self.pending.work()
     }
 }

@@ -4,16 +4,17 @@ ghost use Rattle.std.specs.Prelude.{◌≡◌, ◌==◌, length, slice_get, find
 ghost use Rattle.mpicall.specs.Ending.{ends_list};
 ghost use Rattle.pairing.specs.Recordings.{is_finalize};
 ghost use Rattle.pairing.specs.Envelopes.{message_of};
+ghost use Rattle.pairing.specs.Beside.{partner_in, wave_in};
 ghost use Rattle.pairing.specs.Requests.{starts, completes};
 ghost use Rattle.pairing.specs.Waves.{joins};
-ghost use Rattle.pairing.specs.Pairs.{mode_of};
+ghost use Rattle.pairing.specs.Pairs.{kind_of, mode_of};
 ghost use Rattle.pairing.specs.Notes.{completed_starts, start_of};
 ghost use Rattle.pairing.specs.Packed.{IsStored, req_at, noted_of};
 
 use crate::envelope::{Half, Message};
 use crate::packed::{Entry, Packed};
 use crate::packing::{req_at, unpack, unpack_starts};
-use mpicall::call::Mode;
+use mpicall::call::{Kind, Mode};
 use mpicall::record::Record;
 use std::marker::Model;
 use std::slice::from_ref;
@@ -80,6 +81,13 @@ impl<'a> Note<'a> {
         self.entry.call.mode()
     }
 
+    /// The kind of a collective that isn't started alone; None for every other call.
+    pub(crate) fn kind(&self) -> Option<Kind>
+        ensures { result ≡ kind_of self.now.call }
+    {
+        self.entry.call.kind()
+    }
+
     /// The request that the call starts, if it starts one.
     pub(crate) fn starts_request(&self) -> Option<u32>
         ensures { result ≡ starts self.now.call }
@@ -108,25 +116,18 @@ impl<'a> Note<'a> {
         self.entry.call.ends_list()
     }
 
-    /// How many sends of its envelope its rank made before.
-    pub(crate) fn sent(&self) -> u32
-        ensures { result ≡ self.now.sent }
+    /// The place of a half's partner that is kept beside the call.
+    pub(crate) fn partner(&self, half: Half) -> Option<u32>
+        ensures { result ≡ partner_in half self.now.beside }
     {
-        self.entry.numbers.sent
+        self.entry.beside.partner(half)
     }
 
-    /// How many receives of its envelope its rank made before.
-    pub(crate) fn received(&self) -> u32
-        ensures { result ≡ self.now.received }
-    {
-        self.entry.numbers.received
-    }
-
-    /// How many collectives of its communicator its rank made before.
+    /// How many collectives of its communicator its rank made before, where the call is one.
     pub(crate) fn joined(&self) -> u32
-        ensures { result ≡ self.now.joined }
+        ensures { result ≡ wave_in self.now.beside }
     {
-        self.entry.numbers.joined
+        self.entry.beside.wave()
     }
 
     /// The places that started the requests which the call names, in its order; none where it is no wait.

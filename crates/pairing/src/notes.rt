@@ -3,11 +3,12 @@
 ghost use Rattle.std.specs.Prelude.{◌≡◌, ◌<◌, ◌≤◌, [], length, replicate, slice_get, IfOk, IfSome, OnOk};
 ghost use Rattle.pairing.specs.Limits.{most_calls};
 ghost use Rattle.pairing.specs.Requests.{waits_for};
-ghost use Rattle.pairing.specs.Notes.{notes_of, with_note, calls_in, AreStarts, HasRoom};
+ghost use Rattle.pairing.specs.Notes.{notes_of, with_note, partnered, calls_in, AreStarts, HasRoom};
 ghost use Rattle.pairing.specs.Packed.{noted};
 
+use crate::beside::Beside;
+use crate::envelope::Half;
 use crate::note::Note;
-use crate::packed::Numbers;
 use crate::rank_notes::RankNotes;
 use mpicall::record::Record;
 use std::alloc::{AllocError, Global};
@@ -74,17 +75,27 @@ impl Notes {
         list.reserve(call)
     }
 
-    /// Notes the rank's next call, with its numbers and the places that started the requests which it
-    /// names: one for each, in its order. This takes no memory.
-    pub(crate) fn note(&mut self, rank: u16, call: &Record, numbers: Numbers, starts: &[u32])
+    /// Notes the rank's next call, with what is kept beside it and the places that started the requests which
+    /// it names: one for each, in its order. This takes no memory.
+    pub(crate) fn note(&mut self, rank: u16, call: &Record, beside: Beside, starts: &[u32])
         requires is_rank { rank < length self.old.lists }
         requires room { HasRoom self.old rank call.now }
         requires starts { AreStarts (calls_in (notes_of self.old.lists rank)) call.now starts.now }
         requires few { length (notes_of self.old.lists rank) < most_calls }
-        ensures { self.new.lists ≡ with_note self.old.lists rank (noted call.now numbers starts.now) }
+        ensures { self.new.lists ≡ with_note self.old.lists rank (noted call.now beside starts.now) }
     {
         let list = &mut self.lists[usize::from(rank)];
-        list.note(call, numbers, starts);
+        list.note(call, beside, starts);
+    }
+
+    /// Keeps the place of a half's partner beside the rank's call at the place, if one stands there.
+    pub(crate) fn set_partner(&mut self, rank: u16, place: u32, half: Half, there: u32)
+        ensures { self.new.lists ≡ partnered self.old.lists rank place half there }
+    {
+        if usize::from(rank) < self.lists.len() {
+            let list = &mut self.lists[usize::from(rank)];
+            list.set_partner(place, half, there);
+        }
     }
 
     /// The noted call of a rank at a place; None where there is none. It has one start for each request

@@ -1,10 +1,10 @@
 ghost use Rattle.std.specs.Prelude.{◌≡◌, true};
 ghost use Rattle.pairing.specs.Notes.{notes_of, calls_in, request_at, AreStarts};
 
+use crate::beside::Beside;
 use crate::envelope::{Half, Message};
 use crate::limits::MOST_CALLS;
 use crate::notes::Notes;
-use crate::packed::Numbers;
 use crate::request::waits_for;
 use crate::tests::Kept;
 use mpicall::call::Mode;
@@ -48,16 +48,12 @@ fn note_line(
     starts: &[u32],
 ) -> Result<Record, Fail> {
     let call = read_line(line.as_bytes())?;
-    let numbers = Numbers {
-        sent: 7,
-        received: 8,
-        joined: 9,
-    };
+    let beside = Beside::Wave { number: 9 };
     assert!(rt; notes.ranks() == 2);
     notes.reserve(1, &call)?;
     assert!(rt; notes.count(1) < MOST_CALLS);
     assert!(rt; are_starts(notes, &call, starts), "of {line:?}");
-    notes.note(1, &call, numbers, starts);
+    notes.note(1, &call, beside, starts);
     Ok(call)
 }
 
@@ -154,7 +150,8 @@ fn tells_of_a_call(rt: HostRuntime) -> Result<(), Fail> {
         assert_eq!(rt; note.mode(), Some(Mode::Synchronous));
         assert_eq!(rt; note.starts_request(), Some(5));
         assert_eq!(rt; note.joins(), None);
-        assert_eq!(rt; (note.sent(), note.received(), note.joined()), (7, 8, 9));
+        assert_eq!(rt; note.joined(), 9);
+        assert_eq!(rt; note.partner(Half::Send), None);
     }
     if let Some(note) = notes.0.get(1, 1) {
         assert!(rt; note.is_finalize() && note.ends_list());

@@ -1,4 +1,4 @@
-//! Calls stored compactly: a call with its numbers takes 32 bytes, and each request that a wait for
+//! Calls stored compactly: a call with what is kept beside it takes 32 bytes, and each request that a wait for
 //! several names 4 more.
 
 ghost use Rattle.std.specs.Prelude.{◌≡◌, List, ℕ};
@@ -7,10 +7,11 @@ ghost use Rattle.pairing.specs.Recordings.{is_finalize};
 ghost use Rattle.pairing.specs.Envelopes.{message_of};
 ghost use Rattle.pairing.specs.Requests.{starts};
 ghost use Rattle.pairing.specs.Waves.{joins};
-ghost use Rattle.pairing.specs.Pairs.{mode_of};
+ghost use Rattle.pairing.specs.Pairs.{kind_of, mode_of};
 ghost use Rattle.pairing.specs.Packed.{request_of, unpack};
 ghost use Rattle.pairing.specs.declared.packed.Entry.{Entry};
 
+use crate::beside::Beside;
 use crate::envelope::{Half, Message};
 use mpicall::call::{Kind, Mode, Peer};
 use std::mem::size_of;
@@ -85,20 +86,11 @@ pub(crate) enum Packed {
     Finalize,
 }
 
-/// Numbers kept with a call: how many sends and how many receives of its envelope, and how many
-/// collectives of its communicator, its rank made before.
-#[derive(Clone, Copy, Debug, PartialEq, Eq)]
-pub(crate) struct Numbers {
-    pub sent: u32,
-    pub received: u32,
-    pub joined: u32,
-}
-
-/// A call with its numbers.
+/// A call, and what is kept beside it.
 #[derive(Clone, Copy, Debug)]
 pub(crate) struct Entry {
     pub call: Packed,
-    pub numbers: Numbers,
+    pub beside: Beside,
 }
 
 const _: () = prove!(size_of::<Entry>() <= 32);
@@ -174,6 +166,16 @@ impl Packed {
     {
         match *self {
             Packed::Send { mode, .. } | Packed::Isend { mode, .. } => Some(mode),
+            _ => None,
+        }
+    }
+
+    /// The kind of a collective that isn't started alone; None for every other call.
+    pub(crate) fn kind(&self) -> Option<Kind>
+        ensures { (entries : List Entry) (starts : List ℕ) → result ≡ kind_of (unpack entries starts self.now) }
+    {
+        match *self {
+            Packed::Coll { kind, .. } => Some(kind),
             _ => None,
         }
     }

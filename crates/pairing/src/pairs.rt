@@ -9,17 +9,18 @@ ghost use Rattle.pairing.specs.Requests.{started_of};
 ghost use Rattle.pairing.specs.Waves.{wave_of, member_of};
 ghost use Rattle.pairing.specs.Faults.{fault_of, waits_for_active, IsLawful};
 ghost use Rattle.pairing.specs.Pairs.{with_call, joined_at, added_at, TellsFault, completed_of};
-ghost use Rattle.pairing.specs.Envelopes.{envelope_of};
-ghost use Rattle.pairing.specs.Kept.{number_by, AreNoted};
+ghost use Rattle.pairing.specs.Kept.{AreNoted, ArePartnered};
+ghost use Rattle.pairing.specs.Work.{work_of};
 ghost use Rattle.pairing.specs.Notes.{notes_of, recording_of, HasRoom};
 ghost use Rattle.pairing.specs.Tables.{AreTables, HaveRoom, GoOnBy, IsKept};
 ghost use Rattle.pairing.specs.declared.added.PairFault.TheVariants.{Refused};
 
 use crate::added::{Added, Joined, PairFault};
-use crate::envelope::{Envelope, Half, envelope_by};
+use crate::envelope::Half;
 use crate::fault::CallFault;
 use crate::first_fault::first_fault;
-use crate::note::Note;
+use crate::matches::Halves;
+use crate::meeting::meet_halves;
 use crate::notes::Notes;
 use crate::request::waits_for;
 use crate::stored::StoredCall;
@@ -92,19 +93,19 @@ fn next_fault(
     )
 }
 
-/// Makes all the room that the rank's next call takes. All is said as before.
+/// Makes all the room that the rank's next call takes, and answers its halves. All is said as before.
 fn reserve(
     head: &Head,
     notes: &mut Notes,
     tables: &mut Tables,
     rank: u16,
     call: &Record,
-) -> Result<(), AllocError>
+) -> Result<Halves, AllocError>
     requires { rank < length notes.old.lists }
     ensures notes { notes.new.lists ≡ notes.old.lists }
     ensures tables { (recording : Lists) → AreTables head.now recording tables.old → AreTables head.now recording tables.new }
     ensures noted { OnOk result (HasRoom notes.new rank call.now) }
-    ensures room { OnOk result (HaveRoom head.now rank call.now tables.new) }
+    ensures room { IfOk result (λ halves. HaveRoom head.now rank call.now halves tables.new) }
 {
     notes.reserve(rank, call)?;
     tables.reserve(head, rank, call)
@@ -117,21 +118,30 @@ fn note_call(head: &Head, notes: &mut Notes, tables: &Tables, rank: u16, call: &
     requires few { length (notes_of notes.old.lists rank) < most_calls }
     requires tables { AreTables head.now (recording_of notes.old.lists) tables.now }
     requires active { waits_for_active (calls_of (recording_of notes.old.lists) rank) call.now ≡ true }
-    ensures { GoOnBy head.now notes.old.lists notes.new.lists rank call.now }
+    ensures { GoOnBy notes.old.lists notes.new.lists rank call.now }
 {
-    let numbers = tables.numbers(head, rank, call);
+    let _head = head;
+    let beside = tables.beside(rank, call);
     let mut starts = [0; MOST_REQUESTS];
     let count = tables
         .active
         .starts_of(rank, waits_for(call.as_call()), &mut starts);
-    notes.note(rank, call, numbers, &starts[..count]);
+    notes.note(rank, call, beside, &starts[..count]);
 }
 
 /// Puts in the rank's next call, which has no fault, at its place. It takes no memory.
-fn put(head: &Head, notes: &mut Notes, tables: &mut Tables, rank: u16, place: u32, call: &Record)
+fn put(
+    head: &Head,
+    notes: &mut Notes,
+    tables: &mut Tables,
+    rank: u16,
+    place: u32,
+    call: &Record,
+    halves: &Halves,
+)
     requires is_rank { rank < length notes.old.lists }
     requires noted { HasRoom notes.old rank call.now }
-    requires room { HaveRoom head.now rank call.now tables.old }
+    requires room { HaveRoom head.now rank call.now halves.now tables.old }
     requires is_next { place ≡ length (calls_of (recording_of notes.old.lists) rank) }
     requires lawful { fault_of head.now rank (calls_of (recording_of notes.old.lists) rank) call.now ≡ None }
     requires kept { IsKept head.now notes.old.lists tables.old }
@@ -139,51 +149,26 @@ fn put(head: &Head, notes: &mut Notes, tables: &mut Tables, rank: u16, place: u3
     ensures kept { IsKept head.now notes.new.lists tables.new }
 {
     note_call(head, notes, tables, rank, call);
-    tables.put(head, rank, place, call);
-}
-
-/// The envelope of a half of the rank's noted call.
-fn envelope_of_note(head: &Head, rank: u16, half: Half, note: &Note<'_>) -> Option<Envelope>
-    ensures { result ≡ envelope_of head.now rank half note.now.call }
-{
-    let message = note.message(half)?;
-    let own = head.group_rank(message.comm, rank)?;
-    Some(envelope_by(half, message, own))
-}
-
-/// The number that is kept for a half.
-fn number_by(half: Half, note: &Note<'_>) -> u32
-    ensures { result ≡ number_by half note.now }
-{
-    match half {
-        Half::Send => note.sent(),
-        Half::Recv => note.received(),
-    }
+    meet_halves(head, notes, &mut tables.matches, rank, place, halves);
+    tables.put(rank, place, call);
 }
 
 /// The partner of a half of a call.
-#[tactic(auto, using(crate::proofs::KeptLemmas::partner_noted, crate::proofs::KeptLemmas::no_partner, crate::proofs::KeptLemmas::no_partner_past))]
-fn partner_of(
-    head: &Head,
-    notes: &Notes,
-    tables: &Tables,
-    rank: u16,
-    place: u32,
-    half: Half,
-) -> Option<(u16, u32)>
-    requires { IsKept head.now notes.now.lists tables.now }
+#[tactic(auto, using(crate::proofs::KeptLemmas::partner_kept, crate::proofs::KeptLemmas::no_partner_kept, crate::proofs::KeptLemmas::no_partner_past))]
+fn partner_of(head: &Head, notes: &Notes, rank: u16, place: u32, half: Half) -> Option<(u16, u32)>
+    requires { ArePartnered head.now notes.now.lists }
     ensures { result ≡ partner_of head.now (recording_of notes.now.lists) rank place half }
 {
     let note = notes.get(rank, place)?;
-    let envelope = envelope_of_note(head, rank, half, &note)?;
-    tables
-        .matches
-        .partner(head, half, &envelope, number_by(half, &note))
+    let there = note.partner(half)?;
+    let message = note.message(half)?;
+    let other = head.world_rank(message.comm, message.peer)?;
+    Some((other, there))
 }
 
 /// The wave that a call joins.
-fn wave_of(head: &Head, notes: &Notes, rank: u16, place: u32) -> Option<(u16, u32)>
-    requires { AreNoted head.now notes.now.lists }
+fn wave_of(notes: &Notes, rank: u16, place: u32) -> Option<(u16, u32)>
+    requires { AreNoted notes.now.lists }
     ensures { result ≡ wave_of (recording_of notes.now.lists) rank place }
 {
     let note = notes.get(rank, place)?;
@@ -196,7 +181,7 @@ fn joined_at(head: &Head, notes: &Notes, tables: &Tables, rank: u16, place: u32)
     requires { IsKept head.now notes.now.lists tables.now }
     ensures { result ≡ joined_at (record { groups = head.now; recording = recording_of notes.now.lists }) rank place }
 {
-    let (comm, wave) = wave_of(head, notes, rank, place)?;
+    let (comm, wave) = wave_of(notes, rank, place)?;
     Some(Joined {
         comm,
         wave,
@@ -210,16 +195,16 @@ fn added_at(head: &Head, notes: &Notes, tables: &Tables, rank: u16, place: u32) 
     ensures { result ≡ added_at (record { groups = head.now; recording = recording_of notes.now.lists }) rank place }
 {
     Added {
-        send: partner_of(head, notes, tables, rank, place, Half::Send),
-        recv: partner_of(head, notes, tables, rank, place, Half::Recv),
+        send: partner_of(head, notes, rank, place, Half::Send),
+        recv: partner_of(head, notes, rank, place, Half::Recv),
         wave: joined_at(head, notes, tables, rank, place),
     }
 }
 
 /// The place that started the request which a wait names.
 #[tactic(auto, using(crate::proofs::KeptLemmas::started_noted, crate::proofs::KeptLemmas::no_start_past))]
-fn started_of(head: &Head, notes: &Notes, rank: u16, place: u32, req: u32) -> Option<u32>
-    requires { AreNoted head.now notes.now.lists }
+fn started_of(notes: &Notes, rank: u16, place: u32, req: u32) -> Option<u32>
+    requires { AreNoted notes.now.lists }
     ensures { result ≡ started_of (recording_of notes.now.lists) rank place req }
 {
     let note = notes.get(rank, place)?;
@@ -228,8 +213,8 @@ fn started_of(head: &Head, notes: &Notes, rank: u16, place: u32, req: u32) -> Op
 
 /// The place that started the request with that index among those that a wait completes.
 #[tactic(auto, using(crate::proofs::KeptLemmas::completed_noted, crate::proofs::KeptLemmas::none_completed_past))]
-fn completed_of(head: &Head, notes: &Notes, rank: u16, place: u32, index: usize) -> Option<u32>
-    requires { AreNoted head.now notes.now.lists }
+fn completed_of(notes: &Notes, rank: u16, place: u32, index: usize) -> Option<u32>
+    requires { AreNoted notes.now.lists }
     ensures { result ≡ completed_of (recording_of notes.now.lists) rank place index }
 {
     let note = notes.get(rank, place)?;
@@ -243,10 +228,11 @@ impl Pairs {
         ensures recording { IfOk result (λ pairs. pairs.recording ≡ replicate (ranks_of head) []) }
     {
         let notes = Notes::new(alloc, head.ranks())?;
+        let tables = Tables::new(alloc, &head)?;
         Ok(Pairs {
             head,
             notes,
-            tables: Tables::new(alloc),
+            tables,
         })
     }
 
@@ -264,18 +250,21 @@ impl Pairs {
         if let Some(fault) = next_fault(&self.head, &self.notes, &self.tables, rank, call) {
             return Err(PairFault::Refused(fault));
         }
-        if reserve(&self.head, &mut self.notes, &mut self.tables, rank, call).is_err() {
-            return Err(PairFault::Memory);
+        match reserve(&self.head, &mut self.notes, &mut self.tables, rank, call) {
+            Ok(halves) => {
+                put(
+                    &self.head,
+                    &mut self.notes,
+                    &mut self.tables,
+                    rank,
+                    place,
+                    call,
+                    &halves,
+                );
+                Ok(())
+            }
+            Err(_) => Err(PairFault::Memory),
         }
-        put(
-            &self.head,
-            &mut self.notes,
-            &mut self.tables,
-            rank,
-            place,
-            call,
-        );
-        Ok(())
     }
 
     /// Adds the next call of a rank by the same rules, and tells the partners that it has and the wave that
@@ -339,7 +328,7 @@ impl Pairs {
     pub fn partner(&self, rank: u16, place: u32, half: Half) -> Option<(u16, u32)>
         ensures { result ≡ partner_of self.now.groups self.now.recording rank place half }
     {
-        partner_of(&self.head, &self.notes, &self.tables, rank, place, half)
+        partner_of(&self.head, &self.notes, rank, place, half)
     }
 
     /// The communicator and the number of the wave that the call at the place joins; None where it joins
@@ -347,7 +336,7 @@ impl Pairs {
     pub fn wave_of(&self, rank: u16, place: u32) -> Option<(u16, u32)>
         ensures { result ≡ wave_of self.now.recording rank place }
     {
-        wave_of(&self.head, &self.notes, rank, place)
+        wave_of(&self.notes, rank, place)
     }
 
     /// The place of a wave's call of the member with rank `g` in the communicator's group; None where it
@@ -363,7 +352,7 @@ impl Pairs {
     pub fn started(&self, rank: u16, place: u32, req: u32) -> Option<u32>
         ensures { result ≡ started_of self.now.recording rank place req }
     {
-        started_of(&self.head, &self.notes, rank, place, req)
+        started_of(&self.notes, rank, place, req)
     }
 
     /// The place that started the request with that index, from 0, among those that the wait at `place`
@@ -371,6 +360,14 @@ impl Pairs {
     pub fn completed(&self, rank: u16, place: u32, index: usize) -> Option<u32>
         ensures { result ≡ completed_of self.now.recording rank place index }
     {
-        completed_of(&self.head, &self.notes, rank, place, index)
+        completed_of(&self.notes, rank, place, index)
+    }
+
+    /// How much was done in the arena of the halves that have no partner yet: 1 for each half of a message, which
+    /// is put into a list there or takes its partner off one.
+    pub fn work(&self) -> u64
+        ensures { result ≡ work_of self.now.groups self.now.recording }
+    {
+        self.tables.matches.work()
     }
 }

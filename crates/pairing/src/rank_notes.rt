@@ -3,11 +3,13 @@
 ghost use Rattle.std.specs.Prelude.{◌≡◌, ◌+◌, ◌<◌, ◌≤◌, [], ◌∷◌, ◌++◌, length, slice_get, vec_len, vec_capacity, IfSome, OnOk};
 ghost use Rattle.pairing.specs.Limits.{most_calls};
 ghost use Rattle.pairing.specs.Requests.{waits_for};
-ghost use Rattle.pairing.specs.Notes.{calls_in, AreStarts, Holds};
+ghost use Rattle.pairing.specs.Notes.{calls_in, partnered_in, AreStarts, Holds};
 ghost use Rattle.pairing.specs.Packed.{noted};
 
+use crate::beside::Beside;
+use crate::envelope::Half;
 use crate::note::Note;
-use crate::packed::{Entry, Numbers};
+use crate::packed::Entry;
 use crate::packing::{listed, listed_starts, pack};
 use mpicall::record::Record;
 use std::alloc::{AllocError, Global};
@@ -79,21 +81,31 @@ impl RankNotes {
         Ok(())
     }
 
-    /// Notes the rank's next call, with its numbers and the places that started the requests which it
-    /// names.
-    pub(crate) fn note(&mut self, call: &Record, numbers: Numbers, starts: &[u32])
+    /// Notes the rank's next call, with what is kept beside it and the places that started the requests which
+    /// it names.
+    pub(crate) fn note(&mut self, call: &Record, beside: Beside, starts: &[u32])
         requires room { Holds self.old.room call.now }
         requires starts { AreStarts (calls_in self.old.calls) call.now starts.now }
         requires few { length self.old.calls < most_calls }
-        ensures { self.new.calls ≡ self.old.calls ++ noted call.now numbers starts.now ∷ [] }
+        ensures { self.new.calls ≡ self.old.calls ++ noted call.now beside starts.now ∷ [] }
     {
         let call = call.as_call();
         let packed = pack(call, self.starts.len() as u32, starts);
         push_all(&mut self.starts, listed_starts(call, starts));
         self.entries.push_reserved(Entry {
             call: packed,
-            numbers,
+            beside,
         });
+    }
+
+    /// Keeps the place of a half's partner beside the call at the place, if one stands there.
+    pub(crate) fn set_partner(&mut self, place: u32, half: Half, there: u32)
+        ensures { self.new.calls ≡ partnered_in self.old.calls place half there }
+    {
+        if (place as usize) < self.entries.len() {
+            let entry = &mut self.entries[place as usize];
+            entry.beside = entry.beside.with_partner(half, there);
+        }
     }
 
     /// The noted call at a place; None where there is none.

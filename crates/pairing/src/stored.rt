@@ -5,11 +5,11 @@ ghost use Rattle.pairing.specs.Recordings.{is_finalize};
 ghost use Rattle.pairing.specs.Envelopes.{message_of};
 ghost use Rattle.pairing.specs.Requests.{starts, completes};
 ghost use Rattle.pairing.specs.Waves.{joins};
-ghost use Rattle.pairing.specs.Pairs.{mode_of};
+ghost use Rattle.pairing.specs.Pairs.{kind_of, mode_of};
 
 use crate::envelope::{Half, Message};
 use crate::note::Note;
-use mpicall::call::Mode;
+use mpicall::call::{Kind, Mode};
 use mpicall::record::Record;
 use std::marker::Model;
 
@@ -55,6 +55,13 @@ impl<'a> StoredCall<'a> {
         ensures { result ≡ mode_of self.now }
     {
         self.note.mode()
+    }
+
+    /// The kind of a collective that isn't started alone; None for every other call.
+    pub fn kind(&self) -> Option<Kind>
+        ensures { result ≡ kind_of self.now }
+    {
+        self.note.kind()
     }
 
     /// The request that the call starts, if it starts one.

@@ -164,6 +164,63 @@ fn finds_partners(rt: HostRuntime) -> Result<(), Fail> {
     Ok(())
 }
 
+/// Adds so many calls of the rank, all alike.
+fn add_many(pairs: &mut Pairs, rank: u16, line: &str, count: u32) -> Result<(), Fail> {
+    let call = read_line(line.as_bytes())?;
+    for _ in 0..count {
+        add(pairs, rank, &call)??;
+    }
+    Ok(())
+}
+
+/// Ten thousand sends are pending, and are taken in their order: one step for each half.
+#[test]
+fn pending_halves_are_met_in_order(rt: HostRuntime) -> Result<(), Fail> {
+    let mut pairs = pairs_of(rt.alloc(), "ranks 2\n")?;
+    add_many(&mut pairs.0, 0, "send 0 1 0\n", 10_000)?;
+    assert_eq!(rt; pairs.0.partner(0, 0, Half::Send), None);
+    assert_eq!(rt; pairs.0.work(), 10_000);
+    add_many(&mut pairs.0, 1, "recv 0 0 0\n", 10_000)?;
+    for place in [0, 4999, 9999] {
+        assert_eq!(rt; pairs.0.partner(0, place, Half::Send), Some((1, place)));
+        assert_eq!(rt; pairs.0.partner(1, place, Half::Recv), Some((0, place)));
+    }
+    assert_eq!(rt; pairs.0.work(), 20_000);
+    Ok(())
+}
+
+/// The halves of exchanges meet each other, also those of one rank and of one call.
+#[test]
+fn exchanges_meet(rt: HostRuntime) -> Result<(), Fail> {
+    let text =
+        "sendrecv 0 0 5 0 6\nsendrecv 0 0 6 0 5\nsendrecv 0 1 5 1 6\nsendrecv 0 0 7 0 7\nisend 1 0 0 8\nrecv 0 0 8\n";
+    let pairs = added_of(rt.alloc(), "ranks 2\n", text, "sendrecv 0 0 6 0 5\n")?;
+    let rows = [
+        (0, 0, Half::Send, Some((0, 1))),
+        (0, 0, Half::Recv, Some((0, 1))),
+        (0, 1, Half::Send, Some((0, 0))),
+        (0, 1, Half::Recv, Some((0, 0))),
+        (0, 2, Half::Send, Some((1, 0))),
+        (0, 2, Half::Recv, Some((1, 0))),
+        (1, 0, Half::Send, Some((0, 2))),
+        (1, 0, Half::Recv, Some((0, 2))),
+        (0, 3, Half::Send, Some((0, 3))),
+        (0, 3, Half::Recv, Some((0, 3))),
+        (0, 4, Half::Send, Some((0, 5))),
+        (0, 5, Half::Recv, Some((0, 4))),
+        (0, 5, Half::Send, None),
+    ];
+    for (rank, place, half, found) in rows {
+        assert_eq!(rt;
+            pairs.0.partner(rank, place, half),
+            found,
+            "of {rank} {place}"
+        );
+    }
+    assert_eq!(rt; pairs.0.work(), 12);
+    Ok(())
+}
+
 /// What an added call is told: its partners, and its wave.
 #[test]
 fn tells_what_is_added(rt: HostRuntime) -> Result<(), Fail> {

@@ -33,6 +33,7 @@
 #![tactic(auto)]
 
 pub mod answer;
+mod bell;
 pub mod channel;
 pub mod item;
 pub mod pause;

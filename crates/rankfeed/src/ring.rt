@@ -5,8 +5,8 @@ ghost use Rattle.rtrb.specs.Ring.{sent, received, all_sent, known_free, producer
 ghost use Rattle.rankfeed.specs.Items.{may_follow, last_item, are_in_order, end_the_list, end_of, are_ended};
 
 use crate::answer::{Came, Met, PutFault, Took, Unsealed};
+use crate::bell::Bell;
 use crate::item::{Ending, Item};
-use crate::pause::Pause;
 use mpicall::fault::SourceFault;
 use mpicall::record::Record;
 use rtrb::{Consumer, Finished, Producer, Protocol, RingBuffer};
@@ -28,6 +28,7 @@ impl Protocol<Item> for InOrder {
 pub struct Feed {
     rank: u16,
     ring: Producer<Item, Global, InOrder>,
+    bell: Bell,
     done: bool,
     ghost in_order: { are_in_order (sent ring) ≡ true },
     ghost closed: { end_the_list (sent ring) ≡ done },
@@ -42,6 +43,7 @@ pub struct Feed {
 pub struct Taker {
     rank: u16,
     ring: Consumer<Item, Global, InOrder>,
+    bell: Bell,
     end: Option<Ending>,
     ghost in_order: { are_in_order (received ring) ≡ true },
     ghost ended: { end_of (received ring) ≡ end },
@@ -74,15 +76,18 @@ impl Feed {
         ensures taker { IfOk result (λ ends. received_by ends.1 ≡ []) }
     {
         let places = usize::from(capacity) + 1;
+        let (bell, other) = Bell::pair(alloc)?;
         let (producer, consumer) = RingBuffer::with_protocol::<Global, InOrder>(alloc, places)?;
         let feed = Feed {
             rank,
             ring: producer,
+            bell,
             done: false,
         };
         let taker = Taker {
             rank,
             ring: consumer,
+            bell: other,
             end: None,
         };
         Ok((feed, taker))
@@ -176,13 +181,14 @@ impl Feed {
         if self.done {
             return false;
         }
-        let mut pause = Pause::new();
+        let mut looks = 0u32;
         for _ in wait.forever() {
             if self.has_room() {
                 self.push(call);
                 return true;
             }
-            pause.rest(wait);
+            self.bell.rest(looks, wait);
+            looks = looks.saturating_add(1);
         }
         unreachable!()
     }
@@ -276,6 +282,9 @@ impl Taker {
         match self.ring.pop_known() {
             Item::Entry(call) => {
                 *into = call;
+                if self.ring.cached_slots() == 0 {
+                    self.bell.ring();
+                }
                 Came::Record
             }
             Item::Mark(end) => {

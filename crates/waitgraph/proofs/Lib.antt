@@ -17,3 +17,4 @@ pub mod CalledLemmas
 pub mod StuckLemmas
 pub mod SpelledLemmas
 pub mod TellingLemmas
+pub mod AlikeLemmas

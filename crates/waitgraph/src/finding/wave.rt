@@ -1,10 +1,11 @@
 //! The calls of the members in each wave, compared with the first member's.
 
-ghost use Rattle.std.specs.Prelude.{◌≡◌, ◌<◌, ◌++◌, length, option_to_list, OnOk};
+ghost use Rattle.std.specs.Prelude.{◌≡◌, ◌<◌, ◌++◌, ℕ, [], length, option_to_list, IsTrue, OnOk};
 ghost use Rattle.mpigroup.specs.Groups.{group_of};
 ghost use Rattle.waitgraph.specs.Places.{call_of_member};
 ghost use Rattle.waitgraph.specs.Findings.{found_of_member, found_in_wave, found_in_comm, found_in_waves};
 ghost use Rattle.waitgraph.specs.Comparisons.{comparison_of};
+ghost use Rattle.waitgraph.specs.declared.finding.wave.Compared.{Compared};
 
 use crate::finding::Finding;
 use crate::finding::extent::{comms, members, waves};
@@ -13,6 +14,7 @@ use crate::finding::root::root_found;
 use mpicall::call::Call;
 use mpicall::record::Record;
 use pairing::pairs::Pairs;
+use pairing::stored::StoredCall;
 use std::alloc::AllocError;
 
 /// What of two calls is compared.
@@ -39,13 +41,32 @@ fn difference(
     }
 }
 
-/// The call in a wave of the member with rank `g` in the communicator's group.
-pub(crate) fn call_of_member(pairs: &Pairs, comm: u16, wave: u32, g: u16) -> Option<Record>
+/// The call in a wave of the member with rank `g` in the communicator's group, seen in place.
+fn stored_of_member(pairs: &Pairs, comm: u16, wave: u32, g: u16) -> Option<StoredCall<'_>>
     ensures { result ≡ call_of_member pairs.now.groups pairs.now.recording comm wave g }
 {
     let rank = pairs.head().world_rank(comm, g)?;
     let place = pairs.member(comm, wave, g)?;
-    Some(pairs.call(rank, place)?.record())
+    pairs.call(rank, place)
+}
+
+/// The same as a record.
+pub(crate) fn call_of_member(pairs: &Pairs, comm: u16, wave: u32, g: u16) -> Option<Record>
+    ensures { result ≡ call_of_member pairs.now.groups pairs.now.recording comm wave g }
+{
+    Some(stored_of_member(pairs, comm, wave, g)?.record())
+}
+
+/// Whether both are the same collective, with the same root if it has one. Then nothing is found of them.
+#[tactic(auto, using(crate::proofs::AlikeLemmas::alike))]
+fn are_alike(first: &StoredCall<'_>, call: &StoredCall<'_>) -> bool
+    ensures { IsTrue result → (compared : Compared) (comm wave member : ℕ) →
+        comparison_of compared comm wave member first.now call.now ≡ [] }
+{
+    match (first.kind(), call.kind()) {
+        (Some(kind), Some(other)) => kind == other,
+        _ => false,
+    }
 }
 
 fn found_of_member(
@@ -57,8 +78,12 @@ fn found_of_member(
 ) -> Option<Finding>
     ensures { option_to_list result ≡ found_of_member (comparison_of compared) pairs.now.groups pairs.now.recording comm wave g }
 {
-    let first = call_of_member(pairs, comm, wave, 0)?;
-    let call = call_of_member(pairs, comm, wave, g)?;
+    let first = stored_of_member(pairs, comm, wave, 0)?;
+    let call = stored_of_member(pairs, comm, wave, g)?;
+    if are_alike(&first, &call) {
+        return None;
+    }
+    let (first, call) = (first.record(), call.record());
     difference(compared, comm, wave, g, first.as_call(), call.as_call())
 }
 

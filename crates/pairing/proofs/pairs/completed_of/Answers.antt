@@ -6,4 +6,4 @@ use Rattle.pairing.proofs.pairs.completed_of.Goals as goal
 pub returns : goal.returns
 returns c =
     c.completed_start.ensures
-    ∙ sym (completed_noted c.args.head.now c.args.notes.now.lists c.args.rank c.args.place c.args.index c.in_ok-note.note c.requires (sym c.in_ok-note.ensures.value))
+    ∙ sym (completed_noted c.args.notes.now.lists c.args.rank c.args.place c.args.index c.in_ok-note.note c.requires (sym c.in_ok-note.ensures.value))

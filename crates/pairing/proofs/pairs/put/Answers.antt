@@ -1,9 +1,12 @@
--- The call is noted and looked up as the call that it is.
-use Rattle.std.proofs.Common.{arith}
+-- The call is noted, its halves meet the others, and the tables go on by it.
+use Rattle.std.proofs.Common.{◌<◌, ◌∙◌, ap, subst, sym, length, arith}
+use Rattle.pairing.specs.Matched.{Matching, halves_of, filed_halves, ArePaired}
 use Rattle.pairing.specs.Recordings.{calls_of}
 use Rattle.pairing.specs.Notes.{recording_of}
+use Rattle.pairing.specs.declared.envelope.Half.TheVariants.{Send as SendHalf, Recv as RecvHalf}
 use Rattle.pairing.proofs.FaultLemmas.{fault_none}
-use Rattle.pairing.proofs.KeptLemmas.{count_noted, ranks_noted, goes_on_as, kept_on}
+use Rattle.pairing.proofs.FiledLemmas.{come_next}
+use Rattle.pairing.proofs.KeptLemmas.{count_noted, ranks_noted, goes_on_as, kept_on, paired_as}
 use Rattle.pairing.proofs.pairs.put.Goals as goal
 
 pub note_call-requires-clause-few : goal.note_call-requires-clause-few
@@ -20,10 +23,26 @@ note_call-requires-clause-active c =
 
 pub returns-clause-recording : goal.returns-clause-recording
 returns-clause-recording c =
-    goes_on_as c.args.head.now c.args.notes.now.lists c.note_call.new.notes.lists c.args.rank c.args.call.now c.note_call.ensures
+    c.meet_halves.ensures.recording
+    ∙ goes_on_as c.args.notes.now.lists c.note_call.new.notes.lists c.args.rank c.args.call.now c.note_call.ensures
 
 pub returns-clause-kept : goal.returns-clause-kept
 returns-clause-kept c =
-    kept_on c.args.head.now c.args.notes.now.lists c.note_call.new.notes.lists c.args.tables.now c.put.new.self c.args.rank c.args.call.now
-    c.requires.is_rank c.requires.kept c.requires.lawful c.note_call.ensures
-    (c.put.ensures (recording_of c.args.notes.now.lists) c.requires.kept.tables (omega (arith, c.requires.is_rank, ranks_noted c.args.notes.now.lists)) c.requires.is_next)
+    let groups = c.args.head.now in
+    let old = c.args.notes.now.lists in
+    let recording = recording_of old in
+    let in_recording : c.args.rank < length (recording_of c.args.notes.now.lists) = omega (arith, c.requires.is_rank, ranks_noted c.args.notes.now.lists) in
+    let longer = goes_on_as old c.note_call.new.notes.lists c.args.rank c.args.call.now c.note_call.ensures in
+    let room = c.requires.room.matched in
+    let others = c.requires.kept.tables.others in
+    let paired = c.meet_halves.ensures.paired (halves_of groups recording)
+    (paired_as groups old c.note_call.new.notes.lists c.args.tables.now c.args.rank c.args.call.now c.requires.is_rank c.requires.kept c.note_call.ensures)
+    (come_next groups recording (recording_of c.note_call.new.notes.lists) c.args.rank c.args.place c.args.call.now SendHalf c.args.halves.now.send longer in_recording c.requires.is_next room.send)
+    (come_next groups recording (recording_of c.note_call.new.notes.lists) c.args.rank c.args.place c.args.call.now RecvHalf c.args.halves.now.recv longer in_recording c.requires.is_next room.recv) in
+    kept_on groups old c.note_call.new.notes.lists c.meet_halves.new.notes.lists c.args.tables.now c.put.new.self c.args.rank c.args.place c.args.call.now c.args.halves.now
+    c.requires.is_rank c.requires.is_next c.requires.kept c.requires.lawful c.note_call.ensures room.send room.recv c.meet_halves.ensures.recording
+    (subst (λ (m : Matching). ArePaired groups c.meet_halves.new.notes.lists (filed_halves c.args.halves.now c.args.place (halves_of groups recording)) m) (sym c.put.ensures.matches) paired)
+    (ap (λ (m : Matching). m.work) c.put.ensures.matches ∙ c.meet_halves.ensures.work)
+    (c.put.ensures.others groups recording (record { joined = others.joined; held = others.held; active = others.active }) in_recording c.requires.is_next
+    (omega (arith, c.requires.is_rank, c.requires.kept.ranks))
+    (fault_none groups c.args.rank (calls_of recording c.args.rank) c.args.call.now c.requires.lawful).comm_is)

@@ -6,4 +6,4 @@ use Rattle.pairing.proofs.pairs.started_of.Goals as goal
 pub returns : goal.returns
 returns c =
     c.start_of.ensures
-    ∙ sym (started_noted c.args.head.now c.args.notes.now.lists c.args.rank c.args.place c.args.req c.in_ok-note.note c.requires (sym c.in_ok-note.ensures.value))
+    ∙ sym (started_noted c.args.notes.now.lists c.args.rank c.args.place c.args.req c.in_ok-note.note c.requires (sym c.in_ok-note.ensures.value))

@@ -6,4 +6,4 @@ use Rattle.pairing.proofs.pairs.wave_of.Goals as goal
 pub returns : goal.returns
 returns c =
     ap (λ (wave : ℕ). Some (c.in_ok-comm.comm, wave)) c.joined.ensures
-    ∙ sym (wave_noted c.args.head.now c.args.notes.now.lists c.args.rank c.args.place c.in_ok-comm.comm c.in_ok-note.note c.requires (sym c.in_ok-note.ensures.value) (sym c.in_ok-comm.ensures))
+    ∙ sym (wave_noted c.args.notes.now.lists c.args.rank c.args.place c.in_ok-comm.comm c.in_ok-note.note c.requires (sym c.in_ok-note.ensures.value) (sym c.in_ok-comm.ensures))

@@ -7,9 +7,9 @@ use Rattle.pairing.proofs.pairs.Pairs.new.Goals as goal
 
 pub invariant_of-result : goal.invariant_of-result
 invariant_of-result c =
-    nothing_kept c.args.head c.in_ok-notes.notes.lists c.new-2.result
+    nothing_kept c.args.head c.in_ok-notes.notes.lists c.in_ok-tables.tables
     (c.in_ok-notes.ensures ∙ ap (λ (n : ℕ). replicate {A = List Noted} n []) c.ranks.ensures.value)
-    (c.new-2.ensures c.args.head)
+    c.in_ok-tables.ensures
 
 pub returns-clause-recording : goal.returns-clause-recording
 returns-clause-recording c =

@@ -1,11 +1,11 @@
-use Rattle.std.proofs.Common.{◌≡◌, ◌∙◌, ◌<◌, ◌++◌, ◌∷◌, [], List, length, map, ap, arith}
+use Rattle.std.proofs.Common.{◌≡◌, ◌∙◌, ◌-◌, ◌≤◌, vec_len, vec_capacity, ◌<◌, ◌++◌, ◌∷◌, [], List, length, map, ap, arith}
 use Rattle.std.proofs.lemmas.List.{length-map}
 use Rattle.mpicall.specs.declared.call.Call.{Call}
 use Rattle.pairing.specs.declared.packed.Entry.{Entry}
 use Rattle.pairing.specs.Limits.{most_calls}
-use Rattle.pairing.specs.Notes.{Noted, NotedList, calls_in, AreStarts}
+use Rattle.pairing.specs.Notes.{Noted, NotedList, calls_in, listed, AreStarts}
 use Rattle.pairing.specs.Packed.{noted, noted_of, listed_starts}
-use Rattle.pairing.proofs.PackedLemmas.{notes_push, stored_push, names_more, few_listed, as_many_starts, packed_stored, packed_noted}
+use Rattle.pairing.proofs.PackedLemmas.{listed_few, notes_push, stored_push, names_more, few_listed, as_many_starts, packed_stored, packed_noted}
 use Rattle.pairing.proofs.rank_notes.RankNotes.note.Goals as goal
 
 pub invariant_of-self : goal.invariant_of-self
@@ -14,7 +14,7 @@ invariant_of-self c =
     let entries = c.self.inside.entries.items in
     let starts = c.self.inside.starts.items in
     let places = c.args.starts.now in
-    let entry : Entry = record { call = c.pack-packed.result; numbers = c.args.numbers } in
+    let entry : Entry = record { call = c.pack-packed.result; beside = c.args.beside } in
     let first : length starts ≡ c.len.result = cc in
     let same : map (noted_of entries starts) entries ≡ c.args.self.now.calls = ap (λ (list : NotedList). list.calls) c.self.view_is in
     let are_starts : AreStarts (calls_in (map (noted_of entries starts) entries)) call places = rw (same, c.as_call-call.ensures.value) c.requires.starts in
@@ -32,7 +32,7 @@ returns c =
     let entries = c.self.inside.entries.items in
     let starts = c.self.inside.starts.items in
     let places = c.args.starts.now in
-    let entry : Entry = record { call = c.pack-packed.result; numbers = c.args.numbers } in
+    let entry : Entry = record { call = c.pack-packed.result; beside = c.args.beside } in
     let first : length starts ≡ c.len.result = cc in
     let same : map (noted_of entries starts) entries ≡ c.args.self.now.calls = ap (λ (list : NotedList). list.calls) c.self.view_is in
     let are_starts : AreStarts (calls_in (map (noted_of entries starts) entries)) call places = rw (same, c.as_call-call.ensures.value) c.requires.starts in
@@ -41,5 +41,14 @@ returns c =
     rw (c.push_reserved.ensures.items, c.push_all.ensures, c.listed_starts.ensures)
     (notes_push entries starts (listed_starts call places) entry c.self.invariant
     ∙ ap (λ (note : Noted). map (noted_of entries starts) entries ++ note ∷ []) is
-    ∙ ap (λ (notes : List Noted). notes ++ noted call c.args.numbers places ∷ []) same
-    ∙ ap (λ (it : Call). c.args.self.now.calls ++ noted it c.args.numbers places ∷ []) c.as_call-call.ensures.value)
+    ∙ ap (λ (notes : List Noted). notes ++ noted call c.args.beside places ∷ []) same
+    ∙ ap (λ (it : Call). c.args.self.now.calls ++ noted it c.args.beside places ∷ []) c.as_call-call.ensures.value)
+
+pub push_all-requires : goal.push_all-requires
+push_all-requires c =
+    let call = c.as_call-call.result.now in
+    let places = c.args.starts.now in
+    let few : length (listed_starts call places) ≤ length (listed call) = listed_few call places (as_many_starts (calls_in c.args.self.now.calls) call places (rw c.as_call-call.ensures.value c.requires.starts)) in
+    let room : vec_capacity c.self.inside.starts - vec_len c.self.inside.starts ≡ c.args.self.now.room.starts = ap (λ (list : NotedList). list.room.starts) c.self.view_is in
+    let fits : length (listed call) ≤ c.args.self.now.room.starts = rw c.as_call-call.ensures.value c.requires.room.starts in
+    rw c.listed_starts.ensures (omega (arith, few, room, fits))

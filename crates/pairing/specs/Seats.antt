@@ -1,0 +1,24 @@
+-- Lists of places by numbers.
+use Rattle.std.specs.Prelude.{ℕ, ◌<◌, unwrap_or, List, [], ◌∷◌, ◌++◌, length, slice_get, slice_set}
+
+-- places in the order in which they came, and how many there is room for
+pub record Listed : Type 0 where
+  pub places : List ℕ
+  pub room : ℕ
+
+-- the places of each list, and for how many each has room
+pub record Seats : Type 0 where
+  pub places : List (List ℕ)
+  pub rooms : List ℕ
+
+-- the list of that number; none where there is no such list
+abbrev pub list_in : List (List ℕ) → ℕ → List ℕ
+list_in lists index = unwrap_or (slice_get lists index) []
+
+-- the lists once a place is put at the end of one, if there is such a list
+abbrev pub with_place_in : List (List ℕ) → ℕ → ℕ → List (List ℕ)
+with_place_in lists index place = slice_set lists index (list_in lists index ++ place ∷ [])
+
+-- the list of that number, if there is one, has room for one more place
+abbrev pub HasRoomIn : Seats → ℕ → Type 0
+HasRoomIn seats index = index < length seats.places → length (list_in seats.places index) < unwrap_or (slice_get seats.rooms index) 0

@@ -1,0 +1,138 @@
+//! Lists of places by numbers, one for each number below a count.
+
+ghost use Rattle.std.specs.Prelude.{◌≡◌, ◌<◌, [], ◌∷◌, ◌++◌, length, replicate, slice_get, IfOk, OnOk};
+ghost use Rattle.pairing.specs.Seats.{list_in, with_place_in, HasRoomIn};
+
+use std::alloc::{AllocError, Global};
+use std::marker::Model;
+
+/// Places in the order in which they came. Contracts see them, and how many there is room for.
+#[derive(Drop)]
+struct PlaceList {
+    places: Vec<u32>,
+}
+
+impl Model for PlaceList {
+    ghost use Rattle.std.specs.Prelude.{length};
+    ghost use Rattle.std.specs.Vec.{vec_capacity};
+    ghost use Rattle.pairing.specs.Seats.{Listed};
+
+    ghost Value = { Listed };
+
+    ghost view = { λ l. record { places = l.places.items; room = vec_capacity l.places } };
+}
+
+impl PlaceList {
+    /// No places yet.
+    fn new(alloc: Global) -> PlaceList
+        ensures { result.places ≡ [] }
+    {
+        PlaceList {
+            places: Vec::new(alloc),
+        }
+    }
+
+    /// Makes room for one more place.
+    fn reserve(&mut self) -> Result<(), AllocError>
+        ensures places { self.new.places ≡ self.old.places }
+        ensures room { OnOk result (length self.new.places < self.new.room) }
+    {
+        self.places.reserve(1)
+    }
+
+    /// Adds a place, for which there is room.
+    fn push_reserved(&mut self, place: u32)
+        requires { length self.old.places < self.old.room }
+        ensures { self.new.places ≡ self.old.places ++ place ∷ [] }
+    {
+        self.places.push_reserved(place);
+    }
+
+    /// How many places there are.
+    fn len(&self) -> usize
+        ensures { result ≡ length self.now.places }
+    {
+        self.places.len()
+    }
+
+    /// The place with a number, counted from 0.
+    fn get(&self, number: usize) -> Option<u32>
+        ensures { result ≡ slice_get self.now.places number }
+    {
+        self.places.get(number).copied()
+    }
+}
+
+/// So many lists of places. Contracts see the places of each, and for how many each has room.
+#[derive(Drop)]
+pub(crate) struct PlaceLists {
+    lists: Vec<PlaceList>,
+}
+
+impl Model for PlaceLists {
+    ghost use Rattle.std.specs.Prelude.{map};
+    ghost use Rattle.pairing.specs.Seats.{Seats};
+
+    ghost Value = { Seats };
+
+    ghost view = { λ s. record {
+      places = map (λ list. list.places) s.lists.items;
+      rooms = map (λ list. list.room) s.lists.items;
+    } };
+}
+
+impl PlaceLists {
+    /// So many lists without places.
+    pub(crate) fn new(alloc: Global, count: u16) -> Result<PlaceLists, AllocError>
+        ensures { IfOk result (λ seats. seats.places ≡ replicate count []) }
+    {
+        let mut lists = Vec::new(alloc);
+        for _index in 0..count {
+            lists.push(PlaceList::new(alloc))?;
+        }
+        Ok(PlaceLists { lists })
+    }
+
+    /// Makes room for one more place in the list of that number, if there is one.
+    pub(crate) fn reserve(&mut self, index: u16) -> Result<(), AllocError>
+        ensures places { self.new.places ≡ self.old.places }
+        ensures room { OnOk result (HasRoomIn self.new index) }
+    {
+        if usize::from(index) >= self.lists.len() {
+            return Ok(());
+        }
+        let list = &mut self.lists[usize::from(index)];
+        list.reserve()
+    }
+
+    /// Adds a place to the list of that number, if there is one, for which it has room.
+    pub(crate) fn push_reserved(&mut self, index: u16, place: u32)
+        requires { HasRoomIn self.old index }
+        ensures { self.new.places ≡ with_place_in self.old.places index place }
+    {
+        if usize::from(index) < self.lists.len() {
+            let list = &mut self.lists[usize::from(index)];
+            list.push_reserved(place);
+        }
+    }
+
+    /// How many places the list of that number has; 0 where there is no such list.
+    pub(crate) fn count(&self, index: u16) -> usize
+        ensures { result ≡ length (list_in self.now.places index) }
+    {
+        match self.lists.get(usize::from(index)) {
+            Some(list) => list.len(),
+            None => 0,
+        }
+    }
+
+    /// The place with a number in the list of that index.
+    pub(crate) fn get(&self, index: u16, number: usize) -> Option<u32>
+        ensures { result ≡ slice_get (list_in self.now.places index) number }
+    {
+        match self.lists.get(usize::from(index)) {
+            Some(list) => list.get(number),
+            None => None,
+        }
+    }
+}
