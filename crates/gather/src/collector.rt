@@ -30,6 +30,8 @@ pub struct Collector {
     takers: Vec<Taker>,
     ledger: Ledger,
     publisher: Publisher,
+    // Where a record comes to stand while it is looked at.
+    place: Record,
     ghost collects: { Collects takers.items ledger },
     ghost passed: { ArePassed ledger.groups ledger.recording (published_by publisher) },
 }
@@ -82,6 +84,7 @@ impl Collector {
             takers,
             ledger,
             publisher,
+            place: Record::finalize(),
         }
     }
 
@@ -92,9 +95,8 @@ impl Collector {
         ensures publishes { PublishesNothing self.old self.new }
         ensures passed { PublishesRuns self.new }
     {
-        let mut call = Record::finalize();
-        match take_from(&mut self.takers, rank, &mut call) {
-            Came::Record => self.ledger.enter(rank, &call),
+        match take_from(&mut self.takers, rank, &mut self.place) {
+            Came::Record => self.ledger.enter(rank, &self.place),
             Came::Empty => Stepped::Empty,
             Came::Sealed => Stepped::Ended,
             Came::Torn(fault) => {

@@ -117,6 +117,7 @@ impl Matches {
     }
 
     /// The same, for a half that may have no message.
+    #[inline(always)]
     fn number_half(&mut self, envelope: Option<Envelope>) -> Result<Option<Numbered>, AllocError>
         ensures grown { IsGrown self.old self.new }
         ensures number { IfOk result (λ half. IfSome half (HasNumber self.new)) }

@@ -154,6 +154,7 @@ fn put(
 }
 
 /// The partner of a half of a call.
+#[inline(always)]
 #[tactic(auto, using(crate::proofs::KeptLemmas::partner_kept, crate::proofs::KeptLemmas::no_partner_kept, crate::proofs::KeptLemmas::no_partner_past))]
 fn partner_of(head: &Head, notes: &Notes, rank: u16, place: u32, half: Half) -> Option<(u16, u32)>
     requires { ArePartnered head.now notes.now.lists }
@@ -325,6 +326,7 @@ impl Pairs {
 
     /// The rank and place of the partner of a half of the call at `place`; None where the call has no such
     /// half, and where its message has no other half yet.
+    #[inline(always)]
     pub fn partner(&self, rank: u16, place: u32, half: Half) -> Option<(u16, u32)>
         ensures { result ≡ partner_of self.now.groups self.now.recording rank place half }
     {

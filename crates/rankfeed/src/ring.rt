@@ -279,15 +279,17 @@ impl Taker {
         if self.ring.cached_slots() == 0 && self.ring.slots() == 0 {
             return Came::Empty;
         }
-        match self.ring.pop_known() {
-            Item::Entry(call) => {
-                *into = call;
+        match *self.ring.peek_known() {
+            Item::Entry(ref call) => {
+                *into = *call;
+                self.ring.pop_known();
                 if self.ring.cached_slots() == 0 {
                     self.bell.ring();
                 }
                 Came::Record
             }
             Item::Mark(end) => {
+                self.ring.pop_known();
                 self.end = Some(end);
                 end.came()
             }

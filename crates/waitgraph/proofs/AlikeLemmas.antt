@@ -1,5 +1,6 @@
 -- Two collectives of one kind, of which nothing is found.
-use Rattle.std.proofs.Common.{◌≡◌, ℕ, true, Option, Some, None, List, [], refl, sym, ap, subst}
+use Rattle.std.proofs.Common.{◌≡◌, ℕ, zero, suc, ◌+◌, ◌-◌, ◌<◌, ◌≤◌, true, false, Option, Some, None, List, [], ◌++◌, length, refl, sym, ap, subst, arith}
+use Rattle.std.specs.List.{flat_map, range_with_len}
 use Rattle.std.specs.Prelude.{unwrap_or}
 use Rattle.std.proofs.lemmas.Option.{none-some}
 use Rattle.std.proofs.lemmas.Bool.Decides.{Decides-eqb}
@@ -14,7 +15,9 @@ use Rattle.pairing.specs.Pairs.{kind_of}
 use Rattle.waitgraph.specs.declared.finding.wave.Compared.{Compared}
 use Rattle.waitgraph.specs.declared.finding.wave.Compared.TheVariants.{Kinds, Roots}
 use Rattle.waitgraph.specs.Comparisons.{comparison_of}
-use Rattle.waitgraph.specs.Findings.{kind_found, root_found, roots_found}
+use Rattle.mpigroup.specs.Groups.{Groups, group_of}
+use Rattle.pairing.specs.Recordings.{Lists}
+use Rattle.waitgraph.specs.Findings.{Comparison, kind_found, root_found, roots_found, found_of_member, found_in_comm, found_in_waves, waves_in, kinds_of, roots_of, is_wrong_group}
 
 same_text : (text : List ℕ) → bytes_eq text text ≡ true
 same_text text = (bytes_eq-Decides text text).1 refl
@@ -52,3 +55,33 @@ alike first call kind of_first of_call compared comm wave member =
     of_kind (λ (one : Call). comparison_of compared comm wave member one call ≡ []) first kind of_first
     (λ a. of_kind (λ (other : Call). comparison_of compared comm wave member (Coll a kind) other ≡ []) call kind of_call
     (λ b. same_kind compared comm wave member a b kind))
+
+-- where nothing is listed of each number
+nothing_listed : {A : Type 0} (listed : ℕ → List A) (a n : ℕ) → ((j : ℕ) → a ≤ j → j < a + n → listed j ≡ []) → flat_map listed (range_with_len a n) ≡ []
+nothing_listed listed a zero each = refl
+nothing_listed listed a (suc n) each =
+    rw (each a (omega arith) (omega arith), nothing_listed listed (a + 1) n (λ j from to. each j (omega arith) (omega arith))) refl
+
+pub nothing_in_comm : (compare : Comparison) (groups : Groups) (recording : Lists) (comm : ℕ) →
+    ((g wave : ℕ) → 1 ≤ g → g < length (group_of groups comm) → wave < waves_in groups recording comm → found_of_member compare groups recording comm wave g ≡ []) →
+    found_in_comm compare groups recording comm ≡ []
+nothing_in_comm compare groups recording comm each =
+    nothing_listed _ 0 (waves_in groups recording comm)
+    (λ wave from to. nothing_listed _ 1 (length (group_of groups comm) - 1) (λ g least most. each g wave least (omega arith) (omega (arith, to))))
+
+pub nothing_in_waves : (compare : Comparison) (groups : Groups) (recording : Lists) →
+    ((comm : ℕ) → comm < length groups → found_in_comm compare groups recording comm ≡ []) →
+    found_in_waves compare groups recording ≡ []
+nothing_in_waves compare groups recording each =
+    nothing_listed _ 0 (length groups) (λ comm from to. each comm (omega (arith, to)))
+
+pub no_differences : (groups : Groups) (recording : Lists) →
+    ((compared : Compared) → found_in_waves (comparison_of compared) groups recording ≡ []) →
+    kinds_of groups recording ++ roots_of groups recording ≡ []
+unfolding kinds_of roots_of
+no_differences groups recording nothing = rw (nothing Kinds, nothing Roots) refl
+
+-- a collective of a kind makes nothing
+pub kind_is_given : (groups : Groups) (recording : Lists) (call : Call) (kind : Kind) (wave : ℕ × ℕ) → kind_of call ≡ Some kind → is_wrong_group groups recording call wave ≡ false
+kind_is_given groups recording call kind wave is =
+    of_kind (λ (one : Call). is_wrong_group groups recording one wave ≡ false) call kind is (λ comm. refl)

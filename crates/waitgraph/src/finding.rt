@@ -1,13 +1,14 @@
 //! What is wrong with a recorded run beside what makes it hang.
 
-ghost use Rattle.std.specs.Prelude.{◌≡◌, IfOk};
-ghost use Rattle.waitgraph.specs.Findings.{findings_of};
+ghost use Rattle.std.specs.Prelude.{◌≡◌, ◌++◌, IfOk, OnOk};
+ghost use Rattle.waitgraph.specs.Findings.{kinds_of, roots_of, findings_of};
 
 use crate::finding::group::add_wrong_groups;
 use crate::finding::kind::add_kinds;
 use crate::finding::request::add_requests;
 use crate::finding::root::add_roots;
 use crate::finding::unreceived::add_unreceived;
+use crate::finding::wave::are_all_alike;
 use mpicall::word::Word;
 use pairing::pairs::Pairs;
 use std::alloc::{AllocError, Global};
@@ -61,6 +62,18 @@ pub enum Finding {
     },
 }
 
+/// Adds what members' calls in one wave differ in: their kinds, then their roots.
+fn add_differences(findings: &mut Vec<Finding>, pairs: &Pairs) -> Result<(), AllocError>
+    ensures { OnOk result (findings.new.items
+        ≡ findings.old.items ++ (kinds_of pairs.now.groups pairs.now.recording ++ roots_of pairs.now.groups pairs.now.recording)) }
+{
+    if are_all_alike(pairs) {
+        return Ok(());
+    }
+    add_kinds(findings, pairs)?;
+    add_roots(findings, pairs)
+}
+
 /// All findings of a recorded run, in the order of the report: by kind, and within one kind by rising
 /// numbers.
 #[tactic(auto, unfolding(crate::specs::Findings::findings_of))]
@@ -68,8 +81,7 @@ pub fn findings(alloc: Global, pairs: &Pairs) -> Result<Vec<Finding>, AllocError
     ensures { IfOk result (λ findings. findings.items ≡ findings_of pairs.now.groups pairs.now.recording) }
 {
     let mut findings = Vec::new(alloc);
-    add_kinds(&mut findings, pairs)?;
-    add_roots(&mut findings, pairs)?;
+    add_differences(&mut findings, pairs)?;
     add_unreceived(&mut findings, pairs)?;
     add_requests(alloc, &mut findings, pairs)?;
     add_wrong_groups(alloc, &mut findings, pairs)?;

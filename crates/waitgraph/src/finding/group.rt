@@ -15,6 +15,7 @@ use mpicall::call::Call;
 use mpigroup::split::colour_group;
 use pairing::comm::makes;
 use pairing::pairs::Pairs;
+use pairing::stored::StoredCall;
 use std::alloc::{AllocError, Global};
 
 /// Whether a member has a call of the wave with the call's word.
@@ -236,14 +237,29 @@ fn is_wrong_group(
     Ok(!makes_given(alloc, pairs, comm, wave, call)? && all_call_alike(pairs, comm, wave, call))
 }
 
+/// The same of a call that is kept. A collective of a kind makes no communicator.
+#[tactic(auto, using(crate::proofs::AlikeLemmas::kind_is_given))]
+fn is_wrong_stored(
+    alloc: Global,
+    pairs: &Pairs,
+    comm: u16,
+    wave: u32,
+    call: &StoredCall<'_>,
+) -> Result<bool, AllocError>
+    ensures { IfOk result (λ is. is ≡ is_wrong_group pairs.now.groups pairs.now.recording call.now (comm, wave)) }
+{
+    if call.kind().is_some() {
+        return Ok(false);
+    }
+    is_wrong_group(alloc, pairs, comm, wave, call.record().as_call())
+}
+
 /// Whether the call at the place has such a group.
 fn is_wrong_at(alloc: Global, pairs: &Pairs, rank: u16, place: u32) -> Result<bool, AllocError>
     ensures { IfOk result (λ is. is ≡ is_wrong_at pairs.now.groups pairs.now.recording rank place) }
 {
     match (pairs.call(rank, place), pairs.wave_of(rank, place)) {
-        (Some(call), Some((comm, wave))) => {
-            is_wrong_group(alloc, pairs, comm, wave, call.record().as_call())
-        }
+        (Some(call), Some((comm, wave))) => { is_wrong_stored(alloc, pairs, comm, wave, &call) }
         _ => Ok(false),
     }
 }

@@ -69,6 +69,60 @@ fn are_alike(first: &StoredCall<'_>, call: &StoredCall<'_>) -> bool
     }
 }
 
+/// Whether the calls of a member and of the first one in the wave are both there, and alike.
+fn is_member_alike(pairs: &Pairs, comm: u16, wave: u32, g: u16) -> bool
+    ensures { IsTrue result → (compared : Compared) →
+        found_of_member (comparison_of compared) pairs.now.groups pairs.now.recording comm wave g ≡ [] }
+{
+    let first = stored_of_member(pairs, comm, wave, 0);
+    match (first, stored_of_member(pairs, comm, wave, g)) {
+        (Some(first), Some(call)) => are_alike(&first, &call),
+        _ => false,
+    }
+}
+
+/// The same in each of the first waves.
+fn is_alike_in_waves(pairs: &Pairs, comm: u16, waves: u32, g: u16) -> bool
+    ensures { IsTrue result → (compared : Compared) (wave : ℕ) → wave < waves →
+        found_of_member (comparison_of compared) pairs.now.groups pairs.now.recording comm wave g ≡ [] }
+{
+    for wave in 0..waves {
+        if !is_member_alike(pairs, comm, wave, g) {
+            return false;
+        }
+    }
+    true
+}
+
+/// The same of each member, in all waves.
+fn are_alike_in_comm(pairs: &Pairs, comm: u16) -> bool
+    ensures { IsTrue result → (compared : Compared) →
+        found_in_comm (comparison_of compared) pairs.now.groups pairs.now.recording comm ≡ [] }
+{
+    let waves = waves(pairs, comm);
+    for g in 1..members(pairs, comm) {
+        if !is_alike_in_waves(pairs, comm, waves, g) {
+            return false;
+        }
+    }
+    true
+}
+
+/// Whether each member's call is there and alike to the first member's in all waves, so that no comparison
+/// finds anything. It goes member by member, since calls of one rank lie side by side.
+#[tactic(auto, using(crate::proofs::AlikeLemmas::nothing_in_waves))]
+pub(crate) fn are_all_alike(pairs: &Pairs) -> bool
+    ensures { IsTrue result → (compared : Compared) →
+        found_in_waves (comparison_of compared) pairs.now.groups pairs.now.recording ≡ [] }
+{
+    for comm in 0..comms(pairs) {
+        if !are_alike_in_comm(pairs, comm) {
+            return false;
+        }
+    }
+    true
+}
+
 fn found_of_member(
     pairs: &Pairs,
     compared: Compared,
