@@ -1,15 +1,19 @@
 -- What is received and left once one taker was asked.
-use Rattle.std.proofs.Common.{◌≡◌, ◌≢◌, ℕ, zero, suc, ◌<◌, true, Some, List, [], ◌∷◌, ◌++◌, length, get_or, map, refl, sym, ap, subst, ◌∙◌, arith, slice_get, slice_set}
+use Rattle.std.proofs.Common.{◌≡◌, ◌≢◌, ℕ, zero, suc, ◌<◌, true, Option, Some, None, List, [], ◌∷◌, ◌++◌, length, get_or, map, refl, sym, ap, subst, ◌∙◌, arith, slice_get, slice_set}
 use Rattle.std.proofs.Math.Seq.{map-set_same}
 use Rattle.std.proofs.lemmas.List.{length-map}
 use Rattle.std.proofs.lemmas.Option.{slice_get-map, get_or_from_slice_get, slice_get-get_or}
 use Rattle.rankfeed.specs.Items.{end_of, are_ended, IsFeed}
 use Rattle.mpicall.specs.declared.call.Call.{Call}
-use Rattle.rankfeed.specs.Answers.{Receives, came_with}
+use Rattle.rankfeed.specs.Answers.{Receives, Looks, came_with, came_end, told_end}
 use Rattle.rankfeed.specs.Rings.{taker_ring, received_by, left_for}
 use Rattle.rankfeed.specs.declared.answer.Came.{Came}
+use Rattle.rankfeed.specs.declared.answer.Came.TheVariants as Came
 use Rattle.rankfeed.specs.declared.answer.Took.{Took}
+use Rattle.rankfeed.specs.declared.item.Ending.{Ending}
+use Rattle.rankfeed.specs.declared.item.Ending.TheVariants.{Sealed, Torn}
 use Rattle.rankfeed.specs.declared.item.Item.{Item}
+use Rattle.rankfeed.specs.declared.item.Item.TheVariants.{Entry}
 use Rattle.rankfeed.specs.declared.ring.Taker.{Taker}
 use Rattle.gather.specs.Collected.{items_of}
 use Rattle.gather.specs.Takers.{Takes}
@@ -61,9 +65,28 @@ takes_at takers place rank was now found same within read name receives feed lef
 pub takers_stay : {rank : ℕ} {found : Took} (old new : List Taker) → Takes rank found old new → length new ≡ length old
 takers_stay old new takes = sym (length-map new taker_ring) ∙ ap length takes.names ∙ length-map old taker_ring
 
--- a taker with a place for records tells that nothing came where one without it does
-pub never_came_empty : (came : Came) (call : Call) → ¬ (came ≡ Came.Empty) → ¬ (came_with came call ≡ Took.Empty)
-never_came_empty Came.Record call never = λ e. cc
-never_came_empty Came.Empty call never = λ e. never refl
-never_came_empty Came.Sealed call never = λ e. cc
-never_came_empty (Came.Torn fault) call never = λ e. cc
+-- a look that finds a record leaves what is received as it is
+pub look_stays : (end : Option Ending) (old mid : List Item) → Looks end Came.Record old mid → mid ≡ old
+look_stays None old mid looks = looks
+look_stays (Some earlier) old mid looks = looks.1
+
+came_other : (earlier : Ending) → ¬ (Came.Record ≡ came_end earlier)
+came_other Sealed = λ e. cc
+came_other (Torn fault) = λ e. cc
+
+-- what is received once the record that a look found is passed
+pub look_passed : (end : Option Ending) (call : Call) (old mid new : List Item) → Looks end Came.Record old mid → new ≡ mid ++ Entry call ∷ [] → Receives end (Took.Record call) old new
+look_passed None call old mid new looks passed = passed ∙ ap (λ (items : List Item). items ++ Entry call ∷ []) looks
+look_passed (Some earlier) call old mid new looks passed = absurd (came_other earlier looks.0)
+
+end_told : (call : Call) (earlier : Ending) → came_with (came_end earlier) call ≡ told_end earlier
+end_told call Sealed = refl
+end_told call (Torn fault) = refl
+
+-- what is received once a look finds no record
+pub look_took : (end : Option Ending) (came : Came) (call : Call) (old new : List Item) → ¬ (came ≡ Came.Record) → Looks end came old new → Receives end (came_with came call) old new
+look_took None Came.Record call old new other looks = absurd (other refl)
+look_took None Came.Empty call old new other looks = looks
+look_took None Came.Sealed call old new other looks = looks
+look_took None (Came.Torn fault) call old new other looks = looks
+look_took (Some earlier) came call old new other looks = (ap (λ (c : Came). came_with c call) looks.0 ∙ end_told call earlier, looks.1)

@@ -7,7 +7,8 @@ use Rattle.rankfeed.specs.declared.answer.Took.{Took}
 use Rattle.rankfeed.specs.declared.item.Item.{Item}
 use Rattle.rankfeed.specs.declared.ring.Feed.{Feed}
 use Rattle.rankfeed.specs.declared.ring.Taker.{Taker}
-use Rattle.gather.specs.Collected.{Kept, items_of, AreKeptOf}
+use Rattle.gather.specs.Collected.{Kept, Enters, items_of, AreKeptOf}
+use Rattle.gather.specs.declared.ledger.Stepped.{Stepped}
 
 -- the rank whose records a feed takes
 abbrev pub rank_of : Feed → ℕ
@@ -41,3 +42,14 @@ pub record Takes (rank : ℕ) (found : Took) (old new : List Taker) : Type 0 whe
   pub is_feed : IsFeed (received_in new rank)
   pub left : are_ended (received_in old rank ++ left_in old rank) ≡ true → received_in new rank ++ left_in new rank ≡ received_in old rank ++ left_in old rank
   pub never_empty : are_ended (received_in old rank ++ left_in old rank) ≡ true → ¬ (found ≡ Took.Empty)
+
+-- one item at most was taken by a rank's taker, and entered. Where all that is left is known, it is what was known
+-- before without that item, and one was found
+pub record EntersNext (rank : ℕ) (was : Taker) (old : Kept) (answer : Stepped) (now : Taker) (new : Kept) : Type 0 where
+  pub found : Took
+  pub name : taker_ring now ≡ taker_ring was
+  pub receives : Receives (end_of (received_by was)) found (received_by was) (received_by now)
+  pub is_feed : IsFeed (received_by now)
+  pub left : are_ended (received_by was ++ left_for was) ≡ true → received_by now ++ left_for now ≡ received_by was ++ left_for was
+  pub never_empty : are_ended (received_by was ++ left_for was) ≡ true → ¬ (found ≡ Took.Empty)
+  pub enters : Enters rank found old answer new

@@ -2,8 +2,7 @@
 
 ghost use Rattle.std.specs.Prelude.{◌≡◌, ◌<◌, Some, length, map, slice_get};
 ghost use Rattle.rankfeed.specs.Rings.{taker_ring, receipt_ring};
-ghost use Rattle.rankfeed.specs.Answers.{came_with};
-ghost use Rattle.gather.specs.Takers.{Collects, Takes};
+ghost use Rattle.gather.specs.Takers.{Collects, EntersNext};
 ghost use Rattle.gather.specs.Receipts.{Meets};
 ghost use Rattle.watches.specs.Publications.{ArePassed};
 ghost use Rattle.watches.specs.Publishers.{published_by};
@@ -11,7 +10,6 @@ ghost use Rattle.watches.specs.Publishers.{published_by};
 use crate::ledger::Ledger;
 pub use crate::ledger::Stepped;
 use crate::outcome::{CloseFault, Outcome};
-use mpicall::record::Record;
 use rankfeed::{Came, Receipt, Taker};
 use std::alloc::Global;
 use std::sync::Wait;
@@ -30,18 +28,28 @@ pub struct Collector {
     takers: Vec<Taker>,
     ledger: Ledger,
     publisher: Publisher,
-    // Where a record comes to stand while it is looked at.
-    place: Record,
     ghost collects: { Collects takers.items ledger },
     ghost passed: { ArePassed ledger.groups ledger.recording (published_by publisher) },
 }
 
-/// Takes the item at the front of a rank's feed; a record comes into the place.
-fn take_from(takers: &mut Vec<Taker>, rank: u16, into: &mut Record) -> Came
-    requires { rank < length takers.old.items }
-    ensures { Takes rank (came_with result into.new) takers.old.items takers.new.items }
+/// Takes the item at the front of a rank's feed, and enters it. A record is looked at where it stands.
+fn enter_next(taker: &mut Taker, ledger: &mut Ledger, rank: u16) -> Stepped
+    requires { rank < length ledger.old.recording }
+    ensures { EntersNext rank taker.old ledger.old result taker.new ledger.new }
 {
-    takers[usize::from(rank)].take_into(into)
+    match taker.look() {
+        Came::Record => {
+            let stepped = ledger.enter(rank, taker.front());
+            taker.pass();
+            stepped
+        }
+        Came::Empty => Stepped::Empty,
+        Came::Sealed => Stepped::Ended,
+        Came::Torn(fault) => {
+            ledger.tear(rank, fault);
+            Stepped::Ended
+        }
+    }
 }
 
 /// Tells the taker of a rank's feed what is left, by the feed's receipt.
@@ -84,7 +92,6 @@ impl Collector {
             takers,
             ledger,
             publisher,
-            place: Record::finalize(),
         }
     }
 
@@ -95,15 +102,8 @@ impl Collector {
         ensures publishes { PublishesNothing self.old self.new }
         ensures passed { PublishesRuns self.new }
     {
-        match take_from(&mut self.takers, rank, &mut self.place) {
-            Came::Record => self.ledger.enter(rank, &self.place),
-            Came::Empty => Stepped::Empty,
-            Came::Sealed => Stepped::Ended,
-            Came::Torn(fault) => {
-                self.ledger.tear(rank, fault);
-                Stepped::Ended
-            }
-        }
+        let taker = &mut self.takers[usize::from(rank)];
+        enter_next(taker, &mut self.ledger, rank)
     }
 
     /// Publishes where the ranks stand now over what is kept, and tells of it. Where they stand as they did at

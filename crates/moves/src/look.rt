@@ -31,6 +31,7 @@ pub(crate) enum Look {
 }
 
 /// Whether the call has a partner by its half, and the partner is reached.
+#[inline(always)]
 fn is_partner_met(pairs: &Pairs, stands: &[u32], rank: u16, place: u32, half: Half) -> bool
     ensures { result ≡ option_map_or (λ partner. nat_le partner.1 (slice_index stands.now partner.0)) (partner_of pairs.now.groups pairs.now.recording rank place half) false }
 {
@@ -47,6 +48,7 @@ fn is_partner_met(pairs: &Pairs, stands: &[u32], rank: u16, place: u32, half: Ha
 }
 
 /// Whether a half of the call has what it needs: nothing where it has no message, else its partner.
+#[inline(always)]
 fn is_half_met(
     pairs: &Pairs,
     stands: &[u32],

@@ -23,6 +23,7 @@ fn move_on(stands: &mut Vec<u32>, rank: u16)
 }
 
 /// Wakes the rank that waits for the call at the place as the partner of its own, if one does.
+#[inline(always)]
 fn wake_partner(pairs: &Pairs, waiters: &mut Waiters, rank: u16, place: u32, half: Half)
     ensures { waiters.new ≡ woken_partner waiters.old (partner_of pairs.now.groups pairs.now.recording rank place half) }
 {

@@ -151,6 +151,7 @@ impl Packed {
 
     /// The message that a half of the call sends or receives. None where the call has no such half, and
     /// where its peer is MPI_PROC_NULL.
+    #[inline(always)]
     pub(crate) fn message(&self, half: Half) -> Option<Message>
         ensures { (entries : List Entry) (starts : List ℕ) → result ≡ message_of half (unpack entries starts self.now) }
     {

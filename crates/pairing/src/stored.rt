@@ -44,6 +44,7 @@ impl<'a> StoredCall<'a> {
 
     /// The message that a half of the call sends or receives. None where the call has no such half, and
     /// where its peer is MPI_PROC_NULL.
+    #[inline(always)]
     pub fn message(&self, half: Half) -> Option<Message>
         ensures { result ≡ message_of half self.now }
     {

@@ -16,14 +16,14 @@ abbrev pub handed_back : PutFault → Call
 handed_back (Full call) = call
 handed_back (Closed call) = call
 
--- what a taker found, where this came and its place holds that record
+-- what a taker takes, where a look finds this and that record is the one at the front
 abbrev pub came_with : Came → Call → Took
 came_with Came.Record call = Record call
 came_with Came.Empty call = Empty
 came_with Came.Sealed call = Sealed
 came_with (Came.Torn fault) call = Torn fault
 
--- how a taker tells an end mark, and with a place for records
+-- how a taker tells an end mark, and where it looks alone
 abbrev pub told_end : Ending → Took
 told_end Ending.Sealed = Sealed
 told_end (Ending.Torn fault) = Torn fault
@@ -40,3 +40,11 @@ Receives None (Record call) old new = new ≡ old ++ Entry call ∷ []
 Receives None Empty old new = new ≡ old
 Receives None Sealed old new = new ≡ old ++ Mark Ending.Sealed ∷ []
 Receives None (Torn fault) old new = new ≡ old ++ Mark (Ending.Torn fault) ∷ []
+
+-- what is received once a look was answered: the same, but that a record which is found is left where it is
+abbrev pub Looks : Option Ending → Came → List Item → List Item → Type 0
+Looks (Some earlier) came old new = (came ≡ came_end earlier) × (new ≡ old)
+Looks None Came.Record old new = new ≡ old
+Looks None Came.Empty old new = new ≡ old
+Looks None Came.Sealed old new = new ≡ old ++ Mark Ending.Sealed ∷ []
+Looks None (Came.Torn fault) old new = new ≡ old ++ Mark (Ending.Torn fault) ∷ []

@@ -1,11 +1,13 @@
 -- What contracts see of a feed over a ring, of its taker and of its receipt.
-use Rattle.std.specs.Prelude.{ℕ, ◌-◌, List}
+use Rattle.std.specs.Prelude.{ℕ, ◌-◌, Option, Some, None, List, ◌∷◌}
 use denote.RawPtr.{Ptr}
 use Rattle.std.specs.declared.alloc.Global.{Global}
 use Rattle.rtrb.specs.Shared.{Names}
 use Rattle.rtrb.specs.declared.end.End.{End}
 use Rattle.rtrb.specs.Ring.{sent, received, known_items, all_sent, producer_capacity}
+use Rattle.mpicall.specs.declared.call.Call.{Call}
 use Rattle.rankfeed.specs.declared.item.Item.{Item}
+use Rattle.rankfeed.specs.declared.item.Item.TheVariants.{Entry}
 use Rattle.rankfeed.specs.declared.ring.Feed.{Feed}
 use Rattle.rankfeed.specs.declared.ring.Taker.{Taker}
 use Rattle.rankfeed.specs.declared.ring.Receipt.{Receipt}
@@ -49,3 +51,11 @@ received_by taker = received taker.ring
 -- the items that are known to be left; all of them, once the taker met its receipt
 abbrev pub left_for : Taker → List Item
 left_for taker = known_items taker.ring
+
+-- the record at the front, where one is known to stand there
+abbrev pub first_record : List Item → Option Call
+first_record (Entry call ∷ items) = Some call
+first_record _ = None
+
+abbrev pub front_of : Taker → Option Call
+front_of taker = first_record (left_for taker)

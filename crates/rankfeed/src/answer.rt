@@ -1,7 +1,7 @@
 //! What the calls of a feed and of its taker answer.
 
 ghost use Rattle.std.specs.Prelude.{◌≡◌};
-ghost use Rattle.rankfeed.specs.Answers.{told_end, came_with, came_end};
+ghost use Rattle.rankfeed.specs.Answers.{told_end, came_end};
 
 use crate::item::Ending;
 use mpicall::fault::SourceFault;
@@ -38,10 +38,10 @@ pub enum Took {
     Torn(SourceFault),
 }
 
-/// What came where a taker has a place for records.
+/// What a taker finds where it looks.
 #[derive(Clone, Copy, Debug, PartialEq, Eq)]
 pub enum Came {
-    /// The next record, which stands in the place now.
+    /// The next record, which stands at the front now.
     Record,
     /// Nothing is there now.
     Empty,
@@ -49,20 +49,6 @@ pub enum Came {
     Sealed,
     /// The records stopped, for the fault. Each later call answers the same.
     Torn(SourceFault),
-}
-
-impl Came {
-    /// What a taker found, where what came is this and the place holds that record.
-    pub(crate) fn with(self, place: &Record) -> Took
-        ensures { result ≡ came_with self place.now }
-    {
-        match self {
-            Came::Record => Took::Record(*place),
-            Came::Empty => Took::Empty,
-            Came::Sealed => Took::Sealed,
-            Came::Torn(fault) => Took::Torn(fault),
-        }
-    }
 }
 
 /// What a taker learns from its feed's receipt.
@@ -83,7 +69,7 @@ impl Ending {
         }
     }
 
-    /// The same, where the taker has a place for records.
+    /// The same, where it looks alone.
     pub(crate) fn came(self) -> Came
         ensures { result ≡ came_end self }
     {

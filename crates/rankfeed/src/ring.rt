@@ -235,19 +235,74 @@ impl Feed {
 }
 
 impl Taker {
-    ghost use Rattle.std.specs.Prelude.{◌↔◌, [], ◌∷◌, ◌++◌, ℕ, IsTrue, IfOk};
-    ghost use Rattle.std.specs.Prelude.{◌≢◌};
+    ghost use Rattle.std.specs.Prelude.{◌↔◌, [], ◌∷◌, ◌++◌, ℕ, IsTrue, IsSome, Some, IfOk};
     ghost use Rattle.rankfeed.specs.declared.answer.Took.TheVariants as Took;
     ghost use Rattle.rankfeed.specs.declared.answer.Came.TheVariants as Came;
     ghost use Rattle.rankfeed.specs.Items.{IsFeed};
-    ghost use Rattle.rankfeed.specs.Answers.{Receives, came_with};
-    ghost use Rattle.rankfeed.specs.Rings.{taker_ring, received_by, left_for, receipt_ring, sent_whole};
+    ghost use Rattle.mpicall.specs.declared.call.Call.{Call};
+    ghost use Rattle.rankfeed.specs.declared.item.Item.TheVariants.{Entry};
+    ghost use Rattle.rankfeed.specs.Answers.{Receives, Looks};
+    ghost use Rattle.rankfeed.specs.Rings.{taker_ring, received_by, left_for, front_of, receipt_ring, sent_whole};
 
     /// The rank whose records are taken.
     pub fn rank(&self) -> u16
         ensures { result ≡ (taker_ring self.now).rank_number }
     {
         self.rank
+    }
+
+    /// Looks for the next item. A record is left at the front; an end mark is taken.
+    #[tactic(auto, using(crate::proofs::ItemLemmas::item_steps))]
+    pub fn look(&mut self) -> Came
+        ensures name { taker_ring self.new ≡ taker_ring self.old }
+        ensures received { Looks (end_of (received_by self.old)) result (received_by self.old) (received_by self.new) }
+        ensures front { result ≡ Came.Record → IsSome (front_of self.new) × (end_of (received_by self.new) ≡ None) }
+        ensures left { are_ended (received_by self.old ++ left_for self.old) ≡ true → received_by self.new ++ left_for self.new ≡ received_by self.old ++ left_for self.old }
+        ensures order { IsFeed (received_by self.new) }
+        ensures never_empty { are_ended (received_by self.old ++ left_for self.old) ≡ true → ¬ (result ≡ Came.Empty) }
+    {
+        if let Some(end) = self.end {
+            return end.came();
+        }
+        if self.ring.cached_slots() == 0 && self.ring.slots() == 0 {
+            return Came::Empty;
+        }
+        match *self.ring.peek_known() {
+            Item::Entry(_) => Came::Record,
+            Item::Mark(end) => {
+                self.ring.pop_known();
+                self.end = Some(end);
+                end.came()
+            }
+        }
+    }
+
+    /// The record at the front, in its place in the ring, for those that take many: a record takes some 264
+    /// bytes.
+    pub fn front(&self) -> &Record
+        requires { IsSome (front_of self.now) }
+        ensures { front_of self.now ≡ Some result.now }
+    {
+        match *self.ring.peek_known() {
+            Item::Entry(ref call) => call,
+            Item::Mark(_) => unreachable!(),
+        }
+    }
+
+    /// Takes the record at the front.
+    #[tactic(auto, using(crate::proofs::ItemLemmas::item_steps))]
+    pub fn pass(&mut self)
+        requires front { IsSome (front_of self.old) }
+        requires open { end_of (received_by self.old) ≡ None }
+        ensures name { taker_ring self.new ≡ taker_ring self.old }
+        ensures received { (call : Call) → front_of self.old ≡ Some call → received_by self.new ≡ received_by self.old ++ Entry call ∷ [] }
+        ensures left { received_by self.new ++ left_for self.new ≡ received_by self.old ++ left_for self.old }
+        ensures order { IsFeed (received_by self.new) }
+    {
+        self.ring.pop_known();
+        if self.ring.cached_slots() == 0 {
+            self.bell.ring();
+        }
     }
 
     /// Takes the item at the front.
@@ -258,41 +313,15 @@ impl Taker {
         ensures order { IsFeed (received_by self.new) }
         ensures never_empty { are_ended (received_by self.old ++ left_for self.old) ≡ true → ¬ (result ≡ Took.Empty) }
     {
-        let mut call = Record::finalize();
-        self.take_into(&mut call).with(&call)
-    }
-
-    /// Takes the item at the front, for those that take many: a record comes into one place, since it takes
-    /// some 264 bytes. Another answer leaves the place as it was.
-    #[tactic(auto, using(crate::proofs::ItemLemmas::item_steps))]
-    pub fn take_into(&mut self, into: &mut Record) -> Came
-        ensures name { taker_ring self.new ≡ taker_ring self.old }
-        ensures received { Receives (end_of (received_by self.old)) (came_with result into.new) (received_by self.old) (received_by self.new) }
-        ensures left { are_ended (received_by self.old ++ left_for self.old) ≡ true → received_by self.new ++ left_for self.new ≡ received_by self.old ++ left_for self.old }
-        ensures order { IsFeed (received_by self.new) }
-        ensures never_empty { are_ended (received_by self.old ++ left_for self.old) ≡ true → ¬ (result ≡ Came.Empty) }
-        ensures kept { result ≢ Came.Record → into.new ≡ into.old }
-    {
-        if let Some(end) = self.end {
-            return end.came();
-        }
-        if self.ring.cached_slots() == 0 && self.ring.slots() == 0 {
-            return Came::Empty;
-        }
-        match *self.ring.peek_known() {
-            Item::Entry(ref call) => {
-                *into = *call;
-                self.ring.pop_known();
-                if self.ring.cached_slots() == 0 {
-                    self.bell.ring();
-                }
-                Came::Record
+        match self.look() {
+            Came::Record => {
+                let call = *self.front();
+                self.pass();
+                Took::Record(call)
             }
-            Item::Mark(end) => {
-                self.ring.pop_known();
-                self.end = Some(end);
-                end.came()
-            }
+            Came::Empty => Took::Empty,
+            Came::Sealed => Took::Sealed,
+            Came::Torn(fault) => Took::Torn(fault),
         }
     }
 

@@ -43,17 +43,19 @@ fn a_feed_of_two_places(rt: HostRuntime) -> Result<(), Fail> {
 }
 
 #[test]
-fn a_record_comes_into_a_place(rt: HostRuntime) -> Result<(), Fail> {
+fn a_record_stands_at_the_front(rt: HostRuntime) -> Result<(), Fail> {
     let send = record(&rt, b"send 0 0 0\n");
     let finalize = record(&rt, b"finalize\n");
     let (mut feed, mut taker) = Feed::open(rt.alloc(), 0, 2)?;
-    let mut place = finalize;
-    assert_eq!(rt; taker.take_into(&mut place), Came::Empty);
+    assert_eq!(rt; taker.look(), Came::Empty);
     assert!(rt; feed.put_copy(&send, &rt));
-    assert_eq!(rt; taker.take_into(&mut place), Came::Record);
-    assert_eq!(rt; place, send);
     assert!(rt; feed.put_copy(&finalize, &rt));
     assert!(rt; !feed.put_copy(&send, &rt));
+    assert_eq!(rt; taker.look(), Came::Record);
+    assert_eq!(rt; *taker.front(), send);
+    taker.pass();
+    assert_eq!(rt; taker.look(), Came::Record);
+    assert_eq!(rt; *taker.front(), finalize);
     Ok(())
 }
 
