@@ -100,6 +100,7 @@ impl Notes {
 
     /// The noted call of a rank at a place; None where there is none. It has one start for each request
     /// that it names.
+    #[inline(always)]
     pub(crate) fn get(&self, rank: u16, place: u32) -> Option<Note<'_>>
         ensures value { result ≡ slice_get (notes_of self.now.lists rank) place }
         ensures starts { IfSome result (λ note. length note.starts ≡ length (waits_for note.call)) }

@@ -111,8 +111,8 @@ fn reserve(
     tables.reserve(head, rank, call)
 }
 
-/// Notes the rank's next call, with what the tables of the calls before it say of it.
-fn note_call(head: &Head, notes: &mut Notes, tables: &Tables, rank: u16, call: &Record)
+/// Notes the rank's next wait, with the places that started the requests which it names.
+fn note_wait(head: &Head, notes: &mut Notes, tables: &Tables, rank: u16, call: &Record)
     requires is_rank { rank < length notes.old.lists }
     requires room { HasRoom notes.old rank call.now }
     requires few { length (notes_of notes.old.lists rank) < most_calls }
@@ -127,6 +127,22 @@ fn note_call(head: &Head, notes: &mut Notes, tables: &Tables, rank: u16, call: &
         .active
         .starts_of(rank, waits_for(call.as_call()), &mut starts);
     notes.note(rank, call, beside, &starts[..count]);
+}
+
+/// Notes the rank's next call, with what the tables of the calls before it say of it.
+fn note_call(head: &Head, notes: &mut Notes, tables: &Tables, rank: u16, call: &Record)
+    requires is_rank { rank < length notes.old.lists }
+    requires room { HasRoom notes.old rank call.now }
+    requires few { length (notes_of notes.old.lists rank) < most_calls }
+    requires tables { AreTables head.now (recording_of notes.old.lists) tables.now }
+    requires active { waits_for_active (calls_of (recording_of notes.old.lists) rank) call.now ≡ true }
+    ensures { GoOnBy notes.old.lists notes.new.lists rank call.now }
+{
+    if waits_for(call.as_call()).is_empty() {
+        notes.note(rank, call, tables.beside(rank, call), &[]);
+    } else {
+        note_wait(head, notes, tables, rank, call);
+    }
 }
 
 /// Puts in the rank's next call, which has no fault, at its place. It takes no memory.
@@ -168,6 +184,7 @@ fn partner_of(head: &Head, notes: &Notes, rank: u16, place: u32, half: Half) -> 
 }
 
 /// The wave that a call joins.
+#[inline(always)]
 fn wave_of(notes: &Notes, rank: u16, place: u32) -> Option<(u16, u32)>
     requires { AreNoted notes.now.lists }
     ensures { result ≡ wave_of (recording_of notes.now.lists) rank place }
@@ -315,6 +332,7 @@ impl Pairs {
     }
 
     /// The call of a rank at a place; None where there is none.
+    #[inline(always)]
     pub fn call(&self, rank: u16, place: u32) -> Option<StoredCall<'_>>
         ensures { result ≡ slice_get (calls_of self.now.recording rank) place }
     {
@@ -335,6 +353,7 @@ impl Pairs {
 
     /// The communicator and the number of the wave that the call at the place joins; None where it joins
     /// none.
+    #[inline(always)]
     pub fn wave_of(&self, rank: u16, place: u32) -> Option<(u16, u32)>
         ensures { result ≡ wave_of self.now.recording rank place }
     {

@@ -109,6 +109,7 @@ impl RankNotes {
     }
 
     /// The noted call at a place; None where there is none.
+    #[inline(always)]
     pub(crate) fn get(&self, place: u32) -> Option<Note<'_>>
         ensures value { result ≡ slice_get self.now.calls place }
         ensures starts { IfSome result (λ note. length note.starts ≡ length (waits_for note.call)) }

@@ -2,6 +2,7 @@
 use Rattle.std.proofs.Common.{◌≡◌, ℕ, zero, suc, ◌+◌, ◌-◌, ◌<◌, ◌≤◌, true, false, Option, Some, None, List, [], ◌++◌, length, refl, sym, ap, subst, arith}
 use Rattle.std.specs.List.{flat_map, range_with_len}
 use Rattle.std.specs.Prelude.{unwrap_or}
+use Rattle.std.specs.Option.{option_map_or}
 use Rattle.std.proofs.lemmas.Option.{none-some}
 use Rattle.std.proofs.lemmas.Bool.Decides.{Decides-eqb}
 use Rattle.std.proofs.lemmas.Slice.Eq.{bytes_eq-Decides}
@@ -57,7 +58,7 @@ alike first call kind of_first of_call compared comm wave member =
     (λ b. same_kind compared comm wave member a b kind))
 
 -- where nothing is listed of each number
-nothing_listed : {A : Type 0} (listed : ℕ → List A) (a n : ℕ) → ((j : ℕ) → a ≤ j → j < a + n → listed j ≡ []) → flat_map listed (range_with_len a n) ≡ []
+pub nothing_listed : {A : Type 0} (listed : ℕ → List A) (a n : ℕ) → ((j : ℕ) → a ≤ j → j < a + n → listed j ≡ []) → flat_map listed (range_with_len a n) ≡ []
 nothing_listed listed a zero each = refl
 nothing_listed listed a (suc n) each =
     rw (each a (omega arith) (omega arith), nothing_listed listed (a + 1) n (λ j from to. each j (omega arith) (omega arith))) refl
@@ -82,6 +83,11 @@ unfolding kinds_of roots_of
 no_differences groups recording nothing = rw (nothing Kinds, nothing Roots) refl
 
 -- a collective of a kind makes nothing
-pub kind_is_given : (groups : Groups) (recording : Lists) (call : Call) (kind : Kind) (wave : ℕ × ℕ) → kind_of call ≡ Some kind → is_wrong_group groups recording call wave ≡ false
+kind_is_given : (groups : Groups) (recording : Lists) (call : Call) (kind : Kind) (wave : ℕ × ℕ) → kind_of call ≡ Some kind → is_wrong_group groups recording call wave ≡ false
 kind_is_given groups recording call kind wave is =
     of_kind (λ (one : Call). is_wrong_group groups recording one wave ≡ false) call kind is (λ comm. refl)
+
+-- so whatever wave it joins has no wrong group by it
+pub no_wave_is_wrong : (groups : Groups) (recording : Lists) (call : Call) (kind : Kind) (wave : Option (ℕ × ℕ)) → kind_of call ≡ Some kind → option_map_or (is_wrong_group groups recording call) wave false ≡ false
+no_wave_is_wrong groups recording call kind None is = refl
+no_wave_is_wrong groups recording call kind (Some wave) is = kind_is_given groups recording call kind wave is

@@ -18,3 +18,4 @@ pub mod StuckLemmas
 pub mod SpelledLemmas
 pub mod TellingLemmas
 pub mod AlikeLemmas
+pub mod PlainLemmas

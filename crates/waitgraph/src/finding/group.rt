@@ -4,6 +4,7 @@ ghost use Rattle.std.specs.Prelude.{◌≡◌, ◌≤◌, ◌++◌, false, lengt
 ghost use Rattle.std.specs.Str.{bytes_eq};
 ghost use Rattle.std.specs.Option.{option_map_or};
 ghost use Rattle.mpigroup.specs.Groups.{group_of};
+ghost use Rattle.pairing.specs.Waves.{wave_of};
 ghost use Rattle.waitgraph.specs.Places.{call_of_member, over_places};
 ghost use Rattle.waitgraph.specs.Findings.{same_word, all_call_alike, choice_of, choices_in, split_ranks, in_world, member_makes, is_given, makes_given, is_wrong_group, is_wrong_at, group_at, wrong_groups_of};
 
@@ -237,30 +238,34 @@ fn is_wrong_group(
     Ok(!makes_given(alloc, pairs, comm, wave, call)? && all_call_alike(pairs, comm, wave, call))
 }
 
-/// The same of a call that is kept. A collective of a kind makes no communicator.
-#[tactic(auto, using(crate::proofs::AlikeLemmas::kind_is_given))]
+/// The same of a call that is kept, in the wave that it joins, if it joins one. A collective of a kind makes no
+/// communicator.
+#[tactic(auto, using(crate::proofs::AlikeLemmas::no_wave_is_wrong))]
 fn is_wrong_stored(
     alloc: Global,
     pairs: &Pairs,
-    comm: u16,
-    wave: u32,
+    rank: u16,
+    place: u32,
     call: &StoredCall<'_>,
 ) -> Result<bool, AllocError>
-    ensures { IfOk result (λ is. is ≡ is_wrong_group pairs.now.groups pairs.now.recording call.now (comm, wave)) }
+    ensures { IfOk result (λ is. is ≡ option_map_or (is_wrong_group pairs.now.groups pairs.now.recording call.now) (wave_of pairs.now.recording rank place) false) }
 {
     if call.kind().is_some() {
         return Ok(false);
     }
-    is_wrong_group(alloc, pairs, comm, wave, call.record().as_call())
+    match pairs.wave_of(rank, place) {
+        Some((comm, wave)) => is_wrong_group(alloc, pairs, comm, wave, call.record().as_call()),
+        None => Ok(false),
+    }
 }
 
 /// Whether the call at the place has such a group.
 fn is_wrong_at(alloc: Global, pairs: &Pairs, rank: u16, place: u32) -> Result<bool, AllocError>
     ensures { IfOk result (λ is. is ≡ is_wrong_at pairs.now.groups pairs.now.recording rank place) }
 {
-    match (pairs.call(rank, place), pairs.wave_of(rank, place)) {
-        (Some(call), Some((comm, wave))) => { is_wrong_stored(alloc, pairs, comm, wave, &call) }
-        _ => Ok(false),
+    match pairs.call(rank, place) {
+        Some(call) => is_wrong_stored(alloc, pairs, rank, place, &call),
+        None => Ok(false),
     }
 }
 

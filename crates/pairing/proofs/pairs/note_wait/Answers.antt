@@ -10,7 +10,7 @@ use Rattle.pairing.specs.Notes.{recording_of, AreStarts}
 use Rattle.pairing.proofs.KeptLemmas.{count_noted}
 use Rattle.pairing.proofs.NotedLemmas.{calls_of-recorded}
 use Rattle.pairing.proofs.StartLemmas.{are_starts}
-use Rattle.pairing.proofs.pairs.note_call.Goals as goal
+use Rattle.pairing.proofs.pairs.note_wait.Goals as goal
 
 pub note-requires-clause-starts : goal.note-requires-clause-starts
 note-requires-clause-starts c =
