@@ -26,7 +26,7 @@ use Rattle.rankfeed.specs.declared.item.Ending.TheVariants.{Sealed, Torn}
 use Rattle.rankfeed.specs.declared.item.Item.{Item}
 use Rattle.rankfeed.specs.declared.item.Item.TheVariants.{Entry, Mark}
 use Rattle.rankfeed.proofs.ItemLemmas.{last_item-push}
-use Rattle.gather.specs.Fed.{marked, end_behind, ended_here, mark_of, ending_of, CountsReads, Begins, EndsAs, StopsAs, line_behind, IsFed, is_failed_read}
+use Rattle.gather.specs.Fed.{marked, end_behind, ended_here, mark_of, ending_of, CountsReads, Begins, EndsAs, StopsAs, line_behind, IsFed, is_failed_read, GoesOn, Continues}
 
 -- No record stands behind the one that ends the list.
 
@@ -98,21 +98,6 @@ none_further (last ∷ []) call rest closed ends = let e = closed.0 ends in cc
 none_further (first ∷ next ∷ calls) call rest closed ends = none_further (next ∷ calls) call rest closed.1 ends
 
 -- The records put so far.
-
--- the trace is these records and then the rest
-pub record IsBehind (whole : Trace) (calls : List Call) (rest : Trace) : Type 0 where
-  pub records : whole.records ≡ calls ++ rest.records
-  pub end : whole.end ≡ rest.end
-
-abbrev pub GoesOn : Option Trace → List Call → Option Trace → Type 0
-GoesOn None calls now = ⊤
-GoesOn (Some whole) calls now = (rest : Trace) × (now ≡ Some rest) × IsBehind whole calls rest
-
--- the items put are records, and what is told goes on behind them
-pub record Continues (told : Option Trace) (items : List Item) (now : Option Trace) : Type 0 where
-  pub calls : List Call
-  pub are : items ≡ map Entry calls
-  pub goes_on : GoesOn told calls now
 
 pub begins : (told : Option Trace) (items : List Item) → items ≡ [] → Continues told items told
 begins None items is = record { calls = []; are = is; goes_on = tt }
@@ -254,26 +239,20 @@ refused_at_end items taken is refused = was_true (end_the_list items) (sym is �
 
 -- How many reads failed.
 
-counted_behind : (items : List Item) (end : Ending) (now start : ℕ) → now ≡ count_if (is_failed_read (Some end)) start → now ≡ count_if (is_failed_read (end_of (items ++ Mark end ∷ []))) start
+-- a count by an end mark is one by the items that it ends
+pub counted_behind : (items : List Item) (end : Ending) (now start : ℕ) → now ≡ count_if (is_failed_read (Some end)) start → now ≡ count_if (is_failed_read (end_of (items ++ Mark end ∷ []))) start
 counted_behind items end now start e = e ∙ ap (λ o. count_if (is_failed_read (mark_in o)) start) (sym (last_item-push items (Mark end)))
 
-counts_nothing : (end : Option End) (call : Option Call) (before after : ℕ) → after ≡ count_after end (Ok call) before → end ≡ None → after ≡ before
+-- a source that gives a record, or its end, counts no failure
+pub counts_nothing : (end : Option End) (call : Option Call) (before after : ℕ) → after ≡ count_after end (Ok call) before → end ≡ None → after ≡ before
 counts_nothing end call before after e is = e ∙ ap (λ o. count_after o (Ok call) before) is
-
-pub counted_stopped : (items : List Item) (now start : ℕ) → now ≡ start → now ≡ count_if (is_failed_read (end_of (items ++ Mark (Torn GateStopped) ∷ []))) start
-counted_stopped items now start e = counted_behind items (Torn GateStopped) now start e
-
-pub counted_closed : (items : List Item) (end : Option End) (call : Option Call) (before now start : ℕ) → now ≡ count_after end (Ok call) before → end ≡ None → before ≡ start → now ≡ count_if (is_failed_read (end_of (items ++ Mark (Torn TextAfterFinalize) ∷ []))) start
-counted_closed items end call before now start e fresh same =
-    counted_behind items (Torn TextAfterFinalize) now start (counts_nothing end call before now e fresh ∙ same)
 
 ended_count : (ends : Bool) (count : ℕ) → count ≡ count_if (is_failed_read (Some (end_behind ends))) count
 ended_count true count = refl
 ended_count false count = refl
 
-pub counted_ended : (items : List Item) (end : Option End) (call : Option Call) (before now start : ℕ) → now ≡ count_after end (Ok call) before → end ≡ None → before ≡ start → now ≡ count_if (is_failed_read (end_of (ended_here items))) start
-counted_ended items end call before now start e fresh same =
-    counted_behind items (end_behind (end_the_list items)) now start (counts_nothing end call before now e fresh ∙ same ∙ ended_count (end_the_list items) start)
+pub counted_ended : (ends : Bool) (end : Option End) (call : Option Call) (before after : ℕ) → after ≡ count_after end (Ok call) before → end ≡ None → after ≡ count_if (is_failed_read (Some (end_behind ends))) before
+counted_ended ends end call before after e is = counts_nothing end call before after e is ∙ ended_count ends before
 
 same_count : (fault : SourceFault) (count : ℕ) → count_after None (Err fault) count ≡ count_if (is_failed_read (Some (Torn fault))) count
 same_count (Line fault) count = refl
@@ -283,9 +262,8 @@ same_count ReadFailed count = refl
 same_count GateStopped count = refl
 same_count ThreadNotStarted count = refl
 
-pub counted_torn : (items : List Item) (end : Option End) (fault : SourceFault) (before now start : ℕ) → now ≡ count_after end (Err fault) before → end ≡ None → before ≡ start → now ≡ count_if (is_failed_read (end_of (items ++ Mark (Torn fault) ∷ []))) start
-counted_torn items end fault before now start e fresh same =
-    counted_behind items (Torn fault) now start (e ∙ ap (λ o. count_after o (Err fault) before) fresh ∙ same_count fault before ∙ ap (count_if (is_failed_read (Some (Torn fault)))) same)
+pub counted_torn : (end : Option End) (fault : SourceFault) (before after : ℕ) → after ≡ count_after end (Err fault) before → end ≡ None → after ≡ count_if (is_failed_read (Some (Torn fault))) before
+counted_torn end fault before after e is = e ∙ ap (λ o. count_after o (Err fault) before) is ∙ same_count fault before
 
 -- What is true of the items that a receipt tells.
 

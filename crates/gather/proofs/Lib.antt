@@ -10,4 +10,5 @@ pub mod CloseLemmas
 pub mod FedLemmas
 pub mod AlongLemmas
 pub mod ThreadLemmas
+pub mod TurnLemmas
 pub mod PassedLemmas

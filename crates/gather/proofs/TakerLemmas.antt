@@ -8,7 +8,6 @@ use Rattle.mpicall.specs.declared.call.Call.{Call}
 use Rattle.rankfeed.specs.Answers.{Receives, Looks, came_with, came_end, told_end}
 use Rattle.rankfeed.specs.Rings.{taker_ring, received_by, left_for}
 use Rattle.rankfeed.specs.declared.answer.Came.{Came}
-use Rattle.rankfeed.specs.declared.answer.Came.TheVariants as Came
 use Rattle.rankfeed.specs.declared.answer.Took.{Took}
 use Rattle.rankfeed.specs.declared.item.Ending.{Ending}
 use Rattle.rankfeed.specs.declared.item.Ending.TheVariants.{Sealed, Torn}

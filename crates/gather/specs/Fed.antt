@@ -1,5 +1,5 @@
 -- What is put on a rank's feed, by the trace of the rank's source.
-use Rattle.std.specs.Prelude.{◌≡◌, ◌⊎◌, ℕ, ◌-◌, ◌^◌, min, Bool, true, false, ⊤, Option, Some, IfSome, Result, Ok, Err, List, [], ◌∷◌, ◌++◌, length, map}
+use Rattle.std.specs.Prelude.{◌≡◌, ◌⊎◌, ℕ, ◌-◌, ◌^◌, min, Bool, true, false, ⊤, Option, Some, None, IfSome, Result, Ok, Err, List, [], ◌∷◌, ◌++◌, length, map}
 use Rattle.mpicall.specs.Device.{count_if, one_more}
 use Rattle.mpicall.specs.Trace.{Trace, End}
 use Rattle.mpicall.specs.Trace as Trace
@@ -77,3 +77,18 @@ is_failed_read end = false
 abbrev pub CountsReads : ℕ → ℕ → Result Receipt Unsealed → Type 0
 CountsReads old new (Ok receipt) = new ≡ count_if (is_failed_read (end_of (sent_whole receipt))) old
 CountsReads old new (Err unsealed) = (new ≡ old) ⊎ (new ≡ one_more old)
+
+-- the trace is these records and then the rest
+pub record IsBehind (whole : Trace) (calls : List Call) (rest : Trace) : Type 0 where
+  pub records : whole.records ≡ calls ++ rest.records
+  pub end : whole.end ≡ rest.end
+
+abbrev pub GoesOn : Option Trace → List Call → Option Trace → Type 0
+GoesOn None calls now = ⊤
+GoesOn (Some whole) calls now = (rest : Trace) × (now ≡ Some rest) × IsBehind whole calls rest
+
+-- the items put are records, and what is told goes on behind them
+pub record Continues (told : Option Trace) (items : List Item) (now : Option Trace) : Type 0 where
+  pub calls : List Call
+  pub are : items ≡ map Entry calls
+  pub goes_on : GoesOn told calls now

@@ -10,5 +10,7 @@ pub mod Collectors
 pub mod Closes
 pub mod Fed
 pub mod Threads
+pub mod Reads
+pub mod Turns
 pub mod Along
 pub mod Runs

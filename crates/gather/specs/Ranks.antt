@@ -1,5 +1,5 @@
 -- What an answer says of each rank, by what its source tells, be the other sources told or not.
-use Rattle.std.specs.Prelude.{◌≡◌, ℕ, ◌<◌, Bool, false, ⊤, Option, None, option_and_then, Result, Err, IfSome, if◌then◌else◌, Some, List, length, slice_get}
+use Rattle.std.specs.Prelude.{◌≡◌, ℕ, ◌<◌, false, ⊤, Option, None, option_and_then, IfSome, Some, List, length, slice_get}
 use Rattle.mpicall.specs.Source.{coming}
 use Rattle.mpicall.specs.declared.source.Source.{Source}
 use Rattle.mpicall.specs.Trace.{Trace}

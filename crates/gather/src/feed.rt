@@ -1,34 +1,86 @@
 //! The records of one rank's source, put on the rank's feed.
 
-ghost use Rattle.std.specs.Prelude.{◌≡◌, ℕ, List, [], None, IfOk};
+ghost use Rattle.std.specs.Prelude.{◌≡◌, ℕ, IsTrue, List, [], ◌∷◌, ◌++◌, None, Some, IfOk};
+ghost use Rattle.mpicall.specs.Device.{count_if};
 ghost use Rattle.mpicall.specs.Source.{coming, ended, input_of};
-ghost use Rattle.rankfeed.specs.Items.{IsFeed};
+ghost use Rattle.mpicall.specs.declared.source.Source.{Source as SourceValue};
+ghost use Rattle.rankfeed.specs.Items.{IsFeed, end_the_list};
+ghost use Rattle.rankfeed.specs.declared.item.Ending.TheVariants.{Sealed};
+ghost use Rattle.rankfeed.specs.declared.item.Item.TheVariants.{Mark};
 ghost use Rattle.rankfeed.specs.Rings.{feed_ring, sent_by, receipt_ring, sent_whole};
 ghost use Rattle.mpicall.specs.Trace.{trace_of};
 ghost use Rattle.gather.specs.Answers.{ASealedTextHasItsFinalize};
-ghost use Rattle.gather.specs.Fed.{IsFed, CountsReads, ended_here, mark_of, ending_of};
+ghost use Rattle.gather.specs.Fed.{IsFed, CountsReads, end_behind, is_failed_read, mark_of, ending_of};
+ghost use Rattle.gather.specs.Reads.{IsReading, IsRead};
 
 use crate::gate::Gate;
 use mpicall::device::Input;
 use mpicall::fault::SourceFault;
 use mpicall::record::Record;
 use mpicall::source::Source;
-use rankfeed::{Feed, Receipt, Unsealed};
+use rankfeed::{Ending, Feed, Receipt, Unsealed};
 use std::sync::Wait;
 
 #[cfg(test)]
 mod tests;
 
-/// Puts the end mark of a feed whose source has no more records.
-fn end(feed: Feed) -> Result<Receipt, Unsealed>
-    ensures name { IfOk result (λ receipt. receipt_ring receipt ≡ feed_ring feed) }
-    ensures sent { IfOk result (λ receipt. sent_whole receipt ≡ ended_here (sent_by feed)) }
-    ensures order { IfOk result (λ receipt. IsFeed (sent_whole receipt)) }
+/// The end mark of a feed whose source has no more records.
+fn end_of(feed: &Feed) -> Ending
+    ensures { result ≡ end_behind (end_the_list (sent_by feed.now)) }
 {
     if feed.is_done() {
-        feed.seal()
+        Ending::Sealed
     } else {
-        feed.tear(SourceFault::NoFinalize)
+        Ending::Torn(SourceFault::NoFinalize)
+    }
+}
+
+/// Puts the end mark behind the records.
+pub(crate) fn end_with(feed: Feed, end: Ending) -> Result<Receipt, Unsealed>
+    requires { end ≡ Sealed → IsTrue (end_the_list (sent_by feed)) }
+    ensures name { IfOk result (λ receipt. receipt_ring receipt ≡ feed_ring feed) }
+    ensures sent { IfOk result (λ receipt. sent_whole receipt ≡ sent_by feed ++ Mark end ∷ []) }
+    ensures order { IfOk result (λ receipt. IsFeed (sent_whole receipt)) }
+{
+    match end {
+        Ending::Sealed => feed.seal(),
+        Ending::Torn(fault) => feed.tear(fault),
+    }
+}
+
+/// Puts the next record of a rank's source on the rank's feed. Where the records end, it answers the end mark
+/// that is to come behind them. The gate is asked first, by the number of the calls before.
+pub(crate) fn put_next<I: Input, G: Gate>(
+    rank: u16,
+    source: &mut Source<I>,
+    feed: &mut Feed,
+    line: &mut u32,
+    record: &mut Record,
+    gate: &G,
+    wait: &impl Wait,
+) -> Option<Ending>
+    requires { ended source.old ≡ None }
+    ensures name { feed_ring feed.new ≡ feed_ring feed.old }
+    ensures read { (start : SourceValue I) → IsReading I.left start source.old (sent_by feed.old) line.old
+        → IsRead I.left (G.may_stop gate.now rank) start source.new (sent_by feed.new) line.new result }
+    ensures fresh { result ≡ None → ended source.new ≡ None }
+    ensures sealed { result ≡ Some Sealed → IsTrue (end_the_list (sent_by feed.new)) }
+    ensures count { I.failures (input_of source.new) ≡ count_if (is_failed_read result) (I.failures (input_of source.old)) }
+{
+    if !gate.ask(rank, *line) {
+        return Some(Ending::Torn(SourceFault::GateStopped));
+    }
+    *line = line.saturating_add(1);
+    match source.next_into(record) {
+        Ok(true) => {
+            if feed.put_copy(record, wait) {
+                None
+            } else {
+                Some(Ending::Torn(SourceFault::TextAfterFinalize))
+            }
+        }
+        Ok(false) => Some(end_of(feed)),
+        Err(fault) => Some(Ending::Torn(fault)),
     }
 }
 
@@ -53,18 +105,9 @@ pub fn feed<I: Input, G: Gate>(
     let mut record = Record::finalize();
     let mut line = 0u32;
     for _ in wait.forever() {
-        if !gate.ask(rank, line) {
-            return feed.tear(SourceFault::GateStopped);
-        }
-        line = line.saturating_add(1);
-        match source.next_into(&mut record) {
-            Ok(true) => {
-                if !feed.put_copy(&record, wait) {
-                    return feed.tear(SourceFault::TextAfterFinalize);
-                }
-            }
-            Ok(false) => return end(feed),
-            Err(fault) => return feed.tear(fault),
+        let end = put_next(rank, source, &mut feed, &mut line, &mut record, gate, wait);
+        if let Some(end) = end {
+            return end_with(feed, end);
         }
     }
     unreachable!()

@@ -49,4 +49,6 @@ mod sweep;
 #[cfg(test)]
 mod tests;
 pub mod threads;
+mod turn;
+mod turns;
 pub mod watch;

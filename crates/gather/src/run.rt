@@ -13,10 +13,11 @@ ghost use Rattle.gather.specs.Runs.{receipt_of, of_close, IsOutcomeOfFeeds, Refu
 
 use crate::fault::RunFault;
 use crate::gate::Gate;
-use crate::gathering::in_threads;
+pub use crate::gathering::Reading;
+use crate::gathering::read_all;
 use crate::outcome::{CloseFault, Outcome};
 use crate::session::Session;
-use crate::threads::{Fed, NotStarted};
+use crate::threads::Fed;
 use moves::verdict::Verdict;
 use mpicall::device::{Input, Output};
 use mpicall::source::Source;
@@ -42,8 +43,7 @@ fn receipts_of(fed: Vec<Fed>, receipts: Vec<Option<Receipt>>) -> Vec<Option<Rece
     receipts
 }
 
-/// What comes of the sources, each read by a thread with a stack of this size; of the system's where none is
-/// given.
+/// What comes of the sources, read in the way that was asked for.
 fn outcome_of<I, G, R>(
     alloc: Global,
     head: Head,
@@ -51,7 +51,7 @@ fn outcome_of<I, G, R>(
     capacity: u16,
     gate: &G,
     rt: &R,
-    stack_size: Option<usize>,
+    reading: Reading,
 ) -> Result<Outcome, CloseFault>
 where
     I: Input + Drop + Send,
@@ -65,30 +65,16 @@ where
     ensures stopped { IfErr result (λ fault. StopsWhereAllowed (G.may_stop gate.now) (of_close fault)) }
 {
     let ranks = sources.len();
-    let Ok((feeds, collector, _watches)) = Session::open(alloc, head, capacity, 0, rt) else {
-        return Err(CloseFault::Memory);
-    };
-    let Ok(started) = Vec::with_capacity(alloc, ranks) else {
-        return Err(CloseFault::Memory);
-    };
-    let Ok(fed) = Vec::with_capacity(alloc, ranks) else {
+    let places = reading.places(capacity);
+    let Ok((feeds, collector, _watches)) = Session::open(alloc, head, places, 0, rt) else {
         return Err(CloseFault::Memory);
     };
     let Ok(receipts) = Vec::with_capacity(alloc, ranks) else {
         return Err(CloseFault::Memory);
     };
-    let not_started = NotStarted::none();
-    let (collector, fed) = in_threads(
-        rt,
-        sources,
-        feeds,
-        collector,
-        started,
-        fed,
-        gate,
-        &not_started,
-        stack_size,
-    );
+    let Ok((collector, fed)) = read_all(alloc, rt, sources, feeds, collector, gate, reading) else {
+        return Err(CloseFault::Memory);
+    };
     collector.close(receipts_of(fed, receipts))
 }
 
@@ -123,7 +109,7 @@ fn report<O: Output>(
     }
 }
 
-/// Reads the sources of all ranks at once, each by a thread of its own and to its end, and writes the report
+/// Reads the sources of all ranks at once, in the way that is asked for and each to its end, and writes the report
 /// of the run: whether some rank can't reach its Finalize, whatever way the run goes, who waits for whom and
 /// why, and what else is wrong. The first fault of the lowest rank that has one is told instead, and then
 /// nothing is written.
@@ -131,7 +117,7 @@ fn report<O: Output>(
 /// There is one source a rank, in rank order; none of them may have been asked before. At most `capacity`
 /// records of a rank wait to be judged. Before each record is read the gate is asked. All threads have ended
 /// when this returns.
-pub fn run<I, G, O, R>(
+pub fn run_by<I, G, O, R>(
     alloc: Global,
     head: Head,
     sources: Vec<Source<I>>,
@@ -140,6 +126,7 @@ pub fn run<I, G, O, R>(
     format: Format,
     out: &mut O,
     rt: &R,
+    reading: Reading,
 ) -> Result<Verdict, RunFault>
 where
     I: Input + Drop + Send,
@@ -167,10 +154,49 @@ where
     ensures no_write_failed { OnOk result (O.failures out.new ≡ O.failures out.old) }
     ensures output { IfErr result (LeavesOutput I.left O.written O.failures sources.items head format out.old out.new) }
 {
-    match outcome_of(alloc, head, sources, capacity, gate, rt, None) {
+    match outcome_of(alloc, head, sources, capacity, gate, rt, reading) {
         Ok(outcome) => report(alloc, &outcome, format, out),
         Err(fault) => Err(fault_of_close(fault)),
     }
+}
+
+/// The same as `run_by`, with a thread for each source.
+pub fn run<I, G, O, R>(
+    alloc: Global,
+    head: Head,
+    sources: Vec<Source<I>>,
+    capacity: u16,
+    gate: &G,
+    format: Format,
+    out: &mut O,
+    rt: &R,
+) -> Result<Verdict, RunFault>
+where
+    I: Input + Drop + Send,
+    G: Gate + Sync,
+    O: Output,
+    R: Threads + Wait + Sync,
+    requires room { 0 < capacity }
+    requires one_a_rank { length sources.items ≡ ranks_of head }
+    requires fresh { AreFresh sources.items }
+
+    ensures verdict { IfOk result (λ verdict. (traces : List TraceValue) →
+        Tells I.left sources.items traces → IsVerdictOver head traces verdict) }
+    ensures refused { IfErr result (λ fault. (traces : List TraceValue) →
+        Tells I.left sources.items traces → RefusesOver head traces fault) }
+
+    ensures fed { IfErr result (RefusesFeeds I.left (G.may_stop gate.now) sources.items head) }
+    ensures stopped { IfErr result (StopsWhereAllowed (G.may_stop gate.now)) }
+
+    ensures written { IfOk result (WritesReport I.left O.written O.failures sources.items head format out.old out.new) }
+
+    ensures no_write_failed { OnOk result (O.failures out.new ≡ O.failures out.old) }
+    ensures output { IfErr result (LeavesOutput I.left O.written O.failures sources.items head format out.old out.new) }
+{
+    let reading = Reading::InThreads { stack_size: None };
+    run_by(
+        alloc, head, sources, capacity, gate, format, out, rt, reading,
+    )
 }
 
 #[cfg(test)]

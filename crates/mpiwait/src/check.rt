@@ -14,7 +14,7 @@ use crate::capacity::Capacity;
 use crate::fault::Fault;
 use crate::opener::Opener;
 use gather::gate::OpenGate;
-use gather::run::run;
+use gather::run::{Reading, run_by};
 use moves::verdict::Verdict;
 use mpicall::device::{DeviceFault, Input, Output};
 use mpicall::source::Source;
@@ -92,6 +92,16 @@ fn open_sources<'a, P: Opener>(
     Ok(sources)
 }
 
+/// How the files that the paths name are read: each by a thread where a read of one may wait, else by turns.
+fn reading_of<P: Opener>(opener: &P, paths: &[&str]) -> Reading {
+    for path in paths {
+        if opener.waits(path) {
+            return Reading::InThreads { stack_size: None };
+        }
+    }
+    Reading::InTurns
+}
+
 /// Checks the run of a head and its traces, and writes its report in the format. The traces are opened in
 /// rank order, once their number is known to be that of the ranks, and then read at once; of each so many
 /// records may wait to be judged.
@@ -131,7 +141,10 @@ pub fn check<'a, P: Opener, O: Output, R: Threads + Wait + Sync>(
     }
     let sources = open_sources(alloc, opener, files)?;
     let records = capacity.records();
-    match run(alloc, head, sources, records, &OpenGate, format, out, rt) {
+    let reading = reading_of(opener, files);
+    match run_by(
+        alloc, head, sources, records, &OpenGate, format, out, rt, reading,
+    ) {
         Ok(verdict) => Ok(verdict),
         Err(fault) => Err(Fault::from(fault)),
     }

@@ -17,6 +17,10 @@ pub trait Opener {
     /// The input that a path names, from its first byte on; None where it can't be opened.
     fn open_input(&self, path: &str) -> Option<Self::In>
         ensures { IfSome result (λ input. Self.In.left input ≡ told self.now path.now) };
+
+    /// Whether a read of the file with a path may wait for another program, as one of a pipe does. The answer
+    /// decides how files are read, and nothing of what is said of them.
+    fn waits(&self, path: &str) -> bool;
 }
 
 /// The files of the machine. What they hold is not told.
@@ -35,6 +39,14 @@ where
         match fs::open(self.0, path) {
             Ok(file) => Some(Counted::new(file)),
             Err(_) => None,
+        }
+    }
+
+    /// Reads of regular files don't.
+    fn waits(&self, path: &str) -> bool {
+        match fs::metadata(self.0, path) {
+            Ok(metadata) => !metadata.is_file(),
+            Err(_) => true,
         }
     }
 }

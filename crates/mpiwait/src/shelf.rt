@@ -7,7 +7,7 @@ use mpicall::counted::Counted;
 use mpicall::fails_at::FailsAt;
 use std::io;
 
-/// Files by their paths, one of which fails at one of its reads.
+/// Files by their paths, one of which fails at one of its reads. They are read by turns.
 #[derive(Drop)]
 pub struct Shelf<'a> {
     pub files: &'a [(&'a str, &'a str)],
@@ -50,6 +50,10 @@ impl<'a> Opener for Shelf<'a> {
         let (text, at) = self.find(path)?;
         Some(FailsAt::new(Counted::new(text.as_bytes()), at))
     }
+
+    fn waits(&self, _path: &str) -> bool {
+        false
+    }
 }
 
 /// A reader that gives at most seven bytes a read.
@@ -66,7 +70,7 @@ impl<'a> io::Read for Sevens<'a> {
     }
 }
 
-/// The files of a shelf, each of which gives at most seven bytes a read.
+/// The files of a shelf, each of which gives at most seven bytes a read. They are read by a thread each.
 #[derive(Drop)]
 pub struct InSevens<'a>(pub Shelf<'a>);
 
@@ -78,5 +82,9 @@ impl<'a> Opener for InSevens<'a> {
     fn open_input(&self, path: &str) -> Option<FailsAt<Counted<Sevens<'a>>>> {
         let (text, at) = self.0.find(path)?;
         Some(FailsAt::new(Counted::new(Sevens(text.as_bytes())), at))
+    }
+
+    fn waits(&self, _path: &str) -> bool {
+        true
     }
 }

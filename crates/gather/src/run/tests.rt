@@ -8,7 +8,7 @@ ghost use Rattle.gather.specs.Told.{AreFresh};
 use crate::fault::{RankFault, Refusal, RunFault};
 use crate::gate::{Gate, OpenGate};
 use crate::outcome::CloseFault;
-use crate::run::{outcome_of, run};
+use crate::run::{Reading, outcome_of, run, run_by};
 use moves::verdict::Verdict;
 use mpicall::counted::Counted;
 use mpicall::fails_at::FailsAt;
@@ -20,7 +20,7 @@ use pairing::fault::CallFault;
 use std::alloc::{AllocError, Global};
 use std::process::Abort;
 use std::sync::Wait;
-use std::sync::atomic::{AtomicBool, Ordering};
+use std::sync::atomic::{AtomicBool, AtomicU32, Ordering};
 use std::test::Fail;
 use std::thread::Threads;
 use std::{io, thread};
@@ -45,11 +45,14 @@ fn sources_of(
     Ok(sources)
 }
 
+const IN_THREADS: Reading = Reading::InThreads { stack_size: None };
+
 /// What a run over the two texts answers, with room for one record a rank, and what it writes.
 fn answer<G: Gate + Sync, R: Threads + Wait + Sync>(
     alloc: Global,
     gate: &G,
     rt: &R,
+    reading: Reading,
 ) -> Result<(Result<Verdict, RunFault>, MemoryOutput), Fail> {
     let head = Head::read(alloc, b"ranks 2\n")?;
     let sources = sources_of(alloc, &TEXTS)?;
@@ -57,7 +60,8 @@ fn answer<G: Gate + Sync, R: Threads + Wait + Sync>(
         return Err("one source a rank".into());
     }
     let mut out = MemoryOutput::new(alloc);
-    let answer = run(alloc, head, sources, 1, gate, Format::Text, &mut out, rt);
+    let format = Format::Text;
+    let answer = run_by(alloc, head, sources, 1, gate, format, &mut out, rt, reading);
     Ok((answer, out))
 }
 
@@ -92,7 +96,7 @@ fn the_ranks_are_read_at_once(rt: HostRuntime) -> Result<(), Fail> {
         first: AtomicBool::new(false),
         second: AtomicBool::new(false),
     };
-    let (answer, out) = answer(rt.alloc(), &gate, &rt)?;
+    let (answer, out) = answer(rt.alloc(), &gate, &rt, IN_THREADS)?;
     assert_eq!(rt; answer, Ok(Verdict::Free));
     assert_eq!(rt; out.bytes(), b"verdict free\n".as_slice());
     Ok(())
@@ -111,6 +115,15 @@ impl Gate for StopsAt {
 /// At each of its questions: one for each of the three records, and one for the end behind them.
 #[test]
 fn a_gate_stops_a_rank(rt: HostRuntime) -> Result<(), Fail> {
+    stops_at_each_question(&rt, IN_THREADS)?;
+    stops_at_each_question(&rt, Reading::InTurns)
+}
+
+/// Asserts that the place at which a gate stops a rank is told, for each place.
+fn stops_at_each_question<R: Abort + AllocGlobal + Threads + Wait + Sync>(
+    rt: &R,
+    reading: Reading,
+) -> Result<(), Fail> {
     for (rank, line) in [
         (0, 0),
         (0, 1),
@@ -121,7 +134,7 @@ fn a_gate_stops_a_rank(rt: HostRuntime) -> Result<(), Fail> {
         (1, 2),
         (1, 3),
     ] {
-        let (answer, out) = answer(rt.alloc(), &StopsAt(rank, line), &rt)?;
+        let (answer, out) = answer(rt.alloc(), &StopsAt(rank, line), rt, reading)?;
         let refusal = Refusal {
             rank,
             call: line,
@@ -158,6 +171,7 @@ fn answer_over<R: Threads + Wait + Sync>(
     first: Given<'_>,
     second: Given<'_>,
     rt: &R,
+    reading: Reading,
 ) -> Result<Result<Verdict, RunFault>, Fail> {
     let head = Head::read(alloc, b"ranks 2\n")?;
     let mut sources = Vec::new(alloc);
@@ -167,7 +181,7 @@ fn answer_over<R: Threads + Wait + Sync>(
         return Err("one source a rank".into());
     }
     let mut out = MemoryOutput::new(alloc);
-    let answer = run(
+    let answer = run_by(
         alloc,
         head,
         sources,
@@ -176,6 +190,7 @@ fn answer_over<R: Threads + Wait + Sync>(
         Format::Text,
         &mut out,
         rt,
+        reading,
     );
     if answer.is_err() && !out.bytes().is_empty() {
         return Err("something was written".into());
@@ -205,8 +220,10 @@ fn a_read_fails_behind_a_line(rt: HostRuntime) -> Result<(), Fail> {
             call,
             fault,
         };
-        let answer = answer_over(rt.alloc(), first, second, &rt)?;
-        assert_eq!(rt; answer, Err(RunFault::Refused(refusal)));
+        for reading in [IN_THREADS, Reading::InTurns] {
+            let answer = answer_over(rt.alloc(), first, second, &rt, reading)?;
+            assert_eq!(rt; answer, Err(RunFault::Refused(refusal)));
+        }
     }
     Ok(())
 }
@@ -231,8 +248,51 @@ fn a_read_fails_behind_ten_lines_of_a_thousand(rt: HostRuntime) -> Result<(), Fa
         call: 10,
         fault: RankFault::OfSource(SourceFault::ReadFailed),
     };
-    let answer = answer_over(rt.alloc(), (&first, 110, 1), (&second, 0, NEVER), &rt)?;
-    assert_eq!(rt; answer, Err(RunFault::Refused(refusal)));
+    for reading in [IN_THREADS, Reading::InTurns] {
+        let given: (Given<'_>, Given<'_>) = ((&first, 110, 1), (&second, 0, NEVER));
+        let answer = answer_over(rt.alloc(), given.0, given.1, &rt, reading)?;
+        assert_eq!(rt; answer, Err(RunFault::Refused(refusal)));
+    }
+    Ok(())
+}
+
+/// A gate that stops a rank which is more than a hundred lines ahead of the other.
+#[derive(Drop)]
+struct Abreast {
+    first: AtomicU32,
+    second: AtomicU32,
+}
+
+impl Gate for Abreast {
+    fn ask(&self, rank: u16, line: u32) -> bool {
+        let (own, other) = if rank == 0 {
+            (&self.first, &self.second)
+        } else {
+            (&self.second, &self.first)
+        };
+        own.store(line, Ordering::SeqCst);
+        line <= other.load(Ordering::SeqCst).saturating_add(100)
+    }
+}
+
+/// By turns the ranks are read abreast too, and not one to its end before the next.
+#[test]
+fn turns_keep_the_ranks_abreast(rt: HostRuntime) -> Result<(), Fail> {
+    let first = long_text(rt.alloc(), b"send 0 1 0\n")?;
+    let second = long_text(rt.alloc(), b"recv 0 0 0\n")?;
+    let head = Head::read(rt.alloc(), b"ranks 2\n")?;
+    let mut sources = Vec::new(rt.alloc());
+    sources.push(source_of((&first, 0, NEVER)))?;
+    sources.push(source_of((&second, 0, NEVER)))?;
+    if sources.len() != usize::from(head.ranks()) {
+        return Err("one source a rank".into());
+    }
+    let gate = Abreast {
+        first: AtomicU32::new(0),
+        second: AtomicU32::new(0),
+    };
+    let outcome = outcome_of(rt.alloc(), head, sources, 64, &gate, &rt, Reading::InTurns);
+    assert_eq!(rt; outcome.err(), None);
     Ok(())
 }
 
@@ -307,15 +367,10 @@ fn no_thread_starts(rt: HostRuntime) -> Result<(), Fail> {
     if sources.len() != usize::from(head.ranks()) {
         return Err("one source a rank".into());
     }
-    let outcome = outcome_of(
-        rt.alloc(),
-        head,
-        sources,
-        1,
-        &OpenGate,
-        &rt,
-        Some(usize::MAX),
-    );
+    let reading = Reading::InThreads {
+        stack_size: Some(usize::MAX),
+    };
+    let outcome = outcome_of(rt.alloc(), head, sources, 1, &OpenGate, &rt, reading);
     let refusal = Refusal {
         rank: 0,
         call: 0,
