@@ -66,11 +66,11 @@ sealed_ends items feed sealed =
 
 -- the first fault over whole items is that of their trace
 
-same_torn : (groups : Groups) (rank : ℕ) (before calls : List Call) (fault : SourceFault) → fault_in groups rank before calls (Some (Torn fault)) ≡ fault_behind groups rank before calls (Trace.Torn fault)
+pub same_torn : (groups : Groups) (rank : ℕ) (before calls : List Call) (fault : SourceFault) → fault_in groups rank before calls (Some (Torn fault)) ≡ fault_behind groups rank before calls (Trace.Torn fault)
 same_torn groups rank before [] fault = refl
 same_torn groups rank before (call ∷ calls) fault = ap (or_behind (length before) (fault_of groups rank before call)) (same_torn groups rank (before ++ call ∷ []) calls fault)
 
-same_sealed : (groups : Groups) (rank : ℕ) (before calls : List Call) → is_ended (before ++ calls) ≡ true → fault_in groups rank before calls (Some Sealed) ≡ fault_behind groups rank before calls Trace.Sealed
+pub same_sealed : (groups : Groups) (rank : ℕ) (before calls : List Call) → is_ended (before ++ calls) ≡ true → fault_in groups rank before calls (Some Sealed) ≡ fault_behind groups rank before calls Trace.Sealed
 same_sealed groups rank before [] ended =
     let here : is_ended before ≡ true = ap is_ended (sym (append-nil before)) ∙ ended in
     rw here refl
@@ -96,7 +96,7 @@ torn_behind : (place : ℕ) (own : Option CallFault) (x : Option PlacedFault) �
 torn_behind place None x some = some
 torn_behind place (Some f) x some = λ e. none-some _ (sym e)
 
-torn_has_fault : (groups : Groups) (rank : ℕ) (before calls : List Call) (fault : SourceFault) → ¬ (fault_in groups rank before calls (Some (Torn fault)) ≡ None)
+pub torn_has_fault : (groups : Groups) (rank : ℕ) (before calls : List Call) (fault : SourceFault) → ¬ (fault_in groups rank before calls (Some (Torn fault)) ≡ None)
 torn_has_fault groups rank before [] fault = λ e. none-some _ (sym e)
 torn_has_fault groups rank before (call ∷ calls) fault = torn_behind (length before) (fault_of groups rank before call) _ (torn_has_fault groups rank (before ++ call ∷ []) calls fault)
 
@@ -156,7 +156,7 @@ pub behind_none : (rank : ℕ) (fault : Option PlacedFault) (behind : Option Ref
 behind_none rank None behind e = e
 behind_none rank (Some (place, fault)) behind e = absurd (none-some _ (sym e))
 
-no_fault_at : (first : ℕ) (faults : List (Option PlacedFault)) (rank : ℕ) → refusal_in first faults ≡ None → fault_at faults rank ≡ None
+pub no_fault_at : (first : ℕ) (faults : List (Option PlacedFault)) (rank : ℕ) → refusal_in first faults ≡ None → fault_at faults rank ≡ None
 no_fault_at first [] rank e = refl
 no_fault_at first (f ∷ fs) zero e = own_none first f _ e
 no_fault_at first (f ∷ fs) (suc rank) e = no_fault_at (first + 1) fs rank (behind_none first f _ e)

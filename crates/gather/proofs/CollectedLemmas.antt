@@ -27,7 +27,7 @@ use Rattle.gather.specs.declared.ledger.Stepped.{Stepped}
 use Rattle.gather.specs.declared.ledger.Stepped.TheVariants.{Refused, Discarded, Empty, Ended}
 use Rattle.gather.specs.Takers.{received_in, Takes, Collects}
 use Rattle.gather.proofs.TakerLemmas.{items_stay, takers_stay}
-use Rattle.gather.specs.Collected.{fault_in, fault_of_items, PlacedFault, IsKeptOf, Kept, fault_at, AreKeptOf, is_open, with_record, with_fault, wanting, torn, EntersRecord, Enters}
+use Rattle.gather.specs.Collected.{fault_in, fault_of_items, PlacedFault, IsKeptOf, Kept, fault_at, AreKeptOf, IsKeptIn, Leaves, is_open, with_record, with_fault, wanting, torn, EntersRecord, Enters}
 
 -- the records and the end mark of items with one more
 
@@ -125,7 +125,7 @@ mark_torn groups rank items calls fault k none = record {
   before = sym (ap (take (length calls)) (calls_among-append items (Mark (Torn fault) ∷ []) ∙ ap (λ (cs : List Call). cs ++ []) (sym k.before)) ∙ take-append_seam calls []);
 }
 
-mark_sealed : (groups : Groups) (rank : ℕ) (items : List Item) (calls : List Call) (fault : Option PlacedFault) → IsKeptOf groups rank items calls fault → end_of items ≡ None → IsKeptOf groups rank (items ++ Mark Sealed ∷ []) calls fault
+pub mark_sealed : (groups : Groups) (rank : ℕ) (items : List Item) (calls : List Call) (fault : Option PlacedFault) → IsKeptOf groups rank items calls fault → end_of items ≡ None → IsKeptOf groups rank (items ++ Mark Sealed ∷ []) calls fault
 mark_sealed groups rank items calls None k none = record {
   first = sym (first_with groups rank items calls (Mark Sealed) k none);
   before = k.before ∙ sym (calls_among-append items (Mark Sealed ∷ []) ∙ append-nil (calls_among items));
@@ -158,16 +158,9 @@ closed_has_fault None true e unwanted = absurd (false≢true (sym unwanted))
 closed_has_fault None false e unwanted = absurd (false≢true (sym e))
 closed_has_fault (Some fault) wanted e unwanted = (fault, refl)
 
--- the other ranks' calls and faults are as before
-pub record Leaves (rank : ℕ) (before after : Kept) : Type 0 where
-  pub groups : after.groups ≡ before.groups
-  ranks : length after.recording ≡ length before.recording
-  places : length after.faults ≡ length before.faults
-  pub unwanted : after.wanted ≡ false → before.wanted ≡ false
-  calls : (other : ℕ) → other ≢ rank → calls_of after.recording other ≡ calls_of before.recording other
-  faults : (other : ℕ) → other ≢ rank → fault_at after.faults other ≡ fault_at before.faults other
+-- what is kept of the other ranks
 
-nothing_new : (rank : ℕ) (before after : Kept) → after ≡ before → Leaves rank before after
+pub nothing_new : (rank : ℕ) (before after : Kept) → after ≡ before → Leaves rank before after
 nothing_new rank before after same = rw same (record { groups = refl; ranks = refl; places = refl; unwanted = λ e. e; calls = λ other differs. refl; faults = λ other differs. refl })
 
 one_record : (rank : ℕ) (before after : Kept) (call : Call) → after ≡ with_record before rank call → Leaves rank before after
@@ -210,7 +203,7 @@ memory_wanted rank before after is = rw is (record {
   faults = λ other differs. refl;
 })
 
-record_leaves : (rank : ℕ) (before after : Kept) (call : Call) (answer : Stepped) → EntersRecord rank call before answer after → Leaves rank before after
+pub record_leaves : (rank : ℕ) (before after : Kept) (call : Call) (answer : Stepped) → EntersRecord rank call before answer after → Leaves rank before after
 record_leaves rank before after call Stepped.Took so = one_record rank before after call so.2
 record_leaves rank before after call Refused so = one_fault rank before after (OfCall so.1.0) so.1.2
 record_leaves rank before after call Discarded so =
@@ -221,7 +214,7 @@ record_leaves rank before after call Discarded so =
 record_leaves rank before after call Empty so = absurd so
 record_leaves rank before after call Ended so = absurd so
 
-torn_leaves : (rank : ℕ) (before after : Kept) (fault : RankFault) → after ≡ torn before rank fault → Leaves rank before after
+pub torn_leaves : (rank : ℕ) (before after : Kept) (fault : RankFault) → after ≡ torn before rank fault → Leaves rank before after
 torn_leaves rank before after fault is =
     ⊎_elim
     (λ (o : is_open before rank ≡ true). one_fault rank before after fault (is ∙ rw o refl))
@@ -235,9 +228,6 @@ enters_leaves rank before after Took.Sealed answer so = nothing_new rank before 
 enters_leaves rank before after (Took.Torn fault) answer so = torn_leaves rank before after (OfSource fault) so.1
 
 -- what is kept of the rank itself
-
-abbrev IsKeptIn : ℕ → List Item → Kept → Type 0
-IsKeptIn rank items kept = IsKeptOf kept.groups rank items (calls_of kept.recording rank) (fault_at kept.faults rank)
 
 own_accepted : (rank : ℕ) (items : List Item) (before : Kept) (call : Call) → rank < length before.recording → fault_at before.faults rank ≡ None → fault_of before.groups rank (calls_of before.recording rank) call ≡ None → end_of items ≡ None → IsKeptIn rank items before → IsKeptIn rank (items ++ Entry call ∷ []) (with_record before rank call)
 own_accepted rank items before call within unrefused lawful none k =
@@ -253,7 +243,7 @@ own_discarded rank items before x fault none k =
     let calls = calls_of before.recording rank in
     rw fault.1 (one_more_stays before.groups rank items calls fault.0 x (subst (λ (f : Option PlacedFault). IsKeptOf before.groups rank items calls f) fault.1 k) none)
 
-record_own : (rank : ℕ) (items : List Item) (before after : Kept) (call : Call) (answer : Stepped) → rank < length before.recording → length before.faults ≡ length before.recording → after.wanted ≡ false → EntersRecord rank call before answer after → end_of items ≡ None → IsKeptIn rank items before → IsKeptIn rank (items ++ Entry call ∷ []) after
+pub record_own : (rank : ℕ) (items : List Item) (before after : Kept) (call : Call) (answer : Stepped) → rank < length before.recording → length before.faults ≡ length before.recording → after.wanted ≡ false → EntersRecord rank call before answer after → end_of items ≡ None → IsKeptIn rank items before → IsKeptIn rank (items ++ Entry call ∷ []) after
 record_own rank items before after call Stepped.Took within both unwanted so none k =
     rw so.2 (own_accepted rank items before call within (open_has_none _ _ so.0) so.1 none k)
 record_own rank items before after call Refused within both unwanted so none k =
@@ -271,7 +261,7 @@ record_own rank items before after call Discarded within both unwanted so none k
 record_own rank items before after call Empty within both unwanted so none k = absurd so
 record_own rank items before after call Ended within both unwanted so none k = absurd so
 
-torn_own : (rank : ℕ) (items : List Item) (before after : Kept) (fault : SourceFault) → rank < length before.recording → length before.faults ≡ length before.recording → before.wanted ≡ false → after ≡ torn before rank (OfSource fault) → end_of items ≡ None → IsKeptIn rank items before → IsKeptIn rank (items ++ Mark (Torn fault) ∷ []) after
+pub torn_own : (rank : ℕ) (items : List Item) (before after : Kept) (fault : SourceFault) → rank < length before.recording → length before.faults ≡ length before.recording → before.wanted ≡ false → after ≡ torn before rank (OfSource fault) → end_of items ≡ None → IsKeptIn rank items before → IsKeptIn rank (items ++ Mark (Torn fault) ∷ []) after
 torn_own rank items before after fault within both calm is none k =
     ⊎_elim
     (λ (o : is_open before rank ≡ true).

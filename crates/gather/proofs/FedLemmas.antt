@@ -229,13 +229,9 @@ pub fed_torn : (told now next : Option Trace) (may_stop : ℕ → Type 0) (items
 fed_torn told now next may_stop items all fault c own gives is =
     fed_by told may_stop items all c.calls (Torn fault) c.are is (whole_torn told now next c.calls fault c.goes_on gives) (not_stopped may_stop c.calls fault (own_is fault own))
 
-was_true : (ends : Bool) → not ends ≡ false → ends ≡ true
-was_true true is = refl
-was_true false is = absurd (false≢true (sym is))
-
--- a record that isn't taken comes behind the one that ends the list
-pub refused_at_end : (items : List Item) (taken : Bool) → taken ≡ not (end_the_list items) → taken ≡ false → end_the_list items ≡ true
-refused_at_end items taken is refused = was_true (end_the_list items) (sym is ∙ refused)
+-- a record is taken while none ended the list
+pub taken_open : (items : List Item) (done taken : Bool) → done ≡ end_the_list items → done ≡ false → taken ≡ not (end_the_list items) → taken ≡ true
+taken_open items done taken is going result = result ∙ ap not (sym is ∙ going)
 
 -- How many reads failed.
 

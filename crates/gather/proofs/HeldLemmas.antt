@@ -77,7 +77,7 @@ ended_alike call (next ∷ calls) =
     let e : suc (suc (length calls)) - 1 ≡ suc (suc (length calls) - 1) = omega arith in
     rw e (ended_alike next calls)
 
-same_ended : (calls : List Call) → end_the_list (map Entry calls) ≡ is_ended calls
+pub same_ended : (calls : List Call) → end_the_list (map Entry calls) ≡ is_ended calls
 same_ended [] = refl
 same_ended (call ∷ calls) = ended_alike call calls
 
@@ -254,7 +254,7 @@ within_list (y ∷ ys) zero x e = omega arith
 within_list (y ∷ ys) (suc k) x e = omega (arith, within_list ys k x e)
 
 module _ {I : Type 0} (left : I → Option (List ℕ)) (may_stop : ℕ → ℕ → Type 0) where
-  one_list_a_source : (first : ℕ) (sources : List (Source I)) (items : List (List Item)) → AreFedBy left may_stop first sources items → length items ≡ length sources
+  pub one_list_a_source : (first : ℕ) (sources : List (Source I)) (items : List (List Item)) → AreFedBy left may_stop first sources items → length items ≡ length sources
   one_list_a_source first [] [] fed = refl
   one_list_a_source first [] (x ∷ xs) fed = absurd fed
   one_list_a_source first (s ∷ ss) [] fed = absurd fed

@@ -11,4 +11,5 @@ pub mod FedLemmas
 pub mod AlongLemmas
 pub mod ThreadLemmas
 pub mod TurnLemmas
+pub mod WholeLemmas
 pub mod PassedLemmas

@@ -8,7 +8,7 @@ use Rattle.pairing.specs.Recordings.{calls_of}
 use Rattle.rankfeed.specs.Rings.{feed_ring, taker_ring, received_by}
 use Rattle.rankfeed.specs.declared.ring.Feed.{Feed}
 use Rattle.rankfeed.specs.declared.ring.Taker.{Taker}
-use Rattle.gather.specs.Collected.{IsKeptOf, Kept, nothing_kept, fault_at}
+use Rattle.gather.specs.Collected.{IsKeptOf, IsKeptIn, Kept, nothing_kept, fault_at}
 use Rattle.gather.specs.Takers.{rank_of, received_in, Collects}
 
 -- where no rank has a call, none has
@@ -49,6 +49,12 @@ no_fault_kept (suc ranks) (suc rank) = no_fault_kept ranks rank
 
 at_first : (groups : Groups) (rank : ℕ) → IsKeptOf groups rank [] [] None
 at_first groups rank = record { first = refl; before = refl }
+
+pub kept_at_first : (groups : Groups) (rank : ℕ) → IsKeptIn rank [] (nothing_kept groups)
+kept_at_first groups rank = rw (none_of_any (ranks_of groups) rank, no_fault_kept (ranks_of groups) rank) (at_first groups rank)
+
+pub places_at_first : (groups : Groups) → length (nothing_kept groups).faults ≡ length (nothing_kept groups).recording
+places_at_first groups = length-replicate (ranks_of groups) None ∙ sym (length-replicate (ranks_of groups) [])
 
 pub opened : (groups : Groups) (feeds : List Feed) (takers : List Taker) (kept : Kept) (ranks : ℕ) → map taker_ring takers ≡ map feed_ring feeds → map rank_of feeds ≡ range_with_len 0 ranks → ranks ≡ ranks_of groups → All (λ taker. received_by taker ≡ []) takers → kept ≡ nothing_kept groups → Collects takers kept
 opened groups feeds takers kept ranks names numbers count none is =

@@ -1,6 +1,6 @@
 -- What a collector keeps of the ranks' records, which come from their feeds in any order: for each rank the
 -- records before its first fault, and that fault.
-use Rattle.std.specs.Prelude.{◌≡◌, ◌⊎◌, ℕ, ◌+◌, Bool, true, false, not, ◌&&◌, is_none, unwrap_or, if◌then◌else◌, Option, Some, None, List, [], ◌∷◌, ◌++◌, length, take, replicate, slice_get, slice_set}
+use Rattle.std.specs.Prelude.{◌≡◌, ◌≢◌, ◌⊎◌, ℕ, ◌+◌, Bool, true, false, not, ◌&&◌, is_none, unwrap_or, if◌then◌else◌, Option, Some, None, List, [], ◌∷◌, ◌++◌, length, take, replicate, slice_get, slice_set}
 use Rattle.mpicall.specs.declared.call.Call.{Call}
 use Rattle.mpigroup.specs.Groups.{Groups, ranks_of}
 use Rattle.pairing.specs.Recordings.{Lists, calls_of, appended}
@@ -129,3 +129,16 @@ refusal_in rank (fault ∷ faults) = refusal_or rank fault (refusal_in (rank + 1
 -- the refusal of the lowest rank of which a fault is kept
 abbrev pub refusal_kept : Kept → Option Refusal
 refusal_kept kept = refusal_in 0 kept.faults
+
+-- what is kept of a rank is what these items give
+abbrev pub IsKeptIn : ℕ → List Item → Kept → Type 0
+IsKeptIn rank items kept = IsKeptOf kept.groups rank items (calls_of kept.recording rank) (fault_at kept.faults rank)
+
+-- the other ranks' calls and faults are as before, and memory that was wanted is wanted still
+pub record Leaves (rank : ℕ) (before after : Kept) : Type 0 where
+  pub groups : after.groups ≡ before.groups
+  pub ranks : length after.recording ≡ length before.recording
+  pub places : length after.faults ≡ length before.faults
+  pub unwanted : after.wanted ≡ false → before.wanted ≡ false
+  pub calls : (other : ℕ) → other ≢ rank → calls_of after.recording other ≡ calls_of before.recording other
+  pub faults : (other : ℕ) → other ≢ rank → fault_at after.faults other ≡ fault_at before.faults other

@@ -1,4 +1,4 @@
--- What is put on a rank's feed, by the trace of the rank's source.
+-- What is read of a rank's source, and put on its feed where it has one, by the source's trace.
 use Rattle.std.specs.Prelude.{◌≡◌, ◌⊎◌, ℕ, ◌-◌, ◌^◌, min, Bool, true, false, ⊤, Option, Some, None, IfSome, Result, Ok, Err, List, [], ◌∷◌, ◌++◌, length, map}
 use Rattle.mpicall.specs.Device.{count_if, one_more}
 use Rattle.mpicall.specs.Trace.{Trace, End}

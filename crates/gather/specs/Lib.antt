@@ -8,6 +8,7 @@ pub mod Takers
 pub mod Receipts
 pub mod Collectors
 pub mod Closes
+pub mod Concluded
 pub mod Fed
 pub mod Threads
 pub mod Reads

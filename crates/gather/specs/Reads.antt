@@ -1,10 +1,11 @@
--- A source of which records are put on a feed, one after the other.
+-- A source whose records are read one after the other.
 use Rattle.std.specs.Prelude.{◌≡◌, ℕ, Option, Some, None, List, [], ◌∷◌, ◌++◌, length}
 use Rattle.mpicall.specs.Source.{coming, ended}
+use Rattle.mpicall.specs.declared.call.Call.{Call}
 use Rattle.mpicall.specs.declared.source.Source.{Source}
 use Rattle.rankfeed.specs.declared.item.Ending.{Ending}
 use Rattle.rankfeed.specs.declared.item.Item.{Item}
-use Rattle.rankfeed.specs.declared.item.Item.TheVariants.{Mark}
+use Rattle.rankfeed.specs.declared.item.Item.TheVariants.{Entry, Mark}
 use Rattle.gather.specs.Fed.{IsFed, Continues, line_behind}
 
 -- the items are records of a source that began so, and it goes on behind them. The next question's line stands
@@ -14,7 +15,8 @@ pub record IsReading {I : Type 0} (left : I → Option (List ℕ)) (start now : 
   pub told : Continues (coming left start) items (coming left now)
   pub at : line ≡ line_behind (length items)
 
--- either the source is still being read, or this end mark behind the items makes them all that is put of it
-abbrev pub IsRead : {I : Type 0} → (I → Option (List ℕ)) → (ℕ → Type 0) → Source I → Source I → List Item → ℕ → Option Ending → Type 0
-IsRead left may_stop start now items line None = IsReading left start now items line
-IsRead left may_stop start now items line (Some end) = IsFed (coming left start) may_stop (items ++ Mark end ∷ [])
+-- either this record comes behind the items, and the source is still being read, or this end mark behind them makes
+-- them all that is read of it
+abbrev pub IsNext : {I : Type 0} → (I → Option (List ℕ)) → (ℕ → Type 0) → Source I → Source I → List Item → ℕ → Call → Option Ending → Type 0
+IsNext left may_stop start now items line call None = IsReading left start now (items ++ Entry call ∷ []) line
+IsNext left may_stop start now items line call (Some end) = IsFed (coming left start) may_stop (items ++ Mark end ∷ [])

@@ -1,4 +1,4 @@
--- What a run answers, by what its threads put on the ranks' feeds.
+-- What a run answers, by what is read of its ranks' sources: put on their feeds by threads, or entered by turns.
 use Rattle.std.specs.Prelude.{◌≡◌, ℕ, ◌+◌, ◌<◌, ⊤, Option, Some, None, Result, Ok, Err, List, [], ◌∷◌, map}
 use Rattle.mpicall.specs.Source.{coming}
 use Rattle.mpicall.specs.declared.source.Source.{Source}
@@ -49,7 +49,7 @@ AreFedBy left may_stop rank (source ∷ sources) (items ∷ rest) =
     IsFedOrNotStarted (coming left source) (may_stop rank) items × AreFedBy left may_stop (rank + 1) sources rest
 AreFedBy left may_stop rank sources items = ⊥
 
--- the outcome is that of items such as the threads of these sources put, one list a rank
+-- the outcome is that of items such as are read of these sources, one list a rank
 pub record IsOutcomeOfFeeds {I : Type 0} (left : I → Option (List ℕ)) (may_stop : ℕ → ℕ → Type 0) (sources : List (Source I)) (groups : Groups) (outcome : Outcome) : Type 0 where
   pub items : List (List Item)
   pub fed : AreFedBy left may_stop 0 sources items

@@ -1,17 +1,18 @@
-//! The records of one rank's source, put on the rank's feed.
+//! The records of one rank's source, read one by one or put on the rank's feed.
 
-ghost use Rattle.std.specs.Prelude.{◌≡◌, ℕ, IsTrue, List, [], ◌∷◌, ◌++◌, None, Some, IfOk};
+ghost use Rattle.std.specs.Prelude.{◌≡◌, ℕ, true, false, IsTrue, List, [], ◌∷◌, ◌++◌, None, Some, IfOk};
 ghost use Rattle.mpicall.specs.Device.{count_if};
 ghost use Rattle.mpicall.specs.Source.{coming, ended, input_of};
 ghost use Rattle.mpicall.specs.declared.source.Source.{Source as SourceValue};
 ghost use Rattle.rankfeed.specs.Items.{IsFeed, end_the_list};
 ghost use Rattle.rankfeed.specs.declared.item.Ending.TheVariants.{Sealed};
+ghost use Rattle.rankfeed.specs.declared.item.Item.{Item};
 ghost use Rattle.rankfeed.specs.declared.item.Item.TheVariants.{Mark};
 ghost use Rattle.rankfeed.specs.Rings.{feed_ring, sent_by, receipt_ring, sent_whole};
 ghost use Rattle.mpicall.specs.Trace.{trace_of};
 ghost use Rattle.gather.specs.Answers.{ASealedTextHasItsFinalize};
 ghost use Rattle.gather.specs.Fed.{IsFed, CountsReads, end_behind, is_failed_read, mark_of, ending_of};
-ghost use Rattle.gather.specs.Reads.{IsReading, IsRead};
+ghost use Rattle.gather.specs.Reads.{IsReading, IsNext};
 
 use crate::gate::Gate;
 use mpicall::device::Input;
@@ -24,11 +25,11 @@ use std::sync::Wait;
 #[cfg(test)]
 mod tests;
 
-/// The end mark of a feed whose source has no more records.
-fn end_of(feed: &Feed) -> Ending
-    ensures { result ≡ end_behind (end_the_list (sent_by feed.now)) }
+/// The end mark behind records that a source has no more of: whether the last of them ended the list.
+fn end_of(done: bool) -> Ending
+    ensures { result ≡ end_behind done }
 {
-    if feed.is_done() {
+    if done {
         Ending::Sealed
     } else {
         Ending::Torn(SourceFault::NoFinalize)
@@ -36,7 +37,7 @@ fn end_of(feed: &Feed) -> Ending
 }
 
 /// Puts the end mark behind the records.
-pub(crate) fn end_with(feed: Feed, end: Ending) -> Result<Receipt, Unsealed>
+fn end_with(feed: Feed, end: Ending) -> Result<Receipt, Unsealed>
     requires { end ≡ Sealed → IsTrue (end_the_list (sent_by feed)) }
     ensures name { IfOk result (λ receipt. receipt_ring receipt ≡ feed_ring feed) }
     ensures sent { IfOk result (λ receipt. sent_whole receipt ≡ sent_by feed ++ Mark end ∷ []) }
@@ -48,38 +49,33 @@ pub(crate) fn end_with(feed: Feed, end: Ending) -> Result<Receipt, Unsealed>
     }
 }
 
-/// Puts the next record of a rank's source on the rank's feed. Where the records end, it answers the end mark
-/// that is to come behind them. The gate is asked first, by the number of the calls before.
-pub(crate) fn put_next<I: Input, G: Gate>(
+/// Reads the next record of a rank's source into one place, for those that read many. Where the records end, it
+/// answers the end mark that is to come behind them. `done` says whether the last record so far ended the list.
+/// The gate is asked first, by the number of the calls before.
+pub(crate) fn next_of<I: Input, G: Gate>(
     rank: u16,
     source: &mut Source<I>,
-    feed: &mut Feed,
+    done: bool,
     line: &mut u32,
-    record: &mut Record,
+    into: &mut Record,
     gate: &G,
-    wait: &impl Wait,
 ) -> Option<Ending>
     requires { ended source.old ≡ None }
-    ensures name { feed_ring feed.new ≡ feed_ring feed.old }
-    ensures read { (start : SourceValue I) → IsReading I.left start source.old (sent_by feed.old) line.old
-        → IsRead I.left (G.may_stop gate.now rank) start source.new (sent_by feed.new) line.new result }
+    ensures read { (start : SourceValue I) (items : List Item) → end_the_list items ≡ done → IsReading I.left start source.old items line.old
+        → IsNext I.left (G.may_stop gate.now rank) start source.new items line.new into.new result }
+    ensures going { result ≡ None → done ≡ false }
     ensures fresh { result ≡ None → ended source.new ≡ None }
-    ensures sealed { result ≡ Some Sealed → IsTrue (end_the_list (sent_by feed.new)) }
+    ensures sealed { result ≡ Some Sealed → done ≡ true }
     ensures count { I.failures (input_of source.new) ≡ count_if (is_failed_read result) (I.failures (input_of source.old)) }
 {
     if !gate.ask(rank, *line) {
         return Some(Ending::Torn(SourceFault::GateStopped));
     }
     *line = line.saturating_add(1);
-    match source.next_into(record) {
-        Ok(true) => {
-            if feed.put_copy(record, wait) {
-                None
-            } else {
-                Some(Ending::Torn(SourceFault::TextAfterFinalize))
-            }
-        }
-        Ok(false) => Some(end_of(feed)),
+    match source.next_into(into) {
+        Ok(true) if done => Some(Ending::Torn(SourceFault::TextAfterFinalize)),
+        Ok(true) => None,
+        Ok(false) => Some(end_of(done)),
         Err(fault) => Some(Ending::Torn(fault)),
     }
 }
@@ -105,10 +101,12 @@ pub fn feed<I: Input, G: Gate>(
     let mut record = Record::finalize();
     let mut line = 0u32;
     for _ in wait.forever() {
-        let end = put_next(rank, source, &mut feed, &mut line, &mut record, gate, wait);
+        let done = feed.is_done();
+        let end = next_of(rank, source, done, &mut line, &mut record, gate);
         if let Some(end) = end {
             return end_with(feed, end);
         }
+        feed.put_copy(&record, wait);
     }
     unreachable!()
 }

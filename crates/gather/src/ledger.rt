@@ -1,11 +1,14 @@
 //! What is kept of the ranks' records as they come, in any order.
 
-ghost use Rattle.std.specs.Prelude.{◌≡◌, ◌<◌, length, IfOk};
+ghost use Rattle.std.specs.Prelude.{◌≡◌, ◌<◌, false, None, length, IfOk};
 ghost use Rattle.gather.specs.declared.fault.RankFault.TheVariants.{OfSource};
 ghost use Rattle.pairing.specs.Faults.{IsLawful};
+ghost use Rattle.pairing.specs.Recordings.{IsClosed};
 ghost use Rattle.gather.specs.Collected.{nothing_kept, refusal_kept, EntersRecord, torn, is_open, with_fault};
+ghost use Rattle.gather.specs.Concluded.{Concludes};
 
 use crate::fault::{RankFault, Refusal};
+use crate::outcome::{CloseFault, Outcome};
 use moves::analyser::{Analyser, OfferFault};
 use mpicall::fault::SourceFault;
 use mpicall::record::Record;
@@ -145,6 +148,24 @@ impl Ledger {
         ensures recording { result.now.recording ≡ self.now.recording }
     {
         &self.analyser
+    }
+
+    /// What comes of the run once all of its records were taken. `Memory` comes first, where memory was wanted;
+    /// then `Refused`, for the lowest rank that has a fault.
+    pub(crate) fn conclude(self, alloc: Global) -> Result<Outcome, CloseFault>
+        requires { self.wanted ≡ false → refusal_kept self ≡ None → IsLawful self.groups self.recording → IsClosed self.recording }
+        ensures { Concludes self result }
+    {
+        if self.wanted {
+            return Err(CloseFault::Memory);
+        }
+        if let Some(refusal) = self.refusal() {
+            return Err(CloseFault::Refused(refusal));
+        }
+        match Outcome::of(alloc, self.analyser) {
+            Ok(outcome) => Ok(outcome),
+            Err(_) => Err(CloseFault::Memory),
+        }
     }
 
     /// The analyser of the records that were accepted.

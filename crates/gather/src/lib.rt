@@ -1,7 +1,8 @@
 //! The report of a run over the sources of its ranks, and sessions over their feeds.
 //!
 //! `run::run` reads one source a rank, all at once and each by a thread of its own, and writes the report of
-//! the run: whether some rank can't reach its Finalize, whatever way the run goes.
+//! the run: whether some rank can't reach its Finalize, whatever way the run goes. `run::run_by` does the same,
+//! or reads the sources by turns in one thread, with no feed between.
 //!
 //! What it promises, as contracts that are proved:
 //!
@@ -12,7 +13,7 @@
 //!   are that rank's first, by definition.
 //! - A write that failed is told only where that device's count of failures rose.
 //!
-//! It stands on sessions, which take the ranks' records in any order from feeds, and may be used apart:
+//! By threads it stands on sessions, which take the ranks' records in any order from feeds, and may be used apart:
 //!
 //! - `session::Session::open` opens a feed for each rank, and their collector.
 //! - `collector::Collector::step` takes one item of a rank's feed. Unless memory was wanted, the analyser has
@@ -26,7 +27,7 @@
 //!
 //! The definitions stand in `specs/`: `Answers` says which refusal or verdict some traces have, `Told`
 //! what an answer says where the inputs tell their bytes, `Collected` and `Closes` what a session keeps and
-//! answers, `Fed` what is put on a feed, `Runs` what a run answers by what was put. Those of the crate `watches`
+//! answers, `Fed` what is read of a source, `Runs` what a run answers by what was read. Those of the crate `watches`
 //! say what is published and read.
 //!
 //! ```text

@@ -13,11 +13,12 @@ ghost use Rattle.gather.specs.Runs.{receipt_of, of_close, IsOutcomeOfFeeds, Refu
 
 use crate::fault::RunFault;
 use crate::gate::Gate;
-pub use crate::gathering::Reading;
-use crate::gathering::read_all;
+use crate::gathering::in_threads;
+use crate::ledger::Ledger;
 use crate::outcome::{CloseFault, Outcome};
 use crate::session::Session;
-use crate::threads::Fed;
+use crate::threads::{Fed, NotStarted};
+use crate::turns::read_in_turns;
 use moves::verdict::Verdict;
 use mpicall::device::{Input, Output};
 use mpicall::source::Source;
@@ -27,6 +28,18 @@ use std::alloc::Global;
 use std::sync::Wait;
 use std::thread::Threads;
 use waitgraph::report::{Format, ReportFault, write_report};
+
+/// How the sources of all ranks are read at once.
+#[derive(Clone, Copy, Debug, PartialEq, Eq)]
+pub enum Reading {
+    /// Each by a thread of its own, with a stack of this many bytes; of the system's size where none is given.
+    /// For sources whose reads may wait for other programs, as those of pipes do.
+    InThreads { stack_size: Option<usize> },
+    /// By turns, in the thread of the caller, with no feed between: each record is judged as soon as it is read.
+    /// For sources whose bytes are there, as those of files are: it takes less processor time. A read that waits
+    /// holds all ranks up.
+    InTurns,
+}
 
 /// The receipts that came of the sources, in their order. `receipts` has room for them.
 fn receipts_of(fed: Vec<Fed>, receipts: Vec<Option<Receipt>>) -> Vec<Option<Receipt>>
@@ -41,6 +54,82 @@ fn receipts_of(fed: Vec<Fed>, receipts: Vec<Option<Receipt>>) -> Vec<Option<Rece
         };
     }
     receipts
+}
+
+/// What comes of the sources, each read by a thread with a stack of this size; of the system's where none is
+/// given.
+fn outcome_in_threads<I, G, R>(
+    alloc: Global,
+    head: Head,
+    sources: Vec<Source<I>>,
+    capacity: u16,
+    gate: &G,
+    rt: &R,
+    stack_size: Option<usize>,
+) -> Result<Outcome, CloseFault>
+where
+    I: Input + Drop + Send,
+    G: Gate + Sync,
+    R: Threads + Wait + Sync,
+    requires room { 0 < capacity }
+    requires one_a_rank { length sources.items ≡ ranks_of head }
+    requires fresh { AreFresh sources.items }
+    ensures ok { IfOk result (IsOutcomeOfFeeds I.left (G.may_stop gate.now) sources.items head) }
+    ensures fault { IfErr result (λ fault. RefusesFeeds I.left (G.may_stop gate.now) sources.items head (of_close fault)) }
+{
+    let ranks = sources.len();
+    let Ok((feeds, collector, _watches)) = Session::open(alloc, head, capacity, 0, rt) else {
+        return Err(CloseFault::Memory);
+    };
+    let Ok(started) = Vec::with_capacity(alloc, ranks) else {
+        return Err(CloseFault::Memory);
+    };
+    let Ok(fed) = Vec::with_capacity(alloc, ranks) else {
+        return Err(CloseFault::Memory);
+    };
+    let Ok(receipts) = Vec::with_capacity(alloc, ranks) else {
+        return Err(CloseFault::Memory);
+    };
+    let not_started = NotStarted::none();
+    let (collector, fed) = in_threads(
+        rt,
+        sources,
+        feeds,
+        collector,
+        started,
+        fed,
+        gate,
+        &not_started,
+        stack_size,
+    );
+    collector.close(receipts_of(fed, receipts))
+}
+
+/// What comes of the sources, read by turns.
+fn outcome_in_turns<I, G, R>(
+    alloc: Global,
+    head: Head,
+    sources: Vec<Source<I>>,
+    gate: &G,
+    rt: &R,
+) -> Result<Outcome, CloseFault>
+where
+    I: Input + Drop,
+    G: Gate,
+    R: Wait,
+    requires one_a_rank { length sources.items ≡ ranks_of head }
+    requires fresh { AreFresh sources.items }
+    ensures ok { IfOk result (IsOutcomeOfFeeds I.left (G.may_stop gate.now) sources.items head) }
+    ensures fault { IfErr result (λ fault. RefusesFeeds I.left (G.may_stop gate.now) sources.items head (of_close fault)) }
+{
+    let Ok(ledger) = Ledger::new(alloc, head) else {
+        return Err(CloseFault::Memory);
+    };
+    let Ok(turns) = Vec::with_capacity(alloc, sources.len()) else {
+        return Err(CloseFault::Memory);
+    };
+    let ledger = read_in_turns(sources, turns, ledger, gate, rt);
+    ledger.conclude(alloc)
 }
 
 /// What comes of the sources, read in the way that was asked for.
@@ -64,18 +153,12 @@ where
     ensures fault { IfErr result (λ fault. RefusesFeeds I.left (G.may_stop gate.now) sources.items head (of_close fault)) }
     ensures stopped { IfErr result (λ fault. StopsWhereAllowed (G.may_stop gate.now) (of_close fault)) }
 {
-    let ranks = sources.len();
-    let places = reading.places(capacity);
-    let Ok((feeds, collector, _watches)) = Session::open(alloc, head, places, 0, rt) else {
-        return Err(CloseFault::Memory);
-    };
-    let Ok(receipts) = Vec::with_capacity(alloc, ranks) else {
-        return Err(CloseFault::Memory);
-    };
-    let Ok((collector, fed)) = read_all(alloc, rt, sources, feeds, collector, gate, reading) else {
-        return Err(CloseFault::Memory);
-    };
-    collector.close(receipts_of(fed, receipts))
+    match reading {
+        Reading::InThreads { stack_size } => {
+            outcome_in_threads(alloc, head, sources, capacity, gate, rt, stack_size)
+        }
+        Reading::InTurns => outcome_in_turns(alloc, head, sources, gate, rt),
+    }
 }
 
 /// The fault of a run whose session has no outcome.
@@ -115,8 +198,8 @@ fn report<O: Output>(
 /// nothing is written.
 ///
 /// There is one source a rank, in rank order; none of them may have been asked before. At most `capacity`
-/// records of a rank wait to be judged. Before each record is read the gate is asked. All threads have ended
-/// when this returns.
+/// records of a rank that a thread reads wait to be judged. Before each record is read the gate is asked. All
+/// threads have ended when this returns.
 pub fn run_by<I, G, O, R>(
     alloc: Global,
     head: Head,
@@ -143,7 +226,7 @@ where
     ensures refused { IfErr result (λ fault. (traces : List TraceValue) →
         Tells I.left sources.items traces → RefusesOver head traces fault) }
 
-    // A refusal is that of what the threads put on the ranks' feeds, and the gate stops no rank where it may not.
+    // A refusal is that of what was read of the ranks' sources, and the gate stops no rank where it may not.
     ensures fed { IfErr result (RefusesFeeds I.left (G.may_stop gate.now) sources.items head) }
     ensures stopped { IfErr result (StopsWhereAllowed (G.may_stop gate.now)) }
 

@@ -1,10 +1,6 @@
--- The session is the same, and the turn a later one.
-use Rattle.gather.specs.Runs.{IsSameSession}
+-- The turn is a later one.
 use Rattle.gather.specs.Turns.{IsLater}
 use Rattle.gather.proofs.turns.take_a_turn.Given as goal
 
 abbrev pub invariant-loop : goal.invariant-loop
-invariant-loop g l = record {
-  same : IsSameSession l.fn.collector l.collector;
-  turn : IsLater g.I.Input.left (g.G.Gate.may_stop l.gate) l.fn.turn l.turn;
-}
+invariant-loop g l = IsLater g.I.Input.left (g.G.Gate.may_stop l.gate) l.rank l.fn.turn l.fn.ledger l.turn l.ledger

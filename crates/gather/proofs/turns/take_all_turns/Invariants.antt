@@ -1,5 +1,4 @@
--- The session is the same, and the turns are later ones.
-use Rattle.gather.specs.Runs.{IsSameSession}
+-- The turns are later ones.
 use Rattle.gather.specs.Turns.{AreLater}
 use Rattle.gather.proofs.turns.take_all_turns.Given as goal
 
@@ -7,6 +6,5 @@ abbrev pub invariant-loop : goal.invariant-loop
 invariant-loop g l = record {
   can_next : (goal.iterator-loop g).can_next l.iterator';
   is_finite : (goal.iterator-loop g).is_finite l.iterator';
-  same : IsSameSession l.fn.collector l.collector;
-  turns : AreLater g.I.Input.left (g.G.Gate.may_stop l.gate) l.fn.turns.items l.turns.items;
+  turns : AreLater g.I.Input.left (g.G.Gate.may_stop l.gate) l.fn.turns.items l.fn.ledger l.turns.items l.ledger;
 }

@@ -1,4 +1,4 @@
-use Rattle.std.proofs.Common.{rules, ◌≡◌, sym, ap, ◌∙◌}
+use Rattle.std.proofs.Common.{rules, ◌≡◌}
 use Rattle.moves.specs.Stands.{stands_of}
 use Rattle.watches.specs.Stands.{places_of}
 use Rattle.watches.specs.Publishers.{published_by}
