@@ -31,7 +31,7 @@ use Rattle.moves.proofs.ArrivalLemmas.{no_calls}
 use Rattle.moves.proofs.AdvanceLemmas.{stuck_end, moved_later}
 use Rattle.moves.proofs.AnalyserLemmas.{goes_on_by, still_reached, start_end}
 use Rattle.moves.proofs.StayLemmas.{call_stays}
-use Rattle.moves.proofs.LinkLemmas.{none_linked, none_there, held_less, count_in_all, found_in, held_at, Wakes, wakes_none, wakes_both, wakes_list, appended_there, linked_woken, changed, taken, linked_at, linked_nodes, linked_behind, sum_count, appended_work, at_same}
+use Rattle.moves.proofs.LinkLemmas.{none_linked, none_there, held_less, count_in_all, found_in, held_at, Wakes, wakes_none, wakes_both, wakes_list, appended_there, linked_woken, changed, taken, linked_at, linked_nodes, linked_behind, sum_count, appended_work}
 use Rattle.moves.proofs.TouchLemmas.{sum_at_most_one, cost_cases, paid_ahead, paid_there, paid_moved, paid_waves, paid_waiters, paid_most}
 use Rattle.moves.proofs.WaveLemmas.{fewer_excepted}
 use Rattle.moves.proofs.WaitLemmas.{partner_stuck, wave_stuck, resting_stuck, open_parts, open_from}
@@ -278,63 +278,48 @@ all_cost groups recording s waves new rank place w (Some comm) h others one know
           (λ other on. waits_comm groups recording s waves w.awaited rank place other comm (now.waits other (comm_list (length recording) comm) (omega arith) on)),
     )
 
--- the worklist and a spare node are there once all are woken
-pub woken_room : (groups : Groups) (recording : Lists) (rank place : ℕ) (w : Waiting) (done : Option ℕ) → HasLists groups recording w → ((comm : ℕ) → done ≡ Some comm → comm < length groups) → (length (all_woken groups recording rank place w done).lists ≡ length w.lists) × ((all_woken groups recording rank place w done).spare ≡ w.spare)
-woken_room groups recording rank place w done h known =
-    let wakens = all_wakens groups recording rank place w done h known in
-    (wakens.wakes.lists, wakens.same_spare)
-
+-- the lists stay as many once the partners are woken
 pub partners_room : (groups : Groups) (recording : Lists) (rank place : ℕ) (w : Waiting) → HasLists groups recording w → (length (all_woken groups recording rank place w None).lists ≡ length w.lists) × (length (all_woken groups recording rank place w None).awaited ≡ length w.awaited)
 partners_room groups recording rank place w h =
     let wakens = all_wakens groups recording rank place w None h (λ comm e. absurd (none-some comm e)) in
     (wakens.wakes.lists, ap (length {A = ℕ}) wakens.same_awaited)
 
--- the rank that has reached its call stands on the worklist in the end, and all that waited for it do
-pub reach_kept : (groups : Groups) (recording : Lists) (s : State) (waves new : Waves) (w last : Waiting) (rank place node : ℕ) (done : Option ℕ) → IsReaching groups recording s waves w rank place → 0 < w.spare → AreWaves groups recording s new IsNoException → ((comm : ℕ) → done ≢ Some comm → complete_of new comm ≡ complete_of waves comm) → ((comm : ℕ) → done ≡ Some comm → complete_of new comm ≡ complete_of waves comm + 1) → ((comm : ℕ) → done ≡ Some comm → comm < length groups) → new.changes ≤ waves.changes + 1 → (wave_of recording rank place ≡ None → new.changes ≡ waves.changes) → last ≡ with_rank (all_woken groups recording rank place w done) 0 node rank → IsKept groups recording s new last IsNobody 0
-reach_kept groups recording s waves new w last rank place node done h room are others one known changes no_change is =
+-- the rank that has reached its call is in hand, once all that waited for it are to be looked at
+pub reach_hand : (groups : Groups) (recording : Lists) (s : State) (waves new : Waves) (w : Waiting) (rank place : ℕ) (done : Option ℕ) → IsReaching groups recording s waves w rank place → AreWaves groups recording s new IsNoException → ((comm : ℕ) → done ≢ Some comm → complete_of new comm ≡ complete_of waves comm) → ((comm : ℕ) → done ≡ Some comm → complete_of new comm ≡ complete_of waves comm + 1) → ((comm : ℕ) → done ≡ Some comm → comm < length groups) → new.changes ≤ waves.changes + 1 → (wave_of recording rank place ≡ None → new.changes ≡ waves.changes) → IsInHand groups recording s new (all_woken groups recording rank place w done) rank
+reach_hand groups recording s waves new w rank place done h are others one known changes no_change =
     let all : Waiting = all_woken groups recording rank place w done in
     let wakens : Wakens w all = all_wakens groups recording rank place w done h.has_lists known in
-    let lists : last.lists ≡ set all.lists 0 (list_at all.lists 0 ++ (node, rank) ∷ []) = ap (λ (x : Waiting). x.lists) is in
-    let awaited : last.awaited ≡ w.awaited = ap (λ (x : Waiting). x.awaited) is ∙ wakens.same_awaited in
-    let spare : last.spare ≡ w.spare - 1 = ap (λ (x : Waiting). x.spare) is ∙ ap (λ (n : ℕ). n - 1) wakens.same_spare in
-    let within : 0 < length all.lists = omega (arith, wakens.wakes.lists, h.has_lists.lists) in
-    let nodes = linked_nodes all.lists last.lists 0 node rank within lists in
+    let awaited : all.awaited ≡ w.awaited = wakens.same_awaited in
     let now = linked_woken (length recording) w.lists all.lists _ _ h.linked wakens.wakes in
-    let right = changed (length recording) all.lists _ (WaitsIn groups recording s new last.awaited) _ (λ other. (Rests recording s other ⊎ IsNobody other) ⊎ (other ≡ rank)) now
-    (λ other list is_rank later on waits.
-    ⊎_elim
-    (λ (old : WaitsIn groups recording s waves w.awaited other list).
-    ⊎_elim
-    (λ (own : (list ≡ own_list other) × (other < length recording) × NeedsPartner groups recording s other (get_or w.awaited other 0)).
-    inl (own.0, own.1, subst (λ (xs : List ℕ). NeedsPartner groups recording s other (get_or xs other 0)) (sym awaited) own.2))
-    (λ (wave : (comm : ℕ) × (list ≡ comm_list (length recording) comm) × NeedsWave groups recording s waves other comm).
-    inr (wave.0, wave.1, by_done other wave.0 list on wave.1 wave.2 done refl))
-    old)
-    (λ (new_partner : (list ≡ own_list other) × (other < length recording) × ((half : Half) × (partner_of groups recording rank place half ≡ Some (other, get_or w.awaited other 0)))).
-    let none = partner_emptied groups recording rank place w done other other new_partner.2.0 h.has_lists known new_partner.1 new_partner.2.1 in
-    absurd (omega (arith, on, none, ap (λ (l : ℕ). count other (list_at all.lists l)) new_partner.0)))
-    waits)
-    (λ other is_rank none rests.
-    ⊎_elim
-    (λ (rest : Rests recording s other). inl (inl rest))
-    (λ (same : other ≡ rank). inr same)
-    rests) in
     record {
-      has_lists = record {
-        lists = nodes.0 ∙ wakens.wakes.lists ∙ h.has_lists.lists;
-        nodes = omega (arith, nodes.1, wakens.wakes.nodes, h.has_lists.nodes, spare, room);
-        awaited = ap (length {A = ℕ}) awaited ∙ h.has_lists.awaited;
+      kept = record {
+        has_lists = record {
+          lists = wakens.wakes.lists ∙ h.has_lists.lists;
+          nodes = omega (arith, wakens.wakes.nodes, h.has_lists.nodes, wakens.same_spare);
+          awaited = ap (length {A = ℕ}) awaited ∙ h.has_lists.awaited;
+        };
+        linked =
+            changed (length recording) all.lists _ (WaitsIn groups recording s new all.awaited) _ (λ other. Rests recording s other ⊎ (other ≡ rank)) now
+            (λ other list is_rank later on waits.
+            ⊎_elim
+            (λ (old : WaitsIn groups recording s waves w.awaited other list).
+            ⊎_elim
+            (λ (own : (list ≡ own_list other) × (other < length recording) × NeedsPartner groups recording s other (get_or w.awaited other 0)).
+            inl (own.0, own.1, subst (λ (xs : List ℕ). NeedsPartner groups recording s other (get_or xs other 0)) (sym awaited) own.2))
+            (λ (wave : (comm : ℕ) × (list ≡ comm_list (length recording) comm) × NeedsWave groups recording s waves other comm).
+            inr (wave.0, wave.1, by_done other wave.0 list on wave.1 wave.2 done refl))
+            old)
+            (λ (new_partner : (list ≡ own_list other) × (other < length recording) × ((half : Half) × (partner_of groups recording rank place half ≡ Some (other, get_or w.awaited other 0)))).
+            let none = partner_emptied groups recording rank place w done other other new_partner.2.0 h.has_lists known new_partner.1 new_partner.2.1 in
+            absurd (omega (arith, on, none, ap (λ (l : ℕ). count other (list_at all.lists l)) new_partner.0)))
+            waits)
+            (λ other is_rank none rests. rests);
+        are_waves = are;
+        is_reached = h.is_reached;
+        is_paid = omega (arith, all_cost groups recording s waves new rank place w done h others one known, both_cost groups recording s waves new rank place w h changes no_change, h.is_paid);
       };
-      linked =
-          linked_at (length recording) all.lists last.lists 0 node rank (WaitsIn groups recording s new last.awaited) (λ other. Rests recording s other ⊎ IsNobody other) right h.is_rank
-          (omega (arith, wakens.wakes.all rank, h.in_none)) within (λ later. absurd (omega (arith, later))) lists;
-      are_waves = are;
-      is_reached = h.is_reached;
-      is_paid =
-          let work : last.work ≤ all.work + 1 = omega (arith, ap (λ (x : Waiting). x.work) is, min-le_left (all.work + 1) most_work) in
-          let front : length (list_at last.lists 0) ≡ length (list_at all.lists 0) + 1 =
-          ap (λ (ls : List Entries). length (list_at ls 0)) lists ∙ ap (length {A = ℕ × ℕ}) (at_same all.lists 0 (list_at all.lists 0 ++ (node, rank) ∷ []) within) ∙ length-append (list_at all.lists 0) ((node, rank) ∷ []) in
-          omega (arith, work, front, all_cost groups recording s waves new rank place w done h others one known, both_cost groups recording s waves new rank place w h changes no_change, h.is_paid);
+      is_rank = h.is_rank;
+      in_none = omega (arith, wakens.wakes.all rank, h.in_none);
     }
   where
     by_done : (other comm list : ℕ) → 0 < count other (list_at (all_woken groups recording rank place w done).lists list) → list ≡ comm_list (length recording) comm → NeedsWave groups recording s waves other comm → (d : Option ℕ) → done ≡ d → NeedsWave groups recording s new other comm
@@ -352,12 +337,16 @@ reach_kept groups recording s waves new w last rank place node done h room are o
 pub fewer_never : (waves new : Waves) (w last : Waiting) → waves.changes ≤ new.changes → min w.work most_work ≤ min last.work most_work → touches_of waves w ≤ touches_of new last
 fewer_never waves new w last changes work = omega (arith, changes, work)
 
-pub reach_counts : (groups : Groups) (recording : Lists) (s : State) (waves new : Waves) (w last : Waiting) (rank place node : ℕ) (done : Option ℕ) → IsReaching groups recording s waves w rank place → ((comm : ℕ) → done ≡ Some comm → comm < length groups) → waves.changes ≤ new.changes → last ≡ with_rank (all_woken groups recording rank place w done) 0 node rank → touches_of waves w ≤ touches_of new last
-reach_counts groups recording s waves new w last rank place node done h known changes is =
+pub reach_counts : (groups : Groups) (recording : Lists) (s : State) (waves new : Waves) (w : Waiting) (rank place : ℕ) (done : Option ℕ) → IsReaching groups recording s waves w rank place → ((comm : ℕ) → done ≡ Some comm → comm < length groups) → waves.changes ≤ new.changes → touches_of waves w ≤ touches_of new (all_woken groups recording rank place w done)
+reach_counts groups recording s waves new w rank place done h known changes =
     let all : Waiting = all_woken groups recording rank place w done in
     let wakens : Wakens w all = all_wakens groups recording rank place w done h.has_lists known in
-    let work : last.work ≡ min (all.work + 1) most_work = ap (λ (x : Waiting). x.work) is in
-    fewer_never waves new w last changes (omega (arith, work, wakens.no_less))
+    fewer_never waves new w all changes wakens.no_less
+
+-- there is a spare node for the rank in hand
+pub hand_room : (groups : Groups) (recording : Lists) (s : State) (waves : Waves) (w : Waiting) (rank : ℕ) → IsInHand groups recording s waves w rank → 0 < w.spare
+hand_room groups recording s waves w rank h =
+    omega (arith, held_less (length recording) rank w.lists _ _ h.kept.linked h.is_rank h.in_none, h.kept.has_lists.nodes)
 
 -- the rank in hand rests
 pub hand_rests : (groups : Groups) (recording : Lists) (s : State) (waves : Waves) (w : Waiting) (rank : ℕ) → IsInHand groups recording s waves w rank → Rests recording s rank → IsKept groups recording s waves w IsNobody 0
@@ -679,17 +668,17 @@ pub links_falls : (groups : Groups) (recording : Lists) (s : State) (waves : Wav
 links_falls groups recording s waves w last rank list node links =
     omega (arith, ap (length {A = ℕ × ℕ}) (linked_behind w.lists last.lists list node rank links.later links.lists))
 
-less_to_do : (a b m l : ℕ) → a < b → l ≤ m → (k : ℕ) → (b - suc a) * (m + 1) + l ≤ (b - a) * (m + 1) + k
+less_to_do : (a b m l : ℕ) → a < b → l ≤ m → (k : ℕ) → (b - suc a) * (m + 1) + l < (b - a) * (m + 1) + k
 less_to_do a b m l less most k =
     let next : b - a ≡ suc (b - suc a) = omega (arith, less) in
     rw next (omega (arith, most, suc-mul (b - suc a) (m + 1)))
 
-pub moved_falls : (groups : Groups) (recording : Lists) (s t : State) (new : Waves) (w last : Waiting) (rank : ℕ) → IsKept groups recording t new last IsNobody 0 → rank < length s → t ≡ moved s rank → to_do recording t last ≤ to_do recording s w
-moved_falls groups recording s t new w last rank kept is_rank is =
-    let within = reached_within groups recording t kept.is_reached in
+pub moved_falls : (groups : Groups) (recording : Lists) (s t : State) (new : Waves) (w last : Waiting) (rank : ℕ) → IsInHand groups recording t new last rank → rank < length s → t ≡ moved s rank → to_do recording t last < to_do recording s w
+moved_falls groups recording s t new w last rank h is_rank is =
+    let within = reached_within groups recording t h.kept.is_reached in
     let total_t : total t ≡ suc (total s) = ap total is ∙ total_moved s rank is_rank ∙ omega arith in
     let most = total_most t _ within.ranks within.stands in
-    rw total_t (less_to_do (total s) (calls_in recording) (length recording) (length (list_at last.lists 0)) (omega (arith, most, total_t)) (omega (arith, held_at last.lists 0, kept.has_lists.nodes)) (length (list_at w.lists 0)))
+    rw total_t (less_to_do (total s) (calls_in recording) (length recording) (length (list_at last.lists 0)) (omega (arith, most, total_t)) (omega (arith, held_at last.lists 0, h.kept.has_lists.nodes)) (length (list_at w.lists 0)))
 
 -- no rank can move once none is to be looked at
 pub settled_end : (groups : Groups) (recording : Lists) (s : State) (waves : Waves) (w : Waiting) → IsSettled groups recording s waves w → IsTheEnd (can_move groups recording) (length recording) s
@@ -718,14 +707,10 @@ settled_end groups recording s waves w h =
 pub stand_within : (groups : Groups) (recording : Lists) (s : State) (rank : ℕ) → IsReached (can_move groups recording) (length recording) s → get_or s rank 0 ≤ length (calls_of recording rank)
 stand_within groups recording s rank reached = omega (arith, (reached_within groups recording s reached).stands rank, length_of_calls recording rank)
 
--- what arrived at its rank's stand is reached, and there is a node for the rank
+-- what arrived at its rank's stand is reached
 pub arrived_reaching : (groups : Groups) (recording : Lists) (s : State) (waves : Waves) (w : Waiting) (rank place : ℕ) → HasArrived groups recording s waves w rank place → get_or s rank 0 ≡ place → IsReaching groups recording s waves w rank place
 arrived_reaching groups recording s waves w rank place h there =
     rw h.is (arrival_reaches groups h.before s waves w rank place h.call h.settled h.is_rank (there ∙ h.is_next) (sym there) h.few (settled_end groups h.before s waves w h.settled))
-
-pub arrived_room : (groups : Groups) (recording : Lists) (s : State) (waves : Waves) (w : Waiting) (rank place : ℕ) → HasArrived groups recording s waves w rank place → get_or s rank 0 ≡ place → 0 < w.spare
-arrived_room groups recording s waves w rank place h there =
-    omega (arith, held_less (length h.before) rank w.lists _ _ h.settled.kept.linked h.is_rank (at_end_in_none groups h.before s waves w rank h.settled (there ∙ h.is_next)), h.settled.kept.has_lists.nodes)
 
 -- what arrived before its rank has come to it wakes none
 pub arrived_settled : (groups : Groups) (recording : Lists) (s : State) (waves : Waves) (w : Waiting) (rank place : ℕ) → HasArrived groups recording s waves w rank place → get_or s rank 0 ≢ place → IsSettled groups recording s waves w

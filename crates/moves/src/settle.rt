@@ -1,6 +1,6 @@
 //! Ranks that move on until none can, by looks at those alone that something woke.
 
-ghost use Rattle.std.specs.Prelude.{◌≡◌, ◌<◌, ◌≤◌, length, slice_index, IfSome};
+ghost use Rattle.std.specs.Prelude.{◌≡◌, ◌<◌, ◌≤◌, true, false, length, slice_index, IfSome};
 ghost use Rattle.pairing.specs.Limits.{most_calls};
 ghost use Rattle.pairing.specs.Partners.{partner_of};
 ghost use Rattle.moves.specs.Runs.{moved, StandsNoLater};
@@ -42,9 +42,8 @@ fn wake_members(waiters: &mut Waiters, comm: Option<u16>)
     }
 }
 
-/// Wakes all that wait for the call at the place, which its rank has just reached, and puts that rank onto
-/// the worklist.
-pub(crate) fn reach(
+/// Wakes all that wait for the call at the place, which its rank has just reached. That rank is in hand then.
+fn reach(
     pairs: &Pairs,
     stands: &[u32],
     waves: &mut Waves,
@@ -52,59 +51,78 @@ pub(crate) fn reach(
     rank: u16,
     place: u32,
 )
-    requires reaching { IsReaching pairs.now.groups pairs.now.recording stands.now waves.old waiters.old rank place }
-    requires room { 0 < waiters.old.spare }
-    ensures kept { IsKept pairs.now.groups pairs.now.recording stands.now waves.new waiters.new IsNobody 0 }
+    requires { IsReaching pairs.now.groups pairs.now.recording stands.now waves.old waiters.old rank place }
+    ensures in_hand { IsInHand pairs.now.groups pairs.now.recording stands.now waves.new waiters.new rank }
     ensures counts { touches_of waves.old waiters.old ≤ touches_of waves.new waiters.new }
 {
     wake_partner(pairs, waiters, rank, place, Half::Send);
     wake_partner(pairs, waiters, rank, place, Half::Recv);
     let complete = waves.reach(pairs, stands, rank, place);
     wake_members(waiters, complete);
-    waiters.queue(rank);
 }
 
-/// Looks at the rank that was taken off the worklist: it moves on by one, or is linked where it waits, or is
-/// let go where it rests.
+/// Looks at the rank in hand, and answers whether it still is: it moves on by one, or is linked where it
+/// waits, or is let go where it rests.
 fn settle_one(
     pairs: &Pairs,
     stands: &mut Vec<u32>,
     waves: &mut Waves,
     waiters: &mut Waiters,
     rank: u16,
-)
-    requires in_hand { IsInHand pairs.now.groups pairs.now.recording stands.old.items waves.old waiters.old rank }
-    requires room { 0 < waiters.old.spare }
-    ensures kept { IsKept pairs.now.groups pairs.now.recording stands.new.items waves.new waiters.new IsNobody 0 }
+) -> bool
+    requires { IsInHand pairs.now.groups pairs.now.recording stands.old.items waves.old waiters.old rank }
+    ensures in_hand { result ≡ true → IsInHand pairs.now.groups pairs.now.recording stands.new.items waves.new waiters.new rank }
+    ensures kept { result ≡ false → IsKept pairs.now.groups pairs.now.recording stands.new.items waves.new waiters.new IsNobody 0 }
     ensures no_lower { StandsNoLater stands.old.items stands.new.items }
     ensures counts { touches_of waves.old waiters.old ≤ touches_of waves.new waiters.new }
-    ensures falls { to_do pairs.now.recording stands.new.items waiters.new ≤ to_do pairs.now.recording stands.old.items waiters.old }
+    ensures no_more { to_do pairs.now.recording stands.new.items waiters.new ≤ to_do pairs.now.recording stands.old.items waiters.old }
+    ensures falls { result ≡ true → to_do pairs.now.recording stands.new.items waiters.new < to_do pairs.now.recording stands.old.items waiters.old }
 {
     match look_at(pairs, stands, waves, rank) {
-        Look::Over => {}
+        Look::Over => false,
         Look::Partner { place } => {
             waiters.wait_for_partner(rank, place);
+            false
         }
         Look::Wave { comm } => {
             waiters.wait_for_wave(rank, comm);
+            false
         }
         Look::Passes => {
             move_on(stands, rank);
             let place = stand_of(stands, rank);
             reach(pairs, stands, waves, waiters, rank, place);
+            true
         }
     }
 }
 
+/// Looks at the rank in hand until it waits or rests.
+fn settle_rank(
+    pairs: &Pairs,
+    stands: &mut Vec<u32>,
+    waves: &mut Waves,
+    waiters: &mut Waiters,
+    rank: u16,
+)
+    requires { IsInHand pairs.now.groups pairs.now.recording stands.old.items waves.old waiters.old rank }
+    ensures kept { IsKept pairs.now.groups pairs.now.recording stands.new.items waves.new waiters.new IsNobody 0 }
+    ensures no_lower { StandsNoLater stands.old.items stands.new.items }
+    ensures counts { touches_of waves.old waiters.old ≤ touches_of waves.new waiters.new }
+    ensures no_more { to_do pairs.now.recording stands.new.items waiters.new ≤ to_do pairs.now.recording stands.old.items waiters.old }
+{
+    while settle_one(pairs, stands, waves, waiters, rank) {}
+}
+
 /// Looks at ranks until none is to be looked at. It takes no memory.
-pub(crate) fn settle(pairs: &Pairs, stands: &mut Vec<u32>, waves: &mut Waves, waiters: &mut Waiters)
+fn settle(pairs: &Pairs, stands: &mut Vec<u32>, waves: &mut Waves, waiters: &mut Waiters)
     requires { IsKept pairs.now.groups pairs.now.recording stands.old.items waves.old waiters.old IsNobody 0 }
     ensures settled { IsSettled pairs.now.groups pairs.now.recording stands.new.items waves.new waiters.new }
     ensures no_lower { StandsNoLater stands.old.items stands.new.items }
     ensures counts { touches_of waves.old waiters.old ≤ touches_of waves.new waiters.new }
 {
     while let Some(rank) = waiters.next() {
-        settle_one(pairs, stands, waves, waiters, rank);
+        settle_rank(pairs, stands, waves, waiters, rank);
     }
 }
 
@@ -125,6 +143,7 @@ pub(crate) fn arrive(
 {
     if stand_of(stands, rank) == place {
         reach(pairs, stands, waves, waiters, rank, place);
+        settle_rank(pairs, stands, waves, waiters, rank);
         settle(pairs, stands, waves, waiters);
     }
 }

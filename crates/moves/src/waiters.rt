@@ -103,15 +103,6 @@ impl Waiters {
         self.lists.push_reserved(self.ids[list], rank)
     }
 
-    /// Puts a rank onto the worklist.
-    pub(crate) fn queue(&mut self, rank: u16) -> Node
-        requires list { 0 < length self.old.lists }
-        requires room { 0 < self.old.spare }
-        ensures { self.new ≡ with_rank self.old 0 result rank }
-    {
-        self.put(0, rank)
-    }
-
     /// Links a rank where it waits for the partner of its operation at the place.
     pub(crate) fn wait_for_partner(&mut self, rank: u16, place: u32) -> Node
         requires is_rank { rank < length self.old.awaited }

@@ -96,6 +96,20 @@ impl Matches {
         Ok(())
     }
 
+    /// Makes the lists of a further envelope, where they are lacking.
+    #[inline(always)]
+    fn add_lists(&mut self) -> Result<(), AllocError>
+        ensures grown { IsGrown self.old self.new }
+        ensures keys { self.new.keys ≡ self.old.keys }
+        ensures enough { OnOk result (2 * length self.old.keys + 2 ≤ length self.new.lists) }
+    {
+        if self.ids.len() / 2 > self.envelopes.len() {
+            return Ok(());
+        }
+        self.add_list()?;
+        self.add_list()
+    }
+
     /// The number of an envelope, which has one from then on. There are lists for one more.
     fn insert(&mut self, envelope: Envelope) -> Result<usize, AllocError>
         requires { 2 * length self.old.keys + 2 ≤ length self.old.lists }
@@ -111,8 +125,7 @@ impl Matches {
         ensures grown { IsGrown self.old self.new }
         ensures number { IfOk result (λ number. number_in self.new.keys envelope ≡ Some number) }
     {
-        self.add_list()?;
-        self.add_list()?;
+        self.add_lists()?;
         self.insert(envelope)
     }
 

@@ -3,8 +3,8 @@ use Rattle.std.specs.Prelude.{IfSome}
 use Rattle.std.proofs.lemmas.Option.{none-some, same_Some}
 use Rattle.pairing.specs.Partners.{partner_of}
 use Rattle.pairing.specs.declared.envelope.Half.TheVariants.{Recv as RecvHalf}
-use Rattle.moves.specs.Waiting.{Waiting, woken_partner, woken_comm, with_rank, comm_list}
-use Rattle.moves.proofs.SettleLemmas.{all_woken, woken_room, partners_room, reach_kept, reach_counts}
+use Rattle.moves.specs.Waiting.{Waiting, woken_partner, woken_comm, comm_list}
+use Rattle.moves.proofs.SettleLemmas.{all_woken, partners_room, reach_hand, reach_counts}
 use Rattle.moves.proofs.settle.reach.Goals as goal
 
 -- a communicator that may be told is one of the groups
@@ -21,28 +21,10 @@ wake_members-requires c =
     let p = c.args.pairs.now in
     let w = c.args.waiters.now in
     let both : c.wake_partner-2.new.waiters ≡ all_woken p.groups p.recording c.args.rank c.args.place w None = c.wake_partner-2.ensures ∙ ap (λ (x : Waiting). woken_partner x (partner_of p.groups p.recording c.args.rank c.args.place RecvHalf)) c.wake_partner.ensures in
-    let room = partners_room p.groups p.recording c.args.rank c.args.place w c.requires.reaching.has_lists in
+    let room = partners_room p.groups p.recording c.args.rank c.args.place w c.requires.has_lists in
     if_known c.reach-complete.result (length p.groups) (length c.wake_partner-2.new.waiters.awaited) (length c.wake_partner-2.new.waiters.lists)
-    (omega (arith, room.0, room.1, ap (λ (x : Waiting). length x.lists) both, ap (λ (x : Waiting). length x.awaited) both, c.requires.reaching.has_lists.lists, c.requires.reaching.has_lists.awaited))
+    (omega (arith, room.0, room.1, ap (λ (x : Waiting). length x.lists) both, ap (λ (x : Waiting). length x.awaited) both, c.requires.has_lists.lists, c.requires.has_lists.awaited))
     c.reach-complete.ensures.comm
-
-pub queue-requires-clause-list : goal.queue-requires-clause-list
-queue-requires-clause-list c =
-    let p = c.args.pairs.now in
-    let w = c.args.waiters.now in
-    let both : c.wake_partner-2.new.waiters ≡ all_woken p.groups p.recording c.args.rank c.args.place w None = c.wake_partner-2.ensures ∙ ap (λ (x : Waiting). woken_partner x (partner_of p.groups p.recording c.args.rank c.args.place RecvHalf)) c.wake_partner.ensures in
-    let all : c.wake_members.new.waiters ≡ all_woken p.groups p.recording c.args.rank c.args.place w c.reach-complete.result = c.wake_members.ensures ∙ ap (λ (x : Waiting). woken_comm x c.reach-complete.result) both in
-    let room = woken_room p.groups p.recording c.args.rank c.args.place w c.reach-complete.result c.requires.reaching.has_lists (known (length p.groups) c.reach-complete.result c.reach-complete.ensures.comm) in
-    omega (arith, room.0, ap (λ (x : Waiting). length x.lists) all, c.requires.reaching.has_lists.lists)
-
-pub queue-requires-clause-room : goal.queue-requires-clause-room
-queue-requires-clause-room c =
-    let p = c.args.pairs.now in
-    let w = c.args.waiters.now in
-    let both : c.wake_partner-2.new.waiters ≡ all_woken p.groups p.recording c.args.rank c.args.place w None = c.wake_partner-2.ensures ∙ ap (λ (x : Waiting). woken_partner x (partner_of p.groups p.recording c.args.rank c.args.place RecvHalf)) c.wake_partner.ensures in
-    let all : c.wake_members.new.waiters ≡ all_woken p.groups p.recording c.args.rank c.args.place w c.reach-complete.result = c.wake_members.ensures ∙ ap (λ (x : Waiting). woken_comm x c.reach-complete.result) both in
-    let room = woken_room p.groups p.recording c.args.rank c.args.place w c.reach-complete.result c.requires.reaching.has_lists (known (length p.groups) c.reach-complete.result c.reach-complete.ensures.comm) in
-    omega (arith, room.1, ap (λ (x : Waiting). x.spare) all, c.requires.room)
 
 pub returns : goal.returns
 returns c =
@@ -50,11 +32,10 @@ returns c =
     let w = c.args.waiters.now in
     let both : c.wake_partner-2.new.waiters ≡ all_woken p.groups p.recording c.args.rank c.args.place w None = c.wake_partner-2.ensures ∙ ap (λ (x : Waiting). woken_partner x (partner_of p.groups p.recording c.args.rank c.args.place RecvHalf)) c.wake_partner.ensures in
     let all : c.wake_members.new.waiters ≡ all_woken p.groups p.recording c.args.rank c.args.place w c.reach-complete.result = c.wake_members.ensures ∙ ap (λ (x : Waiting). woken_comm x c.reach-complete.result) both in
-    let is = c.queue.ensures ∙ ap (λ (x : Waiting). with_rank x 0 c.queue.result c.args.rank) all in
     let is_known = known (length p.groups) c.reach-complete.result c.reach-complete.ensures.comm in
     record {
-      kept =
-          reach_kept p.groups p.recording c.args.stands.now c.args.waves.now c.reach-complete.new.self w c.queue.new.self c.args.rank c.args.place c.queue.result c.reach-complete.result c.requires.reaching c.requires.room c.reach-complete.ensures.waves c.reach-complete.ensures.others c.reach-complete.ensures.one is_known c.reach-complete.ensures.changes c.reach-complete.ensures.none is;
+      in_hand =
+          rw all (reach_hand p.groups p.recording c.args.stands.now c.args.waves.now c.reach-complete.new.self w c.args.rank c.args.place c.reach-complete.result c.requires c.reach-complete.ensures.waves c.reach-complete.ensures.others c.reach-complete.ensures.one is_known c.reach-complete.ensures.changes c.reach-complete.ensures.none);
       counts =
-          reach_counts p.groups p.recording c.args.stands.now c.args.waves.now c.reach-complete.new.self w c.queue.new.self c.args.rank c.args.place c.queue.result c.reach-complete.result c.requires.reaching is_known c.reach-complete.ensures.counts is;
+          rw all (reach_counts p.groups p.recording c.args.stands.now c.args.waves.now c.reach-complete.new.self w c.args.rank c.args.place c.reach-complete.result c.requires is_known c.reach-complete.ensures.counts);
     }
