@@ -17,7 +17,7 @@ use rankfeed::Ending;
 use std::sync::Wait;
 
 /// How many records of a rank are read before those of the next.
-const RECORDS_A_TURN: u16 = 16;
+const RECORDS_A_TURN: u16 = 64;
 
 impl<I: Input> Turn<I> {
     /// A source of which nothing was read.

@@ -105,6 +105,7 @@ fn collective_of(field: &[u8]) -> Option<Collective>
 }
 
 /// The operation that a field spells, if the format has it; the most frequent ones first.
+#[inline(always)]
 #[tactic(auto, unfolding(crate::specs::Word::operation_of))]
 fn operation_of(field: &[u8]) -> Option<Operation>
     ensures { result ≡ operation_of field.now }
@@ -170,6 +171,7 @@ fn other_of(field: &[u8]) -> Option<Word>
 }
 
 /// The word that a field spells, if the format has it.
+#[inline(always)]
 #[tactic(auto, unfolding(crate::specs::Word::word_of))]
 pub(crate) fn word_of(field: &[u8]) -> Option<Word>
     ensures { result ≡ word_of field.now }
