@@ -34,5 +34,3 @@
 mod links;
 pub mod lists;
 pub mod node;
-#[cfg(test)]
-mod tests;

@@ -22,9 +22,6 @@ use mpicall::source::Source;
 use rankfeed::{Ending, Feed, Receipt, Unsealed};
 use std::sync::Wait;
 
-#[cfg(test)]
-mod tests;
-
 /// The end mark behind records that a source has no more of: whether the last of them ended the list.
 fn end_of(done: bool) -> Ending
     ensures { result ≡ end_behind done }

@@ -47,8 +47,6 @@ pub mod outcome;
 pub mod run;
 pub mod session;
 mod sweep;
-#[cfg(test)]
-mod tests;
 pub mod threads;
 mod turn;
 mod turns;

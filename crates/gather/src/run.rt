@@ -281,6 +281,3 @@ where
         alloc, head, sources, capacity, gate, format, out, rt, reading,
     )
 }
-
-#[cfg(test)]
-mod tests;

@@ -12,9 +12,6 @@ use std::sync::Wait;
 use std::sync::atomic::{AtomicU64, Ordering};
 use std::thread::{Promise, PromisedHandle, Scope, Threads};
 
-#[cfg(test)]
-mod tests;
-
 /// The rank whose thread couldn't be started last, if there is one.
 #[derive(Drop)]
 pub struct NotStarted(AtomicU64);

@@ -2,6 +2,3 @@
 
 pub use watches::stands::Stands;
 pub use watches::watch::{Gone, Told, Watch};
-
-#[cfg(test)]
-mod tests;

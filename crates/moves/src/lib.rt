@@ -44,8 +44,6 @@ pub mod need;
 pub mod run;
 mod settle;
 pub mod stand;
-#[cfg(test)]
-mod tests;
 pub mod verdict;
 mod waiters;
 mod waves;

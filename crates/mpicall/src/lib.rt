@@ -53,7 +53,5 @@ pub mod record;
 pub mod reqs;
 pub mod source;
 pub mod spelling;
-#[cfg(test)]
-mod tests;
 mod window;
 pub mod word;

@@ -26,5 +26,3 @@ pub mod head;
 pub mod limits;
 mod line;
 pub mod split;
-#[cfg(test)]
-mod tests;

@@ -107,15 +107,6 @@ are_starts calls (place ∷ places) (req ∷ reqs) h =
     let here : request_at calls place ≡ Some req = rw start.stands_there (is_it req (starts start.starter) start.starts_it) in
     rw here (ap (λ (os : List (Option ℕ)). Some req ∷ os) rest)
 
--- the request that a noted call starts
-pub request_of_note : (notes : List Noted) (place : ℕ) (note : Noted) → slice_get notes place ≡ Some note → request_at (calls_in notes) place ≡ starts note.call
-request_of_note notes place note here =
-    ap (λ (o : Option Call). option_and_then starts o) (slice_get-map (λ (n : Noted). n.call) notes place ∙ ap (option_map (λ (n : Noted). n.call)) here)
-
-pub no_request : (notes : List Noted) (place : ℕ) → slice_get notes place ≡ None → request_at (calls_in notes) place ≡ None
-no_request notes place none =
-    ap (λ (o : Option Call). option_and_then starts o) (slice_get-map (λ (n : Noted). n.call) notes place ∙ ap (option_map (λ (n : Noted). n.call)) none)
-
 -- one more place whose call starts the request beside it
 pub one_more : (f g : ℕ → Option ℕ) (xs ys : List ℕ) (i : ℕ) → i < length xs → i < length ys → f (get_or xs i 0) ≡ g (get_or ys i 0) → map f (take i xs) ≡ map g (take i ys) → map f (take (i + 1) xs) ≡ map g (take (i + 1) ys)
 one_more f g xs ys i in_xs in_ys here before =

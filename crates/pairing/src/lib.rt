@@ -44,21 +44,13 @@ mod matches;
 mod meeting;
 mod note;
 mod notes;
-#[cfg(test)]
-mod notes_tests;
 mod packed;
 mod packing;
 pub mod pairs;
 pub mod partner;
 mod place_lists;
-#[cfg(test)]
-mod place_tests;
 mod rank_notes;
 pub mod request;
 pub mod stored;
-#[cfg(test)]
-mod table_tests;
 mod tables;
-#[cfg(test)]
-mod tests;
 pub mod wave;

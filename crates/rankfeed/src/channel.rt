@@ -19,8 +19,6 @@ use std::thread;
 use thiserror::Error;
 
 mod rule;
-#[cfg(test)]
-mod tests;
 
 /// The most records of one feed, so that its items can be counted. A feed that has as many is full for
 /// good.

@@ -38,8 +38,6 @@ pub mod channel;
 pub mod item;
 pub mod pause;
 pub mod ring;
-#[cfg(test)]
-mod tests;
 
 pub use answer::{Came, Met, PutFault, Took, Unsealed};
 pub use item::{Ending, Item};

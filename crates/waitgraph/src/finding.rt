@@ -20,8 +20,6 @@ pub mod kind;
 mod plain;
 pub mod request;
 pub mod root;
-#[cfg(test)]
-mod tests;
 pub mod unreceived;
 mod wave;
 

@@ -28,8 +28,6 @@ pub mod finding;
 pub mod graph;
 mod json;
 pub mod report;
-#[cfg(test)]
-mod tests;
 pub mod unmet;
 pub mod walk;
 mod word;

@@ -16,8 +16,6 @@ use thiserror::Error;
 
 mod page;
 pub(crate) mod spelled;
-#[cfg(test)]
-mod tests;
 mod text;
 
 /// The format of a report: lines of text, or one JSON value.

@@ -1,0 +1,26 @@
+//! Tests of the crates at the base, through their public calls: lines, traces, devices, heads, lists in an
+//! arena, and feeds.
+//!
+//! They stand in a crate of their own, so that those crates are proved once, and not again with their tests.
+#![tactic(auto)]
+
+#[cfg(test)]
+mod changed_texts;
+#[cfg(test)]
+mod channels;
+#[cfg(test)]
+mod cut_texts;
+#[cfg(test)]
+mod heads;
+#[cfg(test)]
+mod lines;
+#[cfg(test)]
+mod linked_lists;
+#[cfg(test)]
+mod rings;
+#[cfg(test)]
+mod sources;
+#[cfg(test)]
+mod std_devices;
+#[cfg(test)]
+mod words;

@@ -1,0 +1,133 @@
+use mpicall::call::{Call, Mode, Peer};
+use mpicall::device::Input;
+use mpicall::fails_at::FailsAt;
+use mpicall::fault::{LineFault, SourceFault};
+use mpicall::lint::{LintFault, lint};
+use mpicall::memory::{MemoryInput, MemoryOutput};
+use mpicall::record::Record;
+use mpicall::source::Source;
+use mpicall::spelling::write_line;
+use std::process::Abort;
+use std::test::Fail;
+
+pub(crate) const TRACE: &[u8] = b"send 0 1 5\nrecv 255 63 2147483647\nfinalize\n";
+
+/// The calls of the trace.
+pub(crate) fn calls() -> [Call; 3] {
+    let dest = Peer::Rank(1);
+    let source = Peer::Rank(63);
+    [
+        Call::Send {
+            mode: Mode::Standard,
+            comm: 0,
+            dest,
+            tag: 5,
+        },
+        Call::Recv {
+            comm: 255,
+            source,
+            tag: 2147483647,
+        },
+        Call::Finalize,
+    ]
+}
+
+/// Asserts that a source gives the calls, and then this end, twice.
+pub(crate) fn gives<I: Input>(
+    rt: &impl Abort,
+    source: &mut Source<I>,
+    calls: &[Call],
+    end: Result<Option<Record>, SourceFault>,
+) {
+    for call in calls {
+        assert_eq!(rt; source.next(), Ok(Record::new(*call)));
+    }
+    assert_eq!(rt; source.next(), end);
+    assert_eq!(rt; source.next(), end);
+}
+
+#[test]
+fn pieces_of_any_size_give_the_same_records(rt: HostRuntime) {
+    for most in [1, 7, 1000] {
+        assert!(rt; most > 0);
+        let mut whole = Source::new(MemoryInput::in_pieces(TRACE, most));
+        gives(&rt, &mut whole, &calls(), Ok(None));
+        let rows: [(&[u8], u64, SourceFault); 5] = [
+            (b"finalize\nsend 0 1 5\n", 1, SourceFault::TextAfterFinalize),
+            (&TRACE[..15], 1, SourceFault::Line(LineFault::NoLineFeed)),
+            (&TRACE[..11], 1, SourceFault::NoFinalize),
+            (b"", 0, SourceFault::NoFinalize),
+            (&[b'x'; 3000], 0, SourceFault::Line(LineFault::TooLong)),
+        ];
+        for (text, call, fault) in rows {
+            let mut source = Source::new(MemoryInput::in_pieces(text, most));
+            assert_eq!(rt; lint(&mut source, &rt), Err(LintFault { call, fault }));
+            assert_eq!(rt; source.next(), Err(fault));
+        }
+    }
+}
+
+/// How many calls are whole in the first bytes of the trace.
+fn whole_calls(bytes: u64) -> u64 {
+    match bytes {
+        0..=10 => 0,
+        11..=33 => 1,
+        34..=42 => 2,
+        _ => 3,
+    }
+}
+
+#[test]
+fn a_failed_read_comes_behind_the_whole_lines(rt: HostRuntime) {
+    for (most, reads) in [(1, 44), (7, 8), (1000, 2)] {
+        assert!(rt; most > 0 && most < 1001);
+        for at in 0..reads {
+            let input = FailsAt::new(MemoryInput::in_pieces(TRACE, most), at);
+            let call = whole_calls(at.saturating_mul(most as u64));
+            let want = Err(LintFault {
+                call,
+                fault: SourceFault::ReadFailed,
+            });
+            assert_eq!(rt; lint(&mut Source::new(input), &rt), want, "at {at}");
+        }
+        let unmet = FailsAt::new(MemoryInput::in_pieces(TRACE, most), reads);
+        assert_eq!(rt; lint(&mut Source::new(unmet), &rt), Ok(3));
+    }
+    let held = FailsAt::new(MemoryInput::new(b"finalize\nx"), 1);
+    gives(
+        &rt,
+        &mut Source::new(held),
+        &[Call::Finalize],
+        Err(SourceFault::TextAfterFinalize),
+    );
+}
+
+#[test]
+fn a_failed_write_leaves_a_beginning(rt: HostRuntime) -> Result<(), Fail> {
+    let ends = [0, 11, 34, 43];
+    for at in 0..4 {
+        let mut output = FailsAt::new(MemoryOutput::new(rt.alloc()), at);
+        let mut failed = false;
+        for call in calls() {
+            let entry = Record::new(call).ok_or("out of range")?;
+            if write_line(&entry, &mut output).is_err() {
+                failed = true;
+                break;
+            }
+        }
+        assert_eq!(rt; failed, at < 3, "at {at}");
+        assert_eq!(rt; output.device().bytes(), &TRACE[..ends[at as usize]]);
+    }
+    Ok(())
+}
+
+#[test]
+fn records_are_read_into_one_place_that_a_fault_leaves_alone(rt: HostRuntime) {
+    let mut source = Source::new(MemoryInput::new(b"wait 7\nfinalize 7\n"));
+    let mut entry = Record::finalize();
+    assert_eq!(rt; source.next_into(&mut entry), Ok(true));
+    assert_eq!(rt; entry.call(), Call::Wait { req: 7 });
+    let fault = SourceFault::Line(LineFault::FieldCount);
+    assert_eq!(rt; source.next_into(&mut entry), Err(fault));
+    assert_eq!(rt; entry.call(), Call::Wait { req: 7 });
+}

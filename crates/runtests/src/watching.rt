@@ -1,0 +1,334 @@
+//! Watches of small sessions, in one thread and beside the collector.
+
+ghost use Rattle.std.specs.Prelude.{◌≡◌, All, IfOk, map};
+ghost use Rattle.rankfeed.specs.Rings.{feed_ring};
+ghost use Rattle.gather.specs.Collectors.{rings, list_published};
+ghost use Rattle.watches.specs.Watches.{list_watched, list_told};
+
+use crate::sessions::{end_feeds, head_again, one_of_a_thousand, put_at};
+use gather::collector::{Collector, Stepped};
+use gather::session::{OpenFault, Session};
+use moves::verdict::Verdict;
+use mpicall::fault::SourceFault;
+use mpicall::line::read_line;
+use mpigroup::head::Head;
+use rankfeed::Feed;
+use std::alloc::Global;
+use std::sync::Wait;
+use std::test::Fail;
+use std::thread;
+use std::thread::Threads;
+use watches::watch::{Gone, Told, Watch};
+
+/// Two ranks that send to each other in buffered mode, receive and end.
+const FREE: [(u16, &[u8]); 6] = [
+    (0, b"bsend 0 1 0\n"),
+    (1, b"bsend 0 0 0\n"),
+    (0, b"recv 0 1 0\n"),
+    (1, b"recv 0 0 0\n"),
+    (0, b"finalize\n"),
+    (1, b"finalize\n"),
+];
+
+/// A session that one call drops, so that an exit of a test is proved by that call.
+struct Opened {
+    feeds: Vec<Feed>,
+    collector: Collector,
+    watches: Vec<Watch>,
+    ghost rings: { rings collector ≡ map feed_ring feeds.items },
+    ghost list: { All (λ watch. list_watched watch ≡ list_published collector) watches.items },
+}
+
+impl Drop for Opened {
+    fn drop(self) {
+        let Opened {
+            feeds: _,
+            collector: _,
+            watches: _,
+        } = self;
+    }
+}
+
+impl Opened {
+    fn of(alloc: Global, head: &[u8], watches: u16, wait: &impl Wait) -> Result<Opened, Fail> {
+        match Opened::unless_refused(alloc, head, watches, wait)? {
+            Some(session) => Ok(session),
+            None => Err("memory".into()),
+        }
+    }
+
+    /// None where the session isn't opened for want of memory.
+    fn unless_refused(
+        alloc: Global,
+        head: &[u8],
+        watches: u16,
+        wait: &impl Wait,
+    ) -> Result<Option<Opened>, Fail> {
+        let head = head_again(alloc, head)?;
+        match Session::open(alloc, head, 4, watches.min(2), wait) {
+            Ok((feeds, collector, watches)) => Ok(Some(Opened {
+                feeds,
+                collector,
+                watches,
+            })),
+            Err(OpenFault::Memory) => Ok(None),
+            Err(fault) => Err(fault.into()),
+        }
+    }
+
+    /// Puts a line's record on a rank's feed, takes it, and tells what was found.
+    fn deal(&mut self, rank: u16, line: &[u8]) -> Result<Stepped, Fail>
+        ensures { list_published self.new.collector ≡ list_published self.old.collector }
+    {
+        let record = read_line(line)?;
+        if rank >= self.collector.ranks() || !put_at(&mut self.feeds, rank, record) {
+            return Err("no such place".into());
+        }
+        Ok(self.collector.step(rank))
+    }
+
+    /// Deals a barrier and a Finalize to each of these ranks.
+    fn deal_barriers(&mut self, first: u16, end: u16) -> Result<(), Fail>
+        ensures { list_published self.new.collector ≡ list_published self.old.collector }
+    {
+        for rank in first..end {
+            self.deal(rank, b"barrier 0\n")?;
+            self.deal(rank, b"finalize\n")?;
+        }
+        Ok(())
+    }
+
+    fn publish(&mut self, wait: &impl Wait) -> Result<Told, Fail>
+        ensures list { list_published self.new.collector ≡ list_published self.old.collector }
+        ensures told { IfOk result (λ told. list_told told ≡ list_published self.old.collector) }
+    {
+        Ok(self.collector.publish(wait)?)
+    }
+
+    /// Deals a run of two ranks with a publication behind each record.
+    fn deal_free(&mut self, wait: &impl Wait) -> Result<(), Fail> {
+        for &(rank, line) in &FREE {
+            self.deal(rank, line)?;
+            self.publish(wait)?;
+        }
+        Ok(())
+    }
+
+    fn learn(&mut self, watch: usize, told: &Told)
+        requires { list_told told.now ≡ list_published self.old.collector }
+        ensures { list_published self.new.collector ≡ list_published self.old.collector }
+    {
+        if watch < self.watches.len() {
+            self.watches[watch].learn(told);
+        }
+    }
+
+    fn read(&mut self, watch: usize, rank: u16) -> Result<Option<u32>, Gone>
+        ensures { list_published self.new.collector ≡ list_published self.old.collector }
+    {
+        if watch < self.watches.len() {
+            self.watches[watch].read(rank)
+        } else {
+            Err(Gone)
+        }
+    }
+
+    /// Ends the feeds and closes the session.
+    fn close(self, alloc: Global) -> Result<Verdict, Fail> {
+        let Opened {
+            feeds,
+            collector,
+            watches: _,
+        } = self;
+        let receipts = end_feeds(alloc, feeds, SourceFault::NoFinalize, None)?;
+        Ok(collector.close(receipts)?.verdict())
+    }
+}
+
+/// What a watch answers for rank 0 before a run of two ranks and after it was told of its end, and then for
+/// rank 2.
+fn answers(alloc: Global, wait: &impl Wait) -> Result<[Result<Option<u32>, Gone>; 3], Fail> {
+    let mut session = Opened::of(alloc, b"ranks 2\n", 1, wait)?;
+    let at_start = session.read(0, 0);
+    session.deal_free(wait)?;
+    let told = session.publish(wait)?;
+    session.learn(0, &told);
+    Ok([at_start, session.read(0, 0), session.read(0, 2)])
+}
+
+#[test]
+fn a_watch_tells_where_the_ranks_stand(rt: HostRuntime) -> Result<(), Fail> {
+    let answers = answers(rt.alloc(), &rt)?;
+    assert_eq!(rt; answers, [Ok(Some(0)), Ok(Some(2)), Ok(None)]);
+    Ok(())
+}
+
+/// What a watch answers for a rank once the collector was withdrawn, and where there is no such rank.
+fn answers_behind(alloc: Global, wait: &impl Wait) -> Result<[Result<Option<u32>, Gone>; 2], Fail> {
+    let mut session = Opened::of(alloc, b"ranks 2\n", 1, wait)?;
+    session.collector.withdraw(wait);
+    session.publish(wait)?;
+    Ok([session.read(0, 1), session.read(0, 2)])
+}
+
+#[test]
+fn a_watch_tells_that_the_collector_was_withdrawn(rt: HostRuntime) -> Result<(), Fail> {
+    assert_eq!(rt; answers_behind(rt.alloc(), &rt)?, [Err(Gone), Ok(None)]);
+    Ok(())
+}
+
+/// What a watch answers for a rank once the session was closed.
+fn answer_behind_close(alloc: Global, wait: &impl Wait) -> Result<Result<Option<u32>, Gone>, Fail> {
+    let mut session = Opened::of(alloc, b"ranks 2\n", 1, wait)?;
+    session.deal_free(wait)?;
+    let watch = session.watches.pop();
+    session.close(alloc)?;
+    match watch {
+        Some(mut watch) => Ok(watch.read(1)),
+        None => Err("no watch".into()),
+    }
+}
+
+#[test]
+fn a_watch_keeps_the_last_stands_of_a_closed_session(rt: HostRuntime) -> Result<(), Fail> {
+    assert_eq!(rt; answer_behind_close(rt.alloc(), &rt)?, Ok(Some(2)));
+    Ok(())
+}
+
+/// What two watches of 64 ranks answer that all wait for the last one: the first once it was told of all ranks
+/// but the last, the second once it was told of all, the first once it was told of all, and once it was told
+/// of the earlier stands again.
+fn answers_of_two(alloc: Global, wait: &impl Wait) -> Result<[Result<Option<u32>, Gone>; 4], Fail> {
+    let mut session = Opened::of(alloc, b"ranks 64\n", 2, wait)?;
+    session.deal_barriers(0, 63)?;
+    let earlier = session.publish(wait)?;
+    session.learn(0, &earlier);
+    let waiting = session.read(0, 0);
+    session.deal_barriers(63, 64)?;
+    let told = session.publish(wait)?;
+    session.learn(1, &told);
+    let last = session.read(1, 63);
+    session.learn(0, &told);
+    let over = session.read(0, 0);
+    session.learn(0, &earlier);
+    Ok([waiting, last, over, session.read(0, 0)])
+}
+
+#[test]
+fn watches_of_64_ranks(rt: HostRuntime) -> Result<(), Fail> {
+    let answers = answers_of_two(rt.alloc(), &rt)?;
+    assert_eq!(rt;
+        answers,
+        [Ok(Some(0)), Ok(Some(1)), Ok(Some(1)), Ok(Some(1))]
+    );
+    Ok(())
+}
+
+/// Reads rank 0's stand over and over until it is 2. Whether it came to that, and no answer fell.
+fn rises_to_the_end(watch: Option<Watch>) -> bool {
+    let Some(mut watch) = watch else {
+        return false;
+    };
+    let mut last = 0;
+    for _ in 0..100_000u32 {
+        let Ok(Some(stand)) = watch.read(0) else {
+            return false;
+        };
+        if stand < last || stand == 2 {
+            return stand == 2;
+        }
+        last = stand;
+        thread::yield_now();
+    }
+    false
+}
+
+/// What two watches see in threads of their own, while the ranks' records come.
+fn beside_the_collector<R: Threads + Wait + Sync>(
+    rt: &R,
+    alloc: Global,
+) -> Result<[bool; 2], Fail> {
+    let mut session = Opened::of(alloc, b"ranks 2\n", 2, rt)?;
+    let first = session.watches.pop();
+    let second = session.watches.pop();
+    let (dealt, (one, other)) = thread::join(
+        rt,
+        || session.deal_free(rt),
+        || thread::join(rt, || rises_to_the_end(first), || rises_to_the_end(second)),
+    );
+    dealt?;
+    Ok([one, other])
+}
+
+#[test]
+fn watches_read_beside_the_collector(rt: HostRuntime) -> Result<(), Fail> {
+    assert_eq!(rt; beside_the_collector(&rt, rt.alloc())?, [true, true]);
+    Ok(())
+}
+
+/// What a watch is told of two ranks' stands behind each record of a thousand messages.
+#[derive(Drop)]
+struct Seen {
+    /// The stands behind the last record.
+    stands: [Result<Option<u32>, Gone>; 2],
+    /// How many records were thrown away, and how many of them changed the stands.
+    discarded: u32,
+    changed: u32,
+}
+
+impl Opened {
+    /// Deals one of a thousand messages' records, publishes, and tells a watch of it.
+    fn deal_and_tell(&mut self, turn: u32, seen: &mut Seen, wait: &impl Wait) -> Result<(), Fail> {
+        let rank = if turn % 2 == 0 { 0 } else { 1 };
+        let (rank, line) = one_of_a_thousand(rank, turn / 2);
+        let stepped = self.deal(rank, line)?;
+        let told = self.publish(wait)?;
+        self.learn(0, &told);
+        let stands = [self.read(0, 0), self.read(0, 1)];
+        if stepped == Stepped::Discarded {
+            seen.discarded = seen.discarded.saturating_add(1);
+            if stands != seen.stands {
+                seen.changed = seen.changed.saturating_add(1);
+            }
+        }
+        seen.stands = stands;
+        Ok(())
+    }
+}
+
+/// What a watch is told of a thousand messages. None where the session isn't opened for want of memory.
+fn seen_of_a_thousand(alloc: Global, wait: &impl Wait) -> Result<Option<Seen>, Fail> {
+    let Some(mut session) = Opened::unless_refused(alloc, b"ranks 2\n", 1, wait)? else {
+        return Ok(None);
+    };
+    let mut seen = Seen {
+        stands: [Ok(Some(0)), Ok(Some(0))],
+        discarded: 0,
+        changed: 0,
+    };
+    for turn in 0..2002u32 {
+        session.deal_and_tell(turn, &mut seen, wait)?;
+    }
+    Ok(Some(seen))
+}
+
+/// The sweep of `bench/refuse` runs this with each request for memory refused in turn: by the opening or by a
+/// step. Each publication is answered all the same.
+#[test]
+fn stands_stay_where_memory_was_wanted(rt: HostRuntime) -> Result<(), Fail> {
+    if let Some(seen) = seen_of_a_thousand(rt.alloc(), &rt)? {
+        assert_eq!(rt; seen.changed, 0);
+        let are_at_end = seen.stands == [Ok(Some(1000)), Ok(Some(1000))];
+        assert!(rt; are_at_end || seen.discarded > 0);
+    }
+    Ok(())
+}
+
+/// The sweep of `bench/refuse` runs this with each request for memory refused in turn.
+#[test]
+fn an_opening_is_refused_for_want_of_memory_alone(rt: HostRuntime) -> Result<(), Fail> {
+    if let Some(mut session) = Opened::unless_refused(rt.alloc(), b"ranks 64\n", 2, &rt)? {
+        assert_eq!(rt; session.read(1, 63), Ok(Some(0)));
+    }
+    Ok(())
+}
