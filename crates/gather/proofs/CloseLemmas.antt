@@ -1,5 +1,5 @@
 -- What is kept of ranks whose feeds were all drained: the answer over the traces that their receipts hold.
-use Rattle.std.proofs.Common.{◌≡◌, ℕ, zero, suc, ◌+◌, ◌-◌, ◌<◌, true, false, Option, Some, None, List, [], ◌∷◌, ◌++◌, length, refl, sym, ap, subst, ◌∙◌, arith, append_assoc, append-nil, slice_get}
+use Rattle.std.proofs.Common.{◌≡◌, ℕ, zero, suc, ◌+◌, ◌-◌, ◌<◌, true, false, Option, Some, None, Result, Ok, Err, IfOk, IfErr, List, [], ◌∷◌, ◌++◌, length, refl, sym, ap, subst, ◌∙◌, arith, append_assoc, append-nil, slice_get}
 use Rattle.std.proofs.lemmas.List.{length-append, length-map}
 use Rattle.std.proofs.lemmas.Option.{none-some}
 use Rattle.std.proofs.lemmas.Bool.{false≢true}
@@ -13,6 +13,7 @@ use Rattle.pairing.specs.Recordings.{Lists, calls_of, is_ended, IsClosed}
 use Rattle.pairing.specs.Faults.{fault_of, IsLawful}
 use Rattle.pairing.specs.declared.fault.CallFault.{CallFault}
 use Rattle.pairing.proofs.FaultLemmas.{an_ended_lawful_list_is_closed}
+use Rattle.moves.specs.Analysed.{Analysed}
 use Rattle.rankfeed.specs.Items.{calls_among, last_item, item_ends_list, end_of, are_ended, IsFeed}
 use Rattle.rankfeed.specs.Rings.{sent_whole, taker_ring}
 use Rattle.rankfeed.specs.declared.item.Ending.{Ending}
@@ -26,7 +27,10 @@ use Rattle.gather.specs.declared.fault.Refusal.{Refusal}
 use Rattle.gather.specs.declared.collector.Collector.{Collector}
 use Rattle.gather.specs.declared.outcome.Outcome.{Outcome}
 use Rattle.gather.specs.Collectors.{rings, kept, received_from}
-use Rattle.gather.specs.Closes.{IsOutcomeOver}
+use Rattle.gather.specs.Closes.{IsOutcomeOver, Closes}
+use Rattle.gather.specs.Concluded.{Concludes, IsOutcomeOfKept}
+use Rattle.gather.specs.declared.outcome.CloseFault.{CloseFault}
+use Rattle.gather.specs.declared.outcome.CloseFault.TheVariants.{Memory, Unproved, Refused}
 use Rattle.gather.specs.Collected.{PlacedFault, fault_in, fault_of_items, records_before, IsKeptOf, Kept, fault_at, refusal_in, refusal_kept}
 use Rattle.gather.specs.Takers.{received_in, Collects}
 use Rattle.gather.specs.Receipts.{trace_of_items, missing_from, first_missing, traces_held, AreAllOf, AllReceived, AreReceiptsOf}
@@ -208,11 +212,38 @@ drained first now receipts missing are names calm lowest none all = record {
   all = all;
 }
 
-pub outcome_told : (groups : Groups) (takers : List Taker) (kept : Kept) (receipts : List (Option Receipt)) (outcome : Outcome) → AreDrained takers kept receipts → refusal_kept kept ≡ None → IsLawful kept.groups kept.recording → kept.groups ≡ groups → outcome.analyser.groups ≡ kept.groups → outcome.analyser.recording ≡ kept.recording → IsOutcomeOver groups (traces_held receipts) outcome
-outcome_told groups takers kept receipts outcome are none lawful same groups_are recording_is =
-    let recording = recording_told takers kept receipts are none in record {
-      no_refusal = ap (λ (gs : Groups). refusal_of gs (traces_held receipts)) (sym same) ∙ sym (refusal_told takers kept receipts are) ∙ none;
-      same_groups = groups_are ∙ same;
-      recording = recording_is ∙ recording;
-      closed = subst IsClosed recording (recording_closed takers kept receipts are none lawful);
+outcome_told : (groups : Groups) (takers : List Taker) (kept : Kept) (receipts : List (Option Receipt)) (outcome : Outcome) → AreDrained takers kept receipts → kept.groups ≡ groups → IsOutcomeOfKept kept outcome → IsOutcomeOver groups (traces_held receipts) outcome
+outcome_told groups takers kept receipts outcome are same of_kept =
+    let recording = recording_told takers kept receipts are of_kept.no_refusal in record {
+      no_refusal = ap (λ (gs : Groups). refusal_of gs (traces_held receipts)) (sym same) ∙ sym (refusal_told takers kept receipts are) ∙ of_kept.no_refusal;
+      same_groups = of_kept.same_groups ∙ same;
+      recording = of_kept.recording ∙ recording;
+      closed = subst IsClosed recording of_kept.closed;
     }
+
+-- what is concluded of what is kept is the answer over the receipts
+pub concluded : (groups : Groups) (takers : List Taker) (kept : Kept) (receipts : List (Option Receipt)) (answer : Result Outcome CloseFault) → (kept.wanted ≡ false → AreDrained takers kept receipts) → kept.groups ≡ groups → Concludes kept answer → Closes groups receipts answer
+concluded groups takers kept receipts (Err Memory) drained same is = tt
+concluded groups takers kept receipts (Err (Unproved rank)) drained same is = absurd is
+concluded groups takers kept receipts (Err (Refused refusal)) drained same is =
+    let are = drained is.0 in (
+      are.present,
+      ap (λ (gs : Groups). refusal_of gs (traces_held receipts)) (sym same) ∙ sym (refusal_told takers kept receipts are) ∙ is.1,
+    )
+concluded groups takers kept receipts (Ok outcome) drained same is =
+    let are = drained is.0 in (are.present, outcome_told groups takers kept receipts outcome are same is.1)
+
+-- where nothing is wrong with what is kept, the outcome of its records is concluded
+pub of_outcome : (kept : Kept) (analyser : Analysed) (answer : Result Outcome CloseFault) → kept.wanted ≡ false → refusal_kept kept ≡ None → IsClosed kept.recording → analyser.groups ≡ kept.groups → analyser.recording ≡ kept.recording → IfOk answer (λ outcome. outcome.analyser ≡ analyser) → IfErr answer (λ fault. fault ≡ Memory) → Concludes kept answer
+of_outcome kept analyser (Err Memory) calm none closed groups recording ok fault = tt
+of_outcome kept analyser (Err (Unproved rank)) calm none closed groups recording ok fault = cc
+of_outcome kept analyser (Err (Refused refusal)) calm none closed groups recording ok fault = cc
+of_outcome kept analyser (Ok outcome) calm none closed groups recording ok fault = (
+  calm,
+  record {
+    no_refusal = none;
+    same_groups = ap (λ (a : Analysed). a.groups) ok ∙ groups;
+    recording = ap (λ (a : Analysed). a.recording) ok ∙ recording;
+    closed = closed;
+  },
+)

@@ -1,6 +1,6 @@
 //! The collector: it takes the records of all ranks from their feeds, in any order.
 
-ghost use Rattle.std.specs.Prelude.{◌≡◌, ◌<◌, Some, length, map, slice_get};
+ghost use Rattle.std.specs.Prelude.{◌≡◌, ◌<◌, Some, None, false, length, map, slice_get, IfSome};
 ghost use Rattle.rankfeed.specs.Rings.{taker_ring, receipt_ring};
 ghost use Rattle.gather.specs.Takers.{Collects, EntersNext};
 ghost use Rattle.gather.specs.Receipts.{Meets};
@@ -60,6 +60,15 @@ fn meet_at(takers: &mut Vec<Taker>, rank: u16, receipt: Receipt)
     takers[usize::from(rank)].meet(receipt);
 }
 
+/// The rank without a receipt, which want of memory hides.
+fn unproved(ledger: &Ledger, missing: Option<u16>) -> Option<u16>
+    ensures some { IfSome result (λ rank. missing ≡ Some rank) }
+    ensures calm { IfSome result (λ rank. ledger.now.wanted ≡ false) }
+    ensures none { result ≡ None → ledger.now.wanted ≡ false → missing ≡ None }
+{
+    if ledger.is_wanting() { None } else { missing }
+}
+
 impl Collector {
     ghost use Rattle.std.specs.Prelude.{◌++◌, true, Err};
     ghost use Rattle.rankfeed.specs.Items.{are_ended, IsFeed};
@@ -67,7 +76,7 @@ impl Collector {
     ghost use Rattle.gather.specs.Receipts.{AreAllOf, AreReceiptsOf, AllReceived, first_missing};
     ghost use Rattle.gather.specs.Closes.{Closes};
     ghost use Rattle.gather.specs.declared.outcome.CloseFault.TheVariants.{Memory};
-    ghost use Rattle.std.specs.Prelude.{IfOk, OnOk, OnErr, false};
+    ghost use Rattle.std.specs.Prelude.{IfOk, OnOk, OnErr};
     ghost use Rattle.gather.specs.Collectors.{rings, kept, received_from, left_from, Steps, ReceivesFrom};
     ghost use Rattle.gather.specs.Collectors.{published, list_published, has_watches, stands_now, ShowsTheLast, PublishesRuns, TakesNothing, PublishesNothing};
     ghost use Rattle.watches.specs.Publications.{Publishes};
@@ -194,6 +203,13 @@ impl Collector {
         missing
     }
 
+    /// What is kept, where no more is taken.
+    fn into_ledger(self) -> Ledger
+        ensures { result ≡ kept self }
+    {
+        self.ledger
+    }
+
     /// Takes all that was sent, by the receipts of the ranks' feeds, and answers what comes of it. `Memory`
     /// comes first, where memory was wanted; then `Unproved`, for the lowest rank without a receipt; then
     /// `Refused`, for the lowest rank that has a fault.
@@ -204,19 +220,11 @@ impl Collector {
     {
         let mut collector = self;
         let missing = collector.finish_all(receipts);
-        let Collector { alloc, ledger, .. } = collector;
-        if ledger.is_wanting() {
-            return Err(CloseFault::Memory);
-        }
-        if let Some(rank) = missing {
-            return Err(CloseFault::Unproved(rank));
-        }
-        if let Some(refusal) = ledger.refusal() {
-            return Err(CloseFault::Refused(refusal));
-        }
-        match Outcome::of(alloc, ledger.into_analyser()) {
-            Ok(outcome) => Ok(outcome),
-            Err(_) => Err(CloseFault::Memory),
+        let alloc = collector.alloc;
+        let ledger = collector.into_ledger();
+        match unproved(&ledger, missing) {
+            Some(rank) => Err(CloseFault::Unproved(rank)),
+            None => ledger.conclude(alloc),
         }
     }
 }

@@ -1,6 +1,6 @@
 //! What is kept of the ranks' records as they come, in any order.
 
-ghost use Rattle.std.specs.Prelude.{◌≡◌, ◌<◌, false, None, length, IfOk};
+ghost use Rattle.std.specs.Prelude.{◌≡◌, ◌<◌, false, None, Err, length, IfOk, IfSome};
 ghost use Rattle.gather.specs.declared.fault.RankFault.TheVariants.{OfSource};
 ghost use Rattle.pairing.specs.Faults.{IsLawful};
 ghost use Rattle.pairing.specs.Recordings.{IsClosed};
@@ -150,21 +150,29 @@ impl Ledger {
         &self.analyser
     }
 
+    /// Why no outcome comes of what is kept, if none does. `Memory` comes first.
+    fn fault(&self) -> Option<CloseFault>
+        ensures some { IfSome result (λ fault. Concludes self.now (Err fault)) }
+        ensures calm { result ≡ None → self.now.wanted ≡ false }
+        ensures none { result ≡ None → refusal_kept self.now ≡ None }
+        ensures lawful { IsLawful self.now.groups self.now.recording }
+    {
+        match self.refusal() {
+            _ if self.wanted => Some(CloseFault::Memory),
+            Some(refusal) => Some(CloseFault::Refused(refusal)),
+            None => None,
+        }
+    }
+
     /// What comes of the run once all of its records were taken. `Memory` comes first, where memory was wanted;
     /// then `Refused`, for the lowest rank that has a fault.
     pub(crate) fn conclude(self, alloc: Global) -> Result<Outcome, CloseFault>
         requires { self.wanted ≡ false → refusal_kept self ≡ None → IsLawful self.groups self.recording → IsClosed self.recording }
         ensures { Concludes self result }
     {
-        if self.wanted {
-            return Err(CloseFault::Memory);
-        }
-        if let Some(refusal) = self.refusal() {
-            return Err(CloseFault::Refused(refusal));
-        }
-        match Outcome::of(alloc, self.analyser) {
-            Ok(outcome) => Ok(outcome),
-            Err(_) => Err(CloseFault::Memory),
+        match self.fault() {
+            Some(fault) => Err(fault),
+            None => Outcome::of(alloc, self.into_analyser()),
         }
     }
 

@@ -1,15 +1,16 @@
 //! What comes of a run whose records were all received, or why nothing does.
 
-ghost use Rattle.std.specs.Prelude.{◌≡◌, ◌↔◌, IfOk};
+ghost use Rattle.std.specs.Prelude.{◌≡◌, ◌↔◌, IfOk, IfErr};
 ghost use Rattle.pairing.specs.Recordings.{IsClosed};
 ghost use Rattle.moves.specs.Verdicts.{verdict_of, SomeRankIsStuck};
 ghost use Rattle.moves.specs.declared.verdict.Verdict.TheVariants.{Hang};
 ghost use Rattle.waitgraph.specs.Graphs.{IsGraphOf};
+ghost use Rattle.gather.specs.declared.outcome.CloseFault.TheVariants.{Memory};
 
 use crate::fault::Refusal;
 use moves::analyser::Analyser;
 use moves::verdict::{Verdict, verdict_of};
-use std::alloc::{AllocError, Global};
+use std::alloc::Global;
 use thiserror::Error;
 use waitgraph::graph::Graph;
 
@@ -36,12 +37,15 @@ pub struct Outcome {
 
 impl Outcome {
     /// The outcome of these calls. It takes memory for the wait graph.
-    pub(crate) fn of(alloc: Global, analyser: Analyser) -> Result<Outcome, AllocError>
+    pub(crate) fn of(alloc: Global, analyser: Analyser) -> Result<Outcome, CloseFault>
         requires { IsClosed analyser.recording }
-        ensures { IfOk result (λ outcome. outcome.analyser ≡ analyser) }
+        ensures ok { IfOk result (λ outcome. outcome.analyser ≡ analyser) }
+        ensures fault { IfErr result (λ fault. fault ≡ Memory) }
     {
-        let graph = Graph::of(alloc, &analyser)?;
-        Ok(Outcome { analyser, graph })
+        match Graph::of(alloc, &analyser) {
+            Ok(graph) => Ok(Outcome { analyser, graph }),
+            Err(_) => Err(CloseFault::Memory),
+        }
     }
 
     /// Whether the run can hang.

@@ -78,9 +78,6 @@ where
     ensures fault { IfErr result (λ fault. RefusesFeeds I.left (G.may_stop gate.now) sources.items head (of_close fault)) }
 {
     let ranks = sources.len();
-    let Ok((feeds, collector, _watches)) = Session::open(alloc, head, capacity, 0, rt) else {
-        return Err(CloseFault::Memory);
-    };
     let Ok(started) = Vec::with_capacity(alloc, ranks) else {
         return Err(CloseFault::Memory);
     };
@@ -91,18 +88,23 @@ where
         return Err(CloseFault::Memory);
     };
     let not_started = NotStarted::none();
-    let (collector, fed) = in_threads(
-        rt,
-        sources,
-        feeds,
-        collector,
-        started,
-        fed,
-        gate,
-        &not_started,
-        stack_size,
-    );
-    collector.close(receipts_of(fed, receipts))
+    match Session::open(alloc, head, capacity, 0, rt) {
+        Ok((feeds, collector, _watches)) => {
+            let (collector, fed) = in_threads(
+                rt,
+                sources,
+                feeds,
+                collector,
+                started,
+                fed,
+                gate,
+                &not_started,
+                stack_size,
+            );
+            collector.close(receipts_of(fed, receipts))
+        }
+        Err(_) => Err(CloseFault::Memory),
+    }
 }
 
 /// What comes of the sources, read by turns.
@@ -122,14 +124,13 @@ where
     ensures ok { IfOk result (IsOutcomeOfFeeds I.left (G.may_stop gate.now) sources.items head) }
     ensures fault { IfErr result (λ fault. RefusesFeeds I.left (G.may_stop gate.now) sources.items head (of_close fault)) }
 {
-    let Ok(ledger) = Ledger::new(alloc, head) else {
-        return Err(CloseFault::Memory);
-    };
     let Ok(turns) = Vec::with_capacity(alloc, sources.len()) else {
         return Err(CloseFault::Memory);
     };
-    let ledger = read_in_turns(sources, turns, ledger, gate, rt);
-    ledger.conclude(alloc)
+    match Ledger::new(alloc, head) {
+        Ok(ledger) => read_in_turns(sources, turns, ledger, gate, rt).conclude(alloc),
+        Err(_) => Err(CloseFault::Memory),
+    }
 }
 
 /// What comes of the sources, read in the way that was asked for.

@@ -80,16 +80,10 @@ impl Session {
         let Ok((feeds, takers)) = open_feeds(alloc, ranks, capacity) else {
             return Err(OpenFault::Memory);
         };
-        let Ok(ledger) = Ledger::new(alloc, head) else {
-            return Err(OpenFault::Memory);
-        };
-        match Publisher::open(alloc, ranks, watches, wait) {
-            Ok((publisher, all)) => Ok((
-                feeds,
-                Collector::of(alloc, takers, ledger, publisher),
-                all,
-            )),
-            Err(fault) => Err(fault),
+        let (publisher, all) = Publisher::open(alloc, ranks, watches, wait)?;
+        match Ledger::new(alloc, head) {
+            Ok(ledger) => Ok((feeds, Collector::of(alloc, takers, ledger, publisher), all)),
+            Err(_) => Err(OpenFault::Memory),
         }
     }
 }

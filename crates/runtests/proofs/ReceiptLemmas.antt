@@ -1,5 +1,5 @@
 -- The receipts of feeds that are ended one by one.
-use Rattle.std.proofs.Common.{◌≡◌, ◌×◌, ⊥, absurd, tt, List, [], ◌∷◌, ◌++◌, Option, IfSome, length, refl, arith}
+use Rattle.std.proofs.Common.{◌≡◌, List, [], ◌∷◌, ◌++◌, Option, IfSome, length, refl, arith}
 use Rattle.rankfeed.specs.Rings.{FeedName, receipt_ring}
 use Rattle.rankfeed.specs.declared.ring.Receipt.{Receipt}
 use Rattle.gather.specs.Receipts.{AreReceiptsOf}

@@ -98,6 +98,19 @@ pub(crate) fn end_feeds(
     Ok(receipts)
 }
 
+/// What a session answers at its close.
+pub(crate) fn verdict_of_close(
+    collector: Collector,
+    receipts: Vec<Option<Receipt>>,
+) -> Result<Verdict, CloseFault>
+    requires { AreReceiptsOf (rings collector) receipts.items }
+{
+    match collector.close(receipts) {
+        Ok(outcome) => Ok(outcome.verdict()),
+        Err(fault) => Err(fault),
+    }
+}
+
 /// How many records of the order are accepted at once, and what the session answers at its close. Each feed
 /// has one place. A feed without its Finalize is torn with the fault, and the receipt of one rank is lost.
 fn answer(
@@ -111,10 +124,7 @@ fn answer(
     let (mut feeds, mut collector, _watches) = Session::open(alloc, head, 1, 0, wait)?;
     let took = deal(&mut feeds, &mut collector, order)?;
     let receipts = end_feeds(alloc, feeds, fault, lost)?;
-    match collector.close(receipts) {
-        Ok(outcome) => Ok((took, Ok(outcome.verdict()))),
-        Err(fault) => Ok((took, Err(fault))),
-    }
+    Ok((took, verdict_of_close(collector, receipts)))
 }
 
 /// The record that a rank has at a place, where rank 0 sends a thousand times to rank 1.
@@ -354,10 +364,7 @@ fn close_two(
     let are_there = first.is_some() && second.is_some();
     receipts.push_reserved(first);
     receipts.push_reserved(second);
-    let answer = match collector.close(receipts) {
-        Ok(outcome) => Ok(outcome.verdict()),
-        Err(fault) => Err(fault),
-    };
+    let answer = verdict_of_close(collector, receipts);
     if are_there { Some(answer) } else { None }
 }
 
@@ -380,24 +387,39 @@ pub(crate) fn head_again(alloc: Global, text: &[u8]) -> Result<Head, Fail> {
     }
 }
 
-/// How many records of a thousand messages are thrown away, and what the close answers. None where the session
-/// isn't opened for want of memory.
-fn thrown_away(
-    alloc: Global,
-    wait: &impl Wait,
-) -> Result<Option<(u32, Option<Result<Verdict, CloseFault>>)>, Fail> {
+/// How many records of a thousand messages are thrown away, and what the close answers.
+type Thrown = (u32, Option<Result<Verdict, CloseFault>>);
+
+/// Deals a thousand messages and closes the session. `receipts` has room for two.
+fn thrown_of(
+    feeds: Vec<Feed>,
+    collector: Collector,
+    receipts: Vec<Option<Receipt>>,
+) -> Result<Thrown, Fail>
+    requires feeds { rings collector ≡ map feed_ring feeds.items }
+    requires none { receipts.items ≡ [] }
+    requires room { 2 ≤ vec_capacity receipts }
+{
+    let mut feeds = feeds;
+    let mut collector = collector;
+    let discarded = deal_a_thousand(&mut feeds, &mut collector);
+    if let (Some(second), Some(first), true) = (feeds.pop(), feeds.pop(), feeds.is_empty()) {
+        let answer = close_two(first, second, collector, receipts);
+        Ok((discarded?, answer))
+    } else {
+        discarded?;
+        Err("not two feeds".into())
+    }
+}
+
+/// What comes of a thousand messages. None where the session isn't opened for want of memory.
+fn thrown_away(alloc: Global, wait: &impl Wait) -> Result<Option<Thrown>, Fail> {
     let head = head_again(alloc, b"ranks 2\n")?;
     let receipts = room_for_two(alloc)?;
-    let (mut feeds, mut collector, _watches) = match Session::open(alloc, head, 1, 0, wait) {
-        Ok(ends) => ends,
-        Err(OpenFault::Memory) => return Ok(None),
-        Err(fault) => return Err(fault.into()),
-    };
-    let discarded = deal_a_thousand(&mut feeds, &mut collector)?;
-    if let (Some(second), Some(first), true) = (feeds.pop(), feeds.pop(), feeds.is_empty()) {
-        Ok(Some((discarded, close_two(first, second, collector, receipts))))
-    } else {
-        Err("not two feeds".into())
+    match Session::open(alloc, head, 1, 0, wait) {
+        Ok((feeds, collector, _watches)) => Ok(Some(thrown_of(feeds, collector, receipts)?)),
+        Err(OpenFault::Memory) => Ok(None),
+        Err(fault) => Err(fault.into()),
     }
 }
 

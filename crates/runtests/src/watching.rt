@@ -5,8 +5,9 @@ ghost use Rattle.rankfeed.specs.Rings.{feed_ring};
 ghost use Rattle.gather.specs.Collectors.{rings, list_published};
 ghost use Rattle.watches.specs.Watches.{list_watched, list_told};
 
-use crate::sessions::{end_feeds, head_again, one_of_a_thousand, put_at};
+use crate::sessions::{end_feeds, head_again, one_of_a_thousand, put_at, verdict_of_close};
 use gather::collector::{Collector, Stepped};
+use gather::outcome::CloseFault;
 use gather::session::{OpenFault, Session};
 use moves::verdict::Verdict;
 use mpicall::fault::SourceFault;
@@ -134,14 +135,16 @@ impl Opened {
     }
 
     /// Ends the feeds and closes the session.
-    fn close(self, alloc: Global) -> Result<Verdict, Fail> {
+    fn close(self, alloc: Global) -> Result<Verdict, CloseFault> {
         let Opened {
             feeds,
             collector,
             watches: _,
         } = self;
-        let receipts = end_feeds(alloc, feeds, SourceFault::NoFinalize, None)?;
-        Ok(collector.close(receipts)?.verdict())
+        match end_feeds(alloc, feeds, SourceFault::NoFinalize, None) {
+            Ok(receipts) => verdict_of_close(collector, receipts),
+            Err(_) => Err(CloseFault::Memory),
+        }
     }
 }
 

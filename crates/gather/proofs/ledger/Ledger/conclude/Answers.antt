@@ -1,25 +1,17 @@
 -- Where no fault is kept, the records are closed.
-use Rattle.std.proofs.Common.{sym, ap, subst, ◌∙◌}
+use Rattle.std.proofs.Common.{sym, subst}
 use Rattle.pairing.specs.Recordings.{IsClosed}
-use Rattle.moves.specs.Analysed.{Analysed}
-use Rattle.gather.specs.Collected.{Kept}
+use Rattle.gather.proofs.CloseLemmas.{of_outcome}
 use Rattle.gather.proofs.ledger.Ledger.conclude.Goals as goal
 
 pub of-requires : goal.of-requires
 of-requires c =
-    let is = sym c.self.view_is in
-    subst (λ (k : Kept). IsClosed k.recording) is (c.requires (ap (λ (k : Kept). k.wanted) is ∙ c.if-self.false) (sym c.refusal.ensures.value ∙ c.in_default.is) c.refusal.ensures.lawful)
+    let told = c.fault.ensures in
+    subst IsClosed (sym c.into_analyser.ensures.recording) (c.requires (told.calm c.in-None.is) (told.none c.in-None.is) told.lawful)
 
-pub returns-in-Ok : goal.returns-in-Ok
-returns-in-Ok c =
-    let is = sym c.self.view_is in
-    let calm = ap (λ (k : Kept). k.wanted) is ∙ c.if-self.false in
-    let none = sym c.refusal.ensures.value ∙ c.in_default.is in (
-      calm,
-      record {
-        no_refusal = none;
-        same_groups = ap (λ (a : Analysed). a.groups) c.in-Ok.ensures ∙ ap (λ (k : Kept). k.groups) (sym is);
-        recording = ap (λ (a : Analysed). a.recording) c.in-Ok.ensures ∙ ap (λ (k : Kept). k.recording) (sym is);
-        closed = c.requires calm none c.refusal.ensures.lawful;
-      },
-    )
+pub returns-in-None : goal.returns-in-None
+returns-in-None c =
+    let told = c.fault.ensures in
+    let calm = told.calm c.in-None.is in
+    let none = told.none c.in-None.is in
+    of_outcome c.args.self c.into_analyser.result c.of.result calm none (c.requires calm none told.lawful) c.into_analyser.ensures.groups c.into_analyser.ensures.recording c.of.ensures.ok c.of.ensures.fault
