@@ -138,7 +138,7 @@ fn gives_each_call_back(rt: HostRuntime) -> Result<(), Fail> {
         isend 0 0 1 7\nwaitany 0 5 1\nwaitall 1\nsplit 0 undefined -3 none\nsplit 0 4 9 2\nfinalize\n";
     let pairs = added_of(rt.alloc(), "ranks 2\ncomm 0 1\ncomm 0\n", text, "")?;
     for (place, line) in text.split_inclusive('\n').enumerate() {
-        let given = match pairs.0.call(0, place as u32) {
+        let given = match pairs.0.call(0, u32::try_from(place)?) {
             Some(call) => Some(call.record()),
             None => None,
         };
