@@ -33,11 +33,20 @@ pub enum Stepped {
 
 /// The records of all ranks that were accepted, and each rank's first fault. Contracts see these, and whether
 /// memory was wanted.
-#[derive(Drop)]
 pub struct Ledger {
     analyser: Analyser,
     faults: Vec<Option<(u32, RankFault)>>,
     wanted: bool,
+}
+
+impl Drop for Ledger {
+    fn drop(self) {
+        let Ledger {
+            analyser: _,
+            faults: _,
+            wanted: _,
+        } = self;
+    }
 }
 
 impl Model for Ledger {
@@ -181,6 +190,11 @@ impl Ledger {
         ensures groups { result.groups ≡ self.groups }
         ensures recording { result.recording ≡ self.recording }
     {
-        self.analyser
+        let Ledger {
+            analyser,
+            faults: _,
+            wanted: _,
+        } = self;
+        analyser
     }
 }
