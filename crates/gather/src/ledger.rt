@@ -175,7 +175,7 @@ impl Ledger {
 
     /// What comes of the run once all of its records were taken. `Memory` comes first, where memory was wanted;
     /// then `Refused`, for the lowest rank that has a fault.
-    pub(crate) fn conclude(self, alloc: Global) -> Result<Outcome, CloseFault>
+    pub fn conclude(self, alloc: Global) -> Result<Outcome, CloseFault>
         requires { self.wanted ≡ false → refusal_kept self ≡ None → IsLawful self.groups self.recording → IsClosed self.recording }
         ensures { Concludes self result }
     {

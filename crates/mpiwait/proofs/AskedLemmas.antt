@@ -12,7 +12,7 @@ use Rattle.clap.specs.Kinds.{HasKind}
 use Rattle.clap.specs.Values.{kind_of}
 use Rattle.clap.specs.declared.error.Error.{Error}
 use Rattle.clap.specs.declared.error.kind.ErrorKind.TheVariants.{OutOfMemory}
-use Rattle.waitgraph.specs.declared.report.Format.{Format}
+use Rattle.reports.specs.declared.report.Format.{Format}
 use Rattle.mpiwait.specs.declared.words.Words.{Words}
 use Rattle.mpiwait.specs.declared.words.Words.TheVariants.{Check, Lint, Said, NoMemory}
 use Rattle.mpiwait.specs.Asked.{Answers, CheckRun, Names, Says, SaysError, Task, program, run_of, task_in, task_of}

@@ -1,6 +1,6 @@
 -- How the end of the program follows from the ends of its parts.
 use Rattle.std.proofs.Common.{ℕ, Option, Result, Ok, Err, List, sym, subst, true, false, inl, inr}
-use Rattle.waitgraph.specs.declared.report.Format.{Format}
+use Rattle.reports.specs.declared.report.Format.{Format}
 use Rattle.mpiwait.specs.Answer.{AnswerEnds, CheckEnds}
 use Rattle.mpiwait.specs.Ends.{Ends, EndsBy, EndsCheck, EndsLint, EndsOutput, EndsText}
 use Rattle.mpiwait.specs.Faults.{status_of}

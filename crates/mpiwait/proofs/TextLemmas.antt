@@ -4,14 +4,14 @@ use Rattle.std.proofs.lemmas.List.{length-map}
 use Rattle.mpicall.specs.Trace.{Trace, trace_of}
 use Rattle.mpicall.specs.declared.source.Source.{Source}
 use Rattle.moves.specs.declared.verdict.Verdict.{Verdict}
-use Rattle.waitgraph.specs.declared.report.Format.{Format}
+use Rattle.reports.specs.declared.report.Format.{Format}
 use Rattle.mpigroup.proofs.FrontLemmas.{read_head-front}
 use Rattle.mpigroup.specs.Groups.{Groups, ranks_of}
 use Rattle.mpigroup.specs.HeadText.{read_head}
 use Rattle.mpigroup.specs.declared.fault.HeadFault.{HeadFault}
-use Rattle.gather.specs.Runs.{RefusesFeeds}
-use Rattle.gather.specs.Told.{RefusesOver, Tells}
-use Rattle.gather.specs.Written.{IsReportOver}
+use Rattle.runs.specs.Runs.{RefusesFeeds}
+use Rattle.runs.specs.Told.{RefusesOver, Tells}
+use Rattle.runs.specs.Written.{IsReportOver}
 use Rattle.gather.specs.declared.fault.Refusal.{Refusal}
 use Rattle.gather.specs.declared.fault.RunFault.{RunFault}
 use Rattle.gather.specs.declared.fault.RunFault.TheVariants as run

@@ -2,7 +2,7 @@
 -- for standard error.
 use Rattle.std.specs.Prelude.{◌≡◌, ◌⊎◌, ℕ, Option, Result, Ok, Err, List, ⊤}
 use Rattle.clap.specs.Walk.{Text}
-use Rattle.waitgraph.specs.declared.report.Format.{Format}
+use Rattle.reports.specs.declared.report.Format.{Format}
 use Rattle.mpiwait.specs.Ends.{EndsBy, EndsCheck, EndsLint}
 use Rattle.mpiwait.specs.Faults.{status_of}
 use Rattle.mpiwait.specs.Outputs.{Writes, WritesSome, FailsToWrite}

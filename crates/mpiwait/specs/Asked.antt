@@ -10,8 +10,8 @@ use Rattle.clap.specs.Kinds.{IsAmong}
 use Rattle.clap.specs.declared.builder.action.ArgAction.TheVariants.{SetTrue}
 use Rattle.clap.specs.declared.error.kind.ErrorKind.{ErrorKind}
 use Rattle.clap.specs.declared.error.kind.ErrorKind.TheVariants.{DisplayHelp, DisplayVersion}
-use Rattle.waitgraph.specs.declared.report.Format.{Format}
-use Rattle.waitgraph.specs.declared.report.Format.TheVariants as format
+use Rattle.reports.specs.declared.report.Format.{Format}
+use Rattle.reports.specs.declared.report.Format.TheVariants as format
 use Rattle.mpiwait.specs.Capacities.{capacity_in, capacity_parser}
 use Rattle.mpiwait.specs.declared.words.Words.{Words}
 use Rattle.mpiwait.specs.declared.words.Words.TheVariants.{Check, Lint, Said, NoMemory}

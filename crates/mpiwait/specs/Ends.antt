@@ -7,7 +7,7 @@ use Rattle.mpiwait.specs.Asked.{Answers}
 use Rattle.mpiwait.specs.Outputs.{Writes, WritesSome, WritesNone, FailsToWrite, lint_report}
 use Rattle.mpiwait.specs.Lints.{IsCountOf}
 use Rattle.mpiwait.specs.Texts.{IsVerdictOfTexts, WritesReport}
-use Rattle.waitgraph.specs.declared.report.Format.{Format}
+use Rattle.reports.specs.declared.report.Format.{Format}
 use Rattle.mpiwait.specs.declared.status.Status.{Status}
 use Rattle.mpiwait.specs.declared.status.Status.TheVariants.{Free, Hang, Refused, Usage, Fault}
 use Rattle.mpiwait.specs.declared.words.Words.{Words}

@@ -8,12 +8,12 @@ use Rattle.mpigroup.specs.HeadText.{read_head}
 use Rattle.moves.specs.declared.verdict.Verdict.{Verdict}
 use Rattle.moves.specs.Verdicts.{verdict_of}
 use Rattle.pairing.specs.Recordings.{Lists, IsClosed}
-use Rattle.waitgraph.specs.Reports.{report_of}
-use Rattle.waitgraph.specs.declared.report.Format.{Format}
+use Rattle.reports.specs.Reports.{report_of}
+use Rattle.reports.specs.declared.report.Format.{Format}
 use Rattle.gather.specs.Answers.{lists_of}
 use Rattle.gather.specs.declared.fault.RankFault.TheVariants.{OfSource}
 use Rattle.gather.specs.declared.fault.Refusal.{Refusal}
-use Rattle.gather.specs.Told.{IsRefusalOver, IsVerdictOver}
+use Rattle.runs.specs.Told.{IsRefusalOver, IsVerdictOver}
 use Rattle.mpiwait.specs.Faults.{is_failure}
 use Rattle.mpiwait.specs.declared.fault.Fault.{Fault}
 use Rattle.mpiwait.specs.declared.fault.Fault.TheVariants.{Open, ReadHead, Head, FileCount, Refused, Failed, LintRefused, LintFailed, Memory, Unproved}

@@ -5,7 +5,7 @@ ghost use Rattle.std.specs.Io.KnownBytes.{Keeps, prepend_known};
 ghost use Rattle.mpicall.specs.Source.{coming};
 ghost use Rattle.mpicall.specs.Trace.{trace_of};
 ghost use Rattle.mpigroup.specs.HeadText.{read_head};
-ghost use Rattle.gather.specs.Told.{AreFresh};
+ghost use Rattle.runs.specs.Told.{AreFresh};
 ghost use Rattle.mpiwait.specs.Front.{IsFrontFault, IsFrontOf};
 ghost use Rattle.mpiwait.specs.Outputs.{LeavesOutput};
 ghost use Rattle.mpiwait.specs.Texts.{IsFaultOfHead, IsFaultOfOpening, IsFaultOfTexts, IsHeadOf, IsOfNoGate, IsVerdictOfTexts, WritesReport};
@@ -14,7 +14,7 @@ use crate::capacity::Capacity;
 use crate::fault::Fault;
 use crate::opener::Opener;
 use gather::gate::OpenGate;
-use gather::run::{Reading, run_by};
+use runs::run::{Reading, run_by};
 use moves::verdict::Verdict;
 use mpicall::device::{DeviceFault, Input, Output};
 use mpicall::source::Source;
@@ -23,7 +23,7 @@ use mpigroup::head::{DECIDING_BYTES, Head};
 use std::alloc::Global;
 use std::sync::Wait;
 use std::thread::Threads;
-use waitgraph::report::Format;
+use reports::report::Format;
 
 /// How many bytes of a head are read at once.
 const PIECE: usize = 4096;

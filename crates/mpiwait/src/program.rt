@@ -17,7 +17,7 @@ use mpicall::device::{Output, write_all};
 use std::alloc::Global;
 use std::sync::Wait;
 use std::thread::Threads;
-use waitgraph::report::Format;
+use reports::report::Format;
 
 /// What goes to standard error: what clap says of wrong words, or a fault.
 #[derive(Debug, Drop)]

@@ -14,7 +14,7 @@ use clap::builder::ValueParser;
 use clap::error::ErrorKind;
 use clap::{Arg, ArgAction, ArgMatches, Command, Error};
 use std::alloc::{AllocError, Global};
-use waitgraph::report::Format;
+use reports::report::Format;
 
 /// What the words ask for.
 #[derive(Debug, Drop)]

@@ -6,7 +6,7 @@ use mpicall::memory::MemoryOutput;
 use std::alloc::Global;
 use std::test::Fail;
 use waitgraph::graph::Graph;
-use waitgraph::report::{Format, write_report};
+use reports::report::{Format, write_report};
 
 const HEAD_TO_HEAD: [&str; 2] = [
     "send 0 1 0\nrecv 0 1 0\nfinalize\n",

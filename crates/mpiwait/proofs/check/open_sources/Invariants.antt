@@ -2,7 +2,7 @@
 use Rattle.std.proofs.Common.{◌≡◌, map, take, option_map}
 use Rattle.mpicall.specs.Source.{coming}
 use Rattle.mpicall.specs.Trace.{trace_of}
-use Rattle.gather.specs.Told.{AreFresh}
+use Rattle.runs.specs.Told.{AreFresh}
 use Rattle.mpiwait.proofs.check.open_sources.Given as goal
 
 abbrev pub invariant-loop-path : goal.invariant-loop-path

@@ -4,7 +4,7 @@ use super::told_of;
 use crate::shelf::Shelf;
 use std::alloc::Global;
 use std::test::Fail;
-use waitgraph::report::Format;
+use reports::report::Format;
 
 #[test]
 fn reports_runs(rt: HostRuntime) -> Result<(), Fail> {
