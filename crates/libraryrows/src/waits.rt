@@ -12,7 +12,7 @@ use std::alloc::Global;
 use waitgraph::cause::Cause;
 use waitgraph::finding::{Finding, findings};
 use waitgraph::graph::Graph;
-use waitgraph::report::{Format, ReportFault, write_report};
+use reports::report::{Format, ReportFault, write_report};
 
 fn ranks_text(alloc: Global, ranks: &[u16]) -> Result<String, LineFault> {
     let mut answer = String::new(alloc);

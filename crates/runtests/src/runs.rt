@@ -3,11 +3,11 @@
 
 ghost use Rattle.std.specs.Prelude.{◌≡◌, None, IfOk};
 ghost use Rattle.mpicall.specs.Source.{ended};
-ghost use Rattle.gather.specs.Told.{AreFresh};
+ghost use Rattle.runs.specs.Told.{AreFresh};
 
 use gather::fault::{RankFault, Refusal, RunFault};
 use gather::gate::{Gate, OpenGate};
-use gather::run::{Reading, run, run_by};
+use runs::run::{Reading, run, run_by};
 use moves::verdict::Verdict;
 use mpicall::counted::Counted;
 use mpicall::device::Input;
@@ -24,7 +24,7 @@ use std::sync::atomic::{AtomicBool, AtomicU32, Ordering};
 use std::test::Fail;
 use std::thread::Threads;
 use std::{io, thread};
-use waitgraph::report::Format;
+use reports::report::Format;
 
 const TEXTS: [&[u8]; 2] = [
     b"bsend 0 1 0\nrecv 0 1 0\nfinalize\n",
