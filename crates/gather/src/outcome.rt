@@ -28,11 +28,19 @@ pub enum CloseFault {
 }
 
 /// What is said of a run whose calls were all accepted.
-#[derive(Drop)]
 pub struct Outcome {
     analyser: Analyser,
     graph: Graph,
     ghost waits: { IsGraphOf analyser.groups analyser.recording graph },
+}
+
+impl Drop for Outcome {
+    fn drop(self) {
+        let Outcome {
+            analyser: _,
+            graph: _,
+        } = self;
+    }
 }
 
 impl Outcome {

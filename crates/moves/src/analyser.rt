@@ -30,12 +30,22 @@ use std::marker::Model;
 /// completed. At any time the ranks stand where every maximal run over these calls ends. They see too how
 /// often waiting ranks and waves were touched: what the arena of the waiting ranks counts, and the changes of
 /// how far waves are.
-#[derive(Drop)]
 pub struct Analyser {
     pairs: Pairs,
     stands: Vec<u32>,
     waves: Waves,
     waiters: Waiters,
+}
+
+impl Drop for Analyser {
+    fn drop(self) {
+        let Analyser {
+            pairs: _,
+            stands: _,
+            waves: _,
+            waiters: _,
+        } = self;
+    }
 }
 
 impl Model for Analyser {

@@ -19,7 +19,7 @@ use std::mem::size_of;
 /// A call, variant by variant as `Call`. A wait has the places that started its requests, and their numbers
 /// are read from the calls there. A wait for several says where these places stand in a list of its rank:
 /// `count` of them from `first` on.
-#[derive(Clone, Copy, Debug)]
+#[derive(Clone, Copy)]
 pub(crate) enum Packed {
     Send {
         mode: Mode,
@@ -87,7 +87,7 @@ pub(crate) enum Packed {
 }
 
 /// A call, and what is kept beside it.
-#[derive(Clone, Copy, Debug)]
+#[derive(Clone, Copy)]
 pub(crate) struct Entry {
     pub call: Packed,
     pub beside: Beside,

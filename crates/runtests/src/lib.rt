@@ -11,7 +11,7 @@ mod kept;
 #[cfg(test)]
 mod pairs;
 #[cfg(test)]
-mod runs;
+mod whole_runs;
 #[cfg(test)]
 mod sessions;
 #[cfg(test)]

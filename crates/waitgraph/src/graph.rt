@@ -19,12 +19,22 @@ use std::marker::Model;
 
 /// Who waits for whom where the ranks of a run stand, and why, and what else is wrong with the run. Contracts see
 /// the stuck ranks, each rank's unmet needs, the causes and the findings.
-#[derive(Drop)]
 pub struct Graph {
     stuck: Vec<u16>,
     waits: Vec<Unmet>,
     causes: Vec<Cause>,
     findings: Vec<Finding>,
+}
+
+impl Drop for Graph {
+    fn drop(self) {
+        let Graph {
+            stuck: _,
+            waits: _,
+            causes: _,
+            findings: _,
+        } = self;
+    }
 }
 
 impl Model for Graph {
