@@ -8,11 +8,11 @@ use moves::need::Need;
 use mpicall::memory::MemoryOutput;
 use mpicall::word::{Collective, Operation, Word};
 use pairing::pairs::Pairs;
+use reports::report::{Format, ReportFault, write_report};
 use std::alloc::Global;
 use waitgraph::cause::Cause;
 use waitgraph::finding::{Finding, findings};
 use waitgraph::graph::Graph;
-use reports::report::{Format, ReportFault, write_report};
 
 fn ranks_text(alloc: Global, ranks: &[u16]) -> Result<String, LineFault> {
     let mut answer = String::new(alloc);

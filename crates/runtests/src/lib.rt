@@ -11,10 +11,10 @@ mod kept;
 #[cfg(test)]
 mod pairs;
 #[cfg(test)]
-mod whole_runs;
-#[cfg(test)]
 mod sessions;
 #[cfg(test)]
 mod stands;
 #[cfg(test)]
 mod watching;
+#[cfg(test)]
+mod whole_runs;
