@@ -118,9 +118,8 @@ fn a_refused_call_is_added_again(rt: HostRuntime) -> Result<(), Fail> {
     for (rank, line) in rows {
         let call = read_line(line.as_bytes())?;
         let added = add_again(&mut one.0, Some(&other.0), rank, &call)?;
-        assert_eq!(rt;
-            add_again(&mut other.0, None, rank, &call)?,
-            added,
+        assert!(rt;
+            add_again(&mut other.0, None, rank, &call)? == added,
             "of {line:?}"
         );
     }
