@@ -52,9 +52,15 @@ mod sink;
 use outcome::answer_of;
 use reading::{Reading, Step};
 use row::Row;
+use std::alloc::{AllocError, Global};
 use std::io;
 use std::sync::Wait;
 use std::thread::Threads;
+
+/// The text that some bytes are.
+fn text_of(alloc: Global, bytes: &[u8]) -> Result<String, AllocError> {
+    String::from_str(alloc, str::from_utf8(bytes).unwrap_or("no text"))
+}
 
 /// Prints a row whose answer isn't the wanted one.
 fn run_row<R: AllocGlobal + Print + Eprint + Threads + Wait + Sync>(
@@ -65,8 +71,8 @@ fn run_row<R: AllocGlobal + Print + Eprint + Threads + Wait + Sync>(
     if answer.is_wanted(&row.wanted) {
         return Ok(());
     }
-    let out = str::from_utf8(answer.out.as_slice()).unwrap_or("no text");
-    let err = str::from_utf8(answer.err.as_slice()).unwrap_or("no text");
+    let out = text_of(rt.alloc(), answer.out.as_slice())?;
+    let err = text_of(rt.alloc(), answer.err.as_slice())?;
     println!(rt;
         "row {}: {:?}\nout\n{out}err\n{err}end",
         row.name, answer.code

@@ -5,7 +5,7 @@ use crate::row::{Asked, Row, StoredFile};
 use std::alloc::Global;
 
 /// What a line came to.
-#[derive(Clone, Copy, Debug, PartialEq, Eq)]
+#[derive(Clone, Copy)]
 pub enum Step {
     /// It is taken.
     More,
@@ -14,7 +14,7 @@ pub enum Step {
 }
 
 /// Where the lines of a text belong.
-#[derive(Clone, Copy, Debug, PartialEq, Eq)]
+#[derive(Clone, Copy)]
 enum Place {
     Nowhere,
     LastFile,

@@ -3,7 +3,7 @@
 use std::alloc::Global;
 
 /// What a row's words are put to.
-#[derive(Clone, Copy, Debug, PartialEq, Eq)]
+#[derive(Clone, Copy)]
 pub enum Asked {
     /// The program.
     Program,
