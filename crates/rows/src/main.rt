@@ -1,5 +1,6 @@
 //! Runs the program `mpiwait` on rows of words and files in memory, and prints each row whose answer is another
-//! one, each line that no row has, and at the end how many rows ran.
+//! one, each line that no row has, and at the end how many rows ran. The file `stdout` beside `src` has that
+//! number, so it grows with each row that is added.
 //!
 //! The rows are lines of text on standard input. A line begins with a word that says what it is; empty lines
 //! and lines that begin with `# ` say nothing. A row:
