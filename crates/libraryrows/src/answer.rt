@@ -14,6 +14,40 @@ pub fn add_part(answer: &mut String, separator: &str, part: &str) -> Result<(), 
     answer.push_str(part)
 }
 
+/// Answers that should be alike: one is told again only where it differs from that before it.
+pub struct Alike {
+    text: String,
+    last: String,
+}
+
+impl Drop for Alike {
+    fn drop(self) {
+        let Alike { text: _, last: _ } = self;
+    }
+}
+
+impl Alike {
+    pub fn new(alloc: Global) -> Alike {
+        Alike {
+            text: String::new(alloc),
+            last: String::new(alloc),
+        }
+    }
+
+    pub fn add(&mut self, answer: String) -> Result<(), AllocError> {
+        if self.last.as_str() != answer.as_str() {
+            add_part(&mut self.text, ", or ", answer.as_str())?;
+            self.last = answer;
+        }
+        Ok(())
+    }
+
+    pub fn into_text(self) -> String {
+        let Alike { text, last: _ } = self;
+        text
+    }
+}
+
 /// Adds a number to an answer.
 pub fn add_number(alloc: Global, answer: &mut String, number: u64) -> Result<(), AllocError> {
     let part = format!(in alloc; "{number}")?;

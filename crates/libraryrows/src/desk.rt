@@ -1,5 +1,6 @@
 //! What a row holds while its questions are asked.
 
+use crate::chains::Chains;
 use crate::fault::LineFault;
 use crate::groups::{answer_of_head, requests, split};
 use crate::mixes::mixes;
@@ -17,12 +18,13 @@ use pairing::pairs::Pairs;
 use std::alloc::Global;
 use std::sync::Wait;
 
-/// The head of a run, its calls as they were offered to an analyser and added to pairs, and a text.
+/// The head of a run, its calls as they were offered to an analyser and added to pairs, a text, and lists.
 pub struct Desk {
     head: Vec<u8>,
     run: Analyser,
     pairs: Pairs,
     text: Vec<u8>,
+    chains: Chains,
 }
 
 impl Drop for Desk {
@@ -32,6 +34,7 @@ impl Drop for Desk {
             run: _,
             pairs: _,
             text: _,
+            chains: _,
         } = self;
     }
 }
@@ -60,6 +63,7 @@ impl Desk {
             run,
             pairs,
             text: Vec::new(alloc),
+            chains: Chains::new(alloc),
         })
     }
 
@@ -79,6 +83,7 @@ impl Desk {
     /// Begins a row.
     pub fn begin(&mut self, alloc: Global) -> Result<(), LineFault> {
         self.text.clear();
+        self.chains = Chains::new(alloc);
         self.begin_run(alloc, "ranks 1")
     }
 
@@ -95,7 +100,7 @@ impl Desk {
                 let (times, text) = many(words)?;
                 add_text(alloc, &mut self.text, times, text)?;
             }
-            _ => return Ok(false),
+            _ => return self.chains.set(Words(line)),
         }
         Ok(true)
     }
@@ -188,6 +193,9 @@ impl Desk {
         wait: &impl Wait,
     ) -> Result<String, LineFault> {
         if let Some(answer) = self.answer_of_calls(alloc, line)? {
+            return Ok(answer);
+        }
+        if let Some(answer) = self.chains.answer(alloc, line)? {
             return Ok(answer);
         }
         if let Some(answer) = self.answer_of_texts(alloc, line)? {

@@ -63,17 +63,35 @@ fn split_text(
     Ok((colour, new))
 }
 
+/// The values of a send.
+fn send_text(
+    alloc: Global,
+    mode: Mode,
+    comm: u16,
+    dest: Peer,
+    tag: u32,
+) -> Result<String, LineFault> {
+    let (mode, dest) = (mode_text(mode), peer_text(alloc, dest)?);
+    Ok(format!(in alloc; "{mode}, comm {comm}, dest {dest}, tag {tag}")?)
+}
+
+/// The values of a receive.
+fn recv_text(alloc: Global, comm: u16, source: Peer, tag: u32) -> Result<String, LineFault> {
+    let source = peer_text(alloc, source)?;
+    Ok(format!(in alloc; "comm {comm}, source {source}, tag {tag}")?)
+}
+
 /// The values of a message's call.
 fn message_text(alloc: Global, call: &Call) -> Result<String, LineFault> {
-    let text = match *call {
+    match *call {
         Call::Send {
             mode,
             comm,
             dest,
             tag,
         } => {
-            let (mode, dest) = (mode_text(mode), peer_text(alloc, dest)?);
-            format!(in alloc; "Send {mode}, comm {comm}, dest {dest}, tag {tag}")?
+            let send = send_text(alloc, mode, comm, dest, tag)?;
+            Ok(format!(in alloc; "Send {send}")?)
         }
         Call::Isend {
             req,
@@ -82,12 +100,19 @@ fn message_text(alloc: Global, call: &Call) -> Result<String, LineFault> {
             dest,
             tag,
         } => {
-            let (mode, dest) = (mode_text(mode), peer_text(alloc, dest)?);
-            format!(in alloc; "Isend req {req}, {mode}, comm {comm}, dest {dest}, tag {tag}")?
+            let send = send_text(alloc, mode, comm, dest, tag)?;
+            Ok(format!(in alloc; "Isend req {req}, {send}")?)
         }
+        _ => receive_text(alloc, call),
+    }
+}
+
+/// The values of a call that receives.
+fn receive_text(alloc: Global, call: &Call) -> Result<String, LineFault> {
+    match *call {
         Call::Recv { comm, source, tag } => {
-            let source = peer_text(alloc, source)?;
-            format!(in alloc; "Recv comm {comm}, source {source}, tag {tag}")?
+            let recv = recv_text(alloc, comm, source, tag)?;
+            Ok(format!(in alloc; "Recv {recv}")?)
         }
         Call::Irecv {
             req,
@@ -95,8 +120,8 @@ fn message_text(alloc: Global, call: &Call) -> Result<String, LineFault> {
             source,
             tag,
         } => {
-            let source = peer_text(alloc, source)?;
-            format!(in alloc; "Irecv req {req}, comm {comm}, source {source}, tag {tag}")?
+            let recv = recv_text(alloc, comm, source, tag)?;
+            Ok(format!(in alloc; "Irecv req {req}, {recv}")?)
         }
         Call::Sendrecv {
             comm,
@@ -106,13 +131,12 @@ fn message_text(alloc: Global, call: &Call) -> Result<String, LineFault> {
             recv_tag,
         } => {
             let (dest, source) = (peer_text(alloc, dest)?, peer_text(alloc, source)?);
-            format!(in alloc;
+            Ok(format!(in alloc;
                 "Sendrecv comm {comm}, dest {dest}, tag {send_tag}, source {source}, tag {recv_tag}"
-            )?
+            )?)
         }
-        _ => String::new(alloc),
-    };
-    Ok(text)
+        _ => Err(LineFault::Unread),
+    }
 }
 
 /// The values of a call: its shape, and each value behind its name.

@@ -42,10 +42,18 @@
 //!   all bytes a read, and told once if all agree
 //! - `fault N -> CODE WORDS` of a source, numbered from 0; `requests N -> all|none`: whether a wait may name so many;
 //!   `split COLOUR KEY / undefined KEY .. -> RANK RANK .. / RANK ..`: the groups of a split
+//!
+//! Lists of numbers in an arena, which a row has none of at first.
+//!
+//! - `newlist` makes the next one, from 0; `push LIST VALUE`, `move LIST PLACE LIST` (to the back), `append LIST LIST`
+//!   (the second's behind the first's)
+//! - `pop LIST -> VALUE`, `unlink LIST PLACE -> VALUE`, `list LIST -> VALUE VALUE ..`, each `none` where there is none;
+//!   `touched -> N`: how often a node was put into a list or taken out of one
 #![tactic(auto)]
 
 mod answer;
 mod calls;
+mod chains;
 mod desk;
 mod fault;
 mod fields;

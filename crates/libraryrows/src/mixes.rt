@@ -1,6 +1,6 @@
 //! All orders in which ranks' lists may come.
 
-use crate::answer::add_part;
+use crate::answer::Alike;
 use crate::calls::calls_in;
 use crate::fault::LineFault;
 use crate::runs::stands;
@@ -84,14 +84,10 @@ fn mixes_of(
 pub fn mixes(alloc: Global, head: &[u8], ranks: u16, text: &str) -> Result<String, LineFault> {
     let calls = calls_in(alloc, text)?;
     let mixes = mixes_of(alloc, &calls, ranks)?;
-    let mut answer = format!(in alloc; "{} mixes", mixes.len())?;
-    let mut last = String::new(alloc);
+    let mut alike = Alike::new(alloc);
     for mix in &mixes {
-        let stands = stands_of_mix(alloc, head, &calls, mix)?;
-        if stands.as_str() != last.as_str() {
-            add_part(&mut answer, ", ", stands.as_str())?;
-            last = stands;
-        }
+        alike.add(stands_of_mix(alloc, head, &calls, mix)?)?;
     }
-    Ok(answer)
+    let stands = alike.into_text();
+    Ok(format!(in alloc; "{} mixes, {stands}", mixes.len())?)
 }

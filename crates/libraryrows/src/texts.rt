@@ -2,7 +2,7 @@
 
 ghost use Rattle.std.specs.Prelude.{◌<◌};
 
-use crate::answer::{add_part, line_of};
+use crate::answer::{Alike, add_part, line_of};
 use crate::calls::{bytes_of, record_of};
 use crate::fault::LineFault;
 use crate::fields::fields_text;
@@ -141,15 +141,12 @@ fn trace_text(alloc: Global, told: Result<u64, LintFault>) -> Result<String, Lin
 
 /// What is told of a text as a trace, by inputs that give pieces of any size: all that differ.
 pub fn told_of_trace(alloc: Global, text: &[u8], wait: &impl Wait) -> Result<String, LineFault> {
-    let mut answer = String::new(alloc);
+    let mut alike = Alike::new(alloc);
     for most in PIECES {
         let told = lint(&mut Source::new(input_of(text, most)), wait);
-        let told = trace_text(alloc, told)?;
-        if !answer.as_str().ends_with(told.as_str()) {
-            add_part(&mut answer, ", or ", told.as_str())?;
-        }
+        alike.add(trace_text(alloc, told)?)?;
     }
-    Ok(answer)
+    Ok(alike.into_text())
 }
 
 /// What is told of the first bytes of a text as a trace, for each of these counts of bytes: all that differ.
@@ -160,15 +157,12 @@ pub fn told_of_fronts(
     wait: &impl Wait,
 ) -> Result<String, LineFault> {
     let (first, last) = (words.number()?, words.number()?);
-    let mut answer = String::new(alloc);
+    let mut alike = Alike::new(alloc);
     for count in first..=last {
         let front = text.get(..count as usize).ok_or(LineFault::Missing)?;
-        let told = told_of_trace(alloc, front, wait)?;
-        if !answer.as_str().ends_with(told.as_str()) {
-            add_part(&mut answer, ", or ", told.as_str())?;
-        }
+        alike.add(told_of_trace(alloc, front, wait)?)?;
     }
-    Ok(answer)
+    Ok(alike.into_text())
 }
 
 /// The lines of the records that a source gives, and its end.
@@ -193,14 +187,12 @@ fn records_text(
 /// differ.
 pub fn records(alloc: Global, text: &[u8], words: &mut Words<'_>) -> Result<String, LineFault> {
     let count = words.number()? as usize;
-    let mut answer = String::new(alloc);
+    let mut alike = Alike::new(alloc);
     for most in PIECES {
-        let told = records_text(alloc, &mut Source::new(input_of(text, most)), count)?;
-        if !answer.as_str().ends_with(told.as_str()) {
-            add_part(&mut answer, ", or ", told.as_str())?;
-        }
+        let mut source = Source::new(input_of(text, most));
+        alike.add(records_text(alloc, &mut source, count)?)?;
     }
-    Ok(answer)
+    Ok(alike.into_text())
 }
 
 /// What is told of a text as a head.
