@@ -49,6 +49,11 @@ PROBES = {"probe", "mprobe", "iprobe", "improbe"}
 WAITS = {"wait", "waitall", "test", "testall", "testany", "testsome"}
 CHOICES = {"waitany", "waitsome"}
 
+# The place of the communicator among the fields; requests come before it.
+COMM_FIELD = {word: 0 for word in {*SENDS, *RECEIVES, *EXCHANGES, *PROBES}} | {
+    word: 1 for word in {*STARTED_SENDS, *STARTED_RECEIVES}
+}
+
 WORLD, SELF = 0, 1
 
 
