@@ -30,12 +30,9 @@ enum { WORLD = 0, SELF = 1, UNNUMBERED = -1, MOST_NAMED = 64, NO_ROOT = -1 };
         found_; \
     })
 
-/* Open MPI's bindings for Fortran call `PMPI_Send`, so there the recorder stands under that name too. */
-#ifdef OPEN_MPI
+/* Bindings for Fortran call `PMPI_Send`: Open MPI's all, MPICH's of mpi_f08 some. So the recorder stands
+ * under that name too. */
 #define ALSO_PMPI(Name) extern __typeof__(MPI_##Name) PMPI_##Name __attribute__((alias("MPI_" #Name)));
-#else
-#define ALSO_PMPI(Name)
-#endif
 
 static bool recording;
 static bool any_thread; /* the library or the program lets one thread call at a time */
