@@ -2,7 +2,7 @@
 
 ghost use Rattle.std.specs.Prelude.{◌≡◌, ◌↔◌, length};
 ghost use Rattle.std.specs.List.{list_all, range_with_len};
-ghost use Rattle.moves.specs.Stands.{stands_of, is_at_finalize};
+ghost use Rattle.moves.specs.Stands.{stands_of, is_at_end};
 ghost use Rattle.moves.specs.Verdicts.{verdict_of, SomeRankIsStuck};
 
 use crate::analyser::Analyser;
@@ -18,14 +18,14 @@ pub enum Verdict {
 
 /// Whether each of the first ranks stands at its Finalize.
 fn are_ended(analyser: &Analyser, ranks: u16) -> bool
-    ensures { result ≡ list_all (is_at_finalize analyser.now.recording analyser.now.stands) (range_with_len 0 ranks) }
+    ensures { result ≡ list_all (is_at_end analyser.now.recording analyser.now.stands) (range_with_len 0 ranks) }
 {
     (0..ranks).all(|rank| analyser.is_ended(rank))
 }
 
 /// Whether each rank stands at its Finalize.
 fn are_all_ended(analyser: &Analyser) -> bool
-    ensures { result ≡ list_all (is_at_finalize analyser.now.recording (stands_of analyser.now.groups analyser.now.recording)) (range_with_len 0 (length analyser.now.recording)) }
+    ensures { result ≡ list_all (is_at_end analyser.now.recording (stands_of analyser.now.groups analyser.now.recording)) (range_with_len 0 (length analyser.now.recording)) }
 {
     are_ended(analyser, analyser.head().ranks())
 }

@@ -12,7 +12,7 @@ use Rattle.moves.specs.Stands.{lowest_run_over}
 use Rattle.moves.specs.Verdicts.{verdict_of, SomeRankIsStuck}
 use Rattle.moves.specs.declared.verdict.Verdict.{Verdict}
 use Rattle.moves.specs.declared.verdict.Verdict.TheVariants.{Hang}
-use Rattle.moves.proofs.StandLemmas.{no_run_brings_a_stuck_rank_to_finalize, every_maximal_run_ends_at_the_stands}
+use Rattle.moves.proofs.StandLemmas.{no_run_brings_a_stuck_rank_to_its_end, every_maximal_run_ends_at_the_stands}
 use Rattle.gather.specs.Answers.{fault_of_rank, refusal_or, refusal_from, lists_of, SomeRankCannotEnd}
 use Rattle.runs.specs.Told.{Tells, IsVerdictOver, RefusesOver}
 use Rattle.runs.specs.Ranks.{told_by, AcceptsAll, AcceptsRank, LeavesReport, RefusesRun, IsRefusalOf}
@@ -84,7 +84,7 @@ same_lists (l ∷ lists) (t ∷ traces) e same =
 -- a rank that is stuck comes to its Finalize in no run, and one that does so in none is stuck
 cannot_end : (groups : Groups) (lists : Lists) → SomeRankIsStuck groups lists ↔ SomeRankCannotEnd groups lists
 cannot_end groups lists = (
-  λ stuck. record { rank = stuck.rank; is_rank = stuck.is_rank; in_no_run = λ states is_run. no_run_brings_a_stuck_rank_to_finalize groups lists stuck.rank states is_run stuck.is_stuck },
+  λ stuck. record { rank = stuck.rank; is_rank = stuck.is_rank; in_no_run = λ states is_run. no_run_brings_a_stuck_rank_to_its_end groups lists stuck.rank states is_run stuck.is_stuck },
   λ cannot. record { rank = cannot.rank; is_rank = cannot.is_rank; is_stuck = cannot.in_no_run (lowest_run_over groups lists) (every_maximal_run_ends_at_the_stands groups lists).0.is_run },
 )
 

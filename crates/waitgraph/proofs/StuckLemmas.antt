@@ -10,14 +10,14 @@ use Rattle.mpicall.specs.Ending.{ends_list}
 use Rattle.mpicall.specs.declared.call.Call.{Call}
 use Rattle.mpicall.specs.declared.call.Call.TheVariants.{Finalize}
 use Rattle.mpigroup.specs.Groups.{Groups}
-use Rattle.pairing.specs.Recordings.{Lists, calls_of, is_finalize, IsClosedList, IsClosed}
+use Rattle.pairing.specs.Recordings.{Lists, calls_of, IsClosedList, IsClosed}
 use Rattle.pairing.proofs.PlaceLemmas.{slice_get-front}
 use Rattle.moves.specs.declared.need.Need.{Need}
 use Rattle.moves.specs.declared.need.Need.TheVariants.{At, Lacking}
-use Rattle.moves.specs.Needs.{needs_of, is_met, may_pass, can_move}
-use Rattle.moves.specs.Stands.{stands_of, is_at_finalize, lowest_run_over}
+use Rattle.moves.specs.Needs.{needs_of_call, needs_of, is_met, may_pass, can_move}
+use Rattle.moves.specs.Stands.{stands_of, is_at_end, lowest_run_over}
 use Rattle.moves.proofs.RunLemmas.{reached_ranks}
-use Rattle.moves.proofs.StandLemmas.{every_maximal_run_ends_at_the_stands, no_call_after_finalize_is_reached}
+use Rattle.moves.proofs.StandLemmas.{EndsThere, end_there, every_maximal_run_ends_at_the_stands, no_call_behind_the_end_is_reached}
 use Rattle.waitgraph.specs.Stuck.{is_stuck, unmet_at, unmet_of, StuckRanksWaitForStuckRanks}
 use Rattle.waitgraph.specs.Causes.{waits_of, awaited, first_in, causes_of, WalksEndInTheCauses}
 use Rattle.waitgraph.proofs.AmongLemmas.{Among, among_in, in_among, among_all, one_fails}
@@ -25,14 +25,6 @@ use Rattle.waitgraph.proofs.UnmetLemmas.{waits_are, unmet_from, unmet_all}
 use Rattle.waitgraph.proofs.CalledLemmas.{is_call, needs_called}
 use Rattle.waitgraph.proofs.WalkLaws.{IsWaiting, GoesOn, waiting_is_rank, walk_ends}
 use Rattle.waitgraph.proofs.ListedLemmas.{each_is_an_end, none_twice}
-
-is_the_end : (call : Call) → ends_list call ≡ true → call ≡ Finalize
-is_the_end Finalize h = refl
-is_the_end _ h = absurd (false≢true h)
-
-is_no_finalize : (call : Call) → ends_list call ≡ false → is_finalize call ≡ false
-is_no_finalize Finalize h = absurd (false≢true (sym h))
-is_no_finalize _ h = refl
 
 none_of : (p : Call → Bool) (calls : List Call) (index : ℕ) (call : Call) → list_any p calls ≡ false → slice_get calls index ≡ Some call → p call ≡ false
 none_of p [] index call none h = absurd (none-some call h)
@@ -43,36 +35,39 @@ at_last : (before : List Call) (last : Call) → slice_get (before ++ last ∷ [
 at_last [] last = refl
 at_last (call ∷ before) last = at_last before last
 
--- a closed list has its Finalize in the last place, and another call in each place before
+-- a closed list has the call that ends it in the last place, and another one in each place before
 pub record EndsAt (calls : List Call) : Type 0 where
   pub end : ℕ
   pub is_last : length calls ≡ end + 1
-  pub finalize : slice_get calls end ≡ Some Finalize
-  pub before : (place : ℕ) (call : Call) → place < end → slice_get calls place ≡ Some call → is_finalize call ≡ false
+  pub last : Call
+  pub is_there : slice_get calls end ≡ Some last
+  pub ends : ends_list last ≡ true
+  pub before : (place : ℕ) (call : Call) → place < end → slice_get calls place ≡ Some call → ends_list call ≡ false
 
 pub ends_at : (calls : List Call) → IsClosedList calls → EndsAt calls
 ends_at calls closed = record {
   end = length closed.before;
   is_last = ap (λ (cs : List Call). length cs) closed.is_all ∙ length-append closed.before (closed.last ∷ []);
-  finalize =
+  last = closed.last;
+  is_there =
       ap (λ (cs : List Call). slice_get cs (length closed.before)) closed.is_all
-      ∙ at_last closed.before closed.last
-      ∙ ap (λ (call : Call). Some call) (is_the_end closed.last closed.is_the_end);
+      ∙ at_last closed.before closed.last;
+  ends = closed.is_the_end;
   before = λ place call low h.
-      is_no_finalize call (none_of ends_list closed.before place call closed.has_no_other
-      (sym (slice_get-front closed.before (closed.last ∷ []) place low) ∙ ap (λ (cs : List Call). slice_get cs place) (sym closed.is_all) ∙ h));
+      none_of ends_list closed.before place call closed.has_no_other
+      (sym (slice_get-front closed.before (closed.last ∷ []) place low) ∙ ap (λ (cs : List Call). slice_get cs place) (sym closed.is_all) ∙ h);
 }
 
--- no rank stands past its Finalize
-not_past : (groups : Groups) (recording : Lists) (rank end : ℕ) → slice_get (calls_of recording rank) end ≡ Some Finalize → slice_index (stands_of groups recording) rank ≤ end
-not_past groups recording rank end finalize =
-    no_call_after_finalize_is_reached groups recording rank end (lowest_run_over groups recording) (every_maximal_run_ends_at_the_stands groups recording).0.is_run finalize
+-- no rank stands past its end
+not_past : (groups : Groups) (recording : Lists) (rank : ℕ) (ends : EndsAt (calls_of recording rank)) → slice_index (stands_of groups recording) rank ≤ ends.end
+not_past groups recording rank ends =
+    no_call_behind_the_end_is_reached groups recording rank ends.end ends.last (lowest_run_over groups recording) (every_maximal_run_ends_at_the_stands groups recording).0.is_run ends.is_there ends.ends
 
 -- the present call of a stuck rank
 pub record StandsBefore (groups : Groups) (recording : Lists) (rank : ℕ) : Type 0 where
   pub call : Call
   pub is_present : slice_get (calls_of recording rank) (slice_index (stands_of groups recording) rank) ≡ Some call
-  pub is_not_finalize : is_finalize call ≡ false
+  pub is_no_end : ends_list call ≡ false
 
 stands_before : (groups : Groups) (recording : Lists) (rank : ℕ) (ends : EndsAt (calls_of recording rank)) → slice_index (stands_of groups recording) rank < ends.end → StandsBefore groups recording rank
 stands_before groups recording rank ends low =
@@ -82,23 +77,23 @@ stands_before groups recording rank ends low =
     record {
       call = get_or (calls_of recording rank) (slice_index (stands_of groups recording) rank) Finalize;
       is_present = there;
-      is_not_finalize = ends.before stand (get_or (calls_of recording rank) (slice_index (stands_of groups recording) rank) Finalize) low there;
+      is_no_end = ends.before stand (get_or (calls_of recording rank) (slice_index (stands_of groups recording) rank) Finalize) low there;
     }
 
 stuck_low : (groups : Groups) (recording : Lists) (rank : ℕ) (ends : EndsAt (calls_of recording rank)) → is_stuck groups recording rank ≡ true → slice_index (stands_of groups recording) rank < ends.end
 stuck_low groups recording rank ends stuck =
     let stand = slice_index (stands_of groups recording) rank in
-    let most = not_past groups recording rank ends.end ends.finalize in
+    let most = not_past groups recording rank ends in
     ⊎_elim
     (λ (same : stand ≡ ends.end).
-    let there : is_at_finalize recording (stands_of groups recording) rank ≡ true =
-    ap (λ (o : Option Call). option_map_or is_finalize o false) (ap (λ (place : ℕ). slice_get (calls_of recording rank) place) same ∙ ends.finalize) in
-    absurd (false≢true (sym (not-true (is_at_finalize recording (stands_of groups recording) rank) stuck) ∙ there)))
+    let there : is_at_end recording (stands_of groups recording) rank ≡ true =
+    ap (λ (o : Option Call). option_map_or ends_list o false) (ap (λ (place : ℕ). slice_get (calls_of recording rank) place) same ∙ ends.is_there) ∙ ends.ends in
+    absurd (false≢true (sym (not-true (is_at_end recording (stands_of groups recording) rank) stuck) ∙ there)))
     (λ (other : stand ≢ ends.end). omega arith)
     (cases_eq stand ends.end)
 
 pub stuck_from : (groups : Groups) (recording : Lists) (rank : ℕ) → StandsBefore groups recording rank → is_stuck groups recording rank ≡ true
-stuck_from groups recording rank present = rw (present.is_present, present.is_not_finalize) refl
+stuck_from groups recording rank present = rw (present.is_present, present.is_no_end) refl
 
 rank_count : (groups : Groups) (recording : Lists) → length (stands_of groups recording) ≡ length recording
 rank_count groups recording =
@@ -115,7 +110,7 @@ waits_before groups recording rank is_rank present =
     let needs = needs_of groups recording rank (slice_index (stands_of groups recording) rank) in
     let cannot = (every_maximal_run_ends_at_the_stands groups recording).1.is_stuck rank (omega (arith, rank_count groups recording)) in
     let unmet : list_all (is_met (stands_of groups recording)) (needs_of groups recording rank (slice_index (stands_of groups recording) rank)) ≡ false =
-    not_all groups recording rank present.call (list_all (is_met (stands_of groups recording)) (needs_of groups recording rank (slice_index (stands_of groups recording) rank))) present.is_present present.is_not_finalize cannot in
+    not_all groups recording rank present.call (list_all (is_met (stands_of groups recording)) (needs_of groups recording rank (slice_index (stands_of groups recording) rank))) present.is_present present.is_no_end cannot in
     let one = one_fails (is_met (stands_of groups recording)) (needs_of groups recording rank (slice_index (stands_of groups recording) rank)) unmet in
     let first = first_of one.0 (unmet_at groups recording (stands_of groups recording) rank) (unmet_all groups recording (stands_of groups recording) rank one.0 one.1 one.2) in
     record {
@@ -123,7 +118,7 @@ waits_before groups recording rank is_rank present =
       is_first = ap (λ (needs : List Need). slice_get needs 0) (waits_are groups recording (stands_of groups recording) rank) ∙ first.1;
     }
   where
-    not_all : (groups : Groups) (recording : Lists) (rank : ℕ) (call : Call) (all : Bool) → slice_get (calls_of recording rank) (slice_index (stands_of groups recording) rank) ≡ Some call → is_finalize call ≡ false → (may_pass (slice_get (calls_of recording rank) (slice_index (stands_of groups recording) rank)) && all) ≡ false → all ≡ false
+    not_all : (groups : Groups) (recording : Lists) (rank : ℕ) (call : Call) (all : Bool) → slice_get (calls_of recording rank) (slice_index (stands_of groups recording) rank) ≡ Some call → ends_list call ≡ false → (may_pass (slice_get (calls_of recording rank) (slice_index (stands_of groups recording) rank)) && all) ≡ false → all ≡ false
     not_all groups recording rank call all present not_finalize h = rw (present, not_finalize) at h
 
 -- the first unmet need of a rank that waits is one of its unmet needs
@@ -173,31 +168,30 @@ goes_on groups recording closed =
         (subst (λ (k : ℕ). Among (At k place) (unmet_of groups recording rank)) (same_Some other next h) (first_among groups recording rank (At other place) is))
     by_first groups recording closed rank next (Some (Lacking other)) is h = absurd (none-some next h)
 
-no_needs : (groups : Groups) (recording : Lists) (rank place : ℕ) → slice_get (calls_of recording rank) place ≡ Some Finalize → needs_of groups recording rank place ≡ []
-no_needs groups recording rank place finalize = rw finalize (rw finalize refl)
+ends_without_needs : (groups : Groups) (recording : Lists) (rank place : ℕ) (call : Call) → ends_list call ≡ true → needs_of_call groups recording rank place call ≡ []
+ends_without_needs groups recording rank place Finalize ends = refl
+ends_without_needs groups recording rank place _ ends = absurd (false≢true ends)
 
-is_finalize_there : (present : Option Call) → option_map_or is_finalize present false ≡ true → present ≡ Some Finalize
-is_finalize_there None h = absurd (false≢true h)
-is_finalize_there (Some Finalize) h = refl
-is_finalize_there (Some _) h = absurd (false≢true h)
+no_needs : (groups : Groups) (recording : Lists) (rank place : ℕ) → EndsThere (slice_get (calls_of recording rank) place) → needs_of groups recording rank place ≡ []
+no_needs groups recording rank place there = rw there.is_present (ends_without_needs groups recording rank place there.end there.ends)
 
 -- a rank that waits is stuck
 waiting_is_stuck : (groups : Groups) (recording : Lists) (rank : ℕ) → IsWaiting (waits_of groups recording) rank → is_stuck groups recording rank ≡ true
 waiting_is_stuck groups recording rank waiting =
     ⊎_elim
-    (λ (there : is_at_finalize recording (stands_of groups recording) rank ≡ true).
-    let finalize = is_finalize_there (slice_get (calls_of recording rank) (slice_index (stands_of groups recording) rank)) there in
+    (λ (there : is_at_end recording (stands_of groups recording) rank ≡ true).
+    let there_is = end_there (slice_get (calls_of recording rank) (slice_index (stands_of groups recording) rank)) there in
     let parts = unmet_from groups recording (stands_of groups recording) rank waiting.need (first_among groups recording rank waiting.need waiting.is_first) in
-    absurd (subst (λ (needs : List Need). Among waiting.need needs) (no_needs groups recording rank (slice_index (stands_of groups recording) rank) finalize) parts.0))
-    (λ (not_there : is_at_finalize recording (stands_of groups recording) rank ≡ false). not_from_false (is_at_finalize recording (stands_of groups recording) rank) not_there)
-    (cases_Bool (is_at_finalize recording (stands_of groups recording) rank))
+    absurd (subst (λ (needs : List Need). Among waiting.need needs) (no_needs groups recording rank (slice_index (stands_of groups recording) rank) there_is) parts.0))
+    (λ (not_there : is_at_end recording (stands_of groups recording) rank ≡ false). not_from_false (is_at_end recording (stands_of groups recording) rank) not_there)
+    (cases_Bool (is_at_end recording (stands_of groups recording) rank))
 
 -- and a rank that isn't stuck has no unmet need
-none_at_finalize : (groups : Groups) (recording : Lists) (rank : ℕ) → is_stuck groups recording rank ≡ false → unmet_of groups recording rank ≡ []
+none_at_the_end : (groups : Groups) (recording : Lists) (rank : ℕ) → is_stuck groups recording rank ≡ false → unmet_of groups recording rank ≡ []
 unfolding unmet_at
-none_at_finalize groups recording rank not_stuck =
-    let finalize = is_finalize_there (slice_get (calls_of recording rank) (slice_index (stands_of groups recording) rank)) (not-false (is_at_finalize recording (stands_of groups recording) rank) not_stuck) in
-    rw (no_needs groups recording rank (slice_index (stands_of groups recording) rank) finalize) refl
+none_at_the_end groups recording rank not_stuck =
+    let there_is = end_there (slice_get (calls_of recording rank) (slice_index (stands_of groups recording) rank)) (not-false (is_at_end recording (stands_of groups recording) rank) not_stuck) in
+    rw (no_needs groups recording rank (slice_index (stands_of groups recording) rank) there_is) refl
 
 pub stuck_ranks_wait_for_stuck_ranks : StuckRanksWaitForStuckRanks
 stuck_ranks_wait_for_stuck_ranks groups recording closed = record {
@@ -205,7 +199,7 @@ stuck_ranks_wait_for_stuck_ranks groups recording closed = record {
       let ends = ends_at (calls_of recording rank) (closed rank is_rank) in
       let waiting = waits_before groups recording rank is_rank (stands_before groups recording rank ends (stuck_low groups recording rank ends stuck)) in
       (waiting.need, among_in waiting.need (unmet_of groups recording rank) (first_among groups recording rank waiting.need waiting.is_first));
-  no_other_waits = λ rank not_stuck. none_at_finalize groups recording rank not_stuck;
+  no_other_waits = λ rank not_stuck. none_at_the_end groups recording rank not_stuck;
   for_stuck_ranks = λ rank peer place h.
       let there = awaited_stands groups recording closed rank peer place (in_among (At peer place) (unmet_of groups recording rank) h) in
       (there.is_rank, stuck_from groups recording peer there.stands);

@@ -52,7 +52,7 @@ fn is_stuck_at(pairs: &Pairs, stands: &[u32], rank: u16) -> bool
     ensures { result ≡ is_stuck_at pairs.now.recording stands.now rank }
 {
     match pairs.call(rank, stand_of(stands, rank)) {
-        Some(call) => !call.is_finalize(),
+        Some(call) => !call.ends_list(),
         None => true,
     }
 }
