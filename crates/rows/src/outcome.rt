@@ -6,6 +6,7 @@ use crate::row::{Asked, Row, Wanted};
 use crate::shelf::Shelf;
 use crate::sink::Sink;
 use command::capacity::Capacity;
+use command::fault::Fault;
 use command::given::{WordsFault, run};
 use command::words::{Words, parse};
 use mpicall::counted::Counted;
@@ -122,25 +123,22 @@ fn answer_without_words(alloc: Global) -> Result<Answer, AllocError> {
     Answer::told(alloc, fault.status().code(), fault.text())
 }
 
-/// What is said of a fault, by its code, its place and its call.
+/// The fault that these words name: its code, then as many numbers as it has.
+fn fault_named(words: &[&str]) -> Option<Fault<'static>> {
+    match words {
+        [code] => fault_of(code.as_bytes(), 0, 0),
+        [code, place] => fault_of(code.as_bytes(), place.parse().ok()?, 0),
+        [code, place, call] => fault_of(code.as_bytes(), place.parse().ok()?, call.parse().ok()?),
+        _ => None,
+    }
+}
+
+/// What is said of a fault.
 fn answer_of_fault(alloc: Global, words: &[&str]) -> Result<Answer, AllocError> {
-    let code = words.first().copied().unwrap_or("");
-    if code == "words" {
+    if words.first().copied() == Some("words") {
         return answer_without_words(alloc);
     }
-    let place = words
-        .get(1)
-        .copied()
-        .unwrap_or("0")
-        .parse::<u16>()
-        .unwrap_or(0);
-    let call = words
-        .get(2)
-        .copied()
-        .unwrap_or("0")
-        .parse::<u32>()
-        .unwrap_or(0);
-    match fault_of(code.as_bytes(), place, call) {
+    match fault_named(words) {
         Some(fault) => {
             let text = format!(in alloc; "{fault}\n")?;
             Answer::told(alloc, fault.status().code(), &text)
@@ -168,9 +166,10 @@ pub fn answer_of<R: AllocGlobal + Eprint + Threads + Wait + Sync>(
     match row.asked {
         Some(Asked::Program) => Ok(answer_of_program(rt, row)),
         Some(Asked::Capacity) => answer_of_capacity(alloc, words.as_slice()),
-        Some(Asked::Number) => {
-            answer_of_number(alloc, Capacity::read(words.first().copied().unwrap_or("")))
-        }
+        Some(Asked::Number) => match words.as_slice() {
+            [word] => answer_of_number(alloc, Capacity::read(word)),
+            _ => Answer::told(alloc, 0, "not one word\n"),
+        },
         Some(Asked::Fault) => answer_of_fault(alloc, words.as_slice()),
         None => Answer::told(alloc, 0, "nothing is asked\n"),
     }

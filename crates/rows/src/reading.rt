@@ -54,6 +54,13 @@ fn byte(digits: &str) -> Result<u8, LineFault> {
     }
 }
 
+/// Adds a piece of a text with this end.
+fn push(to: &mut String, text: &str, end: &str) -> Result<(), LineFault> {
+    to.push_str(text)?;
+    to.push_str(end)?;
+    Ok(())
+}
+
 impl Reading {
     /// Nothing was read.
     pub fn new(alloc: Global) -> Reading {
@@ -161,25 +168,17 @@ impl Reading {
         Ok(())
     }
 
-    /// The text that is being read.
-    fn text(&mut self) -> Result<&mut String, LineFault> {
+    /// Adds to the text that is being read.
+    fn add(&mut self, text: &str, end: &str) -> Result<(), LineFault> {
         match self.place {
             Place::Nowhere => Err(LineFault::NoPlace),
             Place::LastFile => match self.row.files.last_mut() {
-                Some(file) => Ok(&mut file.text),
+                Some(file) => push(&mut file.text, text, end),
                 None => Err(LineFault::NoPlace),
             },
-            Place::Output => Ok(&mut self.row.wanted.out),
-            Place::Error => Ok(&mut self.row.wanted.err),
+            Place::Output => push(&mut self.row.wanted.out, text, end),
+            Place::Error => push(&mut self.row.wanted.err, text, end),
         }
-    }
-
-    /// Adds to the text that is being read.
-    fn add(&mut self, text: &str, end: &str) -> Result<(), LineFault> {
-        let to = self.text()?;
-        to.push_str(text)?;
-        to.push_str(end)?;
-        Ok(())
     }
 
     /// Adds so often to the text that is being read.

@@ -4,7 +4,7 @@ use Rattle.serde_json.specs.Written.{compact_text, has_float}
 use Rattle.mpicall.specs.Spelling.{line_feed}
 use Rattle.reports.specs.JsonReport.{json_report}
 use Rattle.reports.proofs.JsonLemmas.{no_float}
-use Rattle.waitgraph.proofs.json.json_text.Goals as goal
+use Rattle.reports.proofs.json.json_text.Goals as goal
 
 pub returns : goal.returns
 unfolding json_report

@@ -2,7 +2,7 @@
 use Rattle.std.proofs.Common.{ap, ◌∙◌}
 use Rattle.gather.specs.Collected.{Kept}
 use Rattle.runs.proofs.WholeLemmas.{read_closed, concludes_well, concludes_refusing}
-use Rattle.gather.proofs.run.outcome_in_turns.Goals as goal
+use Rattle.runs.proofs.run.outcome_in_turns.Goals as goal
 
 pub conclude-requires : goal.conclude-requires
 conclude-requires g c = read_closed g.I.Input.left (g.G.Gate.may_stop c.args.gate.now) c.args.sources.items c.read_in_turns.result c.read_in_turns.ensures.read

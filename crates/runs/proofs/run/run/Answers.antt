@@ -1,5 +1,5 @@
 -- The same clauses.
-use Rattle.gather.proofs.run.run.Goals as goal
+use Rattle.runs.proofs.run.run.Goals as goal
 
 pub returns-clause-verdict : goal.returns-clause-verdict
 returns-clause-verdict g c = c.run_by.ensures.verdict

@@ -2,7 +2,7 @@
 use Rattle.std.proofs.lemmas.Result.{IfErr-weaker}
 use Rattle.runs.proofs.HeldLemmas.{accepts_all}
 use Rattle.runs.proofs.RunLemmas.{close_output, close_refuses, report_feeds, report_refuses, report_stops, run_output, run_verdict, run_written}
-use Rattle.gather.proofs.run.run_by.Goals as goal
+use Rattle.runs.proofs.run.run_by.Goals as goal
 
 pub returns-in-Ok-clause-verdict : goal.returns-in-Ok-clause-verdict
 returns-in-Ok-clause-verdict g c =

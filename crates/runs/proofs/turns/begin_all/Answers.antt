@@ -4,7 +4,7 @@ use Rattle.std.specs.Vec.Iter.{into_iter_items}
 use Rattle.mpicall.specs.Source.{ended}
 use Rattle.runs.proofs.AlongLemmas.{rest_of_all}
 use Rattle.runs.proofs.TurnLemmas.{one_begun, one_more_source, all_sources}
-use Rattle.gather.proofs.turns.begin_all.Goals as goal
+use Rattle.runs.proofs.turns.begin_all.Goals as goal
 
 pub loop-source-preserved : goal.loop-source-preserved
 loop-source-preserved g c =

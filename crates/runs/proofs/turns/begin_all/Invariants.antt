@@ -3,7 +3,7 @@ use Rattle.std.proofs.Common.{◌≡◌, ◌+◌, ◌≤◌, ◌++◌, None, All
 use Rattle.std.specs.Vec.Iter.{into_iter_items, into_iter_len}
 use Rattle.mpicall.specs.Source.{ended}
 use Rattle.runs.specs.Turns.{source_of, IsBegun}
-use Rattle.gather.proofs.turns.begin_all.Given as goal
+use Rattle.runs.proofs.turns.begin_all.Given as goal
 
 abbrev pub invariant-loop-source : goal.invariant-loop-source
 invariant-loop-source g l = record {

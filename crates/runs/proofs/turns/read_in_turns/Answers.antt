@@ -1,7 +1,7 @@
 -- All that was read of each source is kept.
 use Rattle.std.proofs.Common.{arith}
 use Rattle.runs.proofs.TurnLemmas.{all_read}
-use Rattle.gather.proofs.turns.read_in_turns.Goals as goal
+use Rattle.runs.proofs.turns.read_in_turns.Goals as goal
 
 pub returns-clause-read : goal.returns-clause-read
 returns-clause-read g c =

@@ -1,7 +1,7 @@
 -- One rank more had its turn.
 use Rattle.std.proofs.Common.{arith}
 use Rattle.runs.proofs.TurnLemmas.{set_later, are_later_still}
-use Rattle.gather.proofs.turns.take_a_round.Goals as goal
+use Rattle.runs.proofs.turns.take_a_round.Goals as goal
 
 pub loop-rank-preserved : goal.loop-rank-preserved
 loop-rank-preserved g c =

@@ -1,6 +1,6 @@
 -- The turns are later ones.
 use Rattle.runs.specs.Turns.{AreLater}
-use Rattle.gather.proofs.turns.take_all_turns.Given as goal
+use Rattle.runs.proofs.turns.take_all_turns.Given as goal
 
 abbrev pub invariant-loop : goal.invariant-loop
 invariant-loop g l = record {

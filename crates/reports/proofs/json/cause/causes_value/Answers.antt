@@ -6,7 +6,7 @@ use Rattle.waitgraph.specs.Causes.{view_of}
 use Rattle.reports.specs.JsonReport.{cause_data}
 use Rattle.waitgraph.specs.declared.cause.Cause.{Cause}
 use Rattle.reports.proofs.JsonLemmas.{told_as_seen}
-use Rattle.waitgraph.proofs.json.cause.causes_value.Goals as goal
+use Rattle.reports.proofs.json.cause.causes_value.Goals as goal
 
 pub returns : goal.returns
 returns c =

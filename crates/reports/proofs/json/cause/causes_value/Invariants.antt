@@ -2,7 +2,7 @@ use Rattle.std.proofs.Common.{◌≡◌, map, take}
 use Rattle.serde_json.specs.View.{view}
 use Rattle.waitgraph.specs.Causes.{view_of}
 use Rattle.reports.specs.JsonReport.{cause_data}
-use Rattle.waitgraph.proofs.json.cause.causes_value.Given as goal
+use Rattle.reports.proofs.json.cause.causes_value.Given as goal
 
 -- the causes so far
 abbrev pub invariant-loop-cause : goal.invariant-loop-cause

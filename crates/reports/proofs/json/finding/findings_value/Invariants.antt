@@ -1,7 +1,7 @@
 use Rattle.std.proofs.Common.{◌≡◌, map, take}
 use Rattle.serde_json.specs.View.{view}
 use Rattle.reports.specs.JsonReport.{finding_data}
-use Rattle.waitgraph.proofs.json.finding.findings_value.Given as goal
+use Rattle.reports.proofs.json.finding.findings_value.Given as goal
 
 -- the findings so far
 abbrev pub invariant-loop-finding : goal.invariant-loop-finding

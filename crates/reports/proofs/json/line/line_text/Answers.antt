@@ -6,7 +6,7 @@ use Rattle.mpicall.specs.Lines.{body_of}
 use Rattle.mpicall.specs.Spelling.{space, fields_of}
 use Rattle.reports.proofs.LineLemmas.{line_is_text}
 use Rattle.reports.proofs.SpelledLemmas.{body_joined}
-use Rattle.waitgraph.proofs.json.line.line_text.Goals as goal
+use Rattle.reports.proofs.json.line.line_text.Goals as goal
 
 pub returns : goal.returns
 returns c =

@@ -3,7 +3,7 @@ use Rattle.mpicall.specs.Spelling.{line_feed}
 use Rattle.reports.specs.FindingTexts.{finding_fields}
 use Rattle.reports.specs.Pages.{with_fields}
 use Rattle.reports.proofs.SpelledLemmas.{line_put}
-use Rattle.waitgraph.proofs.report.text.push_finding.Goals as goal
+use Rattle.reports.proofs.report.text.push_finding.Goals as goal
 
 pub returns : goal.returns
 returns c =

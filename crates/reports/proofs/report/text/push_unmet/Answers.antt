@@ -6,7 +6,7 @@ use Rattle.moves.specs.Stands.{stands_of}
 use Rattle.reports.specs.Pages.{with_fields}
 use Rattle.reports.specs.TextReport.{need_fields, present_fields}
 use Rattle.reports.proofs.SpelledLemmas.{line_put, fields-append}
-use Rattle.waitgraph.proofs.report.text.push_unmet.Goals as goal
+use Rattle.reports.proofs.report.text.push_unmet.Goals as goal
 
 pub returns : goal.returns
 returns c =

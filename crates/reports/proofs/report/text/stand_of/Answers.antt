@@ -3,7 +3,7 @@ use Rattle.std.proofs.Common.{ℕ, Option, sym, ap, ◌∙◌}
 use Rattle.std.specs.Option.{unwrap_or}
 use Rattle.std.proofs.lemmas.Option.{unwrap_or-slice_get}
 use Rattle.moves.specs.Stands.{stands_of}
-use Rattle.waitgraph.proofs.report.text.stand_of.Goals as goal
+use Rattle.reports.proofs.report.text.stand_of.Goals as goal
 
 pub returns-in-None : goal.returns-in-None
 returns-in-None c =

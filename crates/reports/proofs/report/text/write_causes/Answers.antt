@@ -4,7 +4,7 @@ use Rattle.waitgraph.specs.Causes.{view_of}
 use Rattle.reports.specs.TextReport.{cause_line}
 use Rattle.waitgraph.specs.declared.cause.Cause.{Cause}
 use Rattle.reports.proofs.TellingLemmas.{tells_next, fails_at}
-use Rattle.waitgraph.proofs.report.text.write_causes.Goals as goal
+use Rattle.reports.proofs.report.text.write_causes.Goals as goal
 
 pub loop-cause-preserved : goal.loop-cause-preserved
 loop-cause-preserved g c = record {

@@ -3,7 +3,7 @@ use Rattle.std.proofs.Common.{◌≡◌, flat_map, take}
 use Rattle.waitgraph.specs.Causes.{view_of}
 use Rattle.reports.specs.Pages.{Tells}
 use Rattle.reports.specs.TextReport.{cause_line}
-use Rattle.waitgraph.proofs.report.text.write_causes.Given as goal
+use Rattle.reports.proofs.report.text.write_causes.Given as goal
 
 abbrev pub invariant-loop-cause : goal.invariant-loop-cause
 invariant-loop-cause g l = record {

@@ -6,7 +6,7 @@ use Rattle.mpicall.specs.Spelling.{space, line_feed}
 use Rattle.waitgraph.specs.Causes.{CycleOf}
 use Rattle.reports.specs.TextReport.{cause_line}
 use Rattle.reports.proofs.TellingLemmas.{tells_more, fails_later, fails_within, ranks_joined}
-use Rattle.waitgraph.proofs.report.text.write_cycle.Goals as goal
+use Rattle.reports.proofs.report.text.write_cycle.Goals as goal
 
 -- the line in its three parts
 cycle_line : (ranks : List ℕ) → cause_line (CycleOf ranks) ≡ (codes "cycle" ++ flat_map (λ rank. space ∷ decimal rank) ranks) ++ line_feed ∷ []

@@ -2,7 +2,7 @@ use Rattle.std.proofs.Common.{refl, arith, ◌∙◌}
 use Rattle.std.proofs.lemmas.Result.{err_from_is_err_and}
 use Rattle.reports.specs.TextReport.{finding_line}
 use Rattle.reports.proofs.TellingLemmas.{tells_next, fails_at}
-use Rattle.waitgraph.proofs.report.text.write_findings.Goals as goal
+use Rattle.reports.proofs.report.text.write_findings.Goals as goal
 
 pub loop-finding-preserved : goal.loop-finding-preserved
 loop-finding-preserved g c = record {

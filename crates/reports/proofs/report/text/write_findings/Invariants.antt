@@ -2,7 +2,7 @@
 use Rattle.std.proofs.Common.{◌≡◌, flat_map, take}
 use Rattle.reports.specs.Pages.{Tells}
 use Rattle.reports.specs.TextReport.{finding_line}
-use Rattle.waitgraph.proofs.report.text.write_findings.Given as goal
+use Rattle.reports.proofs.report.text.write_findings.Given as goal
 
 abbrev pub invariant-loop-finding : goal.invariant-loop-finding
 invariant-loop-finding g l = record {

@@ -2,7 +2,7 @@
 use Rattle.std.proofs.Common.{◌≡◌, flat_map, take}
 use Rattle.reports.specs.Pages.{Tells}
 use Rattle.reports.specs.TextReport.{unmet_line}
-use Rattle.waitgraph.proofs.report.text.write_needs.Given as goal
+use Rattle.reports.proofs.report.text.write_needs.Given as goal
 
 abbrev pub invariant-loop-need : goal.invariant-loop-need
 invariant-loop-need g l = record {

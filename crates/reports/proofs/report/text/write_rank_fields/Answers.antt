@@ -3,7 +3,7 @@ use Rattle.std.specs.Fmt.{decimal}
 use Rattle.std.proofs.lemmas.Result.{err_from_is_err_and}
 use Rattle.mpicall.specs.Spelling.{space}
 use Rattle.reports.proofs.TellingLemmas.{tells_next, fails_at}
-use Rattle.waitgraph.proofs.report.text.write_rank_fields.Goals as goal
+use Rattle.reports.proofs.report.text.write_rank_fields.Goals as goal
 
 pub loop-rank-preserved : goal.loop-rank-preserved
 loop-rank-preserved g c = record {

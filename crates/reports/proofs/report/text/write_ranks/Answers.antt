@@ -2,7 +2,7 @@ use Rattle.std.proofs.Common.{refl, arith, ◌∙◌}
 use Rattle.std.proofs.lemmas.Result.{err_from_is_err_and}
 use Rattle.reports.specs.TextReport.{rank_lines}
 use Rattle.reports.proofs.TellingLemmas.{tells_next, fails_at}
-use Rattle.waitgraph.proofs.report.text.write_ranks.Goals as goal
+use Rattle.reports.proofs.report.text.write_ranks.Goals as goal
 
 pub loop-rank-preserved : goal.loop-rank-preserved
 loop-rank-preserved g c = record {

@@ -2,7 +2,7 @@
 use Rattle.std.proofs.Common.{◌≡◌, flat_map, take}
 use Rattle.reports.specs.Pages.{Tells}
 use Rattle.reports.specs.TextReport.{rank_lines}
-use Rattle.waitgraph.proofs.report.text.write_ranks.Given as goal
+use Rattle.reports.proofs.report.text.write_ranks.Given as goal
 
 abbrev pub invariant-loop-rank : goal.invariant-loop-rank
 invariant-loop-rank g l = record {

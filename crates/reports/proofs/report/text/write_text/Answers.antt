@@ -12,7 +12,7 @@ use Rattle.reports.specs.TextReport.{cause_line, finding_line, rank_lines, text_
 use Rattle.waitgraph.specs.declared.cause.Cause.{Cause}
 use Rattle.waitgraph.specs.declared.finding.Finding.{Finding}
 use Rattle.reports.proofs.TellingLemmas.{tells_none, tells_pushed, tells_more, tells_flushed, fails_later, fails_within, fails_flushed}
-use Rattle.waitgraph.proofs.report.text.write_text.Goals as goal
+use Rattle.reports.proofs.report.text.write_text.Goals as goal
 
 lines_of_views : (causes : List Cause) → flat_map cause_line (map view_of causes) ≡ flat_map (λ cause. cause_line (view_of cause)) causes
 lines_of_views [] = refl

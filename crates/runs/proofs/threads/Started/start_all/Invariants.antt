@@ -6,7 +6,7 @@ use Rattle.mpicall.specs.Source.{ended}
 use Rattle.rankfeed.specs.Rings.{sent_by}
 use Rattle.runs.specs.Threads.{Promises}
 use Rattle.runs.proofs.AlongLemmas.{AlongTo}
-use Rattle.gather.proofs.threads.Started.start_all.Given as goal
+use Rattle.runs.proofs.threads.Started.start_all.Given as goal
 
 abbrev pub invariant-loop-source : goal.invariant-loop-source
 invariant-loop-source g l = record {

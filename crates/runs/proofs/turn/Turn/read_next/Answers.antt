@@ -1,7 +1,7 @@
 -- One record more was read and entered; or the end came, and with it the fault, if it has one.
 use Rattle.runs.proofs.TurnLemmas.{later_record, later_sealed, later_torn}
 use Rattle.std.proofs.Common.{Some, ap, refl}
-use Rattle.gather.proofs.turn.Turn.read_next.Goals as goal
+use Rattle.runs.proofs.turn.Turn.read_next.Goals as goal
 
 pub returns-in-None : goal.returns-in-None
 returns-in-None g c =

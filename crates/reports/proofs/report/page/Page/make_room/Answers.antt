@@ -1,7 +1,7 @@
 -- A beginning of what waits is one of a longer text.
 use Rattle.std.proofs.lemmas.Result.{err_from_is_err_and}
 use Rattle.reports.proofs.TellingLemmas.{fails_sooner}
-use Rattle.waitgraph.proofs.report.page.Page.make_room.Goals as goal
+use Rattle.reports.proofs.report.page.Page.make_room.Goals as goal
 
 pub returns-in_err-flush-clause-fault : goal.returns-in_err-flush-clause-fault
 returns-in_err-flush-clause-fault g c =

@@ -4,7 +4,7 @@ use Rattle.mpicall.specs.Limits.{in_ranges}
 use Rattle.mpicall.specs.Spelling.{spelling}
 use Rattle.reports.proofs.SpelledLemmas.{never_full, spelling_fits, spelling_some}
 use Rattle.reports.specs.SpelledCalls.{spelled_bytes}
-use Rattle.waitgraph.proofs.report.spelled.SpelledCall.of.Goals as goal
+use Rattle.reports.proofs.report.spelled.SpelledCall.of.Goals as goal
 
 pub unreachable-requires : goal.unreachable-requires
 unreachable-requires c =

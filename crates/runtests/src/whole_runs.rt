@@ -7,7 +7,6 @@ ghost use Rattle.runs.specs.Told.{AreFresh};
 
 use gather::fault::{RankFault, Refusal, RunFault};
 use gather::gate::{Gate, OpenGate};
-use runs::run::{Reading, run, run_by};
 use moves::verdict::Verdict;
 use mpicall::counted::Counted;
 use mpicall::device::Input;
@@ -17,6 +16,8 @@ use mpicall::memory::{MemoryInput, MemoryOutput};
 use mpicall::source::Source;
 use mpigroup::head::Head;
 use pairing::fault::CallFault;
+use reports::report::Format;
+use runs::run::{Reading, run, run_by};
 use std::alloc::{AllocError, Global};
 use std::process::Abort;
 use std::sync::Wait;
@@ -24,7 +25,6 @@ use std::sync::atomic::{AtomicBool, AtomicU32, Ordering};
 use std::test::Fail;
 use std::thread::Threads;
 use std::{io, thread};
-use reports::report::Format;
 
 const TEXTS: [&[u8]; 2] = [
     b"bsend 0 1 0\nrecv 0 1 0\nfinalize\n",
