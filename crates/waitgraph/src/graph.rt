@@ -4,13 +4,13 @@ ghost use Rattle.std.specs.Prelude.{◌≡◌, ◌<◌, ℕ, length, map, IfOk, 
 ghost use Rattle.pairing.specs.Recordings.{IsClosed};
 ghost use Rattle.moves.specs.Stands.{stands_of};
 ghost use Rattle.waitgraph.specs.Stuck.{is_stuck_at, stuck_at, stuck_of, unmet_of};
-ghost use Rattle.waitgraph.specs.Causes.{view_of, waits_at, needs_in, causes_in, causes_of};
+ghost use Rattle.waitgraph.specs.Causes.{view_of, waits_at, needs_in, walks_in, causes_in, causes_of};
 ghost use Rattle.waitgraph.specs.Findings.{findings_of};
 
 use crate::cause::Cause;
 use crate::finding::{Finding, findings};
 use crate::unmet::{Unmet, stand_of, unmet_at};
-use crate::walk::causes_in;
+use crate::walk::{causes_in, walks_in};
 use moves::analyser::Analyser;
 use moves::need::Need;
 use pairing::pairs::Pairs;
@@ -83,12 +83,13 @@ fn waits_at(alloc: Global, pairs: &Pairs, stands: &[u32]) -> Result<Vec<Unmet>, 
 fn graph_at(alloc: Global, pairs: &Pairs, stands: &[u32]) -> Result<Graph, AllocError>
     ensures stuck { IfOk result (λ graph. graph.stuck ≡ stuck_at pairs.now.recording stands.now) }
     ensures waits { IfOk result (λ graph. graph.waits ≡ waits_at pairs.now.groups pairs.now.recording stands.now) }
-    ensures causes { IfOk result (λ graph. graph.causes ≡ causes_in (waits_at pairs.now.groups pairs.now.recording stands.now)) }
+    ensures causes { IfOk result (λ graph. graph.causes ≡ causes_in (walks_in (waits_at pairs.now.groups pairs.now.recording stands.now))) }
     ensures findings { IfOk result (λ graph. graph.findings ≡ findings_of pairs.now.groups pairs.now.recording) }
 {
     let stuck = stuck_at(alloc, pairs, stands)?;
     let waits = waits_at(alloc, pairs, stands)?;
-    let causes = causes_in(alloc, &waits)?;
+    let walks = walks_in(alloc, &waits)?;
+    let causes = causes_in(alloc, &walks)?;
     let findings = findings(alloc, pairs)?;
     Ok(Graph {
         stuck,

@@ -24,5 +24,6 @@
 pub mod cause;
 pub mod finding;
 pub mod graph;
+pub mod onward;
 pub mod unmet;
 pub mod walk;
