@@ -15,7 +15,7 @@ use crate::fault::Fault;
 use crate::opener::Opener;
 use gather::gate::OpenGate;
 use runs::run::{Reading, run_by};
-use moves::verdict::Verdict;
+use waitgraph::verdict::Verdict;
 use mpicall::device::{DeviceFault, Input, Output};
 use mpicall::source::Source;
 use mpigroup::fault::ReadFault;

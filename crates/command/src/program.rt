@@ -12,7 +12,7 @@ use crate::lint::lint_file;
 use crate::opener::Opener;
 use crate::status::Status;
 use crate::words::{Words, parse};
-use moves::verdict::Verdict;
+use waitgraph::verdict::Verdict;
 use mpicall::device::{Output, write_all};
 use std::alloc::Global;
 use std::sync::Wait;

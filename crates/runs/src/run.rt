@@ -3,7 +3,7 @@
 ghost use Rattle.std.specs.Prelude.{◌≡◌, ◌↔◌, ◌<◌, ◌≤◌, ℕ, [], List, length, map, vec_len, vec_capacity, IfOk, IfErr, OnOk};
 ghost use Rattle.mpicall.specs.Trace.{Trace as TraceValue};
 ghost use Rattle.mpigroup.specs.Groups.{ranks_of};
-ghost use Rattle.moves.specs.Verdicts.{verdict_of, SomeRankIsStuck};
+ghost use Rattle.waitgraph.specs.Verdicts.{verdict_of, SomeRankIsStuck};
 ghost use Rattle.std.specs.Io.KnownBytes.{Appends};
 ghost use Rattle.reports.specs.Reports.{report_of};
 ghost use Rattle.runs.specs.Told.{AreFresh, Tells, IsVerdictOver, RefusesOver};
@@ -19,7 +19,6 @@ use gather::gate::Gate;
 use gather::ledger::Ledger;
 use gather::outcome::{CloseFault, Outcome};
 use gather::session::Session;
-use moves::verdict::Verdict;
 use mpicall::device::{Input, Output};
 use mpicall::source::Source;
 use mpigroup::head::Head;
@@ -28,6 +27,7 @@ use reports::report::{Format, ReportFault, write_report};
 use std::alloc::Global;
 use std::sync::Wait;
 use std::thread::Threads;
+use waitgraph::verdict::Verdict;
 
 /// How the sources of all ranks are read at once.
 #[derive(Clone, Copy, Debug, PartialEq, Eq)]

@@ -7,7 +7,6 @@ ghost use Rattle.runs.specs.Told.{AreFresh};
 
 use gather::fault::{RankFault, Refusal, RunFault};
 use gather::gate::{Gate, OpenGate};
-use moves::verdict::Verdict;
 use mpicall::counted::Counted;
 use mpicall::device::Input;
 use mpicall::fails_at::FailsAt;
@@ -25,6 +24,7 @@ use std::sync::atomic::{AtomicBool, AtomicU32, Ordering};
 use std::test::Fail;
 use std::thread::Threads;
 use std::{io, thread};
+use waitgraph::verdict::Verdict;
 
 const TEXTS: [&[u8]; 2] = [
     b"bsend 0 1 0\nrecv 0 1 0\nfinalize\n",

@@ -6,10 +6,12 @@ ghost use Rattle.moves.specs.Stands.{stands_of};
 ghost use Rattle.waitgraph.specs.Stuck.{is_stuck_at, stuck_at, stuck_of, unmet_of};
 ghost use Rattle.waitgraph.specs.Causes.{view_of, waits_at, needs_in, walks_in, causes_in, causes_of};
 ghost use Rattle.waitgraph.specs.Findings.{findings_of};
+ghost use Rattle.waitgraph.specs.Verdicts.{verdict_by};
 
 use crate::cause::Cause;
 use crate::finding::{Finding, findings};
 use crate::unmet::{Unmet, stand_of, unmet_at};
+use crate::verdict::Verdict;
 use crate::walk::{causes_in, walks_in};
 use moves::analyser::Analyser;
 use moves::need::Need;
@@ -47,7 +49,7 @@ impl Model for Graph {
     ghost view = { λ g. record { stuck = g.stuck.items; waits = g.waits.items; causes = map view_of g.causes.items; findings = g.findings.items } };
 }
 
-/// Whether the rank's present call isn't its Finalize.
+/// Whether the rank's present call isn't the one that ends its list.
 fn is_stuck_at(pairs: &Pairs, stands: &[u32], rank: u16) -> bool
     ensures { result ≡ is_stuck_at pairs.now.recording stands.now rank }
 {
@@ -129,11 +131,21 @@ impl Graph {
         Ok(graph)
     }
 
-    /// The ranks whose present call isn't their Finalize, rising.
+    /// The ranks that don't stand at the call that ends their list, rising.
     pub fn stuck(&self) -> &[u16]
         ensures { result.now ≡ self.now.stuck }
     {
         self.stuck.as_slice()
+    }
+
+    /// Whether the run can hang: exactly if some rank is stuck.
+    pub fn verdict(&self) -> Verdict
+        ensures { result ≡ verdict_by self.now.stuck }
+    {
+        match self.stuck.as_slice() {
+            [] => Verdict::Free,
+            _ => Verdict::Hang,
+        }
     }
 
     /// What the rank's present call needs and isn't met, by rank and place; nothing where the rank isn't

@@ -23,10 +23,7 @@ fn onward_of(unmet: &Unmet) -> Option<Onward>
 }
 
 /// How the walk goes on from each rank.
-pub(crate) fn walks_in(
-    alloc: Global,
-    waits: &[Unmet],
-) -> Result<Vec<Option<Onward>>, AllocError>
+pub(crate) fn walks_in(alloc: Global, waits: &[Unmet]) -> Result<Vec<Option<Onward>>, AllocError>
     ensures { IfOk result (λ walks. walks.items ≡ walks_in waits.now) }
 {
     let mut walks = Vec::new(alloc);
@@ -57,7 +54,11 @@ fn lacks_in(walks: &[Option<Onward>], rank: u16) -> Option<u16>
 }
 
 /// The ranks of the walk from `home` until it comes back; None where it doesn't.
-fn way_home(alloc: Global, walks: &[Option<Onward>], home: u16) -> Result<Option<Vec<u16>>, AllocError>
+fn way_home(
+    alloc: Global,
+    walks: &[Option<Onward>],
+    home: u16,
+) -> Result<Option<Vec<u16>>, AllocError>
     ensures { IfOk result (λ ranks. option_map (λ r. r.items) ranks ≡ way_home walks.now (length walks.now) home home) }
 {
     let mut ranks = Vec::new(alloc);
@@ -97,7 +98,11 @@ fn add_cycle(
     Ok(())
 }
 
-fn add_cycles(alloc: Global, causes: &mut Vec<Cause>, walks: &[Option<Onward>]) -> Result<(), AllocError>
+fn add_cycles(
+    alloc: Global,
+    causes: &mut Vec<Cause>,
+    walks: &[Option<Onward>],
+) -> Result<(), AllocError>
     requires { length walks.now < 65536 }
     ensures { OnOk result (map view_of causes.new.items ≡ map view_of causes.old.items ++ filter_map (cycle_at walks.now) (range_with_len 0 (length walks.now))) }
 {
@@ -108,7 +113,11 @@ fn add_cycles(alloc: Global, causes: &mut Vec<Cause>, walks: &[Option<Onward>]) 
 }
 
 /// Adds the missing call for which the rank waits, if it waits for one.
-fn add_missing(causes: &mut Vec<Cause>, walks: &[Option<Onward>], rank: u16) -> Result<(), AllocError>
+fn add_missing(
+    causes: &mut Vec<Cause>,
+    walks: &[Option<Onward>],
+    rank: u16,
+) -> Result<(), AllocError>
     ensures { OnOk result (map view_of causes.new.items ≡ map view_of causes.old.items ++ option_to_list (missing_at walks.now rank)) }
 {
     if let Some(peer) = lacks_in(walks, rank) {
