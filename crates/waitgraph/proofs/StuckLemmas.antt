@@ -15,7 +15,7 @@ use Rattle.pairing.specs.Recordings.{Lists, calls_of, IsClosedList, IsClosed}
 use Rattle.pairing.proofs.PlaceLemmas.{slice_get-front}
 use Rattle.moves.specs.declared.need.Need.{Need}
 use Rattle.moves.specs.declared.need.Need.TheVariants.{At, Lacking}
-use Rattle.moves.specs.Needs.{needs_of_call, needs_of, is_met, may_pass, can_move}
+use Rattle.moves.specs.Needs.{needs_of, is_met, may_pass, can_move}
 use Rattle.moves.specs.Stands.{stands_of, is_at_end, lowest_run_over}
 use Rattle.moves.proofs.RunLemmas.{reached_ranks}
 use Rattle.moves.proofs.StandLemmas.{EndsThere, end_there, every_maximal_run_ends_at_the_stands, no_call_behind_the_end_is_reached}
@@ -205,12 +205,12 @@ goes_on groups recording closed =
         (subst (λ (k : ℕ). Among (At k place) (unmet_of groups recording rank)) (same_Some other next h) (first_among groups recording rank (At other place) is))
     by_first groups recording closed rank next (Some (Lacking other)) is h = absurd (none-some next h)
 
-ends_without_needs : (groups : Groups) (recording : Lists) (rank place : ℕ) (call : Call) → ends_list call ≡ true → needs_of_call groups recording rank place call ≡ []
-ends_without_needs groups recording rank place Finalize ends = refl
-ends_without_needs groups recording rank place _ ends = absurd (false≢true ends)
+ends_without_needs : (groups : Groups) (recording : Lists) (rank place : ℕ) (call : Call) → slice_get (calls_of recording rank) place ≡ Some call → ends_list call ≡ true → needs_of groups recording rank place ≡ []
+ends_without_needs groups recording rank place Finalize is_there ends = rw is_there (rw is_there refl)
+ends_without_needs groups recording rank place _ is_there ends = absurd (false≢true ends)
 
 no_needs : (groups : Groups) (recording : Lists) (rank place : ℕ) → EndsThere (slice_get (calls_of recording rank) place) → needs_of groups recording rank place ≡ []
-no_needs groups recording rank place there = rw there.is_present (ends_without_needs groups recording rank place there.end there.ends)
+no_needs groups recording rank place there = ends_without_needs groups recording rank place there.end there.is_present there.ends
 
 -- a rank that waits is stuck
 waiting_is_stuck : (groups : Groups) (recording : Lists) (rank : ℕ) → IsWaiting (walks_of groups recording) rank → is_stuck groups recording rank ≡ true

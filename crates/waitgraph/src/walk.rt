@@ -26,11 +26,7 @@ fn onward_of(unmet: &Unmet) -> Option<Onward>
 pub(crate) fn walks_in(alloc: Global, waits: &[Unmet]) -> Result<Vec<Option<Onward>>, AllocError>
     ensures { IfOk result (λ walks. walks.items ≡ walks_in waits.now) }
 {
-    let mut walks = Vec::new(alloc);
-    for unmet in waits {
-        walks.push(onward_of(unmet))?;
-    }
-    Ok(walks)
+    waits.iter().map(onward_of).collect(alloc)
 }
 
 /// The rank to which the walk goes on from a rank.
