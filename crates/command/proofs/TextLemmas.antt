@@ -3,7 +3,7 @@ use Rattle.std.proofs.Common.{◌≡◌, ◌<◌, ℕ, length, Option, Some, Non
 use Rattle.std.proofs.lemmas.List.{length-map}
 use Rattle.mpicall.specs.Trace.{Trace, trace_of}
 use Rattle.mpicall.specs.declared.source.Source.{Source}
-use Rattle.moves.specs.declared.verdict.Verdict.{Verdict}
+use Rattle.waitgraph.specs.declared.verdict.Verdict.{Verdict}
 use Rattle.reports.specs.declared.report.Format.{Format}
 use Rattle.mpigroup.proofs.FrontLemmas.{read_head-front}
 use Rattle.mpigroup.specs.Groups.{Groups, ranks_of}

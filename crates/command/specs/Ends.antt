@@ -1,8 +1,8 @@
 -- What stands on the two outputs at the end of the program, by what its words ask for.
 use Rattle.std.specs.Prelude.{◌≡◌, ◌⊎◌, ℕ, true, false, Option, Some, List, map, string_bytes}
 use Rattle.clap.specs.Walk.{Text}
-use Rattle.moves.specs.declared.verdict.Verdict.{Verdict}
-use Rattle.moves.specs.declared.verdict.Verdict.TheVariants as verdict
+use Rattle.waitgraph.specs.declared.verdict.Verdict.{Verdict}
+use Rattle.waitgraph.specs.declared.verdict.Verdict.TheVariants as verdict
 use Rattle.command.specs.Asked.{Answers}
 use Rattle.command.specs.Outputs.{Writes, WritesSome, WritesNone, FailsToWrite, lint_report}
 use Rattle.command.specs.Lints.{IsCountOf}

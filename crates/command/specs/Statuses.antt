@@ -1,7 +1,7 @@
 -- The numbers of the exit statuses, and the status that tells a verdict.
 use Rattle.std.specs.Prelude.{ℕ}
-use Rattle.moves.specs.declared.verdict.Verdict.{Verdict}
-use Rattle.moves.specs.declared.verdict.Verdict.TheVariants as verdict
+use Rattle.waitgraph.specs.declared.verdict.Verdict.{Verdict}
+use Rattle.waitgraph.specs.declared.verdict.Verdict.TheVariants as verdict
 use Rattle.command.specs.declared.status.Status.{Status}
 use Rattle.command.specs.declared.status.Status.TheVariants.{Free, Hang, Refused, Usage, Fault}
 

@@ -5,8 +5,8 @@ use Rattle.mpicall.specs.Trace.{trace_of}
 use Rattle.mpicall.specs.declared.fault.SourceFault.TheVariants.{GateStopped}
 use Rattle.mpigroup.specs.Groups.{Groups, ranks_of}
 use Rattle.mpigroup.specs.HeadText.{read_head}
-use Rattle.moves.specs.declared.verdict.Verdict.{Verdict}
-use Rattle.moves.specs.Verdicts.{verdict_of}
+use Rattle.waitgraph.specs.declared.verdict.Verdict.{Verdict}
+use Rattle.waitgraph.specs.Verdicts.{verdict_of}
 use Rattle.pairing.specs.Recordings.{Lists, IsClosed}
 use Rattle.reports.specs.Reports.{report_of}
 use Rattle.reports.specs.declared.report.Format.{Format}

@@ -14,16 +14,16 @@ use crate::capacity::Capacity;
 use crate::fault::Fault;
 use crate::opener::Opener;
 use gather::gate::OpenGate;
-use runs::run::{Reading, run_by};
-use moves::verdict::Verdict;
 use mpicall::device::{DeviceFault, Input, Output};
 use mpicall::source::Source;
 use mpigroup::fault::ReadFault;
 use mpigroup::head::{DECIDING_BYTES, Head};
+use reports::report::Format;
+use runs::run::{ReadBy, run_by};
 use std::alloc::Global;
 use std::sync::Wait;
 use std::thread::Threads;
-use reports::report::Format;
+use waitgraph::verdict::Verdict;
 
 /// How many bytes of a head are read at once.
 const PIECE: usize = 4096;
@@ -93,13 +93,13 @@ fn open_sources<'a, P: Opener>(
 }
 
 /// How the files that the paths name are read: each by a thread where a read of one may wait, else by turns.
-fn reading_of<P: Opener>(opener: &P, paths: &[&str]) -> Reading {
+fn read_by<P: Opener>(opener: &P, paths: &[&str]) -> ReadBy {
     for path in paths {
         if opener.waits(path) {
-            return Reading::InThreads { stack_size: None };
+            return ReadBy::Threads { stack_size: None };
         }
     }
-    Reading::InTurns
+    ReadBy::Turns
 }
 
 /// Checks the run of a head and its traces, and writes its report in the format. The traces are opened in
@@ -141,9 +141,9 @@ pub fn check<'a, P: Opener, O: Output, R: Threads + Wait + Sync>(
     }
     let sources = open_sources(alloc, opener, files)?;
     let records = capacity.records();
-    let reading = reading_of(opener, files);
+    let by = read_by(opener, files);
     match run_by(
-        alloc, head, sources, records, &OpenGate, format, out, rt, reading,
+        alloc, head, sources, records, &OpenGate, format, out, rt, by,
     ) {
         Ok(verdict) => Ok(verdict),
         Err(fault) => Err(Fault::from(fault)),

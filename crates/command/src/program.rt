@@ -12,12 +12,12 @@ use crate::lint::lint_file;
 use crate::opener::Opener;
 use crate::status::Status;
 use crate::words::{Words, parse};
-use moves::verdict::Verdict;
 use mpicall::device::{Output, write_all};
+use reports::report::Format;
 use std::alloc::Global;
 use std::sync::Wait;
 use std::thread::Threads;
-use reports::report::Format;
+use waitgraph::verdict::Verdict;
 
 /// What goes to standard error: what clap says of wrong words, or a fault.
 #[derive(Debug, Drop)]

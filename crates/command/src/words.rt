@@ -13,8 +13,8 @@ use crate::capacity::{Capacity, LEAST, MOST};
 use clap::builder::ValueParser;
 use clap::error::ErrorKind;
 use clap::{Arg, ArgAction, ArgMatches, Command, Error};
-use std::alloc::{AllocError, Global};
 use reports::report::Format;
+use std::alloc::{AllocError, Global};
 
 /// What the words ask for.
 #[derive(Debug, Drop)]

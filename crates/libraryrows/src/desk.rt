@@ -171,7 +171,9 @@ impl Desk {
         words: &mut Words<'_>,
     ) -> Result<String, LineFault> {
         match asked {
-            "stuck" | "unmet" | "causes" => return answer_of_waits(alloc, &self.run, asked, words),
+            "verdict" | "stuck" | "unmet" | "causes" => {
+                return answer_of_waits(alloc, &self.run, asked, words);
+            }
             "report" => return report(alloc, &self.run, words),
             "findings" => return findings_of(alloc, &self.pairs),
             _ => {}

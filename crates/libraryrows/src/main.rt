@@ -16,7 +16,7 @@
 //!   and then `finalize`); `add CALLS`, `adds N CALLS`
 //! - `told RANK LINE -> send RANK PLACE, recv RANK PLACE, wave COMM WAVE full` adds a call: its partners and its
 //!   wave, as far as there are such, or `none`
-//! - of the analyser: `stands -> N N ..`, `verdict -> free|hang`, `closed -> yes|no`, `ended RANK -> yes|no`,
+//! - of the analyser: `stands -> N N ..`, `closed -> yes|no`, `ended RANK -> yes|no`,
 //!   `accepted RANK -> N`, `record RANK PLACE -> LINE`, `joins RANK PLACE -> COMM WAVE`, `touches LEAST MOST ->
 //!   within`; `mixes CALLS -> N mixes, N N ..`: in how many orders the ranks' lists may come, and where the ranks
 //!   stand after them, which is told once if it is alike after all
@@ -25,7 +25,7 @@
 //!   PLACE REQ -> PLACE`, `completed RANK PLACE INDEX -> PLACE`, `work -> N`, each `none` where there is none;
 //!   `findings -> kind COMM WAVE MEMBER WORD WORD, root COMM WAVE MEMBER ROOT ROOT, unreceived RANK PLACE, request
 //!   RANK PLACE REQ, group RANK PLACE`, or `none`
-//! - of the analyser's wait graph: `stuck -> RANK RANK ..`, `unmet RANK -> RANK PLACE, RANK none` (or `none`),
+//! - of the analyser's wait graph: `verdict -> free|hang`, `stuck -> RANK RANK ..`, `unmet RANK -> RANK PLACE, RANK none` (or `none`),
 //!   `causes -> cycle RANK RANK .., missing RANK PEER`, `report text|json -> TEXT`
 //! - of the head: `ranks -> N`, `comms -> N`, `size COMM -> N`, `grouprank COMM RANK -> N`, `worldrank COMM MEMBER
 //!   -> RANK`, the last three `none` where there is none

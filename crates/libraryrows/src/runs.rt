@@ -5,7 +5,6 @@ use crate::calls::{calls_in, record_of};
 use crate::fault::LineFault;
 use crate::words::Words;
 use moves::analyser::{Analyser, OfferFault};
-use moves::verdict::{Verdict, verdict_of};
 use mpicall::record::Record;
 use std::alloc::Global;
 
@@ -113,14 +112,6 @@ fn touches(alloc: Global, run: &Analyser, words: &mut Words<'_>) -> Result<Strin
     }
 }
 
-fn verdict(alloc: Global, run: &Analyser) -> Result<String, LineFault> {
-    let word = match verdict_of(run) {
-        Verdict::Free => "free",
-        Verdict::Hang => "hang",
-    };
-    Ok(word.to_string(alloc)?)
-}
-
 /// Answers a question about the run, if there is such a one.
 pub fn answer_of_run(
     alloc: Global,
@@ -130,7 +121,6 @@ pub fn answer_of_run(
 ) -> Result<Option<String>, LineFault> {
     let answer = match asked {
         "stands" => stands(alloc, run)?,
-        "verdict" => verdict(alloc, run)?,
         "closed" => yes_or_no(alloc, run.is_closed())?,
         "ended" => yes_or_no(alloc, run.is_ended(words.rank()?))?,
         "accepted" => number_or_none(alloc, run.accepted(words.rank()?).map(u64::from))?,

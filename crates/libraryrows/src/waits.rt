@@ -13,6 +13,7 @@ use std::alloc::Global;
 use waitgraph::cause::Cause;
 use waitgraph::finding::{Finding, findings};
 use waitgraph::graph::Graph;
+use waitgraph::verdict::Verdict;
 
 fn ranks_text(alloc: Global, ranks: &[u16]) -> Result<String, LineFault> {
     let mut answer = String::new(alloc);
@@ -58,6 +59,14 @@ fn causes_text(alloc: Global, causes: &[Cause]) -> Result<String, LineFault> {
     Ok(answer)
 }
 
+fn verdict_text(alloc: Global, verdict: Verdict) -> Result<String, LineFault> {
+    let word = match verdict {
+        Verdict::Free => "free",
+        Verdict::Hang => "hang",
+    };
+    Ok(word.to_string(alloc)?)
+}
+
 fn answer_of_graph(
     alloc: Global,
     graph: &Graph,
@@ -65,6 +74,7 @@ fn answer_of_graph(
     words: &mut Words<'_>,
 ) -> Result<String, LineFault> {
     match asked {
+        "verdict" => verdict_text(alloc, graph.verdict()),
         "stuck" => ranks_text(alloc, graph.stuck()),
         "unmet" => needs_text(alloc, graph.unmet(words.rank()?)),
         _ => causes_text(alloc, graph.causes()),

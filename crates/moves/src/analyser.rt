@@ -10,7 +10,7 @@ ghost use Rattle.pairing.specs.Pairs.{TellsFault};
 ghost use Rattle.pairing.specs.declared.added.PairFault.TheVariants.{Refused, Memory};
 ghost use Rattle.moves.specs.Runs.{start, IsTheEnd, StandsNoLater};
 ghost use Rattle.moves.specs.Needs.{can_move};
-ghost use Rattle.moves.specs.Stands.{stands_of, is_at_finalize};
+ghost use Rattle.moves.specs.Stands.{stands_of, is_at_end};
 ghost use Rattle.moves.specs.Arrivals.{IsKeptOn};
 ghost use Rattle.moves.specs.Analysed.{most_touches};
 
@@ -179,10 +179,10 @@ impl Analyser {
 
     /// Whether a rank stands at its Finalize; not where there is no such rank.
     pub fn is_ended(&self, rank: u16) -> bool
-        ensures { result ≡ is_at_finalize self.now.recording self.now.stands rank }
+        ensures { result ≡ is_at_end self.now.recording self.now.stands rank }
     {
         match self.pairs.call(rank, stand_of(&self.stands, rank)) {
-            Some(call) => call.is_finalize(),
+            Some(call) => call.ends_list(),
             None => false,
         }
     }

@@ -201,7 +201,7 @@ pub(crate) fn look_at(pairs: &Pairs, stands: &[u32], waves: &Waves, rank: u16) -
         return Look::Over;
     }
     match pairs.call(rank, stand) {
-        Some(call) if !call.is_finalize() => look_at_call(pairs, stands, waves, rank, stand, &call),
+        Some(call) if !call.ends_list() => look_at_call(pairs, stands, waves, rank, stand, &call),
         _ => Look::Over,
     }
 }

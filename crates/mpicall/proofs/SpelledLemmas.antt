@@ -91,12 +91,12 @@ name_kept Exscan root = refl
 blocking_rebuilt : (o : Operation) (args : List Argument) → arguments_of (call_of (Blocking o) args) ≡ rebuild (operation_forms o) 0 args
 blocking_rebuilt (Send mode) args = refl
 blocking_rebuilt Recv args = refl
-blocking_rebuilt (Coll c) args = ap (λ others. Number 255 (number_in (at args 0)) ∷ others) (root_rebuilt c 1 args)
+blocking_rebuilt (Coll c) args = ap (λ others. Number GREATEST_COMM (number_in (at args 0)) ∷ others) (root_rebuilt c 1 args)
 
 started_rebuilt : (o : Operation) (args : List Argument) → arguments_of (call_of (Started o) args) ≡ rebuild (request_form ∷ operation_forms o) 0 args
 started_rebuilt (Send mode) args = refl
 started_rebuilt Recv args = refl
-started_rebuilt (Coll c) args = ap (λ others. Number 2147483647 (number_in (at args 0)) ∷ Number 255 (number_in (at args 1)) ∷ others) (root_rebuilt c 2 args)
+started_rebuilt (Coll c) args = ap (λ others. Number 2147483647 (number_in (at args 0)) ∷ Number GREATEST_COMM (number_in (at args 1)) ∷ others) (root_rebuilt c 2 args)
 
 same_arguments : (forms wanted : List Form) (args made : List Argument) → made ≡ rebuild forms 0 args → Fixed forms ≡ Fixed wanted → map form_of args ≡ wanted → made ≡ args
 same_arguments forms wanted args made e same is =

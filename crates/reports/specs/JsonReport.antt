@@ -8,7 +8,7 @@ use Rattle.mpicall.specs.Spelling.{space, line_feed}
 use Rattle.mpigroup.specs.Groups.{Groups}
 use Rattle.pairing.specs.Recordings.{Lists}
 use Rattle.moves.specs.Stands.{stands_of}
-use Rattle.moves.specs.Verdicts.{verdict_of}
+use Rattle.waitgraph.specs.Verdicts.{verdict_of}
 use Rattle.moves.specs.declared.need.Need.{Need}
 use Rattle.moves.specs.declared.need.Need.TheVariants.{At, Lacking}
 use Rattle.waitgraph.specs.Causes.{CauseView, CycleOf, MissingOf, causes_of}

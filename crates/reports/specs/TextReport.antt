@@ -8,11 +8,11 @@ use Rattle.mpicall.specs.Spelling.{space, line_feed, fields_of}
 use Rattle.mpigroup.specs.Groups.{Groups}
 use Rattle.pairing.specs.Recordings.{Lists}
 use Rattle.moves.specs.Stands.{stands_of}
-use Rattle.moves.specs.Verdicts.{verdict_of}
+use Rattle.waitgraph.specs.Verdicts.{verdict_of}
 use Rattle.moves.specs.declared.need.Need.{Need}
 use Rattle.moves.specs.declared.need.Need.TheVariants.{At, Lacking}
-use Rattle.moves.specs.declared.verdict.Verdict.{Verdict}
-use Rattle.moves.specs.declared.verdict.Verdict.TheVariants.{Free, Hang}
+use Rattle.waitgraph.specs.declared.verdict.Verdict.{Verdict}
+use Rattle.waitgraph.specs.declared.verdict.Verdict.TheVariants.{Free, Hang}
 use Rattle.waitgraph.specs.Causes.{CauseView, CycleOf, MissingOf, causes_of}
 use Rattle.waitgraph.specs.Findings.{findings_of}
 use Rattle.reports.specs.FindingTexts.{finding_fields}

@@ -10,10 +10,10 @@ use crate::json::cause::causes_value;
 use crate::json::finding::findings_value;
 use crate::json::rank::ranks_value;
 use moves::analyser::Analyser;
-use moves::verdict::{Verdict, verdict_of};
 use serde_json::{Value, json};
 use std::alloc::{AllocError, Global};
 use waitgraph::graph::Graph;
+use waitgraph::verdict::Verdict;
 
 mod cause;
 mod finding;
@@ -38,7 +38,7 @@ fn report_value(alloc: Global, analyser: &Analyser, graph: &Graph) -> Result<Val
     let causes = causes_value(alloc, graph.causes())?;
     let findings = findings_value(alloc, graph.findings())?;
     let ranks = ranks_value(alloc, analyser, graph)?;
-    let verdict = verdict_text(verdict_of(analyser));
+    let verdict = verdict_text(graph.verdict());
     json!(in alloc; {"causes": causes, "findings": findings, "ranks": ranks, "verdict": verdict})
 }
 

@@ -8,11 +8,12 @@ use Rattle.mpicall.specs.declared.call.Call.{Call}
 use Rattle.mpicall.specs.declared.source.Source.{Source}
 use Rattle.mpigroup.specs.Groups.{Groups, ranks_of}
 use Rattle.pairing.specs.Recordings.{Lists, calls_of}
-use Rattle.moves.specs.Stands.{lowest_run_over}
-use Rattle.moves.specs.Verdicts.{verdict_of, SomeRankIsStuck}
-use Rattle.moves.specs.declared.verdict.Verdict.{Verdict}
-use Rattle.moves.specs.declared.verdict.Verdict.TheVariants.{Hang}
-use Rattle.moves.proofs.StandLemmas.{no_run_brings_a_stuck_rank_to_finalize, every_maximal_run_ends_at_the_stands}
+use Rattle.std.proofs.lemmas.Bool.{not-true, not_from_false}
+use Rattle.moves.specs.Stands.{lowest_run_over, stands_of, is_at_end}
+use Rattle.waitgraph.specs.Verdicts.{verdict_of, SomeRankIsStuck}
+use Rattle.waitgraph.specs.declared.verdict.Verdict.{Verdict}
+use Rattle.waitgraph.specs.declared.verdict.Verdict.TheVariants.{Hang}
+use Rattle.moves.proofs.StandLemmas.{no_run_brings_a_stuck_rank_to_its_end, every_maximal_run_ends_at_the_stands}
 use Rattle.gather.specs.Answers.{fault_of_rank, refusal_or, refusal_from, lists_of, SomeRankCannotEnd}
 use Rattle.runs.specs.Told.{Tells, IsVerdictOver, RefusesOver}
 use Rattle.runs.specs.Ranks.{told_by, AcceptsAll, AcceptsRank, LeavesReport, RefusesRun, IsRefusalOf}
@@ -81,11 +82,22 @@ same_lists (l ∷ lists) (t ∷ traces) e same =
     let behind : lists ≡ lists_of traces = same_lists lists traces (omega arith) (λ k s at. same (suc k) s at) in
     cc
 
--- a rank that is stuck comes to its Finalize in no run, and one that does so in none is stuck
+-- a rank that is stuck comes to its end in no run, and one that does so in none is stuck
 cannot_end : (groups : Groups) (lists : Lists) → SomeRankIsStuck groups lists ↔ SomeRankCannotEnd groups lists
 cannot_end groups lists = (
-  λ stuck. record { rank = stuck.rank; is_rank = stuck.is_rank; in_no_run = λ states is_run. no_run_brings_a_stuck_rank_to_finalize groups lists stuck.rank states is_run stuck.is_stuck },
-  λ cannot. record { rank = cannot.rank; is_rank = cannot.is_rank; is_stuck = cannot.in_no_run (lowest_run_over groups lists) (every_maximal_run_ends_at_the_stands groups lists).0.is_run },
+  λ stuck. record {
+    rank = stuck.rank;
+    is_rank = stuck.is_rank;
+    in_no_run = λ states is_run.
+        no_run_brings_a_stuck_rank_to_its_end groups lists stuck.rank states is_run
+        (not-true (is_at_end lists (stands_of groups lists) stuck.rank) stuck.stays);
+  },
+  λ cannot. record {
+    rank = cannot.rank;
+    is_rank = cannot.is_rank;
+    stays = not_from_false (is_at_end lists (stands_of groups lists) cannot.rank)
+        (cannot.in_no_run (lowest_run_over groups lists) (every_maximal_run_ends_at_the_stands groups lists).0.is_run);
+  },
 )
 
 accepted_at : (groups : Groups) (rank : ℕ) (told : Option Trace) (trace : Trace) (calls : List Call) → AcceptsRank groups rank told calls → told ≡ Some trace → (calls ≡ trace.records) × (fault_of_rank groups rank trace ≡ None)

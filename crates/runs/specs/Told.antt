@@ -7,9 +7,9 @@ use Rattle.mpicall.specs.Trace.{Trace}
 use Rattle.mpicall.specs.declared.fault.SourceFault.TheVariants.{ReadFailed, GateStopped, ThreadNotStarted}
 use Rattle.mpigroup.specs.Groups.{Groups}
 use Rattle.gather.specs.Answers.{fault_of_rank, refusal_of, lists_of, SomeRankCannotEnd}
-use Rattle.moves.specs.Verdicts.{verdict_of}
-use Rattle.moves.specs.declared.verdict.Verdict.{Verdict}
-use Rattle.moves.specs.declared.verdict.Verdict.TheVariants.{Hang}
+use Rattle.waitgraph.specs.Verdicts.{verdict_of}
+use Rattle.waitgraph.specs.declared.verdict.Verdict.{Verdict}
+use Rattle.waitgraph.specs.declared.verdict.Verdict.TheVariants.{Hang}
 use Rattle.gather.specs.declared.fault.RankFault.{RankFault}
 use Rattle.gather.specs.declared.fault.RankFault.TheVariants.{OfSource}
 use Rattle.gather.specs.declared.fault.Refusal.{Refusal}

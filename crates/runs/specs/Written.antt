@@ -6,8 +6,8 @@ use Rattle.mpicall.specs.Trace.{Trace}
 use Rattle.mpicall.specs.Device.{one_more, AppendsBeginning}
 use Rattle.mpigroup.specs.Groups.{Groups}
 use Rattle.pairing.specs.Recordings.{Lists}
-use Rattle.moves.specs.Verdicts.{verdict_of}
-use Rattle.moves.specs.declared.verdict.Verdict.{Verdict}
+use Rattle.waitgraph.specs.Verdicts.{verdict_of}
+use Rattle.waitgraph.specs.declared.verdict.Verdict.{Verdict}
 use Rattle.reports.specs.Reports.{report_of}
 use Rattle.reports.specs.declared.report.Format.{Format}
 use Rattle.gather.specs.Answers.{lists_of}

@@ -3,7 +3,7 @@
 ghost use Rattle.std.specs.Prelude.{◌≡◌, ◌↔◌, ◌<◌, ◌≤◌, ℕ, [], List, length, map, vec_len, vec_capacity, IfOk, IfErr, OnOk};
 ghost use Rattle.mpicall.specs.Trace.{Trace as TraceValue};
 ghost use Rattle.mpigroup.specs.Groups.{ranks_of};
-ghost use Rattle.moves.specs.Verdicts.{verdict_of, SomeRankIsStuck};
+ghost use Rattle.waitgraph.specs.Verdicts.{verdict_of, SomeRankIsStuck};
 ghost use Rattle.std.specs.Io.KnownBytes.{Appends};
 ghost use Rattle.reports.specs.Reports.{report_of};
 ghost use Rattle.runs.specs.Told.{AreFresh, Tells, IsVerdictOver, RefusesOver};
@@ -19,7 +19,6 @@ use gather::gate::Gate;
 use gather::ledger::Ledger;
 use gather::outcome::{CloseFault, Outcome};
 use gather::session::Session;
-use moves::verdict::Verdict;
 use mpicall::device::{Input, Output};
 use mpicall::source::Source;
 use mpigroup::head::Head;
@@ -28,17 +27,18 @@ use reports::report::{Format, ReportFault, write_report};
 use std::alloc::Global;
 use std::sync::Wait;
 use std::thread::Threads;
+use waitgraph::verdict::Verdict;
 
 /// How the sources of all ranks are read at once.
 #[derive(Clone, Copy, Debug, PartialEq, Eq)]
-pub enum Reading {
+pub enum ReadBy {
     /// Each by a thread of its own, with a stack of this many bytes; of the system's size where none is given.
     /// For sources whose reads may wait for other programs, as those of pipes do.
-    InThreads { stack_size: Option<usize> },
+    Threads { stack_size: Option<usize> },
     /// By turns, in the thread of the caller, with no feed between: each record is judged as soon as it is read.
     /// For sources whose bytes are there, as those of files are: it takes less processor time. A read that waits
     /// holds all ranks up.
-    InTurns,
+    Turns,
 }
 
 /// The receipts that came of the sources, in their order. `receipts` has room for them.
@@ -141,7 +141,7 @@ fn outcome_of<I, G, R>(
     capacity: u16,
     gate: &G,
     rt: &R,
-    reading: Reading,
+    by: ReadBy,
 ) -> Result<Outcome, CloseFault>
 where
     I: Input + Drop + Send,
@@ -154,11 +154,11 @@ where
     ensures fault { IfErr result (λ fault. RefusesFeeds I.left (G.may_stop gate.now) sources.items head (of_close fault)) }
     ensures stopped { IfErr result (λ fault. StopsWhereAllowed (G.may_stop gate.now) (of_close fault)) }
 {
-    match reading {
-        Reading::InThreads { stack_size } => {
+    match by {
+        ReadBy::Threads { stack_size } => {
             outcome_in_threads(alloc, head, sources, capacity, gate, rt, stack_size)
         }
-        Reading::InTurns => outcome_in_turns(alloc, head, sources, gate, rt),
+        ReadBy::Turns => outcome_in_turns(alloc, head, sources, gate, rt),
     }
 }
 
@@ -210,7 +210,7 @@ pub fn run_by<I, G, O, R>(
     format: Format,
     out: &mut O,
     rt: &R,
-    reading: Reading,
+    by: ReadBy,
 ) -> Result<Verdict, RunFault>
 where
     I: Input + Drop + Send,
@@ -238,7 +238,7 @@ where
     ensures no_write_failed { OnOk result (O.failures out.new ≡ O.failures out.old) }
     ensures output { IfErr result (LeavesOutput I.left O.written O.failures sources.items head format out.old out.new) }
 {
-    match outcome_of(alloc, head, sources, capacity, gate, rt, reading) {
+    match outcome_of(alloc, head, sources, capacity, gate, rt, by) {
         Ok(outcome) => report(alloc, &outcome, format, out),
         Err(fault) => Err(fault_of_close(fault)),
     }
@@ -277,8 +277,6 @@ where
     ensures no_write_failed { OnOk result (O.failures out.new ≡ O.failures out.old) }
     ensures output { IfErr result (LeavesOutput I.left O.written O.failures sources.items head format out.old out.new) }
 {
-    let reading = Reading::InThreads { stack_size: None };
-    run_by(
-        alloc, head, sources, capacity, gate, format, out, rt, reading,
-    )
+    let by = ReadBy::Threads { stack_size: None };
+    run_by(alloc, head, sources, capacity, gate, format, out, rt, by)
 }

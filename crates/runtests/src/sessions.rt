@@ -9,7 +9,6 @@ use gather::collector::{Collector, Stepped};
 use gather::fault::{RankFault, Refusal};
 use gather::outcome::CloseFault;
 use gather::session::{OpenFault, Session};
-use moves::verdict::Verdict;
 use mpicall::fault::{LineFault, SourceFault};
 use mpicall::line::read_line;
 use mpicall::record::Record;
@@ -21,6 +20,7 @@ use std::sync::Wait;
 use std::test::Fail;
 use std::thread;
 use std::thread::Threads;
+use waitgraph::verdict::Verdict;
 
 /// A record's line and its rank.
 pub(crate) type Line = (u16, &'static [u8]);

@@ -2,7 +2,6 @@
 
 use crate::kept::Kept;
 use moves::analyser::{Analyser, OfferFault};
-use moves::verdict::{Verdict, verdict_of};
 use mpicall::line::read_line;
 use mpigroup::head::Head;
 use std::alloc::Global;
@@ -58,7 +57,7 @@ fn a_barrier_of_many_ranks(rt: HostRuntime) -> Result<(), Fail> {
     }
     for rank in 0..64 {
         assert_eq!(rt; run.0.stand(rank), Some(1));
+        assert!(rt; run.0.is_ended(rank));
     }
-    assert_eq!(rt; verdict_of(&run.0), Verdict::Free);
     Ok(())
 }

@@ -7,7 +7,6 @@ ghost use Rattle.runs.specs.Told.{AreFresh};
 
 use gather::fault::{RankFault, Refusal, RunFault};
 use gather::gate::{Gate, OpenGate};
-use moves::verdict::Verdict;
 use mpicall::counted::Counted;
 use mpicall::device::Input;
 use mpicall::fails_at::FailsAt;
@@ -17,7 +16,7 @@ use mpicall::source::Source;
 use mpigroup::head::Head;
 use pairing::fault::CallFault;
 use reports::report::Format;
-use runs::run::{Reading, run, run_by};
+use runs::run::{ReadBy, run, run_by};
 use std::alloc::{AllocError, Global};
 use std::process::Abort;
 use std::sync::Wait;
@@ -25,6 +24,7 @@ use std::sync::atomic::{AtomicBool, AtomicU32, Ordering};
 use std::test::Fail;
 use std::thread::Threads;
 use std::{io, thread};
+use waitgraph::verdict::Verdict;
 
 const TEXTS: [&[u8]; 2] = [
     b"bsend 0 1 0\nrecv 0 1 0\nfinalize\n",
@@ -45,7 +45,7 @@ fn sources_of(
     Ok(sources)
 }
 
-const IN_THREADS: Reading = Reading::InThreads { stack_size: None };
+const IN_THREADS: ReadBy = ReadBy::Threads { stack_size: None };
 
 /// What a run of two ranks over these sources answers, with room for one record a rank, and what it writes.
 fn answer_of<I, G, R>(
@@ -53,7 +53,7 @@ fn answer_of<I, G, R>(
     sources: Vec<Source<I>>,
     gate: &G,
     rt: &R,
-    reading: Reading,
+    reading: ReadBy,
 ) -> Result<(Result<Verdict, RunFault>, MemoryOutput), Fail>
 where
     I: Input + Drop + Send,
@@ -76,7 +76,7 @@ fn answer<G: Gate + Sync, R: Threads + Wait + Sync>(
     alloc: Global,
     gate: &G,
     rt: &R,
-    reading: Reading,
+    reading: ReadBy,
 ) -> Result<(Result<Verdict, RunFault>, MemoryOutput), Fail> {
     let sources = sources_of(alloc, &TEXTS)?;
     answer_of(alloc, sources, gate, rt, reading)
@@ -133,13 +133,13 @@ impl Gate for StopsAt {
 #[test]
 fn a_gate_stops_a_rank(rt: HostRuntime) -> Result<(), Fail> {
     stops_at_each_question(&rt, IN_THREADS)?;
-    stops_at_each_question(&rt, Reading::InTurns)
+    stops_at_each_question(&rt, ReadBy::Turns)
 }
 
 /// Asserts that the place at which a gate stops a rank is told, for each place.
 fn stops_at_each_question<R: Abort + AllocGlobal + Threads + Wait + Sync>(
     rt: &R,
-    reading: Reading,
+    reading: ReadBy,
 ) -> Result<(), Fail> {
     for (rank, line) in [
         (0, 0),
@@ -202,7 +202,7 @@ fn answer_over<R: Threads + Wait + Sync>(
     first: Given<'_>,
     second: Given<'_>,
     rt: &R,
-    reading: Reading,
+    reading: ReadBy,
 ) -> Result<Result<Verdict, RunFault>, Fail> {
     let sources = sources_given(alloc, first, second)?;
     let (answer, out) = answer_of(alloc, sources, &OpenGate, rt, reading)?;
@@ -234,7 +234,7 @@ fn a_read_fails_behind_a_line(rt: HostRuntime) -> Result<(), Fail> {
             call,
             fault,
         };
-        for reading in [IN_THREADS, Reading::InTurns] {
+        for reading in [IN_THREADS, ReadBy::Turns] {
             let answer = answer_over(rt.alloc(), first, second, &rt, reading)?;
             assert_eq!(rt; answer, Err(RunFault::Refused(refusal)));
         }
@@ -262,7 +262,7 @@ fn a_read_fails_behind_ten_lines_of_a_thousand(rt: HostRuntime) -> Result<(), Fa
         call: 10,
         fault: RankFault::OfSource(SourceFault::ReadFailed),
     };
-    for reading in [IN_THREADS, Reading::InTurns] {
+    for reading in [IN_THREADS, ReadBy::Turns] {
         let given: (Given<'_>, Given<'_>) = ((&first, 110, 1), (&second, 0, NEVER));
         let answer = answer_over(rt.alloc(), given.0, given.1, &rt, reading)?;
         assert_eq!(rt; answer, Err(RunFault::Refused(refusal)));
@@ -300,7 +300,7 @@ fn turns_keep_the_ranks_abreast(rt: HostRuntime) -> Result<(), Fail> {
         first: AtomicU32::new(0),
         second: AtomicU32::new(0),
     };
-    let (answer, _out) = answer_of(rt.alloc(), sources, &gate, &rt, Reading::InTurns)?;
+    let (answer, _out) = answer_of(rt.alloc(), sources, &gate, &rt, ReadBy::Turns)?;
     assert_eq!(rt; answer, Ok(Verdict::Free));
     Ok(())
 }
@@ -371,7 +371,7 @@ fn each_write_of_a_report_fails(rt: HostRuntime) -> Result<(), Fail> {
 
 #[test]
 fn no_thread_starts(rt: HostRuntime) -> Result<(), Fail> {
-    let reading = Reading::InThreads {
+    let reading = ReadBy::Threads {
         stack_size: Some(usize::MAX),
     };
     let (answer, out) = answer(rt.alloc(), &OpenGate, &rt, reading)?;

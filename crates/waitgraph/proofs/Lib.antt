@@ -15,3 +15,4 @@ pub mod CalledLemmas
 pub mod StuckLemmas
 pub mod AlikeLemmas
 pub mod PlainLemmas
+pub mod VerdictLemmas

@@ -5,3 +5,4 @@ pub mod Marks
 pub mod Stuck
 pub mod Causes
 pub mod Graphs
+pub mod Verdicts

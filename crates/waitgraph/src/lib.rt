@@ -6,6 +6,7 @@
 //!   call that aren't met where the ranks stand, by rank and place and each once (`Stuck`), and the causes:
 //!   the cycles of ranks that wait for each other, and the calls that a rank waits for and its peer lacks
 //!   (`Causes`).
+//! - `Graph::verdict` answers the verdict: `Hang` exactly if some rank is stuck (`Verdicts`).
 //! - Its findings are what else is wrong with the recording, over all calls, reached or not (`Findings`).
 //! - Laws, each on a function that does nothing: the unmet needs are those needs of the present call that
 //!   aren't met and no others; each stuck rank has one, no other rank has, and who is waited for at a place is
@@ -24,5 +25,7 @@
 pub mod cause;
 pub mod finding;
 pub mod graph;
+pub mod onward;
 pub mod unmet;
+pub mod verdict;
 pub mod walk;

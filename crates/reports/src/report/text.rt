@@ -18,11 +18,11 @@ ghost use Rattle.reports.specs.TextReport.{cause_line, finding_line, need_fields
 use crate::report::page::{PAGE_BYTES, Page, ROOM_BYTES};
 use moves::analyser::Analyser;
 use moves::need::Need;
-use moves::verdict::{Verdict, verdict_of};
 use mpicall::device::{DeviceFault, Output};
 use waitgraph::cause::Cause;
 use waitgraph::finding::Finding;
 use waitgraph::graph::Graph;
+use waitgraph::verdict::Verdict;
 
 fn push_verdict(page: &mut Page, verdict: Verdict)
     requires { length page.old + ROOM_BYTES ≤ PAGE_BYTES }
@@ -371,7 +371,7 @@ pub(crate) fn write_text<O: Output>(
     ensures count { CountsFailure (O.failures out.old) (O.failures out.new) result }
 {
     let mut page = Page::new();
-    push_verdict(&mut page, verdict_of(analyser));
+    push_verdict(&mut page, graph.verdict());
     write_ranks(&mut page, out, analyser, graph, graph.stuck())?;
     write_causes(&mut page, out, graph.causes())?;
     write_findings(&mut page, out, graph.findings())?;

@@ -2,8 +2,8 @@
 use Rattle.std.proofs.Common.{◌≡◌, ℕ, List, [], ◌∷◌, ◌++◌, flat_map, map, refl, sym, ap, ◌∙◌, append_assoc}
 use Rattle.std.proofs.lemmas.Result.{err_from_is_err_and, on_ok_weaker, on_err_weaker}
 use Rattle.mpigroup.specs.Groups.{Groups}
-use Rattle.moves.specs.Verdicts.{verdict_of}
-use Rattle.moves.specs.declared.verdict.Verdict.{Verdict}
+use Rattle.waitgraph.specs.Verdicts.{verdict_by, verdict_of}
+use Rattle.waitgraph.specs.declared.verdict.Verdict.{Verdict}
 use Rattle.pairing.specs.Recordings.{Lists}
 use Rattle.waitgraph.specs.Causes.{causes_of, view_of}
 use Rattle.waitgraph.specs.Findings.{findings_of}
@@ -61,7 +61,7 @@ returns-in_err-write_ranks-clause-fault g c =
     let s = ranks_part groups recording in
     let causes = causes_part groups recording in
     let f = findings_part groups recording in
-    let verdict = tells_pushed a a [] [] _ [] v (tells_none a []) (verdict_is groups recording _ _ _ c.new-page.ensures c.verdict_of.ensures.value c.push_verdict.ensures) in
+    let verdict = tells_pushed a a [] [] _ [] v (tells_none a []) (verdict_is groups recording _ _ _ c.new-page.ensures (c.verdict.ensures ∙ ap verdict_by c.requires.stuck) c.push_verdict.ensures) in
     let fault = rw (ranks_are groups recording _ (c.stuck.ensures ∙ c.requires.stuck)) at c.in_err-write_ranks.ensures.fault in
     let result = err_from_is_err_and c.from_residual.result c.from_residual.ensures.1 in
     rw result.1 (fails_within a _ [] (v ++ s) (causes ++ f) _ (in_parts groups recording ∙ append_assoc (v ++ s) causes f) (fails_later a a _ [] _ v s verdict fault))
@@ -75,7 +75,7 @@ returns-in_err-write_causes-clause-fault g c =
     let s = ranks_part groups recording in
     let causes = causes_part groups recording in
     let f = findings_part groups recording in
-    let verdict = tells_pushed a a [] [] _ [] v (tells_none a []) (verdict_is groups recording _ _ _ c.new-page.ensures c.verdict_of.ensures.value c.push_verdict.ensures) in
+    let verdict = tells_pushed a a [] [] _ [] v (tells_none a []) (verdict_is groups recording _ _ _ c.new-page.ensures (c.verdict.ensures ∙ ap verdict_by c.requires.stuck) c.push_verdict.ensures) in
     let ranks = tells_more a a _ [] _ _ v s verdict (rw (ranks_are groups recording _ (c.stuck.ensures ∙ c.requires.stuck)) at c.in_ok-write_ranks.ensures.ok) in
     let fault = rw (causes_are groups recording _ (c.causes.ensures ∙ c.requires.causes)) at c.in_err-write_causes.ensures.fault in
     let result = err_from_is_err_and c.from_residual-in_err-write_causes.result c.from_residual-in_err-write_causes.ensures.1 in
@@ -90,7 +90,7 @@ returns-in_err-write_findings-clause-fault g c =
     let s = ranks_part groups recording in
     let causes = causes_part groups recording in
     let f = findings_part groups recording in
-    let verdict = tells_pushed a a [] [] _ [] v (tells_none a []) (verdict_is groups recording _ _ _ c.new-page.ensures c.verdict_of.ensures.value c.push_verdict.ensures) in
+    let verdict = tells_pushed a a [] [] _ [] v (tells_none a []) (verdict_is groups recording _ _ _ c.new-page.ensures (c.verdict.ensures ∙ ap verdict_by c.requires.stuck) c.push_verdict.ensures) in
     let ranks = tells_more a a _ [] _ _ v s verdict (rw (ranks_are groups recording _ (c.stuck.ensures ∙ c.requires.stuck)) at c.in_ok-write_ranks.ensures.ok) in
     let reasons = tells_more a _ _ [] _ _ (v ++ s) causes ranks (rw (causes_are groups recording _ (c.causes.ensures ∙ c.requires.causes)) at c.in_ok-write_causes.ensures.ok) in
     let fault = rw (findings_are groups recording _ (c.findings.ensures ∙ c.requires.findings)) at c.in_err-write_findings.ensures.fault in
@@ -106,7 +106,7 @@ returns-clause-ok g c =
     let s = ranks_part groups recording in
     let causes = causes_part groups recording in
     let f = findings_part groups recording in
-    let verdict = tells_pushed a a [] [] _ [] v (tells_none a []) (verdict_is groups recording _ _ _ c.new-page.ensures c.verdict_of.ensures.value c.push_verdict.ensures) in
+    let verdict = tells_pushed a a [] [] _ [] v (tells_none a []) (verdict_is groups recording _ _ _ c.new-page.ensures (c.verdict.ensures ∙ ap verdict_by c.requires.stuck) c.push_verdict.ensures) in
     let ranks = tells_more a a _ [] _ _ v s verdict (rw (ranks_are groups recording _ (c.stuck.ensures ∙ c.requires.stuck)) at c.in_ok-write_ranks.ensures.ok) in
     let reasons = tells_more a _ _ [] _ _ (v ++ s) causes ranks (rw (causes_are groups recording _ (c.causes.ensures ∙ c.requires.causes)) at c.in_ok-write_causes.ensures.ok) in
     let whole = tells_more a _ _ [] _ _ ((v ++ s) ++ causes) f reasons (rw (findings_are groups recording _ (c.findings.ensures ∙ c.requires.findings)) at c.in_ok-write_findings.ensures.ok) in
@@ -121,7 +121,7 @@ returns-clause-fault g c =
     let s = ranks_part groups recording in
     let causes = causes_part groups recording in
     let f = findings_part groups recording in
-    let verdict = tells_pushed a a [] [] _ [] v (tells_none a []) (verdict_is groups recording _ _ _ c.new-page.ensures c.verdict_of.ensures.value c.push_verdict.ensures) in
+    let verdict = tells_pushed a a [] [] _ [] v (tells_none a []) (verdict_is groups recording _ _ _ c.new-page.ensures (c.verdict.ensures ∙ ap verdict_by c.requires.stuck) c.push_verdict.ensures) in
     let ranks = tells_more a a _ [] _ _ v s verdict (rw (ranks_are groups recording _ (c.stuck.ensures ∙ c.requires.stuck)) at c.in_ok-write_ranks.ensures.ok) in
     let reasons = tells_more a _ _ [] _ _ (v ++ s) causes ranks (rw (causes_are groups recording _ (c.causes.ensures ∙ c.requires.causes)) at c.in_ok-write_causes.ensures.ok) in
     let whole = tells_more a _ _ [] _ _ ((v ++ s) ++ causes) f reasons (rw (findings_are groups recording _ (c.findings.ensures ∙ c.requires.findings)) at c.in_ok-write_findings.ensures.ok) in
