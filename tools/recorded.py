@@ -134,8 +134,8 @@ class Places:
 
 
 def look_up(frame):
-    """`FILE:LINE` for a frame `MODULE+0xOFFSET`, where that is known; else its function or itself. The
-    offset is that of the return, which may lie behind the line of the call."""
+    """`FILE:LINE` for a frame `MODULE+0xOFFSET`, where that is known; else itself, and the symbol before it.
+    The offset is that of the return, which may lie behind the line of the call."""
     module, plus, offset = frame.rpartition("+0x")
     if not plus:
         return short(frame)
@@ -148,8 +148,8 @@ def look_up(frame):
     function, line = said if len(said) == 2 else ("??", "??:0")
     if not line.startswith("??"):
         return short(line.split(" (")[0])
-    name = Path(module).name
-    return f"{function} of {name}" if function != "??" else f"{name}+0x{offset}"
+    name = f"{Path(module).name}+0x{offset}"
+    return f"{name} (behind the symbol {function[:60]})" if function != "??" else name
 
 
 def short(line):

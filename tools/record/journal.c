@@ -206,7 +206,7 @@ const char *journal_open(const char *folder, int rank, int ranks, const char *li
     journal.rank = rank;
     journal.file = create(folder, "journal", rank);
     if (journal.file < 0)
-        return errno == EEXIST ? "the folder has a journal of this rank already: a run wants a fresh folder"
+        return errno == EEXIST ? "an MPI program before it was recorded in the same folder"
                                : "no journal can be made in the folder that MPIWAIT_JOURNAL names";
     int file = create(folder, "left", rank);
     counts.text = counts.end = file < 0 ? NULL : map(file, 0, COUNTS);

@@ -902,6 +902,18 @@ static void refuse_other_library(void) {
     exit(3);
 }
 
+/* Said, and left for tools/close to tell with the report. */
+static void not_recorded(const char *folder, int rank, const char *why) {
+    char path[4096];
+    fprintf(stderr, "mpiwait-record: rank %d isn't recorded: %s\n", rank, why);
+    snprintf(path, sizeof path, "%s/unrecorded", folder ? folder : "");
+    FILE *file = folder ? fopen(path, "a") : NULL;
+    if (file) {
+        fprintf(file, "%s\n", why);
+        fclose(file);
+    }
+}
+
 static void start(void) {
     int rank, ranks, level;
     MPI_Comm parent;
@@ -916,7 +928,7 @@ static void start(void) {
     else
         why = journal_open(folder, rank, ranks, library);
     if (why) {
-        fprintf(stderr, "mpiwait-record: rank %d isn't recorded: %s\n", rank, why);
+        not_recorded(folder, rank, why);
         return;
     }
     sites_open(folder, rank);
