@@ -1,4 +1,5 @@
 -- Who still waits once one more call is reached, or once a call has arrived that its rank has not come to.
+use Rattle.moves.specs.declared.reading.Reading.{Reading}
 use Rattle.std.proofs.Common.{◌≡◌, ℕ, ◌+◌, ◌<◌, ◌≤◌, ◌≢◌, Bool, true, false, Option, Some, None, List, [], ◌∷◌, length, get_or, refl, sym, ap, subst, ◌∙◌, ⊎_elim, inl, inr, arith, append-nil, get_or-set_same, get_or-set_other}
 use Rattle.std.specs.Prelude.{◌⊎◌, if◌then◌else◌}
 use Rattle.std.specs.List.{slice_get, list_all}
@@ -25,7 +26,7 @@ use Rattle.moves.specs.Runs.{State, moved, StandsNoLater}
 use Rattle.moves.specs.declared.need.Need.{Need}
 use Rattle.moves.specs.declared.need.Need.TheVariants.{At, Lacking}
 use Rattle.moves.specs.declared.waves.Waves.{Waves}
-use Rattle.moves.specs.Needs.{world_of, half_need, half_needs, is_buffered, is_met}
+use Rattle.moves.specs.Needs.{world_of, half_need, half_needs, sends_freely, is_met}
 use Rattle.moves.specs.Waiting.{message_needs, message_needs_at, IsAwaited, HasJoined, complete_of, AreWaves, IsNoException, NeedsPartner, NeedsWave, Rests}
 use Rattle.moves.proofs.RunLemmas.{below_same}
 use Rattle.moves.proofs.StayLemmas.{first_calls_stay, call_stays, wave_stays, start_stays, start_is_a_call, place_before}
@@ -88,9 +89,9 @@ sends_were_met : (groups : Groups) (recording longer : Lists) (s t : State) (N :
 sends_were_met groups recording longer s t N rank place call only within true met = inl refl
 sends_were_met groups recording longer s t N rank place call only within false met = halves_were_met groups recording longer s t N rank place SendHalf only within (message_of SendHalf call) met
 
-messages_were_met : (groups : Groups) (recording longer : Lists) (s t : State) (N : ℕ → ℕ → Type 0) (rank place : ℕ) (call : Call) → OnlyReaches recording longer s t N → place < length (calls_of recording rank) → list_all (is_met t) (message_needs groups longer rank place call) ≡ true → (list_all (is_met s) (message_needs groups recording rank place call) ≡ true) ⊎ IsWoken groups longer N rank place
-messages_were_met groups recording longer s t N rank place call only within met =
-    let sends : Lists → List Need = λ r. if is_buffered call then [] else half_needs groups r rank place SendHalf call in
+messages_were_met : (reading : Reading) (groups : Groups) (recording longer : Lists) (s t : State) (N : ℕ → ℕ → Type 0) (rank place : ℕ) (call : Call) → OnlyReaches recording longer s t N → place < length (calls_of recording rank) → list_all (is_met t) (message_needs reading groups longer rank place call) ≡ true → (list_all (is_met s) (message_needs reading groups recording rank place call) ≡ true) ⊎ IsWoken groups longer N rank place
+messages_were_met reading groups recording longer s t N rank place call only within met =
+    let sends : Lists → List Need = λ r. if sends_freely reading call then [] else half_needs groups r rank place SendHalf call in
     let receives : Lists → List Need = λ r. half_needs groups r rank place RecvHalf call in
     let both = and_true (list_all (is_met t) (sends longer)) (list_all (is_met t) (receives longer)) (sym (list_all-append (is_met t) (sends longer) (receives longer)) ∙ met) in
     ⊎_elim
@@ -101,23 +102,23 @@ messages_were_met groups recording longer s t N rank place call only within met 
     (λ (woken : IsWoken groups longer N rank place). inr woken)
     (halves_were_met groups recording longer s t N rank place RecvHalf only within (message_of RecvHalf call) both.1))
     (λ (woken : IsWoken groups longer N rank place). inr woken)
-    (sends_were_met groups recording longer s t N rank place call only within (is_buffered call) both.0)
+    (sends_were_met groups recording longer s t N rank place call only within (sends_freely reading call) both.0)
 
-messages_there : (groups : Groups) (recording longer : Lists) (s t : State) (N : ℕ → ℕ → Type 0) (rank place : ℕ) → OnlyReaches recording longer s t N → place < length (calls_of recording rank) → (there : Option Call) → list_all (is_met t) (option_map_or (message_needs groups longer rank place) there []) ≡ true → (list_all (is_met s) (option_map_or (message_needs groups recording rank place) there []) ≡ true) ⊎ IsWoken groups longer N rank place
-messages_there groups recording longer s t N rank place only within None met = inl refl
-messages_there groups recording longer s t N rank place only within (Some call) met = messages_were_met groups recording longer s t N rank place call only within met
+messages_there : (reading : Reading) (groups : Groups) (recording longer : Lists) (s t : State) (N : ℕ → ℕ → Type 0) (rank place : ℕ) → OnlyReaches recording longer s t N → place < length (calls_of recording rank) → (there : Option Call) → list_all (is_met t) (option_map_or (message_needs reading groups longer rank place) there []) ≡ true → (list_all (is_met s) (option_map_or (message_needs reading groups recording rank place) there []) ≡ true) ⊎ IsWoken groups longer N rank place
+messages_there reading groups recording longer s t N rank place only within None met = inl refl
+messages_there reading groups recording longer s t N rank place only within (Some call) met = messages_were_met reading groups recording longer s t N rank place call only within met
 
-still_unmet : (groups : Groups) (recording longer : Lists) (s t : State) (N : ℕ → ℕ → Type 0) (rank place : ℕ) → OnlyReaches recording longer s t N → place < length (calls_of recording rank) → list_all (is_met s) (message_needs_at groups recording rank place) ≡ false → (list_all (is_met t) (message_needs_at groups longer rank place) ≡ false) ⊎ IsWoken groups longer N rank place
-still_unmet groups recording longer s t N rank place only within unmet =
+still_unmet : (reading : Reading) (groups : Groups) (recording longer : Lists) (s t : State) (N : ℕ → ℕ → Type 0) (rank place : ℕ) → OnlyReaches recording longer s t N → place < length (calls_of recording rank) → list_all (is_met s) (message_needs_at reading groups recording rank place) ≡ false → (list_all (is_met t) (message_needs_at reading groups longer rank place) ≡ false) ⊎ IsWoken groups longer N rank place
+still_unmet reading groups recording longer s t N rank place only within unmet =
     ⊎_elim
-    (λ (met : list_all (is_met t) (message_needs_at groups longer rank place) ≡ true).
+    (λ (met : list_all (is_met t) (message_needs_at reading groups longer rank place) ≡ true).
     ⊎_elim
-    (λ (was : list_all (is_met s) (message_needs_at groups recording rank place) ≡ true). absurd (false≢true (sym unmet ∙ was)))
+    (λ (was : list_all (is_met s) (message_needs_at reading groups recording rank place) ≡ true). absurd (false≢true (sym unmet ∙ was)))
     (λ (woken : IsWoken groups longer N rank place). inr woken)
-    (messages_there groups recording longer s t N rank place only within (slice_get (calls_of recording rank) place)
+    (messages_there reading groups recording longer s t N rank place only within (slice_get (calls_of recording rank) place)
     (rw (call_stays recording longer rank place only.goes_on within) at met)))
-    (λ (still : list_all (is_met t) (message_needs_at groups longer rank place) ≡ false). inl still)
-    (cases_Bool (list_all (is_met t) (message_needs_at groups longer rank place)))
+    (λ (still : list_all (is_met t) (message_needs_at reading groups longer rank place) ≡ false). inl still)
+    (cases_Bool (list_all (is_met t) (message_needs_at reading groups longer rank place)))
 
 -- an operation that is awaited is a call of the rank, and stays awaited
 pub awaited_call : (recording : Lists) (rank place start : ℕ) → IsAwaited recording rank place start → start < length (calls_of recording rank)
@@ -150,16 +151,16 @@ awaited_on recording longer rank place start goes_on h =
           h.which;
     }
 
-pub partner_waits_on : (groups : Groups) (recording longer : Lists) (s t : State) (N : ℕ → ℕ → Type 0) (rank start : ℕ) → OnlyReaches recording longer s t N → get_or t rank 0 ≡ get_or s rank 0 → NeedsPartner groups recording s rank start → NeedsPartner groups longer t rank start ⊎ IsWoken groups longer N rank start
-partner_waits_on groups recording longer s t N rank start only same h =
+pub partner_waits_on : (reading : Reading) (groups : Groups) (recording longer : Lists) (s t : State) (N : ℕ → ℕ → Type 0) (rank start : ℕ) → OnlyReaches recording longer s t N → get_or t rank 0 ≡ get_or s rank 0 → NeedsPartner reading groups recording s rank start → NeedsPartner reading groups longer t rank start ⊎ IsWoken groups longer N rank start
+partner_waits_on reading groups recording longer s t N rank start only same h =
     ⊎_elim
-    (λ (still : list_all (is_met t) (message_needs_at groups longer rank start) ≡ false).
+    (λ (still : list_all (is_met t) (message_needs_at reading groups longer rank start) ≡ false).
     inl (record {
       is_awaited = subst (λ (place : ℕ). IsAwaited longer rank place start) (sym same) (awaited_on recording longer rank (get_or s rank 0) start only.goes_on h.is_awaited);
       is_unmet = still;
     }))
     (λ (woken : IsWoken groups longer N rank start). inr woken)
-    (still_unmet groups recording longer s t N rank start only (awaited_call recording rank (get_or s rank 0) start h.is_awaited) h.is_unmet)
+    (still_unmet reading groups recording longer s t N rank start only (awaited_call recording rank (get_or s rank 0) start h.is_awaited) h.is_unmet)
 
 pub wave_waits_on : (groups : Groups) (recording longer : Lists) (s t : State) (waves : Waves) (rank comm : ℕ) → GoesOn recording longer → get_or t rank 0 ≡ get_or s rank 0 → NeedsWave groups recording s waves rank comm → NeedsWave groups longer t waves rank comm
 wave_waits_on groups recording longer s t waves rank comm goes_on same h =

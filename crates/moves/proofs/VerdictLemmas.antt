@@ -1,4 +1,5 @@
 -- What the verdict says of the ranks.
+use Rattle.moves.specs.declared.reading.Reading.{Reading}
 use Rattle.std.proofs.Common.{◌≡◌, ℕ, zero, suc, ◌+◌, ◌<◌, ◌≤◌, ◌≢◌, ◌↔◌, Bool, true, false, length, refl, sym, ◌∙◌, ⊎_elim, arith}
 use Rattle.std.specs.List.{list_all, range_with_len}
 use Rattle.std.proofs.lemmas.Bool.{cases_eq, cases_Bool, false≢true}
@@ -38,16 +39,16 @@ one_fails p a (suc n) h =
     (cases_Bool (p a))
 
 -- each rank stands at its Finalize
-abbrev pub all_at_finalize : Groups → Lists → Bool
-all_at_finalize groups recording = list_all (is_at_finalize recording (stands_of groups recording)) (range_with_len 0 (length recording))
+abbrev pub all_at_finalize : Reading → Groups → Lists → Bool
+all_at_finalize reading groups recording = list_all (is_at_finalize recording (stands_of reading groups recording)) (range_with_len 0 (length recording))
 
-pub free_where_all_are : (groups : Groups) (recording : Lists) → all_at_finalize groups recording ≡ true → (Free ≡ Hang) ↔ SomeRankIsStuck groups recording
-free_where_all_are groups recording h = (
+pub free_where_all_are : (reading : Reading) (groups : Groups) (recording : Lists) → all_at_finalize reading groups recording ≡ true → (Free ≡ Hang) ↔ SomeRankIsStuck reading groups recording
+free_where_all_are reading groups recording h = (
   (λ same. cc),
-  (λ stuck. absurd (false≢true (sym stuck.is_stuck ∙ all_pass (is_at_finalize recording (stands_of groups recording)) 0 (length recording) stuck.rank h (omega arith) (omega (arith, stuck.is_rank))))),
+  (λ stuck. absurd (false≢true (sym stuck.is_stuck ∙ all_pass (is_at_finalize recording (stands_of reading groups recording)) 0 (length recording) stuck.rank h (omega arith) (omega (arith, stuck.is_rank))))),
 )
 
-pub hang_where_one_is_not : (groups : Groups) (recording : Lists) → all_at_finalize groups recording ≡ false → (Hang ≡ Hang) ↔ SomeRankIsStuck groups recording
-hang_where_one_is_not groups recording h =
-    let one = one_fails (is_at_finalize recording (stands_of groups recording)) 0 (length recording) h in
+pub hang_where_one_is_not : (reading : Reading) (groups : Groups) (recording : Lists) → all_at_finalize reading groups recording ≡ false → (Hang ≡ Hang) ↔ SomeRankIsStuck reading groups recording
+hang_where_one_is_not reading groups recording h =
+    let one = one_fails (is_at_finalize recording (stands_of reading groups recording)) 0 (length recording) h in
     ((λ same. record { rank = one.number; is_rank = omega (arith, one.to); is_stuck = one.fails }), (λ stuck. refl))

@@ -41,6 +41,7 @@ pub mod analyser;
 pub mod arrival;
 mod look;
 pub mod need;
+pub mod reading;
 pub mod run;
 mod settle;
 pub mod stand;

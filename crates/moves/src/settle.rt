@@ -8,6 +8,7 @@ ghost use Rattle.moves.specs.Waiting.{comm_list, woken_partner, woken_comm, IsKe
 
 use crate::look::{Look, look_at};
 use crate::need::stand_of;
+use crate::reading::Reading;
 use crate::waiters::Waiters;
 use crate::waves::Waves;
 use pairing::envelope::Half;
@@ -44,15 +45,15 @@ fn wake_members(waiters: &mut Waiters, comm: Option<u16>)
 
 /// Wakes all that wait for the call at the place, which its rank has just reached. That rank is in hand then.
 fn reach(
-    pairs: &Pairs,
+    reading: Reading, pairs: &Pairs,
     stands: &[u32],
     waves: &mut Waves,
     waiters: &mut Waiters,
     rank: u16,
     place: u32,
 )
-    requires { IsReaching pairs.now.groups pairs.now.recording stands.now waves.old waiters.old rank place }
-    ensures in_hand { IsInHand pairs.now.groups pairs.now.recording stands.now waves.new waiters.new rank }
+    requires { IsReaching reading pairs.now.groups pairs.now.recording stands.now waves.old waiters.old rank place }
+    ensures in_hand { IsInHand reading pairs.now.groups pairs.now.recording stands.now waves.new waiters.new rank }
     ensures counts { touches_of waves.old waiters.old ≤ touches_of waves.new waiters.new }
 {
     wake_partner(pairs, waiters, rank, place, Half::Send);
@@ -64,21 +65,21 @@ fn reach(
 /// Looks at the rank in hand, and answers whether it still is: it moves on by one, or is linked where it
 /// waits, or is let go where it rests.
 fn settle_one(
-    pairs: &Pairs,
+    reading: Reading, pairs: &Pairs,
     stands: &mut Vec<u32>,
     waves: &mut Waves,
     waiters: &mut Waiters,
     rank: u16,
 ) -> bool
-    requires { IsInHand pairs.now.groups pairs.now.recording stands.old.items waves.old waiters.old rank }
-    ensures in_hand { result ≡ true → IsInHand pairs.now.groups pairs.now.recording stands.new.items waves.new waiters.new rank }
-    ensures kept { result ≡ false → IsKept pairs.now.groups pairs.now.recording stands.new.items waves.new waiters.new IsNobody 0 }
+    requires { IsInHand reading pairs.now.groups pairs.now.recording stands.old.items waves.old waiters.old rank }
+    ensures in_hand { result ≡ true → IsInHand reading pairs.now.groups pairs.now.recording stands.new.items waves.new waiters.new rank }
+    ensures kept { result ≡ false → IsKept reading pairs.now.groups pairs.now.recording stands.new.items waves.new waiters.new IsNobody 0 }
     ensures no_lower { StandsNoLater stands.old.items stands.new.items }
     ensures counts { touches_of waves.old waiters.old ≤ touches_of waves.new waiters.new }
     ensures no_more { to_do pairs.now.recording stands.new.items waiters.new ≤ to_do pairs.now.recording stands.old.items waiters.old }
     ensures falls { result ≡ true → to_do pairs.now.recording stands.new.items waiters.new < to_do pairs.now.recording stands.old.items waiters.old }
 {
-    match look_at(pairs, stands, waves, rank) {
+    match look_at(reading, pairs, stands, waves, rank) {
         Look::Over => false,
         Look::Partner { place } => {
             waiters.wait_for_partner(rank, place);
@@ -91,7 +92,7 @@ fn settle_one(
         Look::Passes => {
             move_on(stands, rank);
             let place = stand_of(stands, rank);
-            reach(pairs, stands, waves, waiters, rank, place);
+            reach(reading, pairs, stands, waves, waiters, rank, place);
             true
         }
     }
@@ -99,51 +100,51 @@ fn settle_one(
 
 /// Looks at the rank in hand until it waits or rests.
 fn settle_rank(
-    pairs: &Pairs,
+    reading: Reading, pairs: &Pairs,
     stands: &mut Vec<u32>,
     waves: &mut Waves,
     waiters: &mut Waiters,
     rank: u16,
 )
-    requires { IsInHand pairs.now.groups pairs.now.recording stands.old.items waves.old waiters.old rank }
-    ensures kept { IsKept pairs.now.groups pairs.now.recording stands.new.items waves.new waiters.new IsNobody 0 }
+    requires { IsInHand reading pairs.now.groups pairs.now.recording stands.old.items waves.old waiters.old rank }
+    ensures kept { IsKept reading pairs.now.groups pairs.now.recording stands.new.items waves.new waiters.new IsNobody 0 }
     ensures no_lower { StandsNoLater stands.old.items stands.new.items }
     ensures counts { touches_of waves.old waiters.old ≤ touches_of waves.new waiters.new }
     ensures no_more { to_do pairs.now.recording stands.new.items waiters.new ≤ to_do pairs.now.recording stands.old.items waiters.old }
 {
-    while settle_one(pairs, stands, waves, waiters, rank) {}
+    while settle_one(reading, pairs, stands, waves, waiters, rank) {}
 }
 
 /// Looks at ranks until none is to be looked at. It takes no memory.
-fn settle(pairs: &Pairs, stands: &mut Vec<u32>, waves: &mut Waves, waiters: &mut Waiters)
-    requires { IsKept pairs.now.groups pairs.now.recording stands.old.items waves.old waiters.old IsNobody 0 }
-    ensures settled { IsSettled pairs.now.groups pairs.now.recording stands.new.items waves.new waiters.new }
+fn settle(reading: Reading, pairs: &Pairs, stands: &mut Vec<u32>, waves: &mut Waves, waiters: &mut Waiters)
+    requires { IsKept reading pairs.now.groups pairs.now.recording stands.old.items waves.old waiters.old IsNobody 0 }
+    ensures settled { IsSettled reading pairs.now.groups pairs.now.recording stands.new.items waves.new waiters.new }
     ensures no_lower { StandsNoLater stands.old.items stands.new.items }
     ensures counts { touches_of waves.old waiters.old ≤ touches_of waves.new waiters.new }
 {
     while let Some(rank) = waiters.next() {
-        settle_rank(pairs, stands, waves, waiters, rank);
+        settle_rank(reading, pairs, stands, waves, waiters, rank);
     }
 }
 
 /// Moves the ranks on once a rank's call has arrived at the place, at its list's end: only where the rank
 /// stands there is any rank woken.
 pub(crate) fn arrive(
-    pairs: &Pairs,
+    reading: Reading, pairs: &Pairs,
     stands: &mut Vec<u32>,
     waves: &mut Waves,
     waiters: &mut Waiters,
     rank: u16,
     place: u32,
 )
-    requires { HasArrived pairs.now.groups pairs.now.recording stands.old.items waves.old waiters.old rank place }
-    ensures settled { IsSettled pairs.now.groups pairs.now.recording stands.new.items waves.new waiters.new }
+    requires { HasArrived reading pairs.now.groups pairs.now.recording stands.old.items waves.old waiters.old rank place }
+    ensures settled { IsSettled reading pairs.now.groups pairs.now.recording stands.new.items waves.new waiters.new }
     ensures no_lower { StandsNoLater stands.old.items stands.new.items }
     ensures counts { touches_of waves.old waiters.old ≤ touches_of waves.new waiters.new }
 {
     if stand_of(stands, rank) == place {
-        reach(pairs, stands, waves, waiters, rank, place);
-        settle_rank(pairs, stands, waves, waiters, rank);
-        settle(pairs, stands, waves, waiters);
+        reach(reading, pairs, stands, waves, waiters, rank, place);
+        settle_rank(reading, pairs, stands, waves, waiters, rank);
+        settle(reading, pairs, stands, waves, waiters);
     }
 }

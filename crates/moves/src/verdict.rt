@@ -25,7 +25,7 @@ fn are_ended(analyser: &Analyser, ranks: u16) -> bool
 
 /// Whether each rank stands at its Finalize.
 fn are_all_ended(analyser: &Analyser) -> bool
-    ensures { result ≡ list_all (is_at_finalize analyser.now.recording (stands_of analyser.now.groups analyser.now.recording)) (range_with_len 0 (length analyser.now.recording)) }
+    ensures { result ≡ list_all (is_at_finalize analyser.now.recording (stands_of analyser.now.reading analyser.now.groups analyser.now.recording)) (range_with_len 0 (length analyser.now.recording)) }
 {
     are_ended(analyser, analyser.head().ranks())
 }
@@ -33,8 +33,8 @@ fn are_all_ended(analyser: &Analyser) -> bool
 /// Whether the run can hang by its calls so far: exactly if some rank does not stand at its Finalize. It
 /// takes no memory.
 pub fn verdict_of(analyser: &Analyser) -> Verdict
-    ensures value { result ≡ verdict_of analyser.now.groups analyser.now.recording }
-    ensures hang { (result ≡ Verdict.Hang) ↔ SomeRankIsStuck analyser.now.groups analyser.now.recording }
+    ensures value { result ≡ verdict_of analyser.now.reading analyser.now.groups analyser.now.recording }
+    ensures hang { (result ≡ Verdict.Hang) ↔ SomeRankIsStuck analyser.now.reading analyser.now.groups analyser.now.recording }
 {
     if are_all_ended(analyser) {
         Verdict::Free

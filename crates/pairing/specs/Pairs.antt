@@ -27,8 +27,8 @@ with_call pairs rank call = record { groups = pairs.groups; recording = appended
 
 -- the mode of a call that sends, blocking or not
 abbrev pub mode_of : Call → Option Mode
-mode_of (Send mode comm dest tag) = Some mode
-mode_of (Isend req mode comm dest tag) = Some mode
+mode_of (Send mode comm dest tag bytes) = Some mode
+mode_of (Isend req mode comm dest tag bytes) = Some mode
 mode_of _ = None
 
 -- the kind of a collective that isn't started alone

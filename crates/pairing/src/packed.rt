@@ -13,44 +13,48 @@ ghost use Rattle.pairing.specs.declared.packed.Entry.{Entry};
 
 use crate::beside::Beside;
 use crate::envelope::{Half, Message};
+use crate::slots::{PackedBytes, PackedPeer};
 use mpicall::call::{Kind, Mode, Peer};
 use std::mem::size_of;
 
 /// A call, variant by variant as `Call`. A wait has the places that started its requests, and their numbers
 /// are read from the calls there. A wait for several says where these places stand in a list of its rank:
 /// `count` of them from `first` on.
-#[derive(Clone, Copy, Debug)]
+#[derive(Clone, Copy)]
 pub(crate) enum Packed {
     Send {
         mode: Mode,
         comm: u16,
-        dest: Peer,
+        dest: PackedPeer,
         tag: u32,
+        bytes: PackedBytes,
     },
     Recv {
         comm: u16,
-        source: Peer,
+        source: PackedPeer,
         tag: u32,
     },
     Isend {
-        req: u32,
         mode: Mode,
         comm: u16,
-        dest: Peer,
+        dest: PackedPeer,
+        req: u32,
         tag: u32,
+        bytes: PackedBytes,
     },
     Irecv {
         req: u32,
         comm: u16,
-        source: Peer,
+        source: PackedPeer,
         tag: u32,
     },
     Sendrecv {
         comm: u16,
-        dest: Peer,
+        dest: PackedPeer,
+        source: PackedPeer,
         send_tag: u32,
-        source: Peer,
         recv_tag: u32,
+        bytes: PackedBytes,
     },
     Wait {
         start: u32,
@@ -83,11 +87,17 @@ pub(crate) enum Packed {
         key: i32,
         new: Option<u16>,
     },
+    Probe {
+        comm: u16,
+        source: PackedPeer,
+        tag: u32,
+    },
     Finalize,
+    Open,
 }
 
 /// A call, and what is kept beside it.
-#[derive(Clone, Copy, Debug)]
+#[derive(Clone, Copy)]
 pub(crate) struct Entry {
     pub call: Packed,
     pub beside: Beside,
@@ -102,23 +112,20 @@ impl Packed {
     {
         match *self {
             Packed::Send {
-                comm,
-                dest: Peer::Rank(peer),
-                tag,
-                ..
+                comm, dest, tag, ..
             }
             | Packed::Isend {
-                comm,
-                dest: Peer::Rank(peer),
-                tag,
-                ..
+                comm, dest, tag, ..
             }
             | Packed::Sendrecv {
                 comm,
-                dest: Peer::Rank(peer),
+                dest,
                 send_tag: tag,
                 ..
-            } => Some(Message { comm, peer, tag }),
+            } => match dest.peer() {
+                Peer::Rank(peer) => Some(Message { comm, peer, tag }),
+                Peer::Null => None,
+            },
             _ => None,
         }
     }
@@ -128,23 +135,19 @@ impl Packed {
         ensures { (entries : List Entry) (starts : List ℕ) → result ≡ message_of Half.Recv (unpack entries starts self.now) }
     {
         match *self {
-            Packed::Recv {
-                comm,
-                source: Peer::Rank(peer),
-                tag,
-            }
+            Packed::Recv { comm, source, tag }
             | Packed::Irecv {
-                comm,
-                source: Peer::Rank(peer),
-                tag,
-                ..
+                comm, source, tag, ..
             }
             | Packed::Sendrecv {
                 comm,
-                source: Peer::Rank(peer),
+                source,
                 recv_tag: tag,
                 ..
-            } => Some(Message { comm, peer, tag }),
+            } => match source.peer() {
+                Peer::Rank(peer) => Some(Message { comm, peer, tag }),
+                Peer::Null => None,
+            },
             _ => None,
         }
     }
@@ -218,6 +221,6 @@ impl Packed {
     pub(crate) fn ends_list(&self) -> bool
         ensures { (entries : List Entry) (starts : List ℕ) → result ≡ ends_list (unpack entries starts self.now) }
     {
-        matches!(*self, Packed::Finalize)
+        matches!(*self, Packed::Finalize | Packed::Open)
     }
 }

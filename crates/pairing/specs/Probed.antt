@@ -1,0 +1,65 @@
+-- Probes (MPI 4.0, section 3.8): a probe waits for the message that the next receive of its envelope would take.
+use Rattle.std.specs.Prelude.{◌≡◌, ℕ, Option, Some, None, option_map, option_and_then, slice_get}
+use Rattle.mpicall.specs.declared.call.Peer.TheVariants.{Rank}
+use Rattle.mpicall.specs.declared.call.Call.{Call}
+use Rattle.mpicall.specs.declared.call.Call.TheVariants.{Probe}
+use Rattle.mpigroup.specs.Groups.{Groups, group_rank_of}
+use Rattle.pairing.specs.declared.envelope.Envelope.{Envelope}
+use Rattle.pairing.specs.declared.envelope.Half.TheVariants.{Send as SendHalf, Recv as RecvHalf}
+use Rattle.pairing.specs.declared.envelope.Message.{Message}
+use Rattle.pairing.specs.Recordings.{Lists, calls_of, GoesOn}
+use Rattle.pairing.specs.Envelopes.{envelope_by, rank_of_half}
+use Rattle.pairing.specs.Partners.{number_of, numbered, places_of, partner_of}
+use Rattle.pairing.specs.Matched.{pending_of}
+
+-- the message that a probe looks for; none where its source is MPI_PROC_NULL
+abbrev pub probed_message : Call → Option Message
+probed_message (Probe comm (Rank source) tag) = Some (record { comm = comm; peer = source; tag = tag })
+probed_message _ = None
+
+-- the envelope of that message, by the rank that probes
+abbrev pub probed_envelope : Groups → ℕ → Call → Option Envelope
+probed_envelope groups rank call =
+    option_and_then (λ m. option_map (envelope_by RecvHalf m) (group_rank_of groups m.comm rank)) (probed_message call)
+
+abbrev pub probed_envelope_at : Groups → Lists → ℕ → ℕ → Option Envelope
+probed_envelope_at groups recording rank place = option_and_then (probed_envelope groups rank) (slice_get (calls_of recording rank) place)
+
+-- the send of the envelope with the number of the receives before the place: the one that the next receive takes
+abbrev pub probed_by : Groups → Lists → ℕ → ℕ → Envelope → Option (ℕ × ℕ)
+probed_by groups recording rank place e = numbered groups recording SendHalf e (number_of groups recording rank RecvHalf e place)
+
+abbrev pub probed_of : Groups → Lists → ℕ → ℕ → Option (ℕ × ℕ)
+probed_of groups recording rank place = option_and_then (probed_by groups recording rank place) (probed_envelope_at groups recording rank place)
+
+-- the place of the receive of the envelope that stands next behind the rank's place, or at it
+abbrev pub receive_behind : Groups → Lists → ℕ → ℕ → Envelope → Option ℕ
+receive_behind groups recording rank place e =
+    slice_get (places_of groups recording rank RecvHalf e) (number_of groups recording rank RecvHalf e place)
+
+-- Law: the next receive behind a probe takes the send that the probe sees.
+abbrev pub TheNextReceiveTakesIt : Type 0
+TheNextReceiveTakesIt =
+    (groups : Groups) (recording : Lists) (rank place : ℕ) (e : Envelope) (there : ℕ) →
+    probed_envelope_at groups recording rank place ≡ Some e → receive_behind groups recording rank place e ≡ Some there →
+    probed_of groups recording rank place ≡ partner_of groups recording rank there RecvHalf
+
+-- Law: where none is behind it, the probe sees the first send that has no receive yet.
+abbrev pub ElseTheFirstPendingIsSeen : Type 0
+ElseTheFirstPendingIsSeen =
+    (groups : Groups) (recording : Lists) (rank place sender : ℕ) (e : Envelope) →
+    probed_envelope_at groups recording rank place ≡ Some e → receive_behind groups recording rank place e ≡ None →
+    rank_of_half groups SendHalf e ≡ Some sender →
+    probed_of groups recording rank place ≡ option_map (λ there. (sender, there)) (slice_get (pending_of groups recording SendHalf e) 0)
+
+-- Law: what a probe sees stays.
+abbrev pub ProbedSendsStay : Type 0
+ProbedSendsStay =
+    (groups : Groups) (recording longer : Lists) (rank place other there : ℕ) → GoesOn recording longer →
+    probed_of groups recording rank place ≡ Some (other, there) → probed_of groups longer rank place ≡ Some (other, there)
+
+-- the same send, by where the next receive behind the probe stands
+abbrev pub seen_from : Groups → Lists → ℕ → Option ℕ → Envelope → Option (ℕ × ℕ)
+seen_from groups recording rank (Some there) e = partner_of groups recording rank there RecvHalf
+seen_from groups recording rank None e =
+    option_and_then (λ sender. option_map (λ there. (sender, there)) (slice_get (pending_of groups recording SendHalf e) 0)) (rank_of_half groups SendHalf e)
