@@ -71,12 +71,22 @@ fn reserve_cells(
 
 /// Cells by number, each in one list or in none. A list is a ring: its own cell, the head, stands
 /// between its last cell and its first, so that linking and unlinking never meet an end.
-#[derive(Drop)]
 pub(crate) struct Links {
     heads: Vec<u32>,
     nexts: Vec<u32>,
     prevs: Vec<u32>,
     owners: Vec<Option<u32>>,
+}
+
+impl Drop for Links {
+    fn drop(self) {
+        let Links {
+            heads: _,
+            nexts: _,
+            prevs: _,
+            owners: _,
+        } = self;
+    }
 }
 
 impl Model for Links {

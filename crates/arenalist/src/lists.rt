@@ -45,7 +45,6 @@ fn value_mut<T>(slot: &mut Option<T>) -> &mut T
 }
 
 /// Lists of values, doubly linked in one arena. See the crate's page for an example.
-#[derive(Drop)]
 pub struct Lists<T> {
     links: Links,
     // The value of each cell that is in a list.
@@ -53,6 +52,17 @@ pub struct Lists<T> {
     // The spare nodes, with room for all cells, so that giving one back takes no memory.
     free: Vec<u32>,
     work: u64,
+}
+
+impl<T: Drop> Drop for Lists<T> {
+    fn drop(self) {
+        let Lists {
+            links: _,
+            values: _,
+            free: _,
+            work: _,
+        } = self;
+    }
 }
 
 impl<T> Model for Lists<T> {

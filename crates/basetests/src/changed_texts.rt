@@ -46,25 +46,36 @@ impl Chance {
     }
 }
 
+/// The lines of a text.
+fn lines_of(alloc: Global, text: &[u8]) -> Result<Vec<&[u8]>, AllocError> {
+    let mut lines = Vec::new(alloc);
+    for line in text.split_inclusive(|byte| *byte == b'\n') {
+        lines.push(line)?;
+    }
+    Ok(lines)
+}
+
+/// The text of these lines.
+fn joined(alloc: Global, lines: &[&[u8]]) -> Result<Vec<u8>, AllocError> {
+    let mut text = Vec::new(alloc);
+    for line in lines {
+        text.extend_from_slice(line)?;
+    }
+    Ok(text)
+}
+
 /// A text of which two lines have changed places.
 fn with_lines_swapped(
     alloc: Global,
     text: &[u8],
     chance: &mut Chance,
 ) -> Result<Vec<u8>, AllocError> {
-    let mut lines = Vec::new(alloc);
-    for line in text.split_inclusive(|byte| *byte == b'\n') {
-        lines.push(line)?;
-    }
+    let mut lines = lines_of(alloc, text)?;
     let (first, second) = (chance.below(lines.len()), chance.below(lines.len()));
     if first < lines.len() && second < lines.len() {
         lines.swap(first, second);
     }
-    let mut changed = Vec::new(alloc);
-    for line in lines {
-        changed.extend_from_slice(line)?;
-    }
-    Ok(changed)
+    joined(alloc, &lines)
 }
 
 /// A text of which a byte was changed, dropped or doubled, or two lines have changed places.

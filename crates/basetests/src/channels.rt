@@ -12,20 +12,17 @@ fn a_feed_of_two_places(rt: HostRuntime) -> Result<(), Fail> {
     let bsend = record(&rt, b"bsend 0 0 0\n");
     let finalize = record(&rt, b"finalize\n");
     let (mut feed, mut taker) = Feed::open(rt.alloc(), 3, 2)?;
-    assert_eq!(rt; (feed.rank(), taker.rank()), (3, 3));
-    assert_eq!(rt; taker.try_take(&rt), Took::Empty);
-    assert_eq!(rt; feed.try_put(bsend, &rt), Ok(()));
-    assert_eq!(rt; feed.try_put(bsend, &rt), Ok(()));
-    assert_eq!(rt; feed.try_put(bsend, &rt), Err(PutFault::Full(bsend)));
-    assert_eq!(rt; taker.try_take(&rt), Took::Record(bsend));
-    assert_eq!(rt; feed.is_done(), false);
-    assert_eq!(rt; feed.try_put(finalize, &rt), Ok(()));
-    assert_eq!(rt; feed.is_done(), true);
-    assert_eq!(rt;
-        feed.try_put(finalize, &rt),
-        Err(PutFault::Closed(finalize))
-    );
-    assert_eq!(rt; feed.put(bsend, &rt), Err(PutFault::Closed(bsend)));
+    assert!(rt; (feed.rank(), taker.rank()) == (3, 3));
+    assert!(rt; taker.try_take(&rt) == Took::Empty);
+    assert!(rt; feed.try_put(bsend, &rt) == Ok(()));
+    assert!(rt; feed.try_put(bsend, &rt) == Ok(()));
+    assert!(rt; feed.try_put(bsend, &rt) == Err(PutFault::Full(bsend)));
+    assert!(rt; taker.try_take(&rt) == Took::Record(bsend));
+    assert!(rt; !feed.is_done());
+    assert!(rt; feed.try_put(finalize, &rt) == Ok(()));
+    assert!(rt; feed.is_done());
+    assert!(rt; feed.try_put(finalize, &rt) == Err(PutFault::Closed(finalize)));
+    assert!(rt; feed.put(bsend, &rt) == Err(PutFault::Closed(bsend)));
     Ok(())
 }
 
@@ -34,15 +31,15 @@ fn a_receipt_tells_what_is_left(rt: HostRuntime) -> Result<(), Fail> {
     let send = record(&rt, b"send 0 0 0\n");
     let finalize = record(&rt, b"finalize\n");
     let (mut feed, mut taker) = Feed::open(rt.alloc(), 0, 2)?;
-    assert_eq!(rt; feed.try_put(send, &rt), Ok(()));
-    assert_eq!(rt; feed.put(finalize, &rt), Ok(()));
-    assert_eq!(rt; taker.try_take(&rt), Took::Record(send));
+    assert!(rt; feed.try_put(send, &rt) == Ok(()));
+    assert!(rt; feed.put(finalize, &rt) == Ok(()));
+    assert!(rt; taker.try_take(&rt) == Took::Record(send));
     assert!(rt; feed.is_done());
     let receipt = feed.seal(&rt).expect(&rt, "a receipt");
-    assert_eq!(rt; taker.meet(receipt, &rt), Met { count: 2 });
-    assert_eq!(rt; taker.try_take(&rt), Took::Record(finalize));
-    assert_eq!(rt; taker.try_take(&rt), Took::Sealed);
-    assert_eq!(rt; taker.try_take(&rt), Took::Sealed);
+    assert!(rt; taker.meet(receipt, &rt) == Met { count: 2 });
+    assert!(rt; taker.try_take(&rt) == Took::Record(finalize));
+    assert!(rt; taker.try_take(&rt) == Took::Sealed);
+    assert!(rt; taker.try_take(&rt) == Took::Sealed);
     Ok(())
 }
 
@@ -52,17 +49,17 @@ fn a_torn_feed_and_ends_that_are_dropped(rt: HostRuntime) -> Result<(), Fail> {
     let send = record(&rt, b"send 0 0 0\n");
     let (feed, mut taker) = Feed::open(rt.alloc(), 0, 1)?;
     let receipt = feed.tear(fault, &rt).expect(&rt, "a receipt");
-    assert_eq!(rt; taker.try_take(&rt), Took::Torn(fault));
-    assert_eq!(rt; taker.meet(receipt, &rt), Met { count: 0 });
-    assert_eq!(rt; taker.try_take(&rt), Took::Torn(fault));
+    assert!(rt; taker.try_take(&rt) == Took::Torn(fault));
+    assert!(rt; taker.meet(receipt, &rt) == Met { count: 0 });
+    assert!(rt; taker.try_take(&rt) == Took::Torn(fault));
     let (mut feed, taker) = Feed::open(rt.alloc(), 0, 1)?;
     drop(taker);
-    assert_eq!(rt; feed.try_put(send, &rt), Err(PutFault::Lost(send)));
-    assert_eq!(rt; feed.put(send, &rt), Err(PutFault::Lost(send)));
+    assert!(rt; feed.try_put(send, &rt) == Err(PutFault::Lost(send)));
+    assert!(rt; feed.put(send, &rt) == Err(PutFault::Lost(send)));
     assert!(rt; feed.tear(fault, &rt).is_err());
     let (feed, mut taker) = Feed::open(rt.alloc(), 0, 1)?;
     drop(feed);
-    assert_eq!(rt; taker.try_take(&rt), Took::Empty);
+    assert!(rt; taker.try_take(&rt) == Took::Empty);
     Ok(())
 }
 
@@ -128,7 +125,7 @@ fn a_thousand_records_by_turns_and_between_threads(rt: HostRuntime) -> Result<()
             || put_all(feed, list, &rt),
             || take_all(taker, list, &rt),
         );
-        assert_eq!(rt; both, (true, true), "{capacity} places, two threads");
+        assert!(rt; both == (true, true), "{capacity} places, two threads");
     }
     Ok(())
 }

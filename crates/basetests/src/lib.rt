@@ -1,5 +1,5 @@
-//! Tests of the crates at the base, through their public calls: lines, traces, devices, heads, lists in an
-//! arena, and feeds.
+//! Tests of the crates at the base, through their public calls, of what no row of text can say: devices that fail,
+//! texts that change at random, lists in an arena, and feeds.
 //!
 //! They stand in a crate of their own, so that those crates are proved once, and not again with their tests.
 #![tactic(auto)]
@@ -11,16 +11,12 @@ mod channels;
 #[cfg(test)]
 mod cut_texts;
 #[cfg(test)]
-mod heads;
-#[cfg(test)]
-mod lines;
-#[cfg(test)]
 mod linked_lists;
+#[cfg(test)]
+mod ranges;
 #[cfg(test)]
 mod rings;
 #[cfg(test)]
 mod sources;
 #[cfg(test)]
 mod std_devices;
-#[cfg(test)]
-mod words;

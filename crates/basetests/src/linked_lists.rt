@@ -3,16 +3,25 @@ ghost use Rattle.std.specs.Prelude.{◌<◌, length, IsTrue};
 use arenalist::lists::Lists;
 use arenalist::node::{ListId, Node};
 use std::alloc::{AllocError, Global};
-use std::process::Abort;
 use std::test::Fail;
 
 /// Lists, and what they should hold: each list a vector of its nodes and values.
-#[derive(Drop)]
 struct Compared {
     lists: Lists<u32>,
     ids: Vec<ListId>,
     plain: Vec<Vec<(Node, u32)>>,
     work: u64,
+}
+
+impl Drop for Compared {
+    fn drop(self) {
+        let Compared {
+            lists: _,
+            ids: _,
+            plain: _,
+            work: _,
+        } = self;
+    }
 }
 
 fn has_list(lists: &Lists<u32>, list: ListId) -> bool
@@ -223,39 +232,6 @@ impl Compared {
     }
 }
 
-/// Asserts that list a and list b hold these values, and how much was done.
-fn assert_holds(rt: &impl Abort, both: &Compared, a: &[u32], b: &[u32], work: u64) {
-    for (l, want) in [(0, a), (1, b)] {
-        assert!(rt; both.is_same(l));
-        if let Some(plain) = both.plain.get(l) {
-            assert!(rt; plain.iter().map(|entry| entry.1).eq(want.iter().copied()));
-        }
-    }
-    assert_eq!(rt; both.lists.work(), work);
-}
-
-#[test]
-fn rows_with_their_work(rt: HostRuntime) -> Result<(), Fail> {
-    let mut both = Compared::new(rt.alloc(), 2)?;
-    both.push(0, 10)?;
-    both.push(0, 20)?;
-    both.push(0, 30)?;
-    assert_holds(&rt, &both, &[10, 20, 30], &[], 3);
-    assert_eq!(rt; both.unlink(0, 1).0, Some(20));
-    assert_holds(&rt, &both, &[10, 30], &[], 4);
-    both.move_back(0, 0, 1)?;
-    assert_holds(&rt, &both, &[30], &[10], 6);
-    both.push(1, 40)?;
-    both.append(0, 1)?;
-    assert_holds(&rt, &both, &[30, 10, 40], &[], 11);
-    assert_eq!(rt; both.pop(1).0, None);
-    assert_eq!(rt; both.pop(0).0, Some(30));
-    assert_holds(&rt, &both, &[10, 40], &[], 12);
-    both.move_back(0, 0, 0)?;
-    assert_holds(&rt, &both, &[40, 10], &[], 14);
-    Ok(())
-}
-
 #[test]
 fn random_calls_agree_with_plain_vectors(rt: HostRuntime) -> Result<(), Fail> {
     let mut both = Compared::new(rt.alloc(), 4)?;
@@ -276,12 +252,22 @@ fn random_calls_agree_with_plain_vectors(rt: HostRuntime) -> Result<(), Fail> {
 
 /// Two arenas to which the same is done, so that one shows what the other held before a refused call, and the
 /// lists and nodes that both gave.
-#[derive(Drop)]
 struct Twins {
     one: Lists<u32>,
     other: Lists<u32>,
     lists: [Option<ListId>; 2],
     nodes: [Option<Node>; 40],
+}
+
+impl Drop for Twins {
+    fn drop(self) {
+        let Twins {
+            one: _,
+            other: _,
+            lists: _,
+            nodes: _,
+        } = self;
+    }
 }
 
 /// Whether both tell the same of a node.

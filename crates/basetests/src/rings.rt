@@ -28,17 +28,17 @@ fn a_feed_of_two_places(rt: HostRuntime) -> Result<(), Fail> {
     let bsend = record(&rt, b"bsend 0 0 0\n");
     let finalize = record(&rt, b"finalize\n");
     let (mut feed, mut taker) = Feed::open(rt.alloc(), 3, 2)?;
-    assert_eq!(rt; (feed.rank(), taker.rank()), (3, 3));
-    assert_eq!(rt; taker.try_take(), Took::Empty);
-    assert_eq!(rt; feed.try_put(bsend), Ok(()));
-    assert_eq!(rt; feed.try_put(bsend), Ok(()));
-    assert_eq!(rt; feed.try_put(bsend), Err(PutFault::Full(bsend)));
-    assert_eq!(rt; taker.try_take(), Took::Record(bsend));
-    assert_eq!(rt; feed.is_done(), false);
-    assert_eq!(rt; feed.try_put(finalize), Ok(()));
-    assert_eq!(rt; feed.is_done(), true);
-    assert_eq!(rt; feed.try_put(finalize), Err(PutFault::Closed(finalize)));
-    assert_eq!(rt; feed.put(bsend, &rt), Err(PutFault::Closed(bsend)));
+    assert!(rt; (feed.rank(), taker.rank()) == (3, 3));
+    assert!(rt; taker.try_take() == Took::Empty);
+    assert!(rt; feed.try_put(bsend) == Ok(()));
+    assert!(rt; feed.try_put(bsend) == Ok(()));
+    assert!(rt; feed.try_put(bsend) == Err(PutFault::Full(bsend)));
+    assert!(rt; taker.try_take() == Took::Record(bsend));
+    assert!(rt; !feed.is_done());
+    assert!(rt; feed.try_put(finalize) == Ok(()));
+    assert!(rt; feed.is_done());
+    assert!(rt; feed.try_put(finalize) == Err(PutFault::Closed(finalize)));
+    assert!(rt; feed.put(bsend, &rt) == Err(PutFault::Closed(bsend)));
     Ok(())
 }
 
@@ -47,15 +47,15 @@ fn a_record_stands_at_the_front(rt: HostRuntime) -> Result<(), Fail> {
     let send = record(&rt, b"send 0 0 0\n");
     let finalize = record(&rt, b"finalize\n");
     let (mut feed, mut taker) = Feed::open(rt.alloc(), 0, 2)?;
-    assert_eq!(rt; taker.look(), Came::Empty);
+    assert!(rt; taker.look() == Came::Empty);
     assert!(rt; feed.put_copy(&send, &rt));
     assert!(rt; feed.put_copy(&finalize, &rt));
     assert!(rt; !feed.put_copy(&send, &rt));
-    assert_eq!(rt; taker.look(), Came::Record);
-    assert_eq!(rt; *taker.front(), send);
+    assert!(rt; taker.look() == Came::Record);
+    assert!(rt; *taker.front() == send);
     taker.pass();
-    assert_eq!(rt; taker.look(), Came::Record);
-    assert_eq!(rt; *taker.front(), finalize);
+    assert!(rt; taker.look() == Came::Record);
+    assert!(rt; *taker.front() == finalize);
     Ok(())
 }
 
@@ -64,15 +64,15 @@ fn a_receipt_tells_what_is_left(rt: HostRuntime) -> Result<(), Fail> {
     let send = record(&rt, b"send 0 0 0\n");
     let finalize = record(&rt, b"finalize\n");
     let (mut feed, mut taker) = Feed::open(rt.alloc(), 0, 2)?;
-    assert_eq!(rt; feed.try_put(send), Ok(()));
-    assert_eq!(rt; feed.put(finalize, &rt), Ok(()));
-    assert_eq!(rt; taker.try_take(), Took::Record(send));
+    assert!(rt; feed.try_put(send) == Ok(()));
+    assert!(rt; feed.put(finalize, &rt) == Ok(()));
+    assert!(rt; taker.try_take() == Took::Record(send));
     assert!(rt; feed.is_done());
     let receipt = feed.seal().expect(&rt, "a receipt");
-    assert_eq!(rt; taker.meet(receipt), Met { count: 2 });
-    assert_eq!(rt; taker.try_take(), Took::Record(finalize));
-    assert_eq!(rt; taker.try_take(), Took::Sealed);
-    assert_eq!(rt; taker.try_take(), Took::Sealed);
+    assert!(rt; taker.meet(receipt) == Met { count: 2 });
+    assert!(rt; taker.try_take() == Took::Record(finalize));
+    assert!(rt; taker.try_take() == Took::Sealed);
+    assert!(rt; taker.try_take() == Took::Sealed);
     Ok(())
 }
 
@@ -81,15 +81,15 @@ fn a_torn_feed_and_ends_that_are_dropped(rt: HostRuntime) -> Result<(), Fail> {
     let fault = SourceFault::ReadFailed;
     let (feed, mut taker) = Feed::open(rt.alloc(), 0, 1)?;
     let receipt = feed.tear(fault).expect(&rt, "a receipt");
-    assert_eq!(rt; taker.try_take(), Took::Torn(fault));
-    assert_eq!(rt; taker.meet(receipt), Met { count: 0 });
-    assert_eq!(rt; taker.try_take(), Took::Torn(fault));
+    assert!(rt; taker.try_take() == Took::Torn(fault));
+    assert!(rt; taker.meet(receipt) == Met { count: 0 });
+    assert!(rt; taker.try_take() == Took::Torn(fault));
     let (feed, taker) = Feed::open(rt.alloc(), 0, 1)?;
     drop(taker);
     assert!(rt; feed.tear(fault).is_err());
     let (feed, mut taker) = Feed::open(rt.alloc(), 0, 1)?;
     drop(feed);
-    assert_eq!(rt; taker.try_take(), Took::Empty);
+    assert!(rt; taker.try_take() == Took::Empty);
     Ok(())
 }
 
@@ -146,7 +146,7 @@ fn a_thousand_records_by_turns_and_between_threads(rt: HostRuntime) -> Result<()
             || put_all(feed, list, &rt),
             || take_all(taker, list, &rt),
         );
-        assert_eq!(rt; both, (true, true), "{capacity} places, two threads");
+        assert!(rt; both == (true, true), "{capacity} places, two threads");
     }
     Ok(())
 }

@@ -81,10 +81,10 @@ fn a_reader_of_std_is_an_input(rt: HostRuntime) {
         before: 1,
     });
     let mut space = [0; 20];
-    assert_eq!(rt; input.read_some(&mut space), Ok(11));
-    assert_eq!(rt; input.failures(), 0);
-    assert_eq!(rt; input.read_some(&mut space), Err(DeviceFault));
-    assert_eq!(rt; input.failures(), 1);
+    assert!(rt; input.read_some(&mut space) == Ok(11));
+    assert!(rt; input.failures() == 0);
+    assert!(rt; input.read_some(&mut space) == Err(DeviceFault));
+    assert!(rt; input.failures() == 1);
 }
 
 #[test]
@@ -104,11 +104,11 @@ fn a_writer_of_std_is_an_output(rt: HostRuntime) -> Result<(), Fail> {
             before,
         });
         let written = write_line(&entry, &mut output);
-        assert_eq!(rt; written.is_err(), failures > 0);
-        assert_eq!(rt; output.failures(), failures);
-        assert_eq!(rt; output.write_some(b"").is_err(), before < 100);
+        assert!(rt; written.is_err() == (failures > 0));
+        assert!(rt; output.failures() == failures);
+        assert!(rt; output.write_some(b"").is_err() == (before < 100));
         drop(output);
-        assert_eq!(rt; taken.as_slice(), want);
+        assert!(rt; taken.as_slice() == want);
     }
     Ok(())
 }

@@ -1,5 +1,3 @@
-pub mod RunLemmas
-pub mod HeldLemmas
 pub mod SealedLemmas
 pub mod CollectedLemmas
 pub mod TakerLemmas
@@ -8,8 +6,4 @@ pub mod DrainLemmas
 pub mod FinishLemmas
 pub mod CloseLemmas
 pub mod FedLemmas
-pub mod AlongLemmas
-pub mod ThreadLemmas
-pub mod TurnLemmas
-pub mod WholeLemmas
 pub mod PassedLemmas

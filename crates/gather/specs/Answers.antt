@@ -9,7 +9,7 @@ use Rattle.pairing.specs.Recordings.{Lists, is_ended}
 use Rattle.pairing.specs.Faults.{fault_of}
 use Rattle.pairing.specs.declared.fault.CallFault.{CallFault}
 use Rattle.moves.specs.Runs.{State}
-use Rattle.moves.specs.Stands.{IsRunOver, end_over, is_at_finalize}
+use Rattle.moves.specs.Stands.{IsRunOver, end_over, is_at_end}
 use Rattle.gather.specs.declared.fault.RankFault.{RankFault}
 use Rattle.gather.specs.declared.fault.RankFault.TheVariants.{OfCall, OfSource}
 use Rattle.gather.specs.declared.fault.Refusal.{Refusal}
@@ -62,4 +62,4 @@ lists_of traces = map (λ trace. trace.records) traces
 pub record SomeRankCannotEnd (groups : Groups) (recording : Lists) : Type 0 where
   pub rank : ℕ
   pub is_rank : rank < length recording
-  pub in_no_run : (states : List State) → IsRunOver groups recording states → is_at_finalize recording (end_over recording states) rank ≡ false
+  pub in_no_run : (states : List State) → IsRunOver groups recording states → is_at_end recording (end_over recording states) rank ≡ false

@@ -1,7 +1,4 @@
 pub mod Answers
-pub mod Told
-pub mod Ranks
-pub mod Written
 pub mod Codes
 pub mod Collected
 pub mod Takers
@@ -10,8 +7,4 @@ pub mod Collectors
 pub mod Closes
 pub mod Concluded
 pub mod Fed
-pub mod Threads
 pub mod Reads
-pub mod Turns
-pub mod Along
-pub mod Runs

@@ -22,7 +22,6 @@ use watches::watch::Told;
 ///
 /// Unless memory was wanted, each rank's calls are its records before its first fault, and that fault is kept
 /// with its place, whatever the order in which the ranks' records came.
-#[derive(Drop)]
 pub struct Collector {
     alloc: Global,
     takers: Vec<Taker>,
@@ -30,6 +29,17 @@ pub struct Collector {
     publisher: Publisher,
     ghost collects: { Collects takers.items ledger },
     ghost passed: { ArePassed ledger.groups ledger.recording (published_by publisher) },
+}
+
+impl Drop for Collector {
+    fn drop(self) {
+        let Collector {
+            alloc: _,
+            takers: _,
+            ledger: _,
+            publisher: _,
+        } = self;
+    }
 }
 
 /// Takes the item at the front of a rank's feed, and enters it. A record is looked at where it stands.
@@ -207,7 +217,13 @@ impl Collector {
     fn into_ledger(self) -> Ledger
         ensures { result ≡ kept self }
     {
-        self.ledger
+        let Collector {
+            alloc: _,
+            takers: _,
+            ledger,
+            publisher: _,
+        } = self;
+        ledger
     }
 
     /// Takes all that was sent, by the receipts of the ranks' feeds, and answers what comes of it. `Memory`

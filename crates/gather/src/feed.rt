@@ -49,7 +49,7 @@ fn end_with(feed: Feed, end: Ending) -> Result<Receipt, Unsealed>
 /// Reads the next record of a rank's source into one place, for those that read many. Where the records end, it
 /// answers the end mark that is to come behind them. `done` says whether the last record so far ended the list.
 /// The gate is asked first, by the number of the calls before.
-pub(crate) fn next_of<I: Input, G: Gate>(
+pub fn next_of<I: Input, G: Gate>(
     rank: u16,
     source: &mut Source<I>,
     done: bool,

@@ -33,11 +33,20 @@ pub enum Stepped {
 
 /// The records of all ranks that were accepted, and each rank's first fault. Contracts see these, and whether
 /// memory was wanted.
-#[derive(Drop)]
 pub struct Ledger {
     analyser: Analyser,
     faults: Vec<Option<(u32, RankFault)>>,
     wanted: bool,
+}
+
+impl Drop for Ledger {
+    fn drop(self) {
+        let Ledger {
+            analyser: _,
+            faults: _,
+            wanted: _,
+        } = self;
+    }
 }
 
 impl Model for Ledger {
@@ -166,7 +175,7 @@ impl Ledger {
 
     /// What comes of the run once all of its records were taken. `Memory` comes first, where memory was wanted;
     /// then `Refused`, for the lowest rank that has a fault.
-    pub(crate) fn conclude(self, alloc: Global) -> Result<Outcome, CloseFault>
+    pub fn conclude(self, alloc: Global) -> Result<Outcome, CloseFault>
         requires { self.wanted ≡ false → refusal_kept self ≡ None → IsLawful self.groups self.recording → IsClosed self.recording }
         ensures { Concludes self result }
     {
@@ -181,6 +190,11 @@ impl Ledger {
         ensures groups { result.groups ≡ self.groups }
         ensures recording { result.recording ≡ self.recording }
     {
-        self.analyser
+        let Ledger {
+            analyser,
+            faults: _,
+            wanted: _,
+        } = self;
+        analyser
     }
 }

@@ -2,17 +2,17 @@
 
 ghost use Rattle.std.specs.Prelude.{◌≡◌, ◌↔◌, IfOk, IfErr};
 ghost use Rattle.pairing.specs.Recordings.{IsClosed};
-ghost use Rattle.moves.specs.Verdicts.{verdict_of, SomeRankIsStuck};
-ghost use Rattle.moves.specs.declared.verdict.Verdict.TheVariants.{Hang};
+ghost use Rattle.waitgraph.specs.Verdicts.{verdict_of, SomeRankIsStuck};
+ghost use Rattle.waitgraph.specs.declared.verdict.Verdict.TheVariants.{Hang};
 ghost use Rattle.waitgraph.specs.Graphs.{IsGraphOf};
 ghost use Rattle.gather.specs.declared.outcome.CloseFault.TheVariants.{Memory};
 
 use crate::fault::Refusal;
 use moves::analyser::Analyser;
-use moves::verdict::{Verdict, verdict_of};
 use std::alloc::Global;
 use thiserror::Error;
 use waitgraph::graph::Graph;
+use waitgraph::verdict::Verdict;
 
 /// Why a session has no outcome.
 #[derive(Clone, Copy, Debug, PartialEq, Eq, Error)]
@@ -28,11 +28,19 @@ pub enum CloseFault {
 }
 
 /// What is said of a run whose calls were all accepted.
-#[derive(Drop)]
 pub struct Outcome {
     analyser: Analyser,
     graph: Graph,
     ghost waits: { IsGraphOf analyser.groups analyser.recording graph },
+}
+
+impl Drop for Outcome {
+    fn drop(self) {
+        let Outcome {
+            analyser: _,
+            graph: _,
+        } = self;
+    }
 }
 
 impl Outcome {
@@ -53,7 +61,7 @@ impl Outcome {
         ensures value { result ≡ verdict_of self.now.analyser.groups self.now.analyser.recording }
         ensures hang { (result ≡ Hang) ↔ SomeRankIsStuck self.now.analyser.groups self.now.analyser.recording }
     {
-        verdict_of(&self.analyser)
+        self.graph.verdict()
     }
 
     /// The calls of all ranks.

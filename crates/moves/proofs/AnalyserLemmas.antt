@@ -4,7 +4,7 @@ use Rattle.std.proofs.Common.{◌≡◌, ◌≢◌, ◌↔◌, ℕ, zero, suc, �
 use Rattle.std.specs.List.{slice_get, list_all, range_with_len}
 use Rattle.std.proofs.lemmas.List.{length-set, length-replicate, length-append}
 use Rattle.std.proofs.lemmas.Option.{none-some}
-use Rattle.std.proofs.lemmas.Bool.{cases_eq, cases_Bool, eq-eqb, ne_eqb}
+use Rattle.std.proofs.lemmas.Bool.{cases_eq, cases_Bool, eq-eqb, ne_eqb, false≢true}
 use Rattle.mpicall.specs.declared.call.Call.{Call}
 use Rattle.mpigroup.specs.Groups.{Groups, ranks_of}
 use Rattle.mpicall.specs.Ending.{ends_list}
@@ -23,8 +23,20 @@ use Rattle.moves.proofs.RunLemmas.{reached_start}
 use Rattle.moves.proofs.NeedLemmas.{can_pass}
 use Rattle.moves.proofs.StandLemmas.{every_maximal_run_ends_at_the_stands, reached_on}
 use Rattle.moves.proofs.ArrivalLemmas.{no_calls, mixes_are_kept_alike}
-use Rattle.moves.proofs.VerdictLemmas.{all_pass}
 use Rattle.moves.proofs.AdvanceLemmas.{stuck_end}
+
+-- what all numbers of a range pass, one of them passes
+all_pass : (p : ℕ → Bool) (a n r : ℕ) → list_all p (range_with_len a n) ≡ true → a ≤ r → r < a + n → p r ≡ true
+all_pass p a zero r h from to = absurd (omega arith)
+all_pass p a (suc n) r h from to =
+    ⊎_elim
+    (λ (first : p a ≡ true).
+    ⊎_elim
+    (λ (e : r ≡ a). rw e first)
+    (λ (e : r ≢ a). all_pass p (a + 1) n r (rw first at h) (omega arith) (omega arith))
+    (cases_eq r a))
+    (λ (first : p a ≡ false). absurd (false≢true (rw first at h)))
+    (cases_Bool (p a))
 
 -- where there is no call, no rank can move
 nothing_moves : (reading : Reading) (groups : Groups) (ranks : ℕ) (s : State) → IsStuck (can_move reading groups (replicate ranks [])) s

@@ -3,7 +3,6 @@ pub mod StayLemmas
 pub mod NeedLemmas
 pub mod LookLemmas
 pub mod StandLemmas
-pub mod VerdictLemmas
 pub mod ArrivalLemmas
 pub mod AdvanceLemmas
 pub mod AnalyserLemmas

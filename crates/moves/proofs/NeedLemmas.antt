@@ -7,12 +7,13 @@ use Rattle.std.specs.Option.{option_map_or}
 use Rattle.std.proofs.lemmas.List.Folds.{list_all-append}
 use Rattle.std.proofs.lemmas.Option.{slice_get_within}
 use Rattle.std.proofs.lemmas.Bool.{false≢true, leb-true, le-leb}
+use Rattle.mpicall.specs.Ending.{ends_list}
 use Rattle.mpicall.specs.declared.call.Call.{Call}
 use Rattle.mpigroup.specs.Groups.{Groups, group_of}
 use Rattle.pairing.specs.declared.envelope.Half.{Half}
 use Rattle.pairing.specs.declared.envelope.Half.TheVariants.{Send as SendHalf, Recv as RecvHalf}
 use Rattle.pairing.specs.declared.envelope.Message.{Message}
-use Rattle.pairing.specs.Recordings.{Lists, calls_of, is_finalize, GoesOn}
+use Rattle.pairing.specs.Recordings.{Lists, calls_of, GoesOn}
 use Rattle.pairing.specs.Envelopes.{message_of}
 use Rattle.pairing.specs.Partners.{partner_of}
 use Rattle.pairing.specs.Requests.{starts, completes, started_before}
@@ -55,14 +56,14 @@ can_move_is_persistent reading groups recording s t rank below same h =
 pub record CanPass (reading : Reading) (groups : Groups) (recording : Lists) (stands : State) (rank : ℕ) : Type 0 where
   pub call : Call
   pub is_present : slice_get (calls_of recording rank) (get_or stands rank 0) ≡ Some call
-  pub is_not_finalize : is_finalize call ≡ false
+  pub is_no_end : ends_list call ≡ false
   pub needs_met : list_all (is_met stands) (needs_of_call reading groups recording rank (get_or stands rank 0) call) ≡ true
 
 pass_parts : (reading : Reading) (groups : Groups) (recording : Lists) (stands : State) (rank : ℕ) (present : Option Call) → slice_get (calls_of recording rank) (get_or stands rank 0) ≡ present → (may_pass present && list_all (is_met stands) (option_map_or (needs_of_call reading groups recording rank (get_or stands rank 0)) present [])) ≡ true → CanPass reading groups recording stands rank
 pass_parts reading groups recording stands rank None h can = cc
 pass_parts reading groups recording stands rank (Some call) h can =
-    let both = and_true (not (is_finalize call)) (list_all (is_met stands) (needs_of_call reading groups recording rank (get_or stands rank 0) call)) can in
-    record { call = call; is_present = h; is_not_finalize = not_true (is_finalize call) both.0; needs_met = both.1 }
+    let both = and_true (not (ends_list call)) (list_all (is_met stands) (needs_of_call reading groups recording rank (get_or stands rank 0) call)) can in
+    record { call = call; is_present = h; is_no_end = not_true (ends_list call) both.0; needs_met = both.1 }
   where
     not_true : (b : Bool) → not b ≡ true → b ≡ false
     not_true true h = cc
@@ -73,7 +74,7 @@ can_pass reading groups recording stands rank h = pass_parts reading groups reco
 
 -- and back
 pub can_from_pass : (reading : Reading) (groups : Groups) (recording : Lists) (stands : State) (rank : ℕ) → CanPass reading groups recording stands rank → can_move reading groups recording stands rank ≡ true
-can_from_pass reading groups recording stands rank h = rw (h.is_present, h.is_not_finalize, h.needs_met) refl
+can_from_pass reading groups recording stands rank h = rw (h.is_present, h.is_no_end, h.needs_met) refl
 
 -- a list's length, among the lengths of all
 pub length_of_calls : (recording : Lists) (rank : ℕ) → get_or (map length recording) rank 0 ≡ length (calls_of recording rank)
@@ -187,7 +188,7 @@ can_move_carried reading groups recording other stands rank calls carries within
     (record {
       call = pass.call;
       is_present = carries.call (get_or stands rank 0) within ∙ pass.is_present;
-      is_not_finalize = pass.is_not_finalize;
+      is_no_end = pass.is_no_end;
       needs_met = needs_met_on reading groups recording other stands rank calls (get_or stands rank 0) pass.call carries within pass.needs_met;
     })
 

@@ -5,13 +5,13 @@ use Rattle.std.specs.List.{slice_get}
 use Rattle.std.specs.Option.{option_map_or}
 use Rattle.std.proofs.lemmas.Option.{same_Some}
 use Rattle.std.proofs.lemmas.Bool.{cases_eq, cases_Bool, false≢true}
+use Rattle.mpicall.specs.Ending.{ends_list}
 use Rattle.mpicall.specs.declared.call.Call.{Call}
-use Rattle.mpicall.specs.declared.call.Call.TheVariants.{Finalize}
 use Rattle.mpigroup.specs.Groups.{Groups}
-use Rattle.pairing.specs.Recordings.{Lists, calls_of, is_finalize, GoesOn}
+use Rattle.pairing.specs.Recordings.{Lists, calls_of, GoesOn}
 use Rattle.moves.specs.Runs.{StandsNoLater, State, Rule, start, moved, Step, Steps, last_of, end_of, IsMaximal, IsReached, IsTheEnd, lowest_run}
 use Rattle.moves.specs.Needs.{can_move}
-use Rattle.moves.specs.Stands.{calls_in, IsRunOver, end_over, lowest_run_over, stands_of, is_at_finalize, EveryMaximalRunEndsAtTheStands, NoRunBringsAStuckRankToFinalize, EveryMaximalRunBringsTheOthers, LongerRecordingsLowerNoStand, NoCallAfterFinalizeIsReached}
+use Rattle.moves.specs.Stands.{calls_in, IsRunOver, end_over, lowest_run_over, stands_of, is_at_end, EveryMaximalRunEndsAtTheStands, NoRunBringsAStuckRankToItsEnd, EveryMaximalRunBringsTheOthers, LongerRecordingsLowerNoStand, NoCallBehindTheEndIsReached}
 use Rattle.moves.proofs.RunLemmas.{maximal_runs_end_alike, run_below, reached_below, reached_ranks, get_start}
 use Rattle.moves.proofs.NeedLemmas.{can_move_is_persistent, can_move_is_bounded, can_pass, can_move_on}
 
@@ -26,63 +26,67 @@ every_maximal_run_ends_at_the_stands reading groups recording =
     (same_ranks recording)
     (maximal_runs_end_alike (can_move reading groups recording) (map length recording) (can_move_is_persistent reading groups recording) (can_move_is_bounded reading groups recording))
 
--- a rank whose Finalize is not behind it keeps it so
-passes_not : (reading : Reading) (groups : Groups) (recording : Lists) (s t : State) (rank place : ℕ) → slice_get (calls_of recording rank) place ≡ Some Finalize → get_or s rank 0 ≤ place → Step (can_move reading groups recording) s t → get_or t rank 0 ≤ place
-passes_not reading groups recording s t rank place finalize before step =
+-- a rank whose end is not behind it keeps it so
+passes_not : (reading : Reading) (groups : Groups) (recording : Lists) (s t : State) (rank place : ℕ) (end : Call) → slice_get (calls_of recording rank) place ≡ Some end → ends_list end ≡ true → get_or s rank 0 ≤ place → Step (can_move reading groups recording) s t → get_or t rank 0 ≤ place
+passes_not reading groups recording s t rank place end is_there ends before step =
     rw step.moves_on
     (⊎_elim
-    (λ (same : rank ≡ step.rank). moved_to groups recording s rank place finalize before (rw same step.can_move) (rw same step.is_rank) step.rank same)
+    (λ (same : rank ≡ step.rank). moved_to groups recording s rank place end is_there ends before (rw same step.can_move) (rw same step.is_rank) step.rank same)
     (λ (other : rank ≢ step.rank). rw (get_or-set_other s step.rank rank (get_or s step.rank 0 + 1) 0 other) before)
     (cases_eq rank step.rank))
   where
-    not_there : (groups : Groups) (recording : Lists) (s : State) (rank place : ℕ) → slice_get (calls_of recording rank) place ≡ Some Finalize → can_move reading groups recording s rank ≡ true → get_or s rank 0 ≢ place
-    not_there groups recording s rank place finalize can e =
+    not_there : (groups : Groups) (recording : Lists) (s : State) (rank place : ℕ) (end : Call) → slice_get (calls_of recording rank) place ≡ Some end → ends_list end ≡ true → can_move reading groups recording s rank ≡ true → get_or s rank 0 ≢ place
+    not_there groups recording s rank place end is_there ends can e =
         let pass = can_pass reading groups recording s rank can in
-        let there : slice_get (calls_of recording rank) (get_or s rank 0) ≡ Some Finalize = rw e finalize in
-        let same : pass.call ≡ Finalize = same_Some pass.call Finalize (sym pass.is_present ∙ there) in
-        false≢true (sym pass.is_not_finalize ∙ ap is_finalize same)
+        let there : slice_get (calls_of recording rank) (get_or s rank 0) ≡ Some end = rw e is_there in
+        let same : pass.call ≡ end = same_Some pass.call end (sym pass.is_present ∙ there) in
+        false≢true (sym pass.is_no_end ∙ ap ends_list same ∙ ends)
 
-    moved_to : (groups : Groups) (recording : Lists) (s : State) (rank place : ℕ) → slice_get (calls_of recording rank) place ≡ Some Finalize → get_or s rank 0 ≤ place → can_move reading groups recording s rank ≡ true → rank < length s → (other : ℕ) → rank ≡ other → get_or (moved s other) rank 0 ≤ place
-    moved_to groups recording s rank place finalize before can is_rank other same =
-        let differs = not_there groups recording s rank place finalize can in
+    moved_to : (groups : Groups) (recording : Lists) (s : State) (rank place : ℕ) (end : Call) → slice_get (calls_of recording rank) place ≡ Some end → ends_list end ≡ true → get_or s rank 0 ≤ place → can_move reading groups recording s rank ≡ true → rank < length s → (other : ℕ) → rank ≡ other → get_or (moved s other) rank 0 ≤ place
+    moved_to groups recording s rank place end is_there ends before can is_rank other same =
+        let differs = not_there groups recording s rank place end is_there ends can in
         rw (← same) (rw (get_or-set_same s rank (get_or s rank 0 + 1) 0 is_rank) (omega arith))
 
-steps_pass_not : (reading : Reading) (groups : Groups) (recording : Lists) (s : State) (states : List State) (rank place : ℕ) → slice_get (calls_of recording rank) place ≡ Some Finalize → get_or s rank 0 ≤ place → Steps (can_move reading groups recording) s states → get_or (last_of s states) rank 0 ≤ place
-steps_pass_not reading groups recording s [] rank place finalize before steps = before
-steps_pass_not reading groups recording s (t ∷ rest) rank place finalize before steps =
-    steps_pass_not reading groups recording t rest rank place finalize (passes_not reading groups recording s t rank place finalize before steps.0) steps.1
+steps_pass_not : (reading : Reading) (groups : Groups) (recording : Lists) (s : State) (states : List State) (rank place : ℕ) (end : Call) → slice_get (calls_of recording rank) place ≡ Some end → ends_list end ≡ true → get_or s rank 0 ≤ place → Steps (can_move reading groups recording) s states → get_or (last_of s states) rank 0 ≤ place
+steps_pass_not reading groups recording s [] rank place end is_there ends before steps = before
+steps_pass_not reading groups recording s (t ∷ rest) rank place end is_there ends before steps =
+    steps_pass_not reading groups recording t rest rank place end is_there ends (passes_not reading groups recording s t rank place end is_there ends before steps.0) steps.1
 
-pub no_call_after_finalize_is_reached : NoCallAfterFinalizeIsReached
-no_call_after_finalize_is_reached reading groups recording rank place states is_run finalize =
-    steps_pass_not reading groups recording (start (length recording)) states rank place finalize (rw (get_start (length recording) rank) (omega arith)) is_run
+pub no_call_behind_the_end_is_reached : NoCallBehindTheEndIsReached
+no_call_behind_the_end_is_reached reading groups recording rank place end states is_run is_there ends =
+    steps_pass_not reading groups recording (start (length recording)) states rank place end is_there ends (rw (get_start (length recording) rank) (omega arith)) is_run
 
--- the call of a rank that is at its Finalize
-is_finalize_there : (present : Option Call) → option_map_or is_finalize present false ≡ true → present ≡ Some Finalize
-is_finalize_there None h = absurd (false≢true h)
-is_finalize_there (Some Finalize) h = refl
-is_finalize_there (Some _) h = absurd (false≢true h)
+-- the call of a rank that is at its end
+pub record EndsThere (present : Option Call) : Type 0 where
+  pub end : Call
+  pub is_present : present ≡ Some end
+  pub ends : ends_list end ≡ true
 
--- a rank that some run brings to its Finalize stands there
-pub brought_to_finalize : (reading : Reading) (groups : Groups) (recording : Lists) (rank : ℕ) (states : List State) → IsRunOver reading groups recording states → is_at_finalize recording (end_over recording states) rank ≡ true → is_at_finalize recording (stands_of reading groups recording) rank ≡ true
-brought_to_finalize reading groups recording rank states is_run there =
+pub end_there : (present : Option Call) → option_map_or ends_list present false ≡ true → EndsThere present
+end_there None h = absurd (false≢true h)
+end_there (Some call) h = record { end = call; is_present = refl; ends = h }
+
+-- a rank that some run brings to its end stands there
+pub brought_to_its_end : (reading : Reading) (groups : Groups) (recording : Lists) (rank : ℕ) (states : List State) → IsRunOver reading groups recording states → is_at_end recording (end_over recording states) rank ≡ true → is_at_end recording (stands_of reading groups recording) rank ≡ true
+brought_to_its_end reading groups recording rank states is_run there =
     let whole = every_maximal_run_ends_at_the_stands reading groups recording in
-    let finalize = is_finalize_there (slice_get (calls_of recording rank) (get_or (end_over recording states) rank 0)) there in
+    let present = end_there (slice_get (calls_of recording rank) (get_or (end_over recording states) rank 0)) there in
     let below = run_below (can_move reading groups recording) (length recording) (stands_of reading groups recording) states (can_move_is_persistent reading groups recording) whole.1.is_stuck (reached_ranks (can_move reading groups recording) (length recording) (stands_of reading groups recording) whole.1.is_reached) is_run in
-    let not_past = no_call_after_finalize_is_reached reading groups recording rank (get_or (end_over recording states) rank 0) (lowest_run_over reading groups recording) whole.0.is_run finalize in
+    let not_past = no_call_behind_the_end_is_reached reading groups recording rank (get_or (end_over recording states) rank 0) present.end (lowest_run_over reading groups recording) whole.0.is_run present.is_present present.ends in
     let same : get_or (end_over recording states) rank 0 ≡ get_or (stands_of reading groups recording) rank 0 = omega (arith, below.stands rank, not_past) in
-    subst (λ (stand : ℕ). option_map_or is_finalize (slice_get (calls_of recording rank) stand) false ≡ true) same there
+    subst (λ (stand : ℕ). option_map_or ends_list (slice_get (calls_of recording rank) stand) false ≡ true) same there
 
-pub no_run_brings_a_stuck_rank_to_finalize : NoRunBringsAStuckRankToFinalize
-no_run_brings_a_stuck_rank_to_finalize reading groups recording rank states is_run stuck =
+pub no_run_brings_a_stuck_rank_to_its_end : NoRunBringsAStuckRankToItsEnd
+no_run_brings_a_stuck_rank_to_its_end reading groups recording rank states is_run stuck =
     ⊎_elim
-    (λ (there : is_at_finalize recording (end_over recording states) rank ≡ true). absurd (false≢true (sym stuck ∙ brought_to_finalize reading groups recording rank states is_run there)))
-    (λ (not_there : is_at_finalize recording (end_over recording states) rank ≡ false). not_there)
-    (cases_Bool (is_at_finalize recording (end_over recording states) rank))
+    (λ (there : is_at_end recording (end_over recording states) rank ≡ true). absurd (false≢true (sym stuck ∙ brought_to_its_end reading groups recording rank states is_run there)))
+    (λ (not_there : is_at_end recording (end_over recording states) rank ≡ false). not_there)
+    (cases_Bool (is_at_end recording (end_over recording states) rank))
 
 pub every_maximal_run_brings_the_others : EveryMaximalRunBringsTheOthers
 every_maximal_run_brings_the_others reading groups recording rank states maximal there =
     let same = (every_maximal_run_ends_at_the_stands reading groups recording).1.of_all states maximal in
-    subst (λ (s : State). is_at_finalize recording s rank ≡ true) (sym same) there
+    subst (λ (s : State). is_at_end recording s rank ≡ true) (sym same) there
 
 steps_on : (can on : Rule) → ((s : State) (rank : ℕ) → can s rank ≡ true → on s rank ≡ true) → (s : State) (states : List State) → Steps can s states → Steps on s states
 steps_on can on more s [] steps = tt

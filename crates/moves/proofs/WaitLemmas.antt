@@ -8,9 +8,10 @@ use Rattle.std.proofs.lemmas.List.Folds.{list_all-append, list_all-map}
 use Rattle.std.proofs.lemmas.List.{take_all}
 use Rattle.std.proofs.lemmas.Option.{none-some, same_Some, slice_get-get_or}
 use Rattle.std.proofs.lemmas.Bool.{cases_lt, cases_Bool, false≢true, leb-true, le-leb}
+use Rattle.mpicall.specs.Ending.{ends_list}
 use Rattle.mpicall.specs.declared.call.Call.{Call}
 use Rattle.mpigroup.specs.Groups.{Groups, group_of}
-use Rattle.pairing.specs.Recordings.{Lists, calls_of, is_finalize}
+use Rattle.pairing.specs.Recordings.{Lists, calls_of}
 use Rattle.pairing.specs.Pairs.{completed_of}
 use Rattle.pairing.specs.Requests.{starts, completes, started_before}
 use Rattle.pairing.specs.Waves.{wave_of}
@@ -207,7 +208,7 @@ told_call_by_requests reading groups recording s waves rank place call Passes th
 told_call_by_requests reading groups recording s waves rank place call (Partner p) there none own h = (record { call = call; is_present = there; starts_none = none; which = inr (h.0, h.1) }, h.2)
 told_call_by_requests reading groups recording s waves rank place call (Wave comm) there none own h = (h.1, record { call = call; is_present = there; starts_none = none; which = inr (h.0, h.2) }, h.3)
 
-pub told_rank : (reading : Reading) (groups : Groups) (recording : Lists) (s : State) (waves : Waves) (rank place : ℕ) (call : Call) (look : Look) → place ≡ get_or s rank 0 → slice_get (calls_of recording rank) place ≡ Some call → is_finalize call ≡ false → TellsCall reading groups recording s waves rank place call look → TellsRank reading groups recording s waves rank look
+pub told_rank : (reading : Reading) (groups : Groups) (recording : Lists) (s : State) (waves : Waves) (rank place : ℕ) (call : Call) (look : Look) → place ≡ get_or s rank 0 → slice_get (calls_of recording rank) place ≡ Some call → ends_list call ≡ false → TellsCall reading groups recording s waves rank place call look → TellsRank reading groups recording s waves rank look
 told_rank reading groups recording s waves rank place call look stands there goes h =
     by_look look
     (subst (λ (k : ℕ). slice_get (calls_of recording rank) k ≡ Some call) stands there)
@@ -215,7 +216,7 @@ told_rank reading groups recording s waves rank place call look stands there goe
   where
     by_look : (look : Look) → slice_get (calls_of recording rank) (get_or s rank 0) ≡ Some call → TellsCall reading groups recording s waves rank (get_or s rank 0) call look → TellsRank reading groups recording s waves rank look
     by_look Over there h = absurd h
-    by_look Passes there h = can_from_pass reading groups recording s rank (record { call = call; is_present = there; is_not_finalize = goes; needs_met = h })
+    by_look Passes there h = can_from_pass reading groups recording s rank (record { call = call; is_present = there; is_no_end = goes; needs_met = h })
     by_look (Partner p) there h = record { is_awaited = h.0; is_unmet = h.1 }
     by_look (Wave comm) there h = record { start = h.0; is_awaited = h.1; is_joined = h.2 }
 

@@ -10,13 +10,14 @@ use Rattle.std.specs.Prelude.{ℕ, Bool, false, true, not, ◌&&◌, ◌||◌, n
 use Rattle.std.specs.List.{list_all}
 use Rattle.std.specs.Option.{option_map_or}
 use Rattle.mpicall.specs.declared.call.Mode.TheVariants.{Standard, Buffered}
+use Rattle.mpicall.specs.Ending.{ends_list}
 use Rattle.mpicall.specs.declared.call.Call.{Call}
 use Rattle.mpicall.specs.declared.call.Call.TheVariants.{Send, Isend, Sendrecv}
 use Rattle.mpigroup.specs.Groups.{Groups, group_of, world_rank_of}
 use Rattle.pairing.specs.declared.envelope.Half.{Half}
 use Rattle.pairing.specs.declared.envelope.Half.TheVariants.{Send as SendHalf, Recv as RecvHalf}
 use Rattle.pairing.specs.declared.envelope.Message.{Message}
-use Rattle.pairing.specs.Recordings.{Lists, calls_of, is_finalize}
+use Rattle.pairing.specs.Recordings.{Lists, calls_of}
 use Rattle.pairing.specs.Envelopes.{message_of}
 use Rattle.pairing.specs.Partners.{partner_of}
 use Rattle.pairing.specs.Requests.{starts, completes, started_before}
@@ -102,12 +103,12 @@ abbrev pub is_met : State → Need → Bool
 is_met stands (At rank place) = nat_le place (slice_index stands rank)
 is_met stands (Lacking rank) = false
 
--- a rank may pass a call other than Finalize
+-- a rank may pass a call that doesn't end its list
 abbrev pub may_pass : Option Call → Bool
 may_pass None = false
-may_pass (Some call) = not (is_finalize call)
+may_pass (Some call) = not (ends_list call)
 
--- A rank can move if its present call is not Finalize and each of that call's needs is met.
+-- A rank can move if its present call doesn't end its list and each of that call's needs is met.
 abbrev pub can_move : Reading → Groups → Lists → Rule
 can_move reading groups recording stands rank =
     may_pass (slice_get (calls_of recording rank) (slice_index stands rank))

@@ -3,9 +3,10 @@
 use Rattle.moves.specs.declared.reading.Reading.{Reading}
 use Rattle.std.specs.Prelude.{◌≡◌, ℕ, ◌≤◌, Bool, true, false, Some, List, length, map, slice_get, slice_index}
 use Rattle.std.specs.Option.{option_map_or}
-use Rattle.mpicall.specs.declared.call.Call.TheVariants.{Finalize}
+use Rattle.mpicall.specs.Ending.{ends_list}
+use Rattle.mpicall.specs.declared.call.Call.{Call}
 use Rattle.mpigroup.specs.Groups.{Groups}
-use Rattle.pairing.specs.Recordings.{Lists, calls_of, is_finalize, GoesOn}
+use Rattle.pairing.specs.Recordings.{Lists, calls_of, GoesOn}
 use Rattle.moves.specs.Runs.{State, IsRun, end_of, IsMaximal, IsTheEnd, StandsNoLater, total, lowest_run}
 use Rattle.moves.specs.Needs.{can_move}
 
@@ -29,9 +30,9 @@ lowest_run_over reading groups recording = lowest_run (can_move reading groups r
 abbrev pub stands_of : Reading → Groups → Lists → State
 stands_of reading groups recording = end_over recording (lowest_run_over reading groups recording)
 
--- in a state, the rank's present call is its Finalize
-abbrev pub is_at_finalize : Lists → State → ℕ → Bool
-is_at_finalize recording stands rank = option_map_or is_finalize (slice_get (calls_of recording rank) (slice_index stands rank)) false
+-- in a state, the rank's present call is the one that ends its list
+abbrev pub is_at_end : Lists → State → ℕ → Bool
+is_at_end recording stands rank = option_map_or ends_list (slice_get (calls_of recording rank) (slice_index stands rank)) false
 
 -- Law: over every recording, the run that always moves the lowest rank is maximal, and every maximal run
 -- ends at the stands.
@@ -41,20 +42,20 @@ EveryMaximalRunEndsAtTheStands =
     IsMaximal (can_move reading groups recording) (length recording) (lowest_run_over reading groups recording)
     × IsTheEnd (can_move reading groups recording) (length recording) (stands_of reading groups recording)
 
--- Law: a rank that is not at its Finalize at the stands is brought there by no run, maximal or not.
-abbrev pub NoRunBringsAStuckRankToFinalize : Type 0
-NoRunBringsAStuckRankToFinalize =
+-- Law: a rank that is not at its end at the stands is brought there by no run, maximal or not.
+abbrev pub NoRunBringsAStuckRankToItsEnd : Type 0
+NoRunBringsAStuckRankToItsEnd =
     (reading : Reading) (groups : Groups) (recording : Lists) (rank : ℕ) (states : List State) → IsRunOver reading groups recording states →
-    is_at_finalize recording (stands_of reading groups recording) rank ≡ false →
-    is_at_finalize recording (end_over recording states) rank ≡ false
+    is_at_end recording (stands_of reading groups recording) rank ≡ false →
+    is_at_end recording (end_over recording states) rank ≡ false
 
--- Law: a rank that is at its Finalize at the stands is brought there by every maximal run.
+-- Law: a rank that is at its end at the stands is brought there by every maximal run.
 abbrev pub EveryMaximalRunBringsTheOthers : Type 0
 EveryMaximalRunBringsTheOthers =
     (reading : Reading) (groups : Groups) (recording : Lists) (rank : ℕ) (states : List State) →
     IsMaximal (can_move reading groups recording) (length recording) states →
-    is_at_finalize recording (stands_of reading groups recording) rank ≡ true →
-    is_at_finalize recording (end_over recording states) rank ≡ true
+    is_at_end recording (stands_of reading groups recording) rank ≡ true →
+    is_at_end recording (end_over recording states) rank ≡ true
 
 -- Law: a longer recording lowers no stand.
 abbrev pub LongerRecordingsLowerNoStand : Type 0
@@ -62,9 +63,9 @@ LongerRecordingsLowerNoStand =
     (reading : Reading) (groups : Groups) (recording longer : Lists) → GoesOn recording longer →
     StandsNoLater (stands_of reading groups recording) (stands_of reading groups longer)
 
--- Law: no run moves a rank past its Finalize, so a call after it is never reached.
-abbrev pub NoCallAfterFinalizeIsReached : Type 0
-NoCallAfterFinalizeIsReached =
-    (reading : Reading) (groups : Groups) (recording : Lists) (rank place : ℕ) (states : List State) → IsRunOver reading groups recording states →
-    slice_get (calls_of recording rank) place ≡ Some Finalize →
+-- Law: no run moves a rank past a call that ends its list, so a call behind it is never reached.
+abbrev pub NoCallBehindTheEndIsReached : Type 0
+NoCallBehindTheEndIsReached =
+    (reading : Reading) (groups : Groups) (recording : Lists) (rank place : ℕ) (call : Call) (states : List State) → IsRunOver reading groups recording states →
+    slice_get (calls_of recording rank) place ≡ Some call → ends_list call ≡ true →
     slice_index (end_over recording states) rank ≤ place

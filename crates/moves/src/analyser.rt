@@ -10,7 +10,7 @@ ghost use Rattle.pairing.specs.Pairs.{TellsFault};
 ghost use Rattle.pairing.specs.declared.added.PairFault.TheVariants.{Refused, Memory};
 ghost use Rattle.moves.specs.Runs.{start, IsTheEnd, StandsNoLater};
 ghost use Rattle.moves.specs.Needs.{can_move};
-ghost use Rattle.moves.specs.Stands.{stands_of, is_at_finalize};
+ghost use Rattle.moves.specs.Stands.{stands_of, is_at_end};
 ghost use Rattle.moves.specs.Arrivals.{IsKeptOn};
 ghost use Rattle.moves.specs.Analysed.{most_touches};
 
@@ -31,13 +31,23 @@ use std::marker::Model;
 /// completed. At any time the ranks stand where every maximal run over these calls ends. They see too how
 /// often waiting ranks and waves were touched: what the arena of the waiting ranks counts, and the changes of
 /// how far waves are.
-#[derive(Drop)]
 pub struct Analyser {
     reading: Reading,
     pairs: Pairs,
     stands: Vec<u32>,
     waves: Waves,
     waiters: Waiters,
+}
+
+impl Drop for Analyser {
+    fn drop(self) {
+        let Analyser {
+            pairs: _,
+            stands: _,
+            waves: _,
+            waiters: _,
+        } = self;
+    }
 }
 
 impl Model for Analyser {
@@ -182,10 +192,10 @@ impl Analyser {
 
     /// Whether a rank stands at its Finalize; not where there is no such rank.
     pub fn is_ended(&self, rank: u16) -> bool
-        ensures { result ≡ is_at_finalize self.now.recording self.now.stands rank }
+        ensures { result ≡ is_at_end self.now.recording self.now.stands rank }
     {
         match self.pairs.call(rank, stand_of(&self.stands, rank)) {
-            Some(call) => call.is_finalize(),
+            Some(call) => call.ends_list(),
             None => false,
         }
     }

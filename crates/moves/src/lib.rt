@@ -6,10 +6,8 @@
 //!   ranks stand. `offer` refuses a call exactly where it has a fault, with the first one, or where memory
 //!   is wanted, and then nothing has changed. After each offer the ranks stand where every maximal run over
 //!   the accepted calls ends, and no rank stands lower than before. No query takes memory.
-//! - `verdict::verdict_of` answers the verdict over the calls so far: `Hang` exactly if some rank does not
-//!   stand at its Finalize.
 //! - Every maximal run over a recording ends at the same stands, and there is one: the law
-//!   `stand::every_maximal_run_ends_at_the_stands`. No run brings a rank to its Finalize that isn't there at
+//!   `stand::every_maximal_run_ends_at_the_stands`. No run brings a rank to its end that isn't there at
 //!   the stands, every maximal run brings the others, and a longer recording lowers no stand.
 //! - However the ranks' calls are mixed, the same calls are kept and the ranks come to stand alike: the laws
 //!   `arrival::mixes_are_kept_alike` and `arrival::mixes_stand_alike`.
@@ -33,7 +31,7 @@
 //! analyser.stand(0) == Some(1)
 //! analyser.offer(0, &finalize)?;
 //! analyser.offer(1, &finalize)?;
-//! verdict_of(&analyser) == Verdict::Free
+//! analyser.is_ended(0) && analyser.is_ended(1)
 //! ```
 #![tactic(auto)]
 
@@ -45,6 +43,5 @@ pub mod reading;
 pub mod run;
 mod settle;
 pub mod stand;
-pub mod verdict;
 mod waiters;
 mod waves;

@@ -195,7 +195,7 @@ pub(crate) fn look_at(reading: Reading, pairs: &Pairs, stands: &[u32], waves: &W
         return Look::Over;
     }
     match pairs.call(rank, stand) {
-        Some(call) if !call.is_finalize() => look_at_call(reading, pairs, stands, waves, rank, stand, &call),
+        Some(call) if !call.ends_list() => look_at_call(reading, pairs, stands, waves, rank, stand, &call),
         _ => Look::Over,
     }
 }

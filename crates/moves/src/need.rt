@@ -4,7 +4,7 @@ ghost use Rattle.std.specs.Prelude.{◌≡◌, slice_index};
 ghost use Rattle.moves.specs.Needs.{is_met};
 
 /// What a call needs before its rank moves on.
-#[derive(Clone, Copy, Debug, PartialEq, Eq)]
+#[derive(Clone, Copy, PartialEq, Eq)]
 pub enum Need {
     /// The rank has reached its call at the place.
     At { rank: u16, place: u32 },

@@ -1,6 +1,6 @@
 //! Where ranks come to stand by the strict reading, and what that tells of every run.
 
-ghost use Rattle.moves.specs.Stands.{EveryMaximalRunEndsAtTheStands, NoRunBringsAStuckRankToFinalize, EveryMaximalRunBringsTheOthers, LongerRecordingsLowerNoStand, NoCallAfterFinalizeIsReached};
+ghost use Rattle.moves.specs.Stands.{EveryMaximalRunEndsAtTheStands, NoRunBringsAStuckRankToItsEnd, EveryMaximalRunBringsTheOthers, LongerRecordingsLowerNoStand, NoCallBehindTheEndIsReached};
 
 /// Over every recording, the run that always moves the lowest rank is maximal, and every maximal run ends
 /// at the stands. It has no premise: the recording need be neither closed nor lawful.
@@ -8,12 +8,12 @@ pub fn every_maximal_run_ends_at_the_stands()
     ensures { EveryMaximalRunEndsAtTheStands }
 {}
 
-/// A rank that is not at its Finalize at the stands is brought there by no run, maximal or not.
-pub fn no_run_brings_a_stuck_rank_to_finalize()
-    ensures { NoRunBringsAStuckRankToFinalize }
+/// A rank that is not at its end at the stands is brought there by no run, maximal or not.
+pub fn no_run_brings_a_stuck_rank_to_its_end()
+    ensures { NoRunBringsAStuckRankToItsEnd }
 {}
 
-/// A rank that is at its Finalize at the stands is brought there by every maximal run.
+/// A rank that is at its end at the stands is brought there by every maximal run.
 pub fn every_maximal_run_brings_the_others()
     ensures { EveryMaximalRunBringsTheOthers }
 {}
@@ -24,7 +24,7 @@ pub fn longer_recordings_lower_no_stand()
     ensures { LongerRecordingsLowerNoStand }
 {}
 
-/// No run moves a rank past its Finalize, so a call after it is never reached.
-pub fn no_call_after_finalize_is_reached()
-    ensures { NoCallAfterFinalizeIsReached }
+/// No run moves a rank past a call that ends its list, so a call behind it is never reached.
+pub fn no_call_behind_the_end_is_reached()
+    ensures { NoCallBehindTheEndIsReached }
 {}

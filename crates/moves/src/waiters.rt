@@ -13,11 +13,20 @@ use std::marker::Model;
 
 /// The worklist, a list for each rank, where it waits for a partner, and one for each communicator, for the
 /// ranks that wait for its waves. A rank stands in one list at most.
-#[derive(Drop)]
 pub(crate) struct Waiters {
     lists: Lists<u16>,
     ids: Vec<ListId>,
     awaited: Vec<u32>,
+}
+
+impl Drop for Waiters {
+    fn drop(self) {
+        let Waiters {
+            lists: _,
+            ids: _,
+            awaited: _,
+        } = self;
+    }
 }
 
 impl Model for Waiters {

@@ -15,11 +15,20 @@ use std::alloc::{AllocError, Global};
 /// How far the waves of each communicator are: how many are complete, the first ones, and how many members,
 /// from the first on, have reached their calls of the next one. So a look at a wave is a look at one number.
 /// `changes` counts how often one of these numbers was changed for a call that was reached.
-#[derive(Drop)]
 pub(crate) struct Waves {
     pub complete: Vec<u32>,
     pub met: Vec<u16>,
     pub changes: u64,
+}
+
+impl Drop for Waves {
+    fn drop(self) {
+        let Waves {
+            complete: _,
+            met: _,
+            changes: _,
+        } = self;
+    }
 }
 
 /// Whether a member, by its rank in the group and its rank of the world, has reached its call of the wave.

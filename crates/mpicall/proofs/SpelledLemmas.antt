@@ -106,23 +106,23 @@ no_bytes place args count = let none : slice_get args place ≡ None = slice_get
 
 blocking_rebuilt : (o : Operation) (args : List Argument) → length args ≡ length (operation_forms o (length args)) → arguments_of (call_of (Blocking o) args) ≡ rebuild (operation_forms o (length args)) 0 args
 blocking_rebuilt (Send Standard) args count =
-    ap (λ others. Number 255 (number_in (at args 0)) ∷ PeerOf (peer_in (at args 1)) ∷ Number 2147483647 (number_in (at args 2)) ∷ others) (bytes_rebuilt (length args == 3 + 1) 3 args (omega (arith, count)))
+    ap (λ others. Number GREATEST_COMM (number_in (at args 0)) ∷ PeerOf (peer_in (at args 1)) ∷ Number 2147483647 (number_in (at args 2)) ∷ others) (bytes_rebuilt (length args == 3 + 1) 3 args (omega (arith, count)))
 blocking_rebuilt (Send Synchronous) args count = rw (no_bytes 3 args count) refl
 blocking_rebuilt (Send Buffered) args count = rw (no_bytes 3 args count) refl
 blocking_rebuilt Recv args count = refl
-blocking_rebuilt (Coll c) args count = ap (λ others. Number 255 (number_in (at args 0)) ∷ others) (root_rebuilt c 1 args)
+blocking_rebuilt (Coll c) args count = ap (λ others. Number GREATEST_COMM (number_in (at args 0)) ∷ others) (root_rebuilt c 1 args)
 
 started_rebuilt : (o : Operation) (args : List Argument) → length args ≡ length (request_form ∷ operation_forms o (length args - 1)) → arguments_of (call_of (Started o) args) ≡ rebuild (request_form ∷ operation_forms o (length args - 1)) 0 args
 started_rebuilt (Send Standard) args count =
-    ap (λ others. Number 2147483647 (number_in (at args 0)) ∷ Number 255 (number_in (at args 1)) ∷ PeerOf (peer_in (at args 2)) ∷ Number 2147483647 (number_in (at args 3)) ∷ others) (bytes_rebuilt (length args - 1 == 3 + 1) 4 args (omega (arith, count)))
+    ap (λ others. Number 2147483647 (number_in (at args 0)) ∷ Number GREATEST_COMM (number_in (at args 1)) ∷ PeerOf (peer_in (at args 2)) ∷ Number 2147483647 (number_in (at args 3)) ∷ others) (bytes_rebuilt (length args - 1 == 3 + 1) 4 args (omega (arith, count)))
 started_rebuilt (Send Synchronous) args count = rw (no_bytes 4 args count) refl
 started_rebuilt (Send Buffered) args count = rw (no_bytes 4 args count) refl
 started_rebuilt Recv args count = refl
-started_rebuilt (Coll c) args count = ap (λ others. Number 2147483647 (number_in (at args 0)) ∷ Number 255 (number_in (at args 1)) ∷ others) (root_rebuilt c 2 args)
+started_rebuilt (Coll c) args count = ap (λ others. Number 2147483647 (number_in (at args 0)) ∷ Number GREATEST_COMM (number_in (at args 1)) ∷ others) (root_rebuilt c 2 args)
 
 sendrecv_rebuilt : (args : List Argument) → length args ≡ length (comm_form ∷ PeerForm ∷ tag_form ∷ PeerForm ∷ tag_form ∷ bytes_forms 5 (length args)) → arguments_of (call_of Sendrecv args) ≡ rebuild (comm_form ∷ PeerForm ∷ tag_form ∷ PeerForm ∷ tag_form ∷ bytes_forms 5 (length args)) 0 args
 sendrecv_rebuilt args count =
-    ap (λ others. Number 255 (number_in (at args 0)) ∷ PeerOf (peer_in (at args 1)) ∷ Number 2147483647 (number_in (at args 2)) ∷ PeerOf (peer_in (at args 3)) ∷ Number 2147483647 (number_in (at args 4)) ∷ others) (bytes_rebuilt (length args == 5 + 1) 5 args (omega (arith, count)))
+    ap (λ others. Number GREATEST_COMM (number_in (at args 0)) ∷ PeerOf (peer_in (at args 1)) ∷ Number 2147483647 (number_in (at args 2)) ∷ PeerOf (peer_in (at args 3)) ∷ Number 2147483647 (number_in (at args 4)) ∷ others) (bytes_rebuilt (length args == 5 + 1) 5 args (omega (arith, count)))
 
 same_arguments : (forms wanted : List Form) (args made : List Argument) → made ≡ rebuild forms 0 args → Fixed forms ≡ Fixed wanted → map form_of args ≡ wanted → made ≡ args
 same_arguments forms wanted args made e same is =

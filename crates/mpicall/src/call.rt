@@ -3,7 +3,7 @@
 use crate::reqs::Reqs;
 
 /// The other end of a point-to-point call.
-#[derive(Clone, Copy, Debug, PartialEq, Eq)]
+#[derive(Clone, Copy, PartialEq, Eq)]
 pub enum Peer {
     /// A rank of the communicator's group.
     Rank(u16),
@@ -12,7 +12,7 @@ pub enum Peer {
 }
 
 /// How a send completes (MPI 4.0, section 3.4).
-#[derive(Clone, Copy, Debug, PartialEq, Eq)]
+#[derive(Clone, Copy, PartialEq, Eq)]
 pub enum Mode {
     Standard,
     Synchronous,
@@ -21,7 +21,7 @@ pub enum Mode {
 
 /// A collective operation over a communicator (MPI 4.0, chapter 6); the rooted ones name the root's
 /// rank in the communicator's group.
-#[derive(Clone, Copy, Debug, PartialEq, Eq)]
+#[derive(Clone, Copy, PartialEq, Eq)]
 pub enum Kind {
     Barrier,
     Bcast(u16),
@@ -38,7 +38,7 @@ pub enum Kind {
 /// One MPI call with its recorded arguments. `comm` is a communicator of the run's head, with 0 the
 /// world; `dest` and `source` are ranks of that communicator's group; tags are those of messages; `req`
 /// and `reqs` are numbers that the recorder gave to requests.
-#[derive(Clone, Copy, Debug, PartialEq, Eq)]
+#[derive(Clone, Copy, PartialEq, Eq)]
 pub enum Call {
     /// `bytes` is how many bytes the message has, where a standard send tells it.
     Send {

@@ -7,7 +7,7 @@ use crate::device::{DeviceFault, Input, Output};
 use std::io::{Read, Write};
 
 /// A std reader as an input, or a std writer as an output, with the count of its failures.
-#[derive(Debug, Drop)]
+#[derive(Drop)]
 pub struct Counted<T> {
     inner: T,
     failures: u64,

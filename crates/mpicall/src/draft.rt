@@ -15,7 +15,7 @@ use itoa::Buffer;
 use std::marker::Model;
 
 /// A line that is being put together; contracts see its bytes so far.
-#[derive(Debug, Drop)]
+#[derive(Drop)]
 pub(crate) struct Draft {
     bytes: [u8; MOST_LINE_BYTES],
     len: usize,

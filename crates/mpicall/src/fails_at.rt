@@ -6,7 +6,7 @@ ghost use Rattle.mpicall.specs.Device.{count_if};
 use crate::device::{DeviceFault, Input, Output};
 
 /// A device whose call `at`, counted from 0, fails; each other call is one of the device within.
-#[derive(Debug, Drop)]
+#[derive(Drop)]
 pub struct FailsAt<D> {
     device: D,
     /// How many calls come before the one that fails; None once that one has come.

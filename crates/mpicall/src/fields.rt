@@ -8,7 +8,7 @@ ghost use Rattle.mpicall.specs.Lines.{split_fields, is_blank};
 use std::marker::Model;
 
 /// The fields that are still to come; contracts see their list.
-#[derive(Clone, Debug, Drop)]
+#[derive(Clone, Drop)]
 pub struct Fields<'a> {
     rest: Option<&'a [u8]>,
 }

@@ -9,7 +9,7 @@ use std::alloc::Global;
 /// An input over bytes in memory, which never fails.
 ///
 /// It gives at most `most` bytes a read, so that a test can hand out a text in pieces.
-#[derive(Debug, Drop)]
+#[derive(Drop)]
 pub struct MemoryInput<'a> {
     left: &'a [u8],
     most: usize,
@@ -50,7 +50,7 @@ impl<'a> Input for MemoryInput<'a> {
 }
 
 /// An output that keeps its bytes in memory, and fails where memory is refused.
-#[derive(Debug, Drop)]
+#[derive(Drop)]
 pub struct MemoryOutput {
     bytes: Vec<u8>,
     failures: u64,

@@ -7,7 +7,7 @@ use std::marker::Model;
 
 /// One to [`MOST_REQUESTS`] numbers of requests, in the order in which a wait names them. Contracts see
 /// their list.
-#[derive(Clone, Copy, Debug, PartialEq, Eq)]
+#[derive(Clone, Copy, PartialEq, Eq)]
 pub struct Reqs {
     cells: [u32; MOST_REQUESTS],
     len: u8,

@@ -13,7 +13,7 @@ use crate::record::Record;
 use crate::window::{Window, has_more, line_end};
 
 /// How far a source is.
-#[derive(Clone, Copy, Debug, PartialEq, Eq)]
+#[derive(Clone, Copy, PartialEq, Eq)]
 enum Stage {
     /// No `finalize` was read so far.
     Reading,
@@ -27,7 +27,7 @@ enum Stage {
 
 /// A source of records over an input. It asks its input only while what it holds neither has a line
 /// feed nor is longer than a line may be, and behind `finalize` only while it holds nothing.
-#[derive(Debug, Drop)]
+#[derive(Drop)]
 pub struct Source<I> {
     input: I,
     window: Window,

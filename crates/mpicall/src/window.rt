@@ -14,7 +14,7 @@ use std::marker::Model;
 const CAPACITY: usize = 16384;
 
 /// Bytes that were read and not yet used; contracts see their list.
-#[derive(Debug, Drop)]
+#[derive(Drop)]
 pub(crate) struct Window {
     buffer: [u8; CAPACITY],
     /// Where the held bytes begin and end in the buffer.

@@ -7,7 +7,7 @@ ghost use Rattle.mpicall.specs.Spelling.{name_of, root_of, word_of_call};
 use crate::call::{Call, Kind, Mode};
 
 /// The collectives by name.
-#[derive(Clone, Copy, Debug, PartialEq, Eq)]
+#[derive(Clone, Copy, PartialEq, Eq)]
 pub enum Collective {
     Barrier,
     Bcast,
@@ -22,7 +22,7 @@ pub enum Collective {
 }
 
 /// What a call may do at once, or start.
-#[derive(Clone, Copy, Debug, PartialEq, Eq)]
+#[derive(Clone, Copy, PartialEq, Eq)]
 pub enum Operation {
     Send(Mode),
     Recv,
@@ -30,7 +30,7 @@ pub enum Operation {
 }
 
 /// A word that a line may begin with.
-#[derive(Clone, Copy, Debug, PartialEq, Eq)]
+#[derive(Clone, Copy, PartialEq, Eq)]
 pub enum Word {
     Blocking(Operation),
     Started(Operation),

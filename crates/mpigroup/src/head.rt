@@ -17,11 +17,19 @@ use std::marker::Model;
 
 /// The communicators of a run with their groups. Contracts see the list of the groups, the world's
 /// first, each an ordered list of world ranks.
-#[derive(Debug, Drop)]
 pub struct Head {
     ranks: u16,
     /// The groups of communicators 1, 2 and so on; the world's has the ranks in order.
     further: Vec<Vec<u16>>,
+}
+
+impl Drop for Head {
+    fn drop(self) {
+        let Head {
+            ranks: _,
+            further: _,
+        } = self;
+    }
 }
 
 impl Model for Head {

@@ -5,7 +5,6 @@ use Rattle.std.specs.List.{list_any}
 use Rattle.std.specs.Option.{option_map_or}
 use Rattle.mpicall.specs.Ending.{ends_list}
 use Rattle.mpicall.specs.declared.call.Call.{Call}
-use Rattle.mpicall.specs.declared.call.Call.TheVariants.{Finalize}
 
 -- each rank's list of calls
 abbrev pub Lists : Type 0
@@ -18,11 +17,6 @@ calls_of recording rank = unwrap_or (slice_get recording rank) []
 -- the recording with one more call at the end of the rank's list
 abbrev pub appended : Lists → ℕ → Call → Lists
 appended recording rank call = slice_set recording rank (calls_of recording rank ++ call ∷ [])
-
--- whether the call is MPI_Finalize (MPI 4.0, section 11.2.2)
-abbrev pub is_finalize : Call → Bool
-is_finalize Finalize = true
-is_finalize _ = false
 
 -- some call of the list ends it
 abbrev pub has_end : List Call → Bool

@@ -13,7 +13,7 @@ use mpicall::record::Record;
 use std::alloc::{AllocError, Global};
 
 /// A request of a rank, by the number that the rank's recorder gave it.
-#[derive(Clone, Copy, Debug, PartialEq, Eq, Hash)]
+#[derive(Clone, Copy, PartialEq, Eq, Hash)]
 pub(crate) struct Request {
     rank: u16,
     req: u32,

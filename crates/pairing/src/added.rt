@@ -5,7 +5,7 @@ use thiserror::Error;
 
 /// The wave that a call joins: its communicator, its number from 0, and whether each member of the
 /// communicator has its call of the wave.
-#[derive(Clone, Copy, Debug, PartialEq, Eq)]
+#[derive(Clone, Copy, PartialEq, Eq)]
 pub struct Joined {
     pub comm: u16,
     pub wave: u32,
@@ -14,7 +14,7 @@ pub struct Joined {
 
 /// What the adding of a call made known: for each of its halves the rank and place of the partner, if it
 /// has one already, and the wave that the call joins.
-#[derive(Clone, Copy, Debug, PartialEq, Eq)]
+#[derive(Clone, Copy, PartialEq, Eq)]
 pub struct Added {
     pub send: Option<(u16, u32)>,
     pub recv: Option<(u16, u32)>,

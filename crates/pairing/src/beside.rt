@@ -7,7 +7,7 @@ use crate::envelope::Half;
 
 /// What is kept beside a call: the number of the wave that a collective joins, and the places of the calls
 /// that its halves go with, as far as they came.
-#[derive(Clone, Copy, Debug)]
+#[derive(Clone, Copy)]
 pub(crate) enum Beside {
     Nothing,
     Wave { number: u32 },

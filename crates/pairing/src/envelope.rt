@@ -8,7 +8,7 @@ use mpicall::record::Record;
 use mpigroup::head::Head;
 
 /// A half of a call: it sends a message, or it receives one.
-#[derive(Clone, Copy, Debug, PartialEq, Eq)]
+#[derive(Clone, Copy, PartialEq, Eq)]
 pub enum Half {
     Send,
     Recv,
@@ -28,7 +28,7 @@ impl Half {
 
 /// What a call says of the message that one of its halves sends or receives. The peer is a rank of the
 /// communicator's group: the destination of what is sent, the source of what is received.
-#[derive(Clone, Copy, Debug, PartialEq, Eq)]
+#[derive(Clone, Copy, PartialEq, Eq)]
 pub struct Message {
     pub comm: u16,
     pub peer: u16,
@@ -37,7 +37,7 @@ pub struct Message {
 
 /// What a message carries beside its data. Source and destination are ranks of the communicator's
 /// group.
-#[derive(Clone, Copy, Debug, PartialEq, Eq, Hash)]
+#[derive(Clone, Copy, PartialEq, Eq, Hash)]
 pub struct Envelope {
     pub comm: u16,
     pub source: u16,

@@ -11,7 +11,7 @@ use mpicall::record::Record;
 use std::alloc::{AllocError, Global};
 
 /// A communicator that a rank has made.
-#[derive(Clone, Copy, Debug, PartialEq, Eq, Hash)]
+#[derive(Clone, Copy, PartialEq, Eq, Hash)]
 pub(crate) struct Holding {
     rank: u16,
     comm: u16,

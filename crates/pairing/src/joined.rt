@@ -20,10 +20,15 @@ use std::marker::Model;
 
 /// The places of collectives by rank and communicator, in the order of the ranks' lists. What they are is
 /// said over each recording whose calls were put in so far, and no others.
-#[derive(Drop)]
 pub(crate) struct Waves {
     // The lists of each rank, one for each communicator.
     ranks: Vec<PlaceLists>,
+}
+
+impl Drop for Waves {
+    fn drop(self) {
+        let Waves { ranks: _ } = self;
+    }
 }
 
 impl Model for Waves {

@@ -42,12 +42,21 @@ fn list_no(half: Half, number: usize) -> usize
 
 /// The places of sends and receives that have no partner yet, by their envelopes. An envelope has its number
 /// from the first call that makes room for it.
-#[derive(Drop)]
 pub(crate) struct Matches {
     envelopes: IndexSet<Envelope>,
     // Of the envelope with number n list 2n has the pending sends, and list 2n + 1 the pending receives.
     ids: Vec<ListId>,
     pending: Lists<u32>,
+}
+
+impl Drop for Matches {
+    fn drop(self) {
+        let Matches {
+            envelopes: _,
+            ids: _,
+            pending: _,
+        } = self;
+    }
 }
 
 impl Model for Matches {

@@ -2,7 +2,6 @@
 
 ghost use Rattle.std.specs.Prelude.{◌≡◌, ◌==◌, length, slice_get, find};
 ghost use Rattle.mpicall.specs.Ending.{ends_list};
-ghost use Rattle.pairing.specs.Recordings.{is_finalize};
 ghost use Rattle.pairing.specs.Envelopes.{message_of};
 ghost use Rattle.pairing.specs.Beside.{partner_in, wave_in};
 ghost use Rattle.pairing.specs.Requests.{starts, completes};
@@ -101,13 +100,6 @@ impl<'a> Note<'a> {
         ensures { result ≡ joins self.now.call }
     {
         self.entry.call.joins()
-    }
-
-    /// Whether the call is MPI_Finalize.
-    pub(crate) fn is_finalize(&self) -> bool
-        ensures { result ≡ is_finalize self.now.call }
-    {
-        self.entry.call.is_finalize()
     }
 
     /// Whether no call of the rank comes behind this one.

@@ -16,9 +16,14 @@ use std::marker::Model;
 
 /// The noted calls of all ranks. Contracts see each rank's list, rank 0 first, and for how many more calls
 /// it has room.
-#[derive(Drop)]
 pub(crate) struct Notes {
     lists: Vec<RankNotes>,
+}
+
+impl Drop for Notes {
+    fn drop(self) {
+        let Notes { lists: _ } = self;
+    }
 }
 
 impl Model for Notes {

@@ -3,7 +3,6 @@
 
 ghost use Rattle.std.specs.Prelude.{◌≡◌, List, ℕ};
 ghost use Rattle.mpicall.specs.Ending.{ends_list};
-ghost use Rattle.pairing.specs.Recordings.{is_finalize};
 ghost use Rattle.pairing.specs.Envelopes.{message_of};
 ghost use Rattle.pairing.specs.Requests.{starts};
 ghost use Rattle.pairing.specs.Waves.{joins};
@@ -208,13 +207,6 @@ impl Packed {
             | Packed::Split { comm, .. } => Some(comm),
             _ => None,
         }
-    }
-
-    /// Whether the call is MPI_Finalize.
-    pub(crate) fn is_finalize(&self) -> bool
-        ensures { (entries : List Entry) (starts : List ℕ) → result ≡ is_finalize (unpack entries starts self.now) }
-    {
-        matches!(*self, Packed::Finalize)
     }
 
     /// Whether no call of the rank comes behind this one.

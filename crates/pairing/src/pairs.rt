@@ -38,12 +38,21 @@ use std::marker::Model;
 /// The calls of all ranks that were added so far, each after those of its rank before it. Contracts see
 /// the groups of the run's head, and each rank's list of calls. A look-up takes the same time however many
 /// calls there are, on average.
-#[derive(Drop)]
 pub struct Pairs {
     head: Head,
     notes: Notes,
     tables: Tables,
     probing: Probing,
+}
+
+impl Drop for Pairs {
+    fn drop(self) {
+        let Pairs {
+            head: _,
+            notes: _,
+            tables: _,
+        } = self;
+    }
 }
 
 impl Model for Pairs {

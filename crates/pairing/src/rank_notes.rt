@@ -27,11 +27,19 @@ fn push_all(to: &mut Vec<u32>, numbers: &[u32])
 
 /// The noted calls of a rank, in its order. Contracts see each call with what is kept beside it, and for
 /// how many more there is room.
-#[derive(Drop)]
 pub(crate) struct RankNotes {
     entries: Vec<Entry>,
     // The places that started the requests of waits for several.
     starts: Vec<u32>,
+}
+
+impl Drop for RankNotes {
+    fn drop(self) {
+        let RankNotes {
+            entries: _,
+            starts: _,
+        } = self;
+    }
 }
 
 impl Model for RankNotes {

@@ -1,7 +1,7 @@
 //! A call that is kept, seen in place.
 
 ghost use Rattle.std.specs.Prelude.{◌≡◌, length, slice_get};
-ghost use Rattle.pairing.specs.Recordings.{is_finalize};
+ghost use Rattle.mpicall.specs.Ending.{ends_list};
 ghost use Rattle.pairing.specs.Envelopes.{message_of};
 ghost use Rattle.pairing.specs.Requests.{starts, completes};
 ghost use Rattle.pairing.specs.Waves.{joins};
@@ -93,10 +93,10 @@ impl<'a> StoredCall<'a> {
         self.note.completed_req(index)
     }
 
-    /// Whether the call is MPI_Finalize.
-    pub fn is_finalize(&self) -> bool
-        ensures { result ≡ is_finalize self.now }
+    /// Whether no call of the rank comes behind this one.
+    pub fn ends_list(&self) -> bool
+        ensures { result ≡ ends_list self.now }
     {
-        self.note.is_finalize()
+        self.note.ends_list()
     }
 }

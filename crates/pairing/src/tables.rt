@@ -21,12 +21,22 @@ use mpigroup::head::Head;
 use std::alloc::{AllocError, Global};
 
 /// The tables of a recording, which are kept up to date call by call.
-#[derive(Drop)]
 pub(crate) struct Tables {
     pub matches: Matches,
     pub waves: Waves,
     pub held: Held,
     pub active: Active,
+}
+
+impl Drop for Tables {
+    fn drop(self) {
+        let Tables {
+            matches: _,
+            waves: _,
+            held: _,
+            active: _,
+        } = self;
+    }
 }
 
 impl Tables {

@@ -26,7 +26,7 @@ pub enum PutFault {
 pub struct Unsealed;
 
 /// What a taker found.
-#[derive(Clone, Copy, Debug, PartialEq, Eq)]
+#[derive(Clone, Copy, PartialEq, Eq)]
 pub enum Took {
     /// The next record.
     Record(Record),
@@ -39,7 +39,7 @@ pub enum Took {
 }
 
 /// What a taker finds where it looks.
-#[derive(Clone, Copy, Debug, PartialEq, Eq)]
+#[derive(Clone, Copy, PartialEq, Eq)]
 pub enum Came {
     /// The next record, which stands at the front now.
     Record,
@@ -52,7 +52,7 @@ pub enum Came {
 }
 
 /// What a taker learns from its feed's receipt.
-#[derive(Clone, Copy, Debug, PartialEq, Eq)]
+#[derive(Clone, Copy, PartialEq, Eq)]
 pub struct Met {
     /// How many items are left to take, the end mark counted.
     pub count: usize,

@@ -7,7 +7,7 @@ use mpicall::fault::SourceFault;
 use mpicall::record::Record;
 
 /// How a feed ends.
-#[derive(Clone, Copy, Debug, PartialEq, Eq)]
+#[derive(Clone, Copy, PartialEq, Eq)]
 pub enum Ending {
     /// All records were put, Finalize last.
     Sealed,
@@ -16,7 +16,7 @@ pub enum Ending {
 }
 
 /// One item of a feed.
-#[derive(Clone, Copy, Debug)]
+#[derive(Clone, Copy)]
 pub enum Item {
     Entry(Record),
     Mark(Ending),

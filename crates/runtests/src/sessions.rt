@@ -9,7 +9,6 @@ use gather::collector::{Collector, Stepped};
 use gather::fault::{RankFault, Refusal};
 use gather::outcome::CloseFault;
 use gather::session::{OpenFault, Session};
-use moves::verdict::Verdict;
 use mpicall::fault::{LineFault, SourceFault};
 use mpicall::line::read_line;
 use mpicall::record::Record;
@@ -21,6 +20,7 @@ use std::sync::Wait;
 use std::test::Fail;
 use std::thread;
 use std::thread::Threads;
+use waitgraph::verdict::Verdict;
 
 /// A record's line and its rank.
 pub(crate) type Line = (u16, &'static [u8]);
@@ -273,101 +273,6 @@ fn stepped(collector: Collector, wait: &impl Wait) -> Collector
     unreachable!()
 }
 
-/// Puts two ranks' records by a thread each while a third one steps, and tells whether the close has an outcome.
-/// `receipts` has room for two.
-fn by_three_threads<R: Threads + Wait + Sync>(
-    first: Feed,
-    second: Feed,
-    collector: Collector,
-    receipts: Vec<Option<Receipt>>,
-    rt: &R,
-) -> bool
-    requires feeds { rings collector ≡ feed_ring first ∷ feed_ring second ∷ [] }
-    requires none { receipts.items ≡ [] }
-    requires room { 2 ≤ vec_capacity receipts }
-{
-    let mut receipts = receipts;
-    let (put, collector) = thread::join(
-        rt,
-        move || -> (Option<Receipt>, Option<Receipt>)
-            ensures first { IfSome result.0 (λ receipt. receipt_ring receipt ≡ feed_ring first) }
-            ensures second { IfSome result.1 (λ receipt. receipt_ring receipt ≡ feed_ring second) }
-        { put_both(first, second, rt) },
-        move || -> Collector
-            ensures { rings result ≡ rings collector }
-        { stepped(collector, rt) },
-    );
-    receipts.push_reserved(put.0);
-    receipts.push_reserved(put.1);
-    collector.close(receipts).is_ok()
-}
-
-#[test]
-fn two_threads_put_and_a_third_steps(rt: HostRuntime) -> Result<(), Fail> {
-    let head = Head::read(rt.alloc(), b"ranks 2\n")?;
-    let receipts = Vec::with_capacity(rt.alloc(), 2)?;
-    let (mut feeds, collector, _watches) = Session::open(rt.alloc(), head, 1, 0, &rt)?;
-    if let (Some(second), Some(first), true) = (feeds.pop(), feeds.pop(), feeds.is_empty()) {
-        assert!(rt; by_three_threads(first, second, collector, receipts, &rt));
-        Ok(())
-    } else {
-        Err("not two feeds".into())
-    }
-}
-
-/// Puts a record on its rank's feed, takes it, and tells what was found.
-fn deal_one(feeds: &mut Vec<Feed>, collector: &mut Collector, line: Line) -> Result<Stepped, Fail>
-    requires { rings collector.old ≡ map feed_ring feeds.old.items }
-    ensures { rings collector.new ≡ map feed_ring feeds.new.items }
-{
-    let (rank, line) = line;
-    let record = read_line(line)?;
-    if rank >= collector.ranks() || !put_at(feeds, rank, record) {
-        return Err("no such place".into());
-    }
-    Ok(collector.step(rank))
-}
-
-/// Deals the records of a thousand messages by turns, and counts those that were thrown away. Each has to be
-/// from the first one on.
-fn deal_a_thousand(feeds: &mut Vec<Feed>, collector: &mut Collector) -> Result<u32, Fail>
-    requires { rings collector.old ≡ map feed_ring feeds.old.items }
-    ensures { rings collector.new ≡ map feed_ring feeds.new.items }
-{
-    let mut discarded = 0u32;
-    for turn in 0..2002u32 {
-        let rank = if turn % 2 == 0 { 0 } else { 1 };
-        match deal_one(feeds, collector, one_of_a_thousand(rank, turn / 2))? {
-            Stepped::Took if discarded == 0 => {}
-            Stepped::Discarded => discarded = discarded.saturating_add(1),
-            _ => return Err("neither kept nor thrown away".into()),
-        }
-    }
-    Ok(discarded)
-}
-
-/// Ends two ranks' feeds and closes their session. None where a feed gives no receipt, of which `receipts` has
-/// room for two.
-fn close_two(
-    first: Feed,
-    second: Feed,
-    collector: Collector,
-    receipts: Vec<Option<Receipt>>,
-) -> Option<Result<Verdict, CloseFault>>
-    requires feeds { rings collector ≡ feed_ring first ∷ feed_ring second ∷ [] }
-    requires none { receipts.items ≡ [] }
-    requires room { 2 ≤ vec_capacity receipts }
-{
-    let mut receipts = receipts;
-    let first = end_feed(first, SourceFault::NoFinalize, false);
-    let second = end_feed(second, SourceFault::NoFinalize, false);
-    let are_there = first.is_some() && second.is_some();
-    receipts.push_reserved(first);
-    receipts.push_reserved(second);
-    let answer = verdict_of_close(collector, receipts);
-    if are_there { Some(answer) } else { None }
-}
-
 /// Room for two receipts, asked for again where memory is refused.
 fn room_for_two(alloc: Global) -> Result<Vec<Option<Receipt>>, AllocError>
     ensures none { IfOk result (λ receipts. receipts.items ≡ []) }
@@ -390,36 +295,177 @@ pub(crate) fn head_again(alloc: Global, text: &[u8]) -> Result<Head, Fail> {
 /// How many records of a thousand messages are thrown away, and what the close answers.
 type Thrown = (u32, Option<Result<Verdict, CloseFault>>);
 
-/// Deals a thousand messages and closes the session. `receipts` has room for two.
-fn thrown_of(
+/// A session of two ranks with room for their receipts, which one call drops, so that an exit of a test is proved
+/// by that call.
+struct TwoFeeds {
+    first: Feed,
+    second: Feed,
+    collector: Collector,
+    receipts: Vec<Option<Receipt>>,
+    ghost rings: { rings collector ≡ feed_ring first ∷ feed_ring second ∷ [] },
+    ghost none: { receipts.items ≡ [] },
+    ghost room: { 2 ≤ vec_capacity receipts },
+}
+
+impl Drop for TwoFeeds {
+    fn drop(self) {
+        let TwoFeeds {
+            first: _,
+            second: _,
+            collector: _,
+            receipts: _,
+        } = self;
+    }
+}
+
+/// The session of two feeds, if there are two.
+fn paired(
     feeds: Vec<Feed>,
     collector: Collector,
     receipts: Vec<Option<Receipt>>,
-) -> Result<Thrown, Fail>
+) -> Option<TwoFeeds>
     requires feeds { rings collector ≡ map feed_ring feeds.items }
     requires none { receipts.items ≡ [] }
     requires room { 2 ≤ vec_capacity receipts }
 {
     let mut feeds = feeds;
-    let mut collector = collector;
-    let discarded = deal_a_thousand(&mut feeds, &mut collector);
     if let (Some(second), Some(first), true) = (feeds.pop(), feeds.pop(), feeds.is_empty()) {
-        let answer = close_two(first, second, collector, receipts);
-        Ok((discarded?, answer))
+        Some(TwoFeeds {
+            first,
+            second,
+            collector,
+            receipts,
+        })
     } else {
-        discarded?;
-        Err("not two feeds".into())
+        None
     }
+}
+
+impl TwoFeeds {
+    /// None where the session isn't opened for want of memory.
+    fn open(alloc: Global, capacity: u16, wait: &impl Wait) -> Result<Option<TwoFeeds>, Fail> {
+        let head = head_again(alloc, b"ranks 2\n")?;
+        let receipts = room_for_two(alloc)?;
+        match Session::open(alloc, head, capacity.max(1), 0, wait) {
+            Ok((feeds, collector, _watches)) => match paired(feeds, collector, receipts) {
+                Some(session) => Ok(Some(session)),
+                None => Err("not two feeds".into()),
+            },
+            Err(OpenFault::Memory) => Ok(None),
+            Err(fault) => Err(fault.into()),
+        }
+    }
+
+    /// Puts two ranks' records by a thread each while a third one steps, and tells whether the close has an
+    /// outcome.
+    fn put_by_threads<R: Threads + Wait + Sync>(self, rt: &R) -> bool {
+        let TwoFeeds {
+            first,
+            second,
+            collector,
+            mut receipts,
+        } = self;
+        let (put, collector) = thread::join(
+            rt,
+            move || -> (Option<Receipt>, Option<Receipt>)
+                ensures first { IfSome result.0 (λ receipt. receipt_ring receipt ≡ feed_ring first) }
+                ensures second { IfSome result.1 (λ receipt. receipt_ring receipt ≡ feed_ring second) }
+            { put_both(first, second, rt) },
+            move || -> Collector
+                ensures { rings result ≡ rings collector }
+            { stepped(collector, rt) },
+        );
+        receipts.push_reserved(put.0);
+        receipts.push_reserved(put.1);
+        collector.close(receipts).is_ok()
+    }
+
+    /// Puts a record on its rank's feed, takes it, and tells what was found.
+    fn deal(&mut self, line: Line) -> Result<Stepped, Fail> {
+        let (rank, line) = line;
+        let record = read_line(line)?;
+        let feed = if rank == 0 {
+            self.first.try_put(record)
+        } else {
+            self.second.try_put(record)
+        };
+        if rank >= self.collector.ranks() || feed.is_err() {
+            return Err("no such place".into());
+        }
+        Ok(self.collector.step(rank))
+    }
+
+    /// Deals the records of a thousand messages by turns, and counts those that were thrown away. Each has to
+    /// be from the first one on.
+    fn deal_a_thousand(&mut self) -> Result<u32, Fail> {
+        let mut discarded = 0u32;
+        for turn in 0..2002u32 {
+            let rank = if turn % 2 == 0 { 0 } else { 1 };
+            match self.deal(one_of_a_thousand(rank, turn / 2))? {
+                Stepped::Took if discarded == 0 => {}
+                Stepped::Discarded => discarded = discarded.saturating_add(1),
+                _ => return Err("neither kept nor thrown away".into()),
+            }
+        }
+        Ok(discarded)
+    }
+
+    /// Ends both feeds and closes the session. None where a feed gives no receipt.
+    fn close(self) -> Option<Result<Verdict, CloseFault>> {
+        let TwoFeeds {
+            first,
+            second,
+            collector,
+            mut receipts,
+        } = self;
+        let first = end_feed(first, SourceFault::NoFinalize, false);
+        let second = end_feed(second, SourceFault::NoFinalize, false);
+        let are_there = first.is_some() && second.is_some();
+        receipts.push_reserved(first);
+        receipts.push_reserved(second);
+        let answer = verdict_of_close(collector, receipts);
+        if are_there { Some(answer) } else { None }
+    }
+
+    /// Deals a thousand messages and closes the session.
+    fn thrown_of(self) -> Result<Thrown, Fail> {
+        let mut session = self;
+        let discarded = session.deal_a_thousand();
+        let answer = session.close();
+        Ok((discarded?, answer))
+    }
+
+    /// Tears the second rank's feed at once, steps with it, and then puts the first rank's records: what the
+    /// step answers, and the close.
+    fn tear_the_second(self, wait: &impl Wait) -> (Stepped, Option<CloseFault>) {
+        let TwoFeeds {
+            first,
+            second,
+            mut collector,
+            mut receipts,
+        } = self;
+        let torn = end_feed(second, SourceFault::ThreadNotStarted, false);
+        let stepped = collector.step(1);
+        receipts.push_reserved(put_all(first, &BUFFERED, wait));
+        receipts.push_reserved(torn);
+        (stepped, collector.close(receipts).err())
+    }
+}
+
+#[test]
+fn two_threads_put_and_a_third_steps(rt: HostRuntime) -> Result<(), Fail> {
+    match TwoFeeds::open(rt.alloc(), 1, &rt)? {
+        Some(session) => assert!(rt; session.put_by_threads(&rt)),
+        None => return Err("memory".into()),
+    }
+    Ok(())
 }
 
 /// What comes of a thousand messages. None where the session isn't opened for want of memory.
 fn thrown_away(alloc: Global, wait: &impl Wait) -> Result<Option<Thrown>, Fail> {
-    let head = head_again(alloc, b"ranks 2\n")?;
-    let receipts = room_for_two(alloc)?;
-    match Session::open(alloc, head, 1, 0, wait) {
-        Ok((feeds, collector, _watches)) => Ok(Some(thrown_of(feeds, collector, receipts)?)),
-        Err(OpenFault::Memory) => Ok(None),
-        Err(fault) => Err(fault.into()),
+    match TwoFeeds::open(alloc, 1, wait)? {
+        Some(session) => Ok(Some(session.thrown_of()?)),
+        None => Ok(None),
     }
 }
 
@@ -433,48 +479,24 @@ fn records_are_thrown_away_for_want_of_memory(rt: HostRuntime) -> Result<(), Fai
             let is_free = answer == Some(Ok(Verdict::Free));
             assert!(rt; is_free || answer == Some(Err(CloseFault::Memory)));
         }
-        Some((_, answer)) => assert_eq!(rt; answer, Some(Err(CloseFault::Memory))),
+        Some((_, answer)) => assert!(rt; answer == Some(Err(CloseFault::Memory))),
     }
     Ok(())
 }
 
-/// Tears the second rank's feed at once, steps with it, and then puts the first rank's records: what the step
-/// answers, and the close. `receipts` has room for two.
-fn with_a_torn_feed(
-    first: Feed,
-    second: Feed,
-    collector: Collector,
-    receipts: Vec<Option<Receipt>>,
-    wait: &impl Wait,
-) -> (Stepped, Option<CloseFault>)
-    requires feeds { rings collector ≡ feed_ring first ∷ feed_ring second ∷ [] }
-    requires none { receipts.items ≡ [] }
-    requires room { 2 ≤ vec_capacity receipts }
-{
-    let mut collector = collector;
-    let mut receipts = receipts;
-    let torn = end_feed(second, SourceFault::ThreadNotStarted, false);
-    let stepped = collector.step(1);
-    receipts.push_reserved(put_all(first, &BUFFERED, wait));
-    receipts.push_reserved(torn);
-    (stepped, collector.close(receipts).err())
-}
-
 #[test]
 fn a_caller_tears_a_feed_at_once(rt: HostRuntime) -> Result<(), Fail> {
-    let head = Head::read(rt.alloc(), b"ranks 2\n")?;
-    let receipts = Vec::with_capacity(rt.alloc(), 2)?;
-    let (mut feeds, collector, _watches) = Session::open(rt.alloc(), head, 3, 0, &rt)?;
-    let refusal = Refusal {
+    let refused = CloseFault::Refused(Refusal {
         rank: 1,
         call: 0,
         fault: RankFault::OfSource(SourceFault::ThreadNotStarted),
-    };
-    if let (Some(second), Some(first), true) = (feeds.pop(), feeds.pop(), feeds.is_empty()) {
-        let answer = with_a_torn_feed(first, second, collector, receipts, &rt);
-        let refused = Some(CloseFault::Refused(refusal));
-        assert_eq!(rt; answer, (Stepped::Ended, refused));
-        return Ok(());
+    });
+    match TwoFeeds::open(rt.alloc(), 3, &rt)? {
+        Some(session) => {
+            let answer = session.tear_the_second(&rt);
+            assert!(rt; answer == (Stepped::Ended, Some(refused)));
+        }
+        None => return Err("memory".into()),
     }
-    Err("two feeds".into())
+    Ok(())
 }

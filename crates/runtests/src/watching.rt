@@ -9,7 +9,6 @@ use crate::sessions::{end_feeds, head_again, one_of_a_thousand, put_at, verdict_
 use gather::collector::{Collector, Stepped};
 use gather::outcome::CloseFault;
 use gather::session::{OpenFault, Session};
-use moves::verdict::Verdict;
 use mpicall::fault::SourceFault;
 use mpicall::line::read_line;
 use mpigroup::head::Head;
@@ -19,6 +18,7 @@ use std::sync::Wait;
 use std::test::Fail;
 use std::thread;
 use std::thread::Threads;
+use waitgraph::verdict::Verdict;
 use watches::watch::{Gone, Told, Watch};
 
 /// Two ranks that send to each other in buffered mode, receive and end.

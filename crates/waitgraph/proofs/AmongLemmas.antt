@@ -77,12 +77,12 @@ range_among x a (suc n) low high =
     (λ (other : a ≢ x). inr (range_among x (a + 1) n (omega arith) (omega arith)))
     (cases_eq a x)
 
-kept_here : (need : Need) (p : Need → Bool) (x : Need) (xs kept : List Need) → p x ≡ true → (Among need kept → Among need xs × (p need ≡ true)) → Among need (x ∷ kept) → Among need (x ∷ xs) × (p need ≡ true)
+kept_here : {A : Type 0} (need : A) (p : A → Bool) (x : A) (xs kept : List A) → p x ≡ true → (Among need kept → Among need xs × (p need ≡ true)) → Among need (x ∷ kept) → Among need (x ∷ xs) × (p need ≡ true)
 kept_here need p x xs kept passes later (inl e) = (inl e, ap p (sym e) ∙ passes)
 kept_here need p x xs kept passes later (inr h) = let rest = later h in (inr rest.0, rest.1)
 
 -- what a filter keeps stands in the list and passes
-pub kept_among : (need : Need) (p : Need → Bool) (xs : List Need) → Among need (filter p xs) → Among need xs × (p need ≡ true)
+pub kept_among : {A : Type 0} (need : A) (p : A → Bool) (xs : List A) → Among need (filter p xs) → Among need xs × (p need ≡ true)
 kept_among need p [] h = absurd h
 kept_among need p (x ∷ xs) h =
     ⊎_elim
@@ -90,7 +90,7 @@ kept_among need p (x ∷ xs) h =
     (λ (fails : p x ≡ false). let later = kept_among need p xs (rw fails at h) in (inr later.0, later.1))
     (cases_Bool (p x))
 
-pub among_kept : (need : Need) (p : Need → Bool) (xs : List Need) → Among need xs → p need ≡ true → Among need (filter p xs)
+pub among_kept : {A : Type 0} (need : A) (p : A → Bool) (xs : List A) → Among need xs → p need ≡ true → Among need (filter p xs)
 among_kept need p [] h passes = absurd h
 among_kept need p (x ∷ xs) (inl e) passes =
     let here : p x ≡ true = ap p e ∙ passes in

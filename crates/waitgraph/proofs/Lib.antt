@@ -5,8 +5,6 @@ pub mod OrderLemmas
 pub mod AddingLemmas
 pub mod AmongLemmas
 pub mod RangeLemmas
-pub mod LineLemmas
-pub mod JsonLemmas
 pub mod UnmetLemmas
 pub mod WalkLemmas
 pub mod PigeonLemmas
@@ -15,7 +13,6 @@ pub mod WalkLaws
 pub mod ListedLemmas
 pub mod CalledLemmas
 pub mod StuckLemmas
-pub mod SpelledLemmas
-pub mod TellingLemmas
 pub mod AlikeLemmas
 pub mod PlainLemmas
+pub mod VerdictLemmas

@@ -5,83 +5,83 @@ use Rattle.std.specs.List.{slice_get, list_all, filter_map, cons_option, range_w
 use Rattle.std.proofs.lemmas.Option.{none-some, same_Some}
 use Rattle.std.proofs.lemmas.Bool.{cases_lt}
 use Rattle.pairing.proofs.PlaceLemmas.{slice_get-front}
-use Rattle.waitgraph.specs.Causes.{CauseView, CycleOf, MissingOf, Waits, first_in, next_in, lacks_in, way_home, cycle_by, cycle_at, missing_at, causes_in, EndsWith}
+use Rattle.waitgraph.specs.Causes.{CauseView, CycleOf, MissingOf, Walks, onward_in, next_in, lacks_in, way_home, cycle_by, cycle_at, missing_at, causes_in, EndsWith}
 use Rattle.waitgraph.proofs.AmongLemmas.{Among, in_among, among_both, among_given, among_range}
 use Rattle.waitgraph.proofs.WalkLaws.{IsWaiting, told_by_way, lacks_is_waiting, next_is_waiting}
 
 -- what it means that the cycle of a rank is told
-record IsCycleOf (waits : Waits) (rank : ℕ) (cause : CauseView) : Type 0 where
+record IsCycleOf (walks : Walks) (rank : ℕ) (cause : CauseView) : Type 0 where
   ranks : List ℕ
-  is_way : way_home waits (length waits) rank rank ≡ Some ranks
+  is_way : way_home walks (length walks) rank rank ≡ Some ranks
   all : list_all (nat_le rank) ranks ≡ true
   is : cause ≡ CycleOf ranks
 
-cycle_parts : (waits : Waits) (rank : ℕ) (cause : CauseView) → cycle_at waits rank ≡ Some cause → IsCycleOf waits rank cause
-cycle_parts waits rank cause h =
-    by_way waits rank cause (way_home waits (length waits) rank rank) refl h
+cycle_parts : (walks : Walks) (rank : ℕ) (cause : CauseView) → cycle_at walks rank ≡ Some cause → IsCycleOf walks rank cause
+cycle_parts walks rank cause h =
+    by_way walks rank cause (way_home walks (length walks) rank rank) refl h
   where
-    by_test : (waits : Waits) (rank : ℕ) (cause : CauseView) (ranks : List ℕ) (test : Bool) → way_home waits (length waits) rank rank ≡ Some ranks → list_all (nat_le rank) ranks ≡ test → (if test then Some (CycleOf ranks) else None) ≡ Some cause → IsCycleOf waits rank cause
-    by_test waits rank cause ranks true way all h = record { ranks = ranks; is_way = way; all = all; is = sym (same_Some (CycleOf ranks) cause h) }
-    by_test waits rank cause ranks false way all h = absurd (none-some cause h)
+    by_test : (walks : Walks) (rank : ℕ) (cause : CauseView) (ranks : List ℕ) (test : Bool) → way_home walks (length walks) rank rank ≡ Some ranks → list_all (nat_le rank) ranks ≡ test → (if test then Some (CycleOf ranks) else None) ≡ Some cause → IsCycleOf walks rank cause
+    by_test walks rank cause ranks true way all h = record { ranks = ranks; is_way = way; all = all; is = sym (same_Some (CycleOf ranks) cause h) }
+    by_test walks rank cause ranks false way all h = absurd (none-some cause h)
 
-    by_way : (waits : Waits) (rank : ℕ) (cause : CauseView) (o : Option (List ℕ)) → way_home waits (length waits) rank rank ≡ o → option_and_then (cycle_by rank) o ≡ Some cause → IsCycleOf waits rank cause
-    by_way waits rank cause None way h = absurd (none-some cause h)
-    by_way waits rank cause (Some ranks) way h = by_test waits rank cause ranks (list_all (nat_le rank) ranks) way refl h
+    by_way : (walks : Walks) (rank : ℕ) (cause : CauseView) (o : Option (List ℕ)) → way_home walks (length walks) rank rank ≡ o → option_and_then (cycle_by rank) o ≡ Some cause → IsCycleOf walks rank cause
+    by_way walks rank cause None way h = absurd (none-some cause h)
+    by_way walks rank cause (Some ranks) way h = by_test walks rank cause ranks (list_all (nat_le rank) ranks) way refl h
 
 -- what it means that a missing call of a rank is told
-record IsMissingOf (waits : Waits) (rank : ℕ) (cause : CauseView) : Type 0 where
+record IsMissingOf (walks : Walks) (rank : ℕ) (cause : CauseView) : Type 0 where
   peer : ℕ
-  lacks : lacks_in waits rank ≡ Some peer
+  lacks : lacks_in walks rank ≡ Some peer
   is : cause ≡ MissingOf rank peer
 
-missing_parts : (waits : Waits) (rank : ℕ) (cause : CauseView) → missing_at waits rank ≡ Some cause → IsMissingOf waits rank cause
-missing_parts waits rank cause h =
-    by_peer waits rank cause (lacks_in waits rank) refl h
+missing_parts : (walks : Walks) (rank : ℕ) (cause : CauseView) → missing_at walks rank ≡ Some cause → IsMissingOf walks rank cause
+missing_parts walks rank cause h =
+    by_peer walks rank cause (lacks_in walks rank) refl h
   where
-    by_peer : (waits : Waits) (rank : ℕ) (cause : CauseView) (o : Option ℕ) → lacks_in waits rank ≡ o → option_map (MissingOf rank) o ≡ Some cause → IsMissingOf waits rank cause
-    by_peer waits rank cause None lacks h = absurd (none-some cause h)
-    by_peer waits rank cause (Some peer) lacks h = record { peer = peer; lacks = lacks; is = sym (same_Some (MissingOf rank peer) cause h) }
+    by_peer : (walks : Walks) (rank : ℕ) (cause : CauseView) (o : Option ℕ) → lacks_in walks rank ≡ o → option_map (MissingOf rank) o ≡ Some cause → IsMissingOf walks rank cause
+    by_peer walks rank cause None lacks h = absurd (none-some cause h)
+    by_peer walks rank cause (Some peer) lacks h = record { peer = peer; lacks = lacks; is = sym (same_Some (MissingOf rank peer) cause h) }
 
 -- a rank that waits, and whose walk ends with the cause
-pub record HasStart (waits : Waits) (cause : CauseView) : Type 0 where
+pub record HasStart (walks : Walks) (cause : CauseView) : Type 0 where
   pub rank : ℕ
-  pub is_waiting : IsWaiting waits rank
-  pub ends : EndsWith waits rank cause
+  pub is_waiting : IsWaiting walks rank
+  pub ends : EndsWith walks rank cause
 
-way_waits : (waits : Waits) (most home rank : ℕ) (ranks : List ℕ) → way_home waits most home rank ≡ Some ranks → IsWaiting waits rank
-way_waits waits zero home rank ranks h = absurd (none-some ranks h)
-way_waits waits (suc most) home rank ranks h =
-    by_next waits most home rank ranks (next_in waits rank) refl h
+way_waits : (walks : Walks) (most home rank : ℕ) (ranks : List ℕ) → way_home walks most home rank ≡ Some ranks → IsWaiting walks rank
+way_waits walks zero home rank ranks h = absurd (none-some ranks h)
+way_waits walks (suc most) home rank ranks h =
+    by_next walks most home rank ranks (next_in walks rank) refl h
   where
-    by_next : (waits : Waits) (most home rank : ℕ) (ranks : List ℕ) (o : Option ℕ) → next_in waits rank ≡ o → option_and_then (λ next. if next == home then Some (rank ∷ []) else option_map (λ ranks. rank ∷ ranks) (way_home waits most home next)) o ≡ Some ranks → IsWaiting waits rank
-    by_next waits most home rank ranks None is h = absurd (none-some ranks h)
-    by_next waits most home rank ranks (Some next) is h = next_is_waiting waits rank next (first_in waits rank) refl is
+    by_next : (walks : Walks) (most home rank : ℕ) (ranks : List ℕ) (o : Option ℕ) → next_in walks rank ≡ o → option_and_then (λ next. if next == home then Some (rank ∷ []) else option_map (λ ranks. rank ∷ ranks) (way_home walks most home next)) o ≡ Some ranks → IsWaiting walks rank
+    by_next walks most home rank ranks None is h = absurd (none-some ranks h)
+    by_next walks most home rank ranks (Some next) is h = next_is_waiting walks rank next (onward_in walks rank) refl is
 
-pub each_is_an_end : (waits : Waits) (cause : CauseView) → Among cause (causes_in waits) → HasStart waits cause
-each_is_an_end waits cause h =
-    ⊎_elim (of_cycle waits cause) (of_missing waits cause)
-    (among_both cause (filter_map (cycle_at waits) (range_with_len 0 (length waits))) (filter_map (missing_at waits) (range_with_len 0 (length waits))) h)
+pub each_is_an_end : (walks : Walks) (cause : CauseView) → Among cause (causes_in walks) → HasStart walks cause
+each_is_an_end walks cause h =
+    ⊎_elim (of_cycle walks cause) (of_missing walks cause)
+    (among_both cause (filter_map (cycle_at walks) (range_with_len 0 (length walks))) (filter_map (missing_at walks) (range_with_len 0 (length walks))) h)
   where
-    of_cycle : (waits : Waits) (cause : CauseView) → Among cause (filter_map (cycle_at waits) (range_with_len 0 (length waits))) → HasStart waits cause
-    of_cycle waits cause h =
-        let found = among_given cause (cycle_at waits) (range_with_len 0 (length waits)) h in
-        let parts = cycle_parts waits found.0 cause found.2 in
-        let told = told_by_way waits (length waits) found.0 parts.ranks parts.is_way parts.all in
-        subst (λ (c : CauseView). HasStart waits c) (sym parts.is)
+    of_cycle : (walks : Walks) (cause : CauseView) → Among cause (filter_map (cycle_at walks) (range_with_len 0 (length walks))) → HasStart walks cause
+    of_cycle walks cause h =
+        let found = among_given cause (cycle_at walks) (range_with_len 0 (length walks)) h in
+        let parts = cycle_parts walks found.0 cause found.2 in
+        let told = told_by_way walks (length walks) found.0 parts.ranks parts.is_way parts.all in
+        subst (λ (c : CauseView). HasStart walks c) (sym parts.is)
         (record {
           rank = found.0;
-          is_waiting = way_waits waits (length waits) found.0 found.0 parts.ranks parts.is_way;
+          is_waiting = way_waits walks (length walks) found.0 found.0 parts.ranks parts.is_way;
           ends = record { steps = 0; end = found.0; comes_there = refl; is_end = (told.is_cycle, told.begins) };
         })
 
-    of_missing : (waits : Waits) (cause : CauseView) → Among cause (filter_map (missing_at waits) (range_with_len 0 (length waits))) → HasStart waits cause
-    of_missing waits cause h =
-        let found = among_given cause (missing_at waits) (range_with_len 0 (length waits)) h in
-        let parts = missing_parts waits found.0 cause found.2 in
-        subst (λ (c : CauseView). HasStart waits c) (sym parts.is)
+    of_missing : (walks : Walks) (cause : CauseView) → Among cause (filter_map (missing_at walks) (range_with_len 0 (length walks))) → HasStart walks cause
+    of_missing walks cause h =
+        let found = among_given cause (missing_at walks) (range_with_len 0 (length walks)) h in
+        let parts = missing_parts walks found.0 cause found.2 in
+        subst (λ (c : CauseView). HasStart walks c) (sym parts.is)
         (record {
           rank = found.0;
-          is_waiting = lacks_is_waiting waits found.0 parts.peer (first_in waits found.0) refl parts.lacks;
+          is_waiting = lacks_is_waiting walks found.0 parts.peer (onward_in walks found.0) refl parts.lacks;
           ends = record { steps = 0; end = found.0; comes_there = refl; is_end = (refl, parts.lacks) };
         })
 
@@ -116,47 +116,47 @@ behind_front (x ∷ xs) ys (suc index) past =
     let e : suc index - suc (length xs) ≡ index - length xs = omega arith in
     rw e (behind_front xs ys index (omega arith))
 
-cycles_alone : (waits : Waits) (cause : CauseView) (r s : ℕ) → cycle_at waits r ≡ Some cause → cycle_at waits s ≡ Some cause → r ≡ s
-cycles_alone waits cause r s p q =
-    let one = cycle_parts waits r cause p in
-    let two = cycle_parts waits s cause q in
-    let told_one = told_by_way waits (length waits) r one.ranks one.is_way one.all in
-    let told_two = told_by_way waits (length waits) s two.ranks two.is_way two.all in
+cycles_alone : (walks : Walks) (cause : CauseView) (r s : ℕ) → cycle_at walks r ≡ Some cause → cycle_at walks s ≡ Some cause → r ≡ s
+cycles_alone walks cause r s p q =
+    let one = cycle_parts walks r cause p in
+    let two = cycle_parts walks s cause q in
+    let told_one = told_by_way walks (length walks) r one.ranks one.is_way one.all in
+    let told_two = told_by_way walks (length walks) s two.ranks two.is_way two.all in
     let same : one.ranks ≡ two.ranks = cc (one.is, two.is) in
     same_Some r s (sym told_one.begins ∙ ap (λ (ranks : List ℕ). slice_get ranks 0) same ∙ told_two.begins)
 
-missing_alone : (waits : Waits) (cause : CauseView) (r s : ℕ) → missing_at waits r ≡ Some cause → missing_at waits s ≡ Some cause → r ≡ s
-missing_alone waits cause r s p q =
-    let one = missing_parts waits r cause p in
-    let two = missing_parts waits s cause q in
+missing_alone : (walks : Walks) (cause : CauseView) (r s : ℕ) → missing_at walks r ≡ Some cause → missing_at walks s ≡ Some cause → r ≡ s
+missing_alone walks cause r s p q =
+    let one = missing_parts walks r cause p in
+    let two = missing_parts walks s cause q in
     cc (one.is, two.is)
 
-not_both : (waits : Waits) (cause : CauseView) (index other : ℕ) → slice_get (filter_map (cycle_at waits) (range_with_len 0 (length waits))) index ≡ Some cause → slice_get (filter_map (missing_at waits) (range_with_len 0 (length waits))) other ≡ Some cause → ⊥
-not_both waits cause index other p q =
-    let one = among_given cause (cycle_at waits) (range_with_len 0 (length waits)) (in_among cause (filter_map (cycle_at waits) (range_with_len 0 (length waits))) (index, p)) in
-    let two = among_given cause (missing_at waits) (range_with_len 0 (length waits)) (in_among cause (filter_map (missing_at waits) (range_with_len 0 (length waits))) (other, q)) in
-    let cycle = cycle_parts waits one.0 cause one.2 in
-    let missing = missing_parts waits two.0 cause two.2 in
+not_both : (walks : Walks) (cause : CauseView) (index other : ℕ) → slice_get (filter_map (cycle_at walks) (range_with_len 0 (length walks))) index ≡ Some cause → slice_get (filter_map (missing_at walks) (range_with_len 0 (length walks))) other ≡ Some cause → ⊥
+not_both walks cause index other p q =
+    let one = among_given cause (cycle_at walks) (range_with_len 0 (length walks)) (in_among cause (filter_map (cycle_at walks) (range_with_len 0 (length walks))) (index, p)) in
+    let two = among_given cause (missing_at walks) (range_with_len 0 (length walks)) (in_among cause (filter_map (missing_at walks) (range_with_len 0 (length walks))) (other, q)) in
+    let cycle = cycle_parts walks one.0 cause one.2 in
+    let missing = missing_parts walks two.0 cause two.2 in
     cc (cycle.is, missing.is)
 
-pub none_twice : (waits : Waits) (index other : ℕ) (cause : CauseView) → slice_get (causes_in waits) index ≡ Some cause → slice_get (causes_in waits) other ≡ Some cause → index ≡ other
-none_twice waits index other cause p q =
-    let cycles = filter_map (cycle_at waits) (range_with_len 0 (length waits)) in
-    let missing = filter_map (missing_at waits) (range_with_len 0 (length waits)) in
+pub none_twice : (walks : Walks) (index other : ℕ) (cause : CauseView) → slice_get (causes_in walks) index ≡ Some cause → slice_get (causes_in walks) other ≡ Some cause → index ≡ other
+none_twice walks index other cause p q =
+    let cycles = filter_map (cycle_at walks) (range_with_len 0 (length walks)) in
+    let missing = filter_map (missing_at walks) (range_with_len 0 (length walks)) in
     ⊎_elim
     (λ (front : index < length cycles).
     let here = sym (slice_get-front cycles missing index front) ∙ p in
     ⊎_elim
     (λ (front_too : other < length cycles).
-    given_once cause (cycle_at waits) 0 (length waits) index other (cycles_alone waits cause) here (sym (slice_get-front cycles missing other front_too) ∙ q))
-    (λ (behind : length cycles ≤ other). absurd (not_both waits cause index (other - length cycles) here (sym (behind_front cycles missing other behind) ∙ q)))
+    given_once cause (cycle_at walks) 0 (length walks) index other (cycles_alone walks cause) here (sym (slice_get-front cycles missing other front_too) ∙ q))
+    (λ (behind : length cycles ≤ other). absurd (not_both walks cause index (other - length cycles) here (sym (behind_front cycles missing other behind) ∙ q)))
     (cases_lt other (length cycles)))
     (λ (behind : length cycles ≤ index).
     let here = sym (behind_front cycles missing index behind) ∙ p in
     ⊎_elim
-    (λ (front : other < length cycles). absurd (not_both waits cause other (index - length cycles) (sym (slice_get-front cycles missing other front) ∙ q) here))
+    (λ (front : other < length cycles). absurd (not_both walks cause other (index - length cycles) (sym (slice_get-front cycles missing other front) ∙ q) here))
     (λ (behind_too : length cycles ≤ other).
-    let places = given_once cause (missing_at waits) 0 (length waits) (index - length cycles) (other - length cycles) (missing_alone waits cause) here (sym (behind_front cycles missing other behind_too) ∙ q) in
+    let places = given_once cause (missing_at walks) 0 (length walks) (index - length cycles) (other - length cycles) (missing_alone walks cause) here (sym (behind_front cycles missing other behind_too) ∙ q) in
     omega arith)
     (cases_lt other (length cycles)))
     (cases_lt index (length cycles))

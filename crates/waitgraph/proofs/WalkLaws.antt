@@ -4,216 +4,216 @@ use Rattle.std.specs.Prelude.{nat_le, option_and_then, unwrap_or}
 use Rattle.std.specs.List.{slice_get, list_all, filter_map, range_with_len}
 use Rattle.std.proofs.lemmas.Option.{none-some, same_Some, slice_get_past}
 use Rattle.std.proofs.lemmas.Bool.{cases_lt}
-use Rattle.moves.specs.declared.need.Need.{Need}
-use Rattle.moves.specs.declared.need.Need.TheVariants.{At, Lacking}
-use Rattle.waitgraph.specs.Causes.{CauseView, CycleOf, MissingOf, Waits, awaited, lacking, first_in, next_in, lacks_in, way_home, cycle_at, missing_at, causes_in, after, IsCycle, EndsWith}
+use Rattle.waitgraph.specs.Causes.{CauseView, CycleOf, MissingOf, Walks, onward_in, to_of, lacked_by, next_in, lacks_in, way_home, cycle_at, missing_at, causes_in, after, IsCycle, EndsWith}
+use Rattle.waitgraph.specs.declared.onward.Onward.{Onward}
+use Rattle.waitgraph.specs.declared.onward.Onward.TheVariants.{To, Lacks}
 use Rattle.waitgraph.proofs.AmongLemmas.{Among, among_left, among_right, given_among, range_among}
 use Rattle.waitgraph.proofs.CycleLemmas.{way_home_is, way_is_cycle, HasWayHome, finds_way}
 use Rattle.waitgraph.proofs.PigeonLemmas.{twice, lowest_of}
 
--- a rank that waits has a first unmet need
-pub record IsWaiting (waits : Waits) (rank : ℕ) : Type 0 where
-  pub need : Need
-  pub is_first : first_in waits rank ≡ Some need
+-- from a rank that waits the walk goes on, or ends at a missing call
+pub record IsWaiting (walks : Walks) (rank : ℕ) : Type 0 where
+  pub there : Onward
+  pub goes_there : onward_in walks rank ≡ Some there
 
 -- for whom a rank waits, waits too
-pub record GoesOn (waits : Waits) : Type 0 where
-  pub goes_on : (rank next : ℕ) → next_in waits rank ≡ Some next → IsWaiting waits next
+pub record GoesOn (walks : Walks) : Type 0 where
+  pub goes_on : (rank next : ℕ) → next_in walks rank ≡ Some next → IsWaiting walks next
 
-pub waiting_is_rank : (waits : Waits) (rank : ℕ) → IsWaiting waits rank → rank < length waits
-waiting_is_rank waits rank waiting =
+pub waiting_is_rank : (walks : Walks) (rank : ℕ) → IsWaiting walks rank → rank < length walks
+waiting_is_rank walks rank waiting =
     ⊎_elim
-    (λ (within : rank < length waits). within)
-    (λ (past : length waits ≤ rank). absurd (none-some waiting.need (rw (slice_get_past waits rank past) at waiting.is_first)))
-    (cases_lt rank (length waits))
+    (λ (within : rank < length walks). within)
+    (λ (past : length walks ≤ rank). absurd (none-some waiting.there (rw (slice_get_past walks rank past) at waiting.goes_there)))
+    (cases_lt rank (length walks))
 
 -- a walk of more steps goes on from where fewer steps come
-after_on : (waits : Waits) (a b : ℕ) (o : Option ℕ) → ((k : ℕ) → after waits (a + b) k ≡ option_and_then (after waits b) (after waits a k)) → option_and_then (after waits (a + b)) o ≡ option_and_then (after waits b) (option_and_then (after waits a) o)
-after_on waits a b None later = refl
-after_on waits a b (Some k) later = later k
+after_on : (walks : Walks) (a b : ℕ) (o : Option ℕ) → ((k : ℕ) → after walks (a + b) k ≡ option_and_then (after walks b) (after walks a k)) → option_and_then (after walks (a + b)) o ≡ option_and_then (after walks b) (option_and_then (after walks a) o)
+after_on walks a b None later = refl
+after_on walks a b (Some k) later = later k
 
-after_both : (waits : Waits) (a b rank : ℕ) → after waits (a + b) rank ≡ option_and_then (after waits b) (after waits a rank)
-after_both waits zero b rank = let e : 0 + b ≡ b = omega arith in rw e refl
-after_both waits (suc a) b rank =
+after_both : (walks : Walks) (a b rank : ℕ) → after walks (a + b) rank ≡ option_and_then (after walks b) (after walks a rank)
+after_both walks zero b rank = let e : 0 + b ≡ b = omega arith in rw e refl
+after_both walks (suc a) b rank =
     let e : suc a + b ≡ suc (a + b) = omega arith in
-    rw e (after_on waits a b (next_in waits rank) (λ k. after_both waits a b k))
+    rw e (after_on walks a b (next_in walks rank) (λ k. after_both walks a b k))
 
-after_then : (waits : Waits) (a b whole rank there : ℕ) → a + b ≡ whole → after waits a rank ≡ Some there → after waits whole rank ≡ after waits b there
-after_then waits a b whole rank there e h = rw (← e) (after_both waits a b rank ∙ rw h refl)
+after_then : (walks : Walks) (a b whole rank there : ℕ) → a + b ≡ whole → after walks a rank ≡ Some there → after walks whole rank ≡ after walks b there
+after_then walks a b whole rank there e h = rw (← e) (after_both walks a b rank ∙ rw h refl)
 
 -- the walk comes to a missing call
-record ComesToMissing (waits : Waits) (rank : ℕ) : Type 0 where
+record ComesToMissing (walks : Walks) (rank : ℕ) : Type 0 where
   steps : ℕ
   end : ℕ
   peer : ℕ
-  comes_there : after waits steps rank ≡ Some end
-  lacks : lacks_in waits end ≡ Some peer
+  comes_there : after walks steps rank ≡ Some end
+  lacks : lacks_in walks end ≡ Some peer
 
 -- the walk goes on for so many steps
-record Stands (waits : Waits) (rank steps : ℕ) : Type 0 where
+record Stands (walks : Walks) (rank steps : ℕ) : Type 0 where
   there : ℕ
-  comes_there : after waits steps rank ≡ Some there
-  is_waiting : IsWaiting waits there
+  comes_there : after walks steps rank ≡ Some there
+  is_waiting : IsWaiting walks there
 
-record StepsOn (waits : Waits) (rank : ℕ) (most : ℕ) : Type 0 where
-  at : (steps : ℕ) → steps ≤ most → Stands waits rank steps
+record StepsOn (walks : Walks) (rank : ℕ) (most : ℕ) : Type 0 where
+  at : (steps : ℕ) → steps ≤ most → Stands walks rank steps
 
-one_step : (waits : Waits) (rank : ℕ) (need : Need) → first_in waits rank ≡ Some need → ((peer : ℕ) × (lacks_in waits rank ≡ Some peer)) ⊎ ((next : ℕ) × (next_in waits rank ≡ Some next))
-one_step waits rank (At k place) is = inr (k, rw is refl)
-one_step waits rank (Lacking k) is = inl (k, rw is refl)
+one_step : (walks : Walks) (rank : ℕ) (there : Onward) → onward_in walks rank ≡ Some there → ((peer : ℕ) × (lacks_in walks rank ≡ Some peer)) ⊎ ((next : ℕ) × (next_in walks rank ≡ Some next))
+one_step walks rank (To k) is = inr (k, rw is refl)
+one_step walks rank (Lacks k) is = inl (k, rw is refl)
 
-stands_here : (waits : Waits) (rank steps : ℕ) → IsWaiting waits rank → steps ≤ 0 → Stands waits rank steps
-stands_here waits rank zero waiting few = record { there = rank; comes_there = refl; is_waiting = waiting }
-stands_here waits rank (suc steps) waiting few = absurd (omega arith)
+stands_here : (walks : Walks) (rank steps : ℕ) → IsWaiting walks rank → steps ≤ 0 → Stands walks rank steps
+stands_here walks rank zero waiting few = record { there = rank; comes_there = refl; is_waiting = waiting }
+stands_here walks rank (suc steps) waiting few = absurd (omega arith)
 
-stands_on : (waits : Waits) (rank next most steps : ℕ) → IsWaiting waits rank → next_in waits rank ≡ Some next → StepsOn waits next most → steps ≤ suc most → Stands waits rank steps
-stands_on waits rank next most zero waiting is later few = record { there = rank; comes_there = refl; is_waiting = waiting }
-stands_on waits rank next most (suc steps) waiting is later few =
+stands_on : (walks : Walks) (rank next most steps : ℕ) → IsWaiting walks rank → next_in walks rank ≡ Some next → StepsOn walks next most → steps ≤ suc most → Stands walks rank steps
+stands_on walks rank next most zero waiting is later few = record { there = rank; comes_there = refl; is_waiting = waiting }
+stands_on walks rank next most (suc steps) waiting is later few =
     let rest = later.at steps (omega arith) in
     record { there = rest.there; comes_there = rw is rest.comes_there; is_waiting = rest.is_waiting }
 
-runs : (waits : Waits) → GoesOn waits → (most rank : ℕ) → IsWaiting waits rank → ComesToMissing waits rank ⊎ StepsOn waits rank most
-runs waits on zero rank waiting = inr (record { at = λ steps few. stands_here waits rank steps waiting few })
-runs waits on (suc most) rank waiting =
-    by_step waits on most rank waiting (λ next more. runs waits on most next more) (one_step waits rank waiting.need waiting.is_first)
+runs : (walks : Walks) → GoesOn walks → (most rank : ℕ) → IsWaiting walks rank → ComesToMissing walks rank ⊎ StepsOn walks rank most
+runs walks on zero rank waiting = inr (record { at = λ steps few. stands_here walks rank steps waiting few })
+runs walks on (suc most) rank waiting =
+    by_step walks on most rank waiting (λ next more. runs walks on most next more) (one_step walks rank waiting.there waiting.goes_there)
   where
-    by_rest : (waits : Waits) (most rank next : ℕ) → IsWaiting waits rank → next_in waits rank ≡ Some next → ComesToMissing waits next ⊎ StepsOn waits next most → ComesToMissing waits rank ⊎ StepsOn waits rank (suc most)
-    by_rest waits most rank next waiting is (inl found) = inl (record { steps = suc found.steps; end = found.end; peer = found.peer; comes_there = rw is found.comes_there; lacks = found.lacks })
-    by_rest waits most rank next waiting is (inr later) = inr (record { at = λ steps few. stands_on waits rank next most steps waiting is later few })
+    by_rest : (walks : Walks) (most rank next : ℕ) → IsWaiting walks rank → next_in walks rank ≡ Some next → ComesToMissing walks next ⊎ StepsOn walks next most → ComesToMissing walks rank ⊎ StepsOn walks rank (suc most)
+    by_rest walks most rank next waiting is (inl found) = inl (record { steps = suc found.steps; end = found.end; peer = found.peer; comes_there = rw is found.comes_there; lacks = found.lacks })
+    by_rest walks most rank next waiting is (inr later) = inr (record { at = λ steps few. stands_on walks rank next most steps waiting is later few })
 
-    by_step : (waits : Waits) → GoesOn waits → (most rank : ℕ) → IsWaiting waits rank → ((next : ℕ) → IsWaiting waits next → ComesToMissing waits next ⊎ StepsOn waits next most) → ((peer : ℕ) × (lacks_in waits rank ≡ Some peer)) ⊎ ((next : ℕ) × (next_in waits rank ≡ Some next)) → ComesToMissing waits rank ⊎ StepsOn waits rank (suc most)
-    by_step waits on most rank waiting rest (inl lacks) = inl (record { steps = 0; end = rank; peer = lacks.0; comes_there = refl; lacks = lacks.1 })
-    by_step waits on most rank waiting rest (inr next) = by_rest waits most rank next.0 waiting next.1 (rest next.0 (on.goes_on rank next.0 next.1))
+    by_step : (walks : Walks) → GoesOn walks → (most rank : ℕ) → IsWaiting walks rank → ((next : ℕ) → IsWaiting walks next → ComesToMissing walks next ⊎ StepsOn walks next most) → ((peer : ℕ) × (lacks_in walks rank ≡ Some peer)) ⊎ ((next : ℕ) × (next_in walks rank ≡ Some next)) → ComesToMissing walks rank ⊎ StepsOn walks rank (suc most)
+    by_step walks on most rank waiting rest (inl lacks) = inl (record { steps = 0; end = rank; peer = lacks.0; comes_there = refl; lacks = lacks.1 })
+    by_step walks on most rank waiting rest (inr next) = by_rest walks most rank next.0 waiting next.1 (rest next.0 (on.goes_on rank next.0 next.1))
 
 -- the rank to which the walk comes
-there_of : Waits → ℕ → ℕ → ℕ
-there_of waits rank steps = unwrap_or (after waits steps rank) 0
+there_of : Walks → ℕ → ℕ → ℕ
+there_of walks rank steps = unwrap_or (after walks steps rank) 0
 
-comes_to : (waits : Waits) (rank most steps : ℕ) → StepsOn waits rank most → steps ≤ most → after waits steps rank ≡ Some (there_of waits rank steps)
+comes_to : (walks : Walks) (rank most steps : ℕ) → StepsOn walks rank most → steps ≤ most → after walks steps rank ≡ Some (there_of walks rank steps)
 unfolding there_of
-comes_to waits rank most steps on few = let here = on.at steps few in rw here.comes_there refl
+comes_to walks rank most steps on few = let here = on.at steps few in rw here.comes_there refl
 
-stays_below : (waits : Waits) (rank most steps : ℕ) → StepsOn waits rank most → steps ≤ most → there_of waits rank steps < length waits
+stays_below : (walks : Walks) (rank most steps : ℕ) → StepsOn walks rank most → steps ≤ most → there_of walks rank steps < length walks
 unfolding there_of
-stays_below waits rank most steps on few = let here = on.at steps few in rw here.comes_there (waiting_is_rank waits here.there here.is_waiting)
+stays_below walks rank most steps on few = let here = on.at steps few in rw here.comes_there (waiting_is_rank walks here.there here.is_waiting)
 
 -- the walk comes to a cycle whose lowest rank is `low`
-pub record ComesToCycle (waits : Waits) (rank : ℕ) : Type 0 where
+pub record ComesToCycle (walks : Walks) (rank : ℕ) : Type 0 where
   pub steps : ℕ
   pub low : ℕ
-  pub comes_there : after waits steps rank ≡ Some low
-  pub is_rank : low < length waits
-  pub way : HasWayHome waits (length waits) low low low
+  pub comes_there : after walks steps rank ≡ Some low
+  pub is_rank : low < length walks
+  pub way : HasWayHome walks (length walks) low low low
 
 -- where the walk comes after `first` steps it comes again after `second`; `place` steps on is the lowest rank
-above_there : (waits : Waits) (rank most first second place more by : ℕ) → StepsOn waits rank most → first < second → second ≤ most → there_of waits rank first ≡ there_of waits rank second → place < second - first → ((other : ℕ) → other < second - first → there_of waits rank (first + place) ≤ there_of waits rank (first + other)) → more < second - first → after waits more (there_of waits rank (first + place)) ≡ Some by → there_of waits rank (first + place) ≤ by
-above_there waits rank most first second place more by on before within same low is_lowest less here =
-    let start = comes_to waits rank most (first + place) on (omega arith) in
-    let whole = after_then waits (first + place) more (first + place + more) rank (there_of waits rank (first + place)) refl start in
+above_there : (walks : Walks) (rank most first second place more by : ℕ) → StepsOn walks rank most → first < second → second ≤ most → there_of walks rank first ≡ there_of walks rank second → place < second - first → ((other : ℕ) → other < second - first → there_of walks rank (first + place) ≤ there_of walks rank (first + other)) → more < second - first → after walks more (there_of walks rank (first + place)) ≡ Some by → there_of walks rank (first + place) ≤ by
+above_there walks rank most first second place more by on before within same low is_lowest less here =
+    let start = comes_to walks rank most (first + place) on (omega arith) in
+    let whole = after_then walks (first + place) more (first + place + more) rank (there_of walks rank (first + place)) refl start in
     ⊎_elim
     (λ (once : place + more < second - first).
-    let there = comes_to waits rank most (first + (place + more)) on (omega arith) in
+    let there = comes_to walks rank most (first + (place + more)) on (omega arith) in
     let sum : first + place + more ≡ first + (place + more) = omega arith in
-    let is : there_of waits rank (first + (place + more)) ≡ by = same_Some (there_of waits rank (first + (place + more))) by (sym there ∙ ap (λ (n : ℕ). after waits n rank) (sym sum) ∙ whole ∙ here) in
+    let is : there_of walks rank (first + (place + more)) ≡ by = same_Some (there_of walks rank (first + (place + more))) by (sym there ∙ ap (λ (n : ℕ). after walks n rank) (sym sum) ∙ whole ∙ here) in
     omega (arith, is_lowest (place + more) once))
     (λ (twice_round : second - first ≤ place + more).
     let rest : first + ((place + more) - (second - first)) ≤ most = omega arith in
-    let there = comes_to waits rank most (first + ((place + more) - (second - first))) on rest in
-    let back = after_then waits first ((place + more) - (second - first)) (first + ((place + more) - (second - first))) rank (there_of waits rank first) refl (comes_to waits rank most first on (omega arith)) in
-    let around = after_then waits second ((place + more) - (second - first)) (first + place + more) rank (there_of waits rank first) (omega arith) (comes_to waits rank most second on within ∙ ap (λ (k : ℕ). Some k) (sym same)) in
-    let is : there_of waits rank (first + ((place + more) - (second - first))) ≡ by = same_Some (there_of waits rank (first + ((place + more) - (second - first)))) by (sym there ∙ back ∙ sym around ∙ whole ∙ here) in
+    let there = comes_to walks rank most (first + ((place + more) - (second - first))) on rest in
+    let back = after_then walks first ((place + more) - (second - first)) (first + ((place + more) - (second - first))) rank (there_of walks rank first) refl (comes_to walks rank most first on (omega arith)) in
+    let around = after_then walks second ((place + more) - (second - first)) (first + place + more) rank (there_of walks rank first) (omega arith) (comes_to walks rank most second on within ∙ ap (λ (k : ℕ). Some k) (sym same)) in
+    let is : there_of walks rank (first + ((place + more) - (second - first))) ≡ by = same_Some (there_of walks rank (first + ((place + more) - (second - first)))) by (sym there ∙ back ∙ sym around ∙ whole ∙ here) in
     omega (arith, is_lowest ((place + more) - (second - first)) (omega arith)))
     (cases_lt (place + more) (second - first))
 
-back_there : (waits : Waits) (rank most first second place : ℕ) → StepsOn waits rank most → first < second → second ≤ most → there_of waits rank first ≡ there_of waits rank second → place < second - first → after waits (second - first) (there_of waits rank (first + place)) ≡ Some (there_of waits rank (first + place))
-back_there waits rank most first second place on before within same low =
-    let start = comes_to waits rank most (first + place) on (omega arith) in
-    let whole = after_then waits (first + place) (second - first) (second + place) rank (there_of waits rank (first + place)) (omega arith) start in
-    let around = after_then waits second place (second + place) rank (there_of waits rank first) refl (comes_to waits rank most second on within ∙ ap (λ (k : ℕ). Some k) (sym same)) in
-    let back = after_then waits first place (first + place) rank (there_of waits rank first) refl (comes_to waits rank most first on (omega arith)) in
+back_there : (walks : Walks) (rank most first second place : ℕ) → StepsOn walks rank most → first < second → second ≤ most → there_of walks rank first ≡ there_of walks rank second → place < second - first → after walks (second - first) (there_of walks rank (first + place)) ≡ Some (there_of walks rank (first + place))
+back_there walks rank most first second place on before within same low =
+    let start = comes_to walks rank most (first + place) on (omega arith) in
+    let whole = after_then walks (first + place) (second - first) (second + place) rank (there_of walks rank (first + place)) (omega arith) start in
+    let around = after_then walks second place (second + place) rank (there_of walks rank first) refl (comes_to walks rank most second on within ∙ ap (λ (k : ℕ). Some k) (sym same)) in
+    let back = after_then walks first place (first + place) rank (there_of walks rank first) refl (comes_to walks rank most first on (omega arith)) in
     sym whole ∙ around ∙ sym back ∙ start
 
-cycle_from : (waits : Waits) (rank first second : ℕ) → StepsOn waits rank (length waits) → first < second → second ≤ length waits → there_of waits rank first ≡ there_of waits rank second → (place : ℕ) → place < second - first → ((other : ℕ) → other < second - first → there_of waits rank (first + place) ≤ there_of waits rank (first + other)) → ComesToCycle waits rank
-cycle_from waits rank first second on before within same place low is_lowest =
-    let most = length waits in
+cycle_from : (walks : Walks) (rank first second : ℕ) → StepsOn walks rank (length walks) → first < second → second ≤ length walks → there_of walks rank first ≡ there_of walks rank second → (place : ℕ) → place < second - first → ((other : ℕ) → other < second - first → there_of walks rank (first + place) ≤ there_of walks rank (first + other)) → ComesToCycle walks rank
+cycle_from walks rank first second on before within same place low is_lowest =
+    let most = length walks in
     record {
       steps = first + place;
-      low = there_of waits rank (first + place);
-      comes_there = comes_to waits rank (length waits) (first + place) on (omega arith);
-      is_rank = stays_below waits rank (length waits) (first + place) on (omega arith);
-      way = finds_way waits (length waits) (second - first) (there_of waits rank (first + place)) (there_of waits rank (first + place)) (there_of waits rank (first + place)) (omega arith) (omega arith)
-          (back_there waits rank (length waits) first second place on before within same low)
-          (λ more by less here. above_there waits rank (length waits) first second place more by on before within same low is_lowest less here);
+      low = there_of walks rank (first + place);
+      comes_there = comes_to walks rank (length walks) (first + place) on (omega arith);
+      is_rank = stays_below walks rank (length walks) (first + place) on (omega arith);
+      way = finds_way walks (length walks) (second - first) (there_of walks rank (first + place)) (there_of walks rank (first + place)) (there_of walks rank (first + place)) (omega arith) (omega arith)
+          (back_there walks rank (length walks) first second place on before within same low)
+          (λ more by less here. above_there walks rank (length walks) first second place more by on before within same low is_lowest less here);
     }
 
 -- a walk that goes on for as many steps as there are ranks comes to a cycle
-comes_round : (waits : Waits) (rank : ℕ) → StepsOn waits rank (length waits) → ComesToCycle waits rank
-comes_round waits rank on =
-    let pair = twice (length waits) (there_of waits rank) (λ steps few. stays_below waits rank (length waits) steps on few) in
+comes_round : (walks : Walks) (rank : ℕ) → StepsOn walks rank (length walks) → ComesToCycle walks rank
+comes_round walks rank on =
+    let pair = twice (length walks) (there_of walks rank) (λ steps few. stays_below walks rank (length walks) steps on few) in
     let count : suc (pair.second - pair.first - 1) ≡ pair.second - pair.first = omega (arith, pair.before) in
-    let lowest = lowest_of (λ more. there_of waits rank (pair.first + more)) (pair.second - pair.first - 1) in
-    cycle_from waits rank pair.first pair.second on pair.before pair.within pair.same lowest.place (omega (arith, lowest.within))
+    let lowest = lowest_of (λ more. there_of walks rank (pair.first + more)) (pair.second - pair.first - 1) in
+    cycle_from walks rank pair.first pair.second on pair.before pair.within pair.same lowest.place (omega (arith, lowest.within))
     (λ other less. lowest.is_lowest other (omega arith))
 
 -- a rank's cycle, told by its way home
-pub record TellsCycle (waits : Waits) (rank : ℕ) (ranks : List ℕ) : Type 0 where
-  pub is_cycle : IsCycle waits ranks
+pub record TellsCycle (walks : Walks) (rank : ℕ) (ranks : List ℕ) : Type 0 where
+  pub is_cycle : IsCycle walks ranks
   pub begins : slice_get ranks 0 ≡ Some rank
 
-pub told_by_way : (waits : Waits) (most rank : ℕ) (ranks : List ℕ) → way_home waits most rank rank ≡ Some ranks → list_all (nat_le rank) ranks ≡ true → TellsCycle waits rank ranks
-told_by_way waits most rank ranks is_way all =
-    let way = way_home_is waits most rank rank ranks is_way in
-    let cycle = way_is_cycle waits rank way.rest way.is_way (ap (λ (rs : List ℕ). list_all (nat_le rank) rs) (sym way.begins) ∙ all) in
+pub told_by_way : (walks : Walks) (most rank : ℕ) (ranks : List ℕ) → way_home walks most rank rank ≡ Some ranks → list_all (nat_le rank) ranks ≡ true → TellsCycle walks rank ranks
+told_by_way walks most rank ranks is_way all =
+    let way = way_home_is walks most rank rank ranks is_way in
+    let cycle = way_is_cycle walks rank way.rest way.is_way (ap (λ (rs : List ℕ). list_all (nat_le rank) rs) (sym way.begins) ∙ all) in
     record {
-      is_cycle = subst (λ (rs : List ℕ). IsCycle waits rs) (sym way.begins) cycle;
+      is_cycle = subst (λ (rs : List ℕ). IsCycle walks rs) (sym way.begins) cycle;
       begins = ap (λ (rs : List ℕ). slice_get rs 0) way.begins;
     }
 
-cycle_listed : (waits : Waits) (rank : ℕ) (cause : CauseView) → rank < length waits → cycle_at waits rank ≡ Some cause → Among cause (causes_in waits)
-cycle_listed waits rank cause is_rank is =
-    among_left cause (filter_map (cycle_at waits) (range_with_len 0 (length waits))) (filter_map (missing_at waits) (range_with_len 0 (length waits)))
-    (given_among rank cause (cycle_at waits) (range_with_len 0 (length waits)) (range_among rank 0 (length waits) (omega arith) (omega arith)) is)
+cycle_listed : (walks : Walks) (rank : ℕ) (cause : CauseView) → rank < length walks → cycle_at walks rank ≡ Some cause → Among cause (causes_in walks)
+cycle_listed walks rank cause is_rank is =
+    among_left cause (filter_map (cycle_at walks) (range_with_len 0 (length walks))) (filter_map (missing_at walks) (range_with_len 0 (length walks)))
+    (given_among rank cause (cycle_at walks) (range_with_len 0 (length walks)) (range_among rank 0 (length walks) (omega arith) (omega arith)) is)
 
-missing_listed : (waits : Waits) (rank : ℕ) (cause : CauseView) → rank < length waits → missing_at waits rank ≡ Some cause → Among cause (causes_in waits)
-missing_listed waits rank cause is_rank is =
-    among_right cause (filter_map (cycle_at waits) (range_with_len 0 (length waits))) (filter_map (missing_at waits) (range_with_len 0 (length waits)))
-    (given_among rank cause (missing_at waits) (range_with_len 0 (length waits)) (range_among rank 0 (length waits) (omega arith) (omega arith)) is)
+missing_listed : (walks : Walks) (rank : ℕ) (cause : CauseView) → rank < length walks → missing_at walks rank ≡ Some cause → Among cause (causes_in walks)
+missing_listed walks rank cause is_rank is =
+    among_right cause (filter_map (cycle_at walks) (range_with_len 0 (length walks))) (filter_map (missing_at walks) (range_with_len 0 (length walks)))
+    (given_among rank cause (missing_at walks) (range_with_len 0 (length walks)) (range_among rank 0 (length walks) (omega arith) (omega arith)) is)
 
-pub lacks_is_waiting : (waits : Waits) (rank peer : ℕ) (o : Option Need) → first_in waits rank ≡ o → option_and_then lacking o ≡ Some peer → IsWaiting waits rank
-lacks_is_waiting waits rank peer None is h = absurd (none-some peer h)
-lacks_is_waiting waits rank peer (Some need) is h = record { need = need; is_first = is }
+pub lacks_is_waiting : (walks : Walks) (rank peer : ℕ) (o : Option Onward) → onward_in walks rank ≡ o → option_and_then lacked_by o ≡ Some peer → IsWaiting walks rank
+lacks_is_waiting walks rank peer None is h = absurd (none-some peer h)
+lacks_is_waiting walks rank peer (Some there) is h = record { there = there; goes_there = is }
 
-pub next_is_waiting : (waits : Waits) (rank next : ℕ) (o : Option Need) → first_in waits rank ≡ o → option_and_then awaited o ≡ Some next → IsWaiting waits rank
-next_is_waiting waits rank next None is h = absurd (none-some next h)
-next_is_waiting waits rank next (Some need) is h = record { need = need; is_first = is }
+pub next_is_waiting : (walks : Walks) (rank next : ℕ) (o : Option Onward) → onward_in walks rank ≡ o → option_and_then to_of o ≡ Some next → IsWaiting walks rank
+next_is_waiting walks rank next None is h = absurd (none-some next h)
+next_is_waiting walks rank next (Some there) is h = record { there = there; goes_there = is }
 
 -- the end of a walk, which is listed
-pub record HasEnd (waits : Waits) (rank : ℕ) : Type 0 where
+pub record HasEnd (walks : Walks) (rank : ℕ) : Type 0 where
   pub cause : CauseView
-  pub is_listed : Among cause (causes_in waits)
-  pub ends : EndsWith waits rank cause
+  pub is_listed : Among cause (causes_in walks)
+  pub ends : EndsWith walks rank cause
 
-pub walk_ends : (waits : Waits) → GoesOn waits → (rank : ℕ) → IsWaiting waits rank → HasEnd waits rank
-walk_ends waits on rank waiting =
-    by_run waits rank (runs waits on (length waits) rank waiting)
+pub walk_ends : (walks : Walks) → GoesOn walks → (rank : ℕ) → IsWaiting walks rank → HasEnd walks rank
+walk_ends walks on rank waiting =
+    by_run walks rank (runs walks on (length walks) rank waiting)
   where
-    by_cycle : (waits : Waits) (rank : ℕ) → ComesToCycle waits rank → HasEnd waits rank
-    by_cycle waits rank found =
+    by_cycle : (walks : Walks) (rank : ℕ) → ComesToCycle walks rank → HasEnd walks rank
+    by_cycle walks rank found =
         let ranks = found.way.ranks in
-        let told = told_by_way waits (length waits) found.low found.way.ranks found.way.is_way found.way.no_lower in
+        let told = told_by_way walks (length walks) found.low found.way.ranks found.way.is_way found.way.no_lower in
         record {
           cause = CycleOf found.way.ranks;
-          is_listed = cycle_listed waits found.low (CycleOf found.way.ranks) found.is_rank (rw (found.way.is_way, found.way.no_lower) refl);
+          is_listed = cycle_listed walks found.low (CycleOf found.way.ranks) found.is_rank (rw (found.way.is_way, found.way.no_lower) refl);
           ends = record { steps = found.steps; end = found.low; comes_there = found.comes_there; is_end = (told.is_cycle, told.begins) };
         }
 
-    by_run : (waits : Waits) (rank : ℕ) → ComesToMissing waits rank ⊎ StepsOn waits rank (length waits) → HasEnd waits rank
-    by_run waits rank (inl found) =
+    by_run : (walks : Walks) (rank : ℕ) → ComesToMissing walks rank ⊎ StepsOn walks rank (length walks) → HasEnd walks rank
+    by_run walks rank (inl found) =
         record {
           cause = MissingOf found.end found.peer;
-          is_listed = missing_listed waits found.end (MissingOf found.end found.peer)
-              (waiting_is_rank waits found.end (lacks_is_waiting waits found.end found.peer (first_in waits found.end) refl found.lacks))
+          is_listed = missing_listed walks found.end (MissingOf found.end found.peer)
+              (waiting_is_rank walks found.end (lacks_is_waiting walks found.end found.peer (onward_in walks found.end) refl found.lacks))
               (rw found.lacks refl);
           ends = record { steps = found.steps; end = found.end; comes_there = found.comes_there; is_end = (refl, found.lacks) };
         }
-    by_run waits rank (inr on) = by_cycle waits rank (comes_round waits rank on)
+    by_run walks rank (inr on) = by_cycle walks rank (comes_round walks rank on)

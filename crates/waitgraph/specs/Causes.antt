@@ -12,6 +12,8 @@ use Rattle.moves.specs.declared.need.Need.TheVariants.{At, Lacking}
 use Rattle.waitgraph.specs.Stuck.{is_stuck, unmet_at}
 use Rattle.waitgraph.specs.declared.cause.Cause.{Cause}
 use Rattle.waitgraph.specs.declared.cause.Cause.TheVariants.{Cycle, Missing}
+use Rattle.waitgraph.specs.declared.onward.Onward.{Onward}
+use Rattle.waitgraph.specs.declared.onward.Onward.TheVariants.{To, Lacks}
 
 -- what contracts see of a cause: the ranks of a cycle, or the rank that waits and the peer that lacks the call
 pub data CauseView : Type 0 where
@@ -38,80 +40,104 @@ waits_of groups recording = waits_at groups recording (stands_of groups recordin
 abbrev pub needs_in : Waits → ℕ → List Need
 needs_in waits rank = unwrap_or (slice_get waits rank) []
 
--- the rank whose call is needed
-abbrev pub awaited : Need → Option ℕ
-awaited (At rank place) = Some rank
-awaited (Lacking rank) = None
-
--- the rank that lacks the call which is needed
-abbrev pub lacking : Need → Option ℕ
-lacking (At rank place) = None
-lacking (Lacking rank) = Some rank
-
 -- the first of a rank's unmet needs
 abbrev pub first_in : Waits → ℕ → Option Need
 first_in waits rank = slice_get (needs_in waits rank) 0
 
--- the rank for which a rank waits by its first unmet need
-abbrev pub next_in : Waits → ℕ → Option ℕ
-next_in waits rank = option_and_then awaited (first_in waits rank)
+-- how the walk goes on by a need: to the rank that is waited for, or not, where a rank lacks the call
+abbrev pub onward : Need → Onward
+onward (At rank place) = To rank
+onward (Lacking rank) = Lacks rank
 
--- the rank that lacks the call for which a rank waits by its first unmet need
-abbrev pub lacks_in : Waits → ℕ → Option ℕ
-lacks_in waits rank = option_and_then lacking (first_in waits rank)
+-- by the first of some needs
+abbrev pub onward_of : List Need → Option Onward
+onward_of needs = option_map onward (slice_get needs 0)
+
+-- how the walk goes on from each rank; None where the rank waits for nothing
+abbrev pub Walks : Type 0
+Walks = List (Option Onward)
+
+abbrev pub walks_in : Waits → Walks
+walks_in waits = map onward_of waits
+
+-- how it does over a recording
+abbrev pub walks_of : Groups → Lists → Walks
+walks_of groups recording = walks_in (waits_of groups recording)
+
+-- how it goes on from a rank
+abbrev pub onward_in : Walks → ℕ → Option Onward
+onward_in walks rank = option_and_then (λ there. there) (slice_get walks rank)
+
+-- the rank to which a walk goes on
+abbrev pub to_of : Onward → Option ℕ
+to_of (To rank) = Some rank
+to_of (Lacks rank) = None
+
+-- the rank that lacks the call at which a walk ends
+abbrev pub lacked_by : Onward → Option ℕ
+lacked_by (To rank) = None
+lacked_by (Lacks rank) = Some rank
+
+-- the rank to which the walk goes on from a rank
+abbrev pub next_in : Walks → ℕ → Option ℕ
+next_in walks rank = option_and_then to_of (onward_in walks rank)
+
+-- the rank that lacks the call for which a rank waits
+abbrev pub lacks_in : Walks → ℕ → Option ℕ
+lacks_in walks rank = option_and_then lacked_by (onward_in walks rank)
 
 -- the ranks of the walk from a rank until it comes to `home`; None where it does not within so many steps
-abbrev pub way_home : Waits → ℕ → ℕ → ℕ → Option (List ℕ)
-way_home waits zero home rank = None
-way_home waits (suc most) home rank =
-    option_and_then (λ next. if next == home then Some (rank ∷ []) else option_map (λ ranks. rank ∷ ranks) (way_home waits most home next)) (next_in waits rank)
+abbrev pub way_home : Walks → ℕ → ℕ → ℕ → Option (List ℕ)
+way_home walks zero home rank = None
+way_home walks (suc most) home rank =
+    option_and_then (λ next. if next == home then Some (rank ∷ []) else option_map (λ ranks. rank ∷ ranks) (way_home walks most home next)) (next_in walks rank)
 
 -- the cycle of ranks
 abbrev pub cycle_by : ℕ → List ℕ → Option CauseView
 cycle_by rank ranks = if list_all (nat_le rank) ranks then Some (CycleOf ranks) else None
 
 -- the cycle whose lowest rank is the given one: the walk from it comes back to it and goes by no lower rank
-abbrev pub cycle_at : Waits → ℕ → Option CauseView
-cycle_at waits rank = option_and_then (cycle_by rank) (way_home waits (length waits) rank rank)
+abbrev pub cycle_at : Walks → ℕ → Option CauseView
+cycle_at walks rank = option_and_then (cycle_by rank) (way_home walks (length walks) rank rank)
 
 -- the missing call for which the rank waits by its first unmet need
-abbrev pub missing_at : Waits → ℕ → Option CauseView
-missing_at waits rank = option_map (MissingOf rank) (lacks_in waits rank)
+abbrev pub missing_at : Walks → ℕ → Option CauseView
+missing_at walks rank = option_map (MissingOf rank) (lacks_in walks rank)
 
 -- the cycles by their lowest rank, and then the missing calls by the rank that waits
-abbrev pub causes_in : Waits → List CauseView
-causes_in waits =
-    filter_map (cycle_at waits) (range_with_len 0 (length waits)) ++ filter_map (missing_at waits) (range_with_len 0 (length waits))
+abbrev pub causes_in : Walks → List CauseView
+causes_in walks =
+    filter_map (cycle_at walks) (range_with_len 0 (length walks)) ++ filter_map (missing_at walks) (range_with_len 0 (length walks))
 
 -- the causes of a recording
 abbrev pub causes_of : Groups → Lists → List CauseView
-causes_of groups recording = causes_in (waits_of groups recording)
+causes_of groups recording = causes_in (walks_of groups recording)
 
 -- the rank to which the walk from a rank comes after so many steps
-abbrev pub after : Waits → ℕ → ℕ → Option ℕ
-after waits zero rank = Some rank
-after waits (suc steps) rank = option_and_then (after waits steps) (next_in waits rank)
+abbrev pub after : Walks → ℕ → ℕ → Option ℕ
+after walks zero rank = Some rank
+after walks (suc steps) rank = option_and_then (after walks steps) (next_in walks rank)
 
 -- A cycle: distinct ranks, each of which waits for the next one and the last for the first, written from the
 -- lowest on.
-pub record IsCycle (waits : Waits) (ranks : List ℕ) : Type 0 where
+pub record IsCycle (walks : Walks) (ranks : List ℕ) : Type 0 where
   pub is_some : 0 < length ranks
-  pub waits_for_next : (index rank next : ℕ) → slice_get ranks index ≡ Some rank → slice_get ranks (index + 1) ≡ Some next → next_in waits rank ≡ Some next
-  pub last_waits_for_first : (rank first : ℕ) → slice_get ranks (length ranks - 1) ≡ Some rank → slice_get ranks 0 ≡ Some first → next_in waits rank ≡ Some first
+  pub waits_for_next : (index rank next : ℕ) → slice_get ranks index ≡ Some rank → slice_get ranks (index + 1) ≡ Some next → next_in walks rank ≡ Some next
+  pub last_waits_for_first : (rank first : ℕ) → slice_get ranks (length ranks - 1) ≡ Some rank → slice_get ranks 0 ≡ Some first → next_in walks rank ≡ Some first
   pub are_distinct : (index other rank : ℕ) → slice_get ranks index ≡ Some rank → slice_get ranks other ≡ Some rank → index ≡ other
   pub first_is_lowest : (index first rank : ℕ) → slice_get ranks 0 ≡ Some first → slice_get ranks index ≡ Some rank → first ≤ rank
 
 -- the walk is at its end: at the lowest rank of a cycle, or at a rank that waits for a missing call
-abbrev pub IsEnd : Waits → ℕ → CauseView → Type 0
-IsEnd waits rank (CycleOf ranks) = IsCycle waits ranks × (slice_get ranks 0 ≡ Some rank)
-IsEnd waits rank (MissingOf waiting peer) = (waiting ≡ rank) × (lacks_in waits rank ≡ Some peer)
+abbrev pub IsEnd : Walks → ℕ → CauseView → Type 0
+IsEnd walks rank (CycleOf ranks) = IsCycle walks ranks × (slice_get ranks 0 ≡ Some rank)
+IsEnd walks rank (MissingOf waiting peer) = (waiting ≡ rank) × (lacks_in walks rank ≡ Some peer)
 
 -- the walk from the rank comes to the cause
-pub record EndsWith (waits : Waits) (rank : ℕ) (cause : CauseView) : Type 0 where
+pub record EndsWith (walks : Walks) (rank : ℕ) (cause : CauseView) : Type 0 where
   pub steps : ℕ
   pub end : ℕ
-  pub comes_there : after waits steps rank ≡ Some end
-  pub is_end : IsEnd waits end cause
+  pub comes_there : after walks steps rank ≡ Some end
+  pub is_end : IsEnd walks end cause
 
 -- the cause stands in the list
 abbrev pub IsListed : CauseView → List CauseView → Type 0
@@ -120,9 +146,9 @@ IsListed cause causes = (index : ℕ) × (slice_get causes index ≡ Some cause)
 -- the causes of a recording are those to which the walks from its stuck ranks come, each listed once
 pub record TellsCauses (groups : Groups) (recording : Lists) : Type 0 where
   pub each_walk_ends : (rank : ℕ) → rank < length recording → is_stuck groups recording rank ≡ true →
-      (cause : CauseView) × IsListed cause (causes_of groups recording) × EndsWith (waits_of groups recording) rank cause
+      (cause : CauseView) × IsListed cause (causes_of groups recording) × EndsWith (walks_of groups recording) rank cause
   pub each_is_an_end : (cause : CauseView) → IsListed cause (causes_of groups recording) →
-      (rank : ℕ) × (rank < length recording) × (is_stuck groups recording rank ≡ true) × EndsWith (waits_of groups recording) rank cause
+      (rank : ℕ) × (rank < length recording) × (is_stuck groups recording rank ≡ true) × EndsWith (walks_of groups recording) rank cause
   pub none_twice : (index other : ℕ) (cause : CauseView) →
       slice_get (causes_of groups recording) index ≡ Some cause → slice_get (causes_of groups recording) other ≡ Some cause → index ≡ other
 

@@ -5,9 +5,4 @@ pub mod Marks
 pub mod Stuck
 pub mod Causes
 pub mod Graphs
-pub mod FindingTexts
-pub mod TextReport
-pub mod Pages
-pub mod SpelledCalls
-pub mod JsonReport
-pub mod Reports
+pub mod Verdicts

@@ -5,13 +5,13 @@ use Rattle.mpigroup.specs.Groups.{Groups}
 use Rattle.pairing.specs.Recordings.{Lists, IsClosed}
 use Rattle.moves.specs.Runs.{State}
 use Rattle.moves.specs.Needs.{needs_of, is_met}
-use Rattle.moves.specs.Stands.{stands_of, is_at_finalize}
+use Rattle.moves.specs.Stands.{stands_of, is_at_end}
 use Rattle.moves.specs.declared.need.Need.{Need}
 use Rattle.moves.specs.declared.need.Need.TheVariants.{At, Lacking}
 
 -- a rank is stuck in a state if its present call is not its Finalize
 abbrev pub is_stuck_at : Lists → State → ℕ → Bool
-is_stuck_at recording stands rank = not (is_at_finalize recording stands rank)
+is_stuck_at recording stands rank = not (is_at_end recording stands rank)
 
 -- a rank is stuck if it is so at the stands
 abbrev pub is_stuck : Groups → Lists → ℕ → Bool

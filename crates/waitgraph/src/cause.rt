@@ -2,7 +2,7 @@
 
 /// Why some ranks can't move on: ranks that wait for each other in a ring, or a call that a rank waits for
 /// and that its peer never makes.
-#[derive(Debug, PartialEq, Eq, Drop)]
+#[derive(PartialEq, Eq, Drop)]
 pub enum Cause {
     /// The ranks, each of which waits for the next and the last for the first, from the lowest on.
     Cycle(Vec<u16>),

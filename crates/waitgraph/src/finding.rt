@@ -26,7 +26,7 @@ mod wave;
 /// A finding over the whole recording, whether its calls are reached or not. Waves are numbered from 0 for
 /// each communicator; `member` is a rank of the communicator's group, and rank 0 of that group is what it is
 /// compared with.
-#[derive(Clone, Copy, Debug, PartialEq, Eq)]
+#[derive(Clone, Copy, PartialEq, Eq)]
 pub enum Finding {
     /// In one wave a member makes another call than the first one.
     Kind {

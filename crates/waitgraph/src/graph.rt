@@ -4,13 +4,15 @@ ghost use Rattle.std.specs.Prelude.{◌≡◌, ◌<◌, ℕ, length, map, IfOk, 
 ghost use Rattle.pairing.specs.Recordings.{IsClosed};
 ghost use Rattle.moves.specs.Stands.{stands_of};
 ghost use Rattle.waitgraph.specs.Stuck.{is_stuck_at, stuck_at, stuck_of, unmet_of};
-ghost use Rattle.waitgraph.specs.Causes.{view_of, waits_at, needs_in, causes_in, causes_of};
+ghost use Rattle.waitgraph.specs.Causes.{view_of, waits_at, needs_in, walks_in, causes_in, causes_of};
 ghost use Rattle.waitgraph.specs.Findings.{findings_of};
+ghost use Rattle.waitgraph.specs.Verdicts.{verdict_by};
 
 use crate::cause::Cause;
 use crate::finding::{Finding, findings};
 use crate::unmet::{Unmet, stand_of, unmet_at};
-use crate::walk::causes_in;
+use crate::verdict::Verdict;
+use crate::walk::{causes_in, walks_in};
 use moves::analyser::Analyser;
 use moves::need::Need;
 use pairing::pairs::Pairs;
@@ -19,12 +21,22 @@ use std::marker::Model;
 
 /// Who waits for whom where the ranks of a run stand, and why, and what else is wrong with the run. Contracts see
 /// the stuck ranks, each rank's unmet needs, the causes and the findings.
-#[derive(Drop)]
 pub struct Graph {
     stuck: Vec<u16>,
     waits: Vec<Unmet>,
     causes: Vec<Cause>,
     findings: Vec<Finding>,
+}
+
+impl Drop for Graph {
+    fn drop(self) {
+        let Graph {
+            stuck: _,
+            waits: _,
+            causes: _,
+            findings: _,
+        } = self;
+    }
 }
 
 impl Model for Graph {
@@ -37,12 +49,12 @@ impl Model for Graph {
     ghost view = { λ g. record { stuck = g.stuck.items; waits = g.waits.items; causes = map view_of g.causes.items; findings = g.findings.items } };
 }
 
-/// Whether the rank's present call isn't its Finalize.
+/// Whether the rank's present call isn't the one that ends its list.
 fn is_stuck_at(pairs: &Pairs, stands: &[u32], rank: u16) -> bool
     ensures { result ≡ is_stuck_at pairs.now.recording stands.now rank }
 {
     match pairs.call(rank, stand_of(stands, rank)) {
-        Some(call) => !call.is_finalize(),
+        Some(call) => !call.ends_list(),
         None => true,
     }
 }
@@ -73,12 +85,13 @@ fn waits_at(alloc: Global, pairs: &Pairs, stands: &[u32]) -> Result<Vec<Unmet>, 
 fn graph_at(alloc: Global, pairs: &Pairs, stands: &[u32]) -> Result<Graph, AllocError>
     ensures stuck { IfOk result (λ graph. graph.stuck ≡ stuck_at pairs.now.recording stands.now) }
     ensures waits { IfOk result (λ graph. graph.waits ≡ waits_at pairs.now.groups pairs.now.recording stands.now) }
-    ensures causes { IfOk result (λ graph. graph.causes ≡ causes_in (waits_at pairs.now.groups pairs.now.recording stands.now)) }
+    ensures causes { IfOk result (λ graph. graph.causes ≡ causes_in (walks_in (waits_at pairs.now.groups pairs.now.recording stands.now))) }
     ensures findings { IfOk result (λ graph. graph.findings ≡ findings_of pairs.now.groups pairs.now.recording) }
 {
     let stuck = stuck_at(alloc, pairs, stands)?;
     let waits = waits_at(alloc, pairs, stands)?;
-    let causes = causes_in(alloc, &waits)?;
+    let walks = walks_in(alloc, &waits)?;
+    let causes = causes_in(alloc, &walks)?;
     let findings = findings(alloc, pairs)?;
     Ok(Graph {
         stuck,
@@ -118,11 +131,21 @@ impl Graph {
         Ok(graph)
     }
 
-    /// The ranks whose present call isn't their Finalize, rising.
+    /// The ranks that don't stand at the call that ends their list, rising.
     pub fn stuck(&self) -> &[u16]
         ensures { result.now ≡ self.now.stuck }
     {
         self.stuck.as_slice()
+    }
+
+    /// Whether the run can hang: exactly if some rank is stuck.
+    pub fn verdict(&self) -> Verdict
+        ensures { result ≡ verdict_by self.now.stuck }
+    {
+        match self.stuck.as_slice() {
+            [] => Verdict::Free,
+            _ => Verdict::Hang,
+        }
     }
 
     /// What the rank's present call needs and isn't met, by rank and place; nothing where the rank isn't

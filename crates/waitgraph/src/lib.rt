@@ -1,4 +1,4 @@
-//! Who waits for whom in a run that was recorded whole, and why, and the reports that say so.
+//! Who waits for whom in a run that was recorded whole, and why.
 //!
 //! What it promises, as contracts that are proved, by definitions of `specs/`:
 //!
@@ -6,9 +6,8 @@
 //!   call that aren't met where the ranks stand, by rank and place and each once (`Stuck`), and the causes:
 //!   the cycles of ranks that wait for each other, and the calls that a rank waits for and its peer lacks
 //!   (`Causes`).
+//! - `Graph::verdict` answers the verdict: `Hang` exactly if some rank is stuck (`Verdicts`).
 //! - Its findings are what else is wrong with the recording, over all calls, reached or not (`Findings`).
-//! - `report::write_report` writes exactly the report of a recording, as text or as JSON (`TextReport`,
-//!   `JsonReport`, `Reports`).
 //! - Laws, each on a function that does nothing: the unmet needs are those needs of the present call that
 //!   aren't met and no others; each stuck rank has one, no other rank has, and who is waited for at a place is
 //!   stuck too; the walk from each stuck rank by its first unmet need comes to a listed cause, each listed
@@ -26,8 +25,7 @@
 pub mod cause;
 pub mod finding;
 pub mod graph;
-mod json;
-pub mod report;
+pub mod onward;
 pub mod unmet;
+pub mod verdict;
 pub mod walk;
-mod word;

@@ -58,9 +58,14 @@ fn is_behind(needs: &[Need], place: usize, need: &Need) -> bool
 }
 
 /// Needs in order, each once. Contracts see their list.
-#[derive(Drop)]
 pub(crate) struct Unmet {
     needs: Vec<Need>,
+}
+
+impl Drop for Unmet {
+    fn drop(self) {
+        let Unmet { needs: _ } = self;
+    }
 }
 
 impl Model for Unmet {

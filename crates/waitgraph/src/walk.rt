@@ -3,52 +3,65 @@
 ghost use Rattle.std.specs.Prelude.{◌≡◌, ◌<◌, ◌++◌, nat_le, length, map, option_map, IfOk, OnOk};
 ghost use Rattle.std.specs.Option.{option_to_list};
 ghost use Rattle.std.specs.List.{filter_map, range_with_len, list_all};
-ghost use Rattle.waitgraph.specs.Causes.{view_of, first_in, next_in, lacks_in, way_home, cycle_at, missing_at, causes_in, WalksEndInTheCauses};
+ghost use Rattle.waitgraph.specs.Causes.{view_of, onward_of, walks_in, next_in, lacks_in, way_home, cycle_at, missing_at, causes_in, WalksEndInTheCauses};
 
 use crate::cause::Cause;
+use crate::onward::Onward;
 use crate::unmet::Unmet;
 use moves::need::Need;
 use std::alloc::{AllocError, Global};
 
-/// The first of the rank's unmet needs.
-fn first_in(waits: &[Unmet], rank: u16) -> Option<Need>
-    ensures { result ≡ first_in waits.now rank }
+/// How the walk goes on from a rank with these unmet needs.
+fn onward_of(unmet: &Unmet) -> Option<Onward>
+    ensures { result ≡ onward_of unmet.now }
 {
-    match waits.get(usize::from(rank)) {
-        Some(unmet) => unmet.needs().first().copied(),
+    match unmet.needs().first() {
+        Some(Need::At { rank, .. }) => Some(Onward::To { rank: *rank }),
+        Some(Need::Lacking { rank }) => Some(Onward::Lacks { rank: *rank }),
         None => None,
     }
 }
 
-/// The rank for which the rank waits by its first unmet need.
-fn next_in(waits: &[Unmet], rank: u16) -> Option<u16>
-    ensures { result ≡ next_in waits.now rank }
+/// How the walk goes on from each rank.
+pub(crate) fn walks_in(alloc: Global, waits: &[Unmet]) -> Result<Vec<Option<Onward>>, AllocError>
+    ensures { IfOk result (λ walks. walks.items ≡ walks_in waits.now) }
 {
-    match first_in(waits, rank) {
-        Some(Need::At { rank: next, .. }) => Some(next),
+    waits.iter().map(onward_of).collect(alloc)
+}
+
+/// The rank to which the walk goes on from a rank.
+fn next_in(walks: &[Option<Onward>], rank: u16) -> Option<u16>
+    ensures { result ≡ next_in walks.now rank }
+{
+    match walks.get(usize::from(rank)) {
+        Some(Some(Onward::To { rank: next })) => Some(*next),
         _ => None,
     }
 }
 
-/// The rank that lacks the call for which the rank waits by its first unmet need.
-fn lacks_in(waits: &[Unmet], rank: u16) -> Option<u16>
-    ensures { result ≡ lacks_in waits.now rank }
+/// The rank that lacks the call for which a rank waits.
+fn lacks_in(walks: &[Option<Onward>], rank: u16) -> Option<u16>
+    ensures { result ≡ lacks_in walks.now rank }
 {
-    match first_in(waits, rank) {
-        Some(Need::Lacking { rank: peer }) => Some(peer),
+    match walks.get(usize::from(rank)) {
+        Some(Some(Onward::Lacks { rank: peer })) => Some(*peer),
         _ => None,
     }
 }
 
 /// The ranks of the walk from `home` until it comes back; None where it doesn't.
-fn way_home(alloc: Global, waits: &[Unmet], home: u16) -> Result<Option<Vec<u16>>, AllocError>
-    ensures { IfOk result (λ ranks. option_map (λ r. r.items) ranks ≡ way_home waits.now (length waits.now) home home) }
+fn way_home(
+    alloc: Global,
+    walks: &[Option<Onward>],
+    home: u16,
+) -> Result<Option<Vec<u16>>, AllocError>
+    ensures { IfOk result (λ ranks. option_map (λ r. r.items) ranks ≡ way_home walks.now (length walks.now) home home) }
 {
     let mut ranks = Vec::new(alloc);
     let mut rank = home;
-    for _step in 0..waits.len() {
+    for _step in 0..walks.len() {
         ranks.push(rank)?;
-        match next_in(waits, rank) {
+        match next_in(walks, rank) {
             None => return Ok(None),
             Some(next) if next == home => return Ok(Some(ranks)),
             Some(next) => rank = next,
@@ -68,12 +81,12 @@ fn is_lowest(rank: u16, ranks: &[u16]) -> bool
 fn add_cycle(
     alloc: Global,
     causes: &mut Vec<Cause>,
-    waits: &[Unmet],
+    walks: &[Option<Onward>],
     rank: u16,
 ) -> Result<(), AllocError>
-    ensures { OnOk result (map view_of causes.new.items ≡ map view_of causes.old.items ++ option_to_list (cycle_at waits.now rank)) }
+    ensures { OnOk result (map view_of causes.new.items ≡ map view_of causes.old.items ++ option_to_list (cycle_at walks.now rank)) }
 {
-    if let Some(ranks) = way_home(alloc, waits, rank)? {
+    if let Some(ranks) = way_home(alloc, walks, rank)? {
         if is_lowest(rank, &ranks) {
             causes.push(Cause::Cycle(ranks))?;
         }
@@ -81,44 +94,52 @@ fn add_cycle(
     Ok(())
 }
 
-fn add_cycles(alloc: Global, causes: &mut Vec<Cause>, waits: &[Unmet]) -> Result<(), AllocError>
-    requires { length waits.now < 65536 }
-    ensures { OnOk result (map view_of causes.new.items ≡ map view_of causes.old.items ++ filter_map (cycle_at waits.now) (range_with_len 0 (length waits.now))) }
+fn add_cycles(
+    alloc: Global,
+    causes: &mut Vec<Cause>,
+    walks: &[Option<Onward>],
+) -> Result<(), AllocError>
+    requires { length walks.now < 65536 }
+    ensures { OnOk result (map view_of causes.new.items ≡ map view_of causes.old.items ++ filter_map (cycle_at walks.now) (range_with_len 0 (length walks.now))) }
 {
-    for rank in 0..waits.len() as u16 {
-        add_cycle(alloc, causes, waits, rank)?;
+    for rank in 0..walks.len() as u16 {
+        add_cycle(alloc, causes, walks, rank)?;
     }
     Ok(())
 }
 
 /// Adds the missing call for which the rank waits, if it waits for one.
-fn add_missing(causes: &mut Vec<Cause>, waits: &[Unmet], rank: u16) -> Result<(), AllocError>
-    ensures { OnOk result (map view_of causes.new.items ≡ map view_of causes.old.items ++ option_to_list (missing_at waits.now rank)) }
+fn add_missing(
+    causes: &mut Vec<Cause>,
+    walks: &[Option<Onward>],
+    rank: u16,
+) -> Result<(), AllocError>
+    ensures { OnOk result (map view_of causes.new.items ≡ map view_of causes.old.items ++ option_to_list (missing_at walks.now rank)) }
 {
-    if let Some(peer) = lacks_in(waits, rank) {
+    if let Some(peer) = lacks_in(walks, rank) {
         causes.push(Cause::Missing { rank, peer })?;
     }
     Ok(())
 }
 
-fn add_missing_calls(causes: &mut Vec<Cause>, waits: &[Unmet]) -> Result<(), AllocError>
-    requires { length waits.now < 65536 }
-    ensures { OnOk result (map view_of causes.new.items ≡ map view_of causes.old.items ++ filter_map (missing_at waits.now) (range_with_len 0 (length waits.now))) }
+fn add_missing_calls(causes: &mut Vec<Cause>, walks: &[Option<Onward>]) -> Result<(), AllocError>
+    requires { length walks.now < 65536 }
+    ensures { OnOk result (map view_of causes.new.items ≡ map view_of causes.old.items ++ filter_map (missing_at walks.now) (range_with_len 0 (length walks.now))) }
 {
-    for rank in 0..waits.len() as u16 {
-        add_missing(causes, waits, rank)?;
+    for rank in 0..walks.len() as u16 {
+        add_missing(causes, walks, rank)?;
     }
     Ok(())
 }
 
 /// The cycles by their lowest rank, and then the missing calls by the rank that waits.
-pub(crate) fn causes_in(alloc: Global, waits: &[Unmet]) -> Result<Vec<Cause>, AllocError>
-    requires { length waits.now < 65536 }
-    ensures { IfOk result (λ causes. map view_of causes.items ≡ causes_in waits.now) }
+pub(crate) fn causes_in(alloc: Global, walks: &[Option<Onward>]) -> Result<Vec<Cause>, AllocError>
+    requires { length walks.now < 65536 }
+    ensures { IfOk result (λ causes. map view_of causes.items ≡ causes_in walks.now) }
 {
     let mut causes = Vec::new(alloc);
-    add_cycles(alloc, &mut causes, waits)?;
-    add_missing_calls(&mut causes, waits)?;
+    add_cycles(alloc, &mut causes, walks)?;
+    add_missing_calls(&mut causes, walks)?;
     Ok(causes)
 }
 

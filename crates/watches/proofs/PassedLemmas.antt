@@ -3,6 +3,8 @@
 use Rattle.std.proofs.Common.{◌≡◌, ◌⊎◌, ℕ, ◌<◌, Some, Result, Ok, Err, OnOk, OnErr, List, [], ◌∷◌, ◌++◌, length, get_or, All, inl, inr, refl, sym, ap, subst, ◌∙◌, ⊎_elim, arith}
 use Rattle.std.proofs.Math.Logic.{∥∥₁_map}
 use Rattle.std.proofs.lemmas.Grind.{merely}
+use Rattle.std.proofs.lemmas.List.{length-replicate}
+use Rattle.mpigroup.specs.declared.limits.TheConstants.{MOST_RANKS}
 use Rattle.std.proofs.lemmas.List.Elements.{All-push}
 use Rattle.std.proofs.lemmas.List.FromFn.{fill_by_all}
 use Rattle.mpigroup.specs.Groups.{Groups}
@@ -53,7 +55,7 @@ still_passed groups recording answer stands old new are done failed were =
 
 start_places : (ranks : ℕ) → at_start.places ≡ places_of (start ranks)
 unfolding places_of
-start_places ranks = fill_by_all (λ k. get_or (start ranks) k 0) at_start.places 64 0 refl (λ k below. get_start 64 k ∙ sym (get_start ranks k))
+start_places ranks = fill_by_all (λ k. get_or (start ranks) k 0) at_start.places MOST_RANKS 0 (length-replicate {A = ℕ} MOST_RANKS 0) (λ k below. get_start MOST_RANKS k ∙ sym (get_start ranks k))
 
 start_passed : (groups : Groups) (recording : Lists) → Passes groups recording at_start.places
 start_passed groups recording = record {

@@ -12,7 +12,7 @@ use mpigroup::limits::MOST_RANKS;
 const PLACES: usize = MOST_RANKS as usize;
 
 /// The stands of all ranks at one moment: a place for each rank that a run may have, 0 behind the last rank.
-#[derive(Clone, Copy, Debug, PartialEq, Eq)]
+#[derive(Clone, Copy, PartialEq, Eq)]
 pub struct Stands {
     pub places: [u32; PLACES],
 }

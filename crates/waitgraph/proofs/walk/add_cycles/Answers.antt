@@ -7,7 +7,7 @@ use Rattle.waitgraph.proofs.walk.add_cycles.Goals as goal
 
 pub loop-rank-preserved : goal.loop-rank-preserved
 loop-rank-preserved c =
-    let h = cycle_at c.args.waits.now in
+    let h = cycle_at c.args.walks.now in
     let before = map view_of c.args.causes.now.items in
     c.in_ok-add_cycle.ensures
     ∙ ap (λ (views : List CauseView). views ++ option_to_list (h c.loop-rank.rank)) c.loop-rank.invariant

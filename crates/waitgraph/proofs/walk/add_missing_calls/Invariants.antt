@@ -5,4 +5,4 @@ use Rattle.waitgraph.proofs.walk.add_missing_calls.Given as goal
 
 -- the missing calls of the ranks so far
 abbrev pub invariant-loop-rank : goal.invariant-loop-rank
-invariant-loop-rank l = map view_of l.causes.items ≡ map view_of l.fn.causes.items ++ filter_map (missing_at l.waits) (range_with_len 0 l.rank)
+invariant-loop-rank l = map view_of l.causes.items ≡ map view_of l.fn.causes.items ++ filter_map (missing_at l.walks) (range_with_len 0 l.rank)

@@ -7,16 +7,16 @@ use Rattle.waitgraph.proofs.walk.way_home.Goals as goal
 pub returns-in-None : goal.returns-in-None
 returns-in-None c =
     sym (c.loop-step.invariant
-    ∙ no_way c.args.waits.now (length c.args.waits.now) c.loop-step._step c.args.home c.loop-step.rank c.loop-step.ranks.items c.loop-step-test.true (sym c.next_in.ensures ∙ c.in-None.is))
+    ∙ no_way c.args.walks.now (length c.args.walks.now) c.loop-step._step c.args.home c.loop-step.rank c.loop-step.ranks.items c.loop-step-test.true (sym c.next_in.ensures ∙ c.in-None.is))
 
 pub returns-in-Some : goal.returns-in-Some
 returns-in-Some c =
     sym (c.loop-step.invariant
-    ∙ way_ends c.args.waits.now (length c.args.waits.now) c.loop-step._step c.args.home c.loop-step.rank c.in-Some.next c.loop-step.ranks.items c.loop-step-test.true (sym c.next_in.ensures ∙ c.in-Some.is) c.if-next-home.true
+    ∙ way_ends c.args.walks.now (length c.args.walks.now) c.loop-step._step c.args.home c.loop-step.rank c.in-Some.next c.loop-step.ranks.items c.loop-step-test.true (sym c.next_in.ensures ∙ c.in-Some.is) c.if-next-home.true
     ∙ ap (λ (ranks : List ℕ). Some ranks) (sym c.in_ok-push.ensures.items))
 
 pub loop-step-preserved : goal.loop-step-preserved
 loop-step-preserved c =
     c.loop-step.invariant
-    ∙ way_on c.args.waits.now (length c.args.waits.now) c.loop-step._step c.args.home c.loop-step.rank c.in-Some.next c.loop-step.ranks.items c.loop-step-test.true (sym c.next_in.ensures ∙ c.in-Some.is) c.if-next-home.false
-    ∙ ap (λ (ranks : List ℕ). option_map (λ more. ranks ++ more) (way_home c.args.waits.now (length c.args.waits.now - (c.loop-step._step + 1)) c.args.home c.in-Some.next)) (sym c.in_ok-push.ensures.items)
+    ∙ way_on c.args.walks.now (length c.args.walks.now) c.loop-step._step c.args.home c.loop-step.rank c.in-Some.next c.loop-step.ranks.items c.loop-step-test.true (sym c.next_in.ensures ∙ c.in-Some.is) c.if-next-home.false
+    ∙ ap (λ (ranks : List ℕ). option_map (λ more. ranks ++ more) (way_home c.args.walks.now (length c.args.walks.now - (c.loop-step._step + 1)) c.args.home c.in-Some.next)) (sym c.in_ok-push.ensures.items)

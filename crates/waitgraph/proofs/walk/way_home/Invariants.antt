@@ -6,5 +6,5 @@ use Rattle.waitgraph.proofs.walk.way_home.Given as goal
 -- the whole way is the ranks so far and the way from here
 abbrev pub invariant-loop-step : goal.invariant-loop-step
 invariant-loop-step l =
-    way_home l.waits (length l.waits) l.home l.home
-    ≡ option_map (λ more. l.ranks.items ++ more) (way_home l.waits (length l.waits - l._step) l.home l.rank)
+    way_home l.walks (length l.walks) l.home l.home
+    ≡ option_map (λ more. l.ranks.items ++ more) (way_home l.walks (length l.walks - l._step) l.home l.rank)

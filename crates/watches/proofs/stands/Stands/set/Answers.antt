@@ -3,13 +3,14 @@ use Rattle.std.proofs.lemmas.List.FromFn.{fill_by_all}
 use Rattle.std.proofs.lemmas.List.Edits.{fill_by_more}
 use Rattle.std.proofs.lemmas.Option.{unwrap_or-slice_get}
 use Rattle.std.specs.Option.{unwrap_or}
+use Rattle.mpigroup.specs.declared.limits.TheConstants.{MOST_RANKS}
 use Rattle.moves.specs.Runs.{State}
 use Rattle.moves.specs.Stands.{stands_of}
 use Rattle.watches.specs.Stands.{places_of}
 use Rattle.watches.proofs.stands.Stands.set.Goals as goal
 
 -- one more place is that of its rank
-one_more : (stands places : State) (rank at stand : ℕ) → at ≡ rank → stand ≡ get_or stands rank 0 → rank < 64 → length places ≡ 64 → ((k : ℕ) → k < rank → get_or places k 0 ≡ get_or stands k 0) → (k : ℕ) → k < rank + 1 → get_or (set places at stand) k 0 ≡ get_or stands k 0
+one_more : (stands places : State) (rank at stand : ℕ) → at ≡ rank → stand ≡ get_or stands rank 0 → rank < MOST_RANKS → length places ≡ MOST_RANKS → ((k : ℕ) → k < rank → get_or places k 0 ≡ get_or stands k 0) → (k : ℕ) → k < rank + 1 → get_or (set places at stand) k 0 ≡ get_or stands k 0
 one_more stands places rank at stand here is below len so_far =
     rw (here, is) (fill_by_more (λ k. get_or stands k 0) places rank 0 (omega (arith, below, len)) so_far)
 
@@ -26,4 +27,4 @@ loop-rank-preserved c =
 
 pub returns : goal.returns
 unfolding places_of
-returns c = fill_by_all (λ k. get_or (stands_of c.args.analyser.now.groups c.args.analyser.now.recording) k 0) c.loop-rank.places 64 0 c.loop-rank.invariant.len (λ k below. c.loop-rank.invariant.stands k (omega (arith, below, c.loop-rank-test.false)))
+returns c = fill_by_all (λ k. get_or (stands_of c.args.analyser.now.groups c.args.analyser.now.recording) k 0) c.loop-rank.places MOST_RANKS 0 c.loop-rank.invariant.len (λ k below. c.loop-rank.invariant.stands k (omega (arith, below, c.loop-rank-test.false)))

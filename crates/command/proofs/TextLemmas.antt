@@ -1,0 +1,97 @@
+-- How the answers over a check's sources follow for the texts of its files.
+use Rattle.std.proofs.Common.{◌≡◌, ◌<◌, ℕ, length, Option, Some, None, List, [], ◌∷◌, map, option_map, ap, ◌∙◌, sym, refl, subst, arith, Result, Ok, Err, IfSome, take, Bool, true, false, if◌then◌else◌}
+use Rattle.std.proofs.lemmas.List.{length-map}
+use Rattle.mpicall.specs.Trace.{Trace, trace_of}
+use Rattle.mpicall.specs.declared.source.Source.{Source}
+use Rattle.waitgraph.specs.declared.verdict.Verdict.{Verdict}
+use Rattle.reports.specs.declared.report.Format.{Format}
+use Rattle.mpigroup.proofs.FrontLemmas.{read_head-front}
+use Rattle.mpigroup.specs.Groups.{Groups, ranks_of}
+use Rattle.mpigroup.specs.HeadText.{read_head}
+use Rattle.mpigroup.specs.declared.fault.HeadFault.{HeadFault}
+use Rattle.runs.specs.Runs.{RefusesFeeds}
+use Rattle.runs.specs.Told.{RefusesOver, Tells}
+use Rattle.runs.specs.Written.{IsReportOver}
+use Rattle.gather.specs.declared.fault.Refusal.{Refusal}
+use Rattle.gather.specs.declared.fault.RunFault.{RunFault}
+use Rattle.gather.specs.declared.fault.RunFault.TheVariants as run
+use Rattle.command.specs.Faults.{is_failure, of_run}
+use Rattle.command.specs.Texts.{IsFaultOfHead, IsFaultOfTexts, IsHeadOf, IsRefusalOfTexts, IsReportOf}
+use Rattle.command.specs.declared.fault.Fault.{Fault}
+use Rattle.command.specs.declared.fault.Fault.TheVariants.{Open, ReadHead, Head, FileCount, Refused, Failed, LintRefused, LintFailed, Memory, Unproved, Write}
+use Rattle.command.specs.Front.{IsFrontOf, deciding_bytes}
+
+abbrev Text : Type 0
+Text = List ℕ
+
+of_told : {F : Type 0} (told : F → Option Text) (files : List F) → map (λ file. option_map trace_of (told file)) files ≡ map (option_map trace_of) (map told files)
+of_told told [] = refl
+of_told told (file ∷ files) = ap (λ traces. option_map trace_of (told file) ∷ traces) (of_told told files)
+
+of_some : (texts : List Text) → map (option_map trace_of) (map Some texts) ≡ map Some (map trace_of texts)
+of_some [] = refl
+of_some (text ∷ texts) = ap (λ traces. Some (trace_of text) ∷ traces) (of_some texts)
+
+-- sources that tell the traces of the files' texts
+pub tells_texts : {F : Type 0} (sources : List (Option Trace)) (told : F → Option Text) (files : List F) (texts : List Text) →
+    sources ≡ map (λ file. option_map trace_of (told file)) files → map told files ≡ map Some texts → sources ≡ map Some (map trace_of texts)
+tells_texts sources told files texts of_files are = of_files ∙ of_told told files ∙ ap (map (option_map trace_of)) are ∙ of_some texts
+
+-- there are as many texts as files
+pub as_many : {F : Type 0} (told : F → Option Text) (files : List F) (texts : List Text) → map told files ≡ map Some texts → length files ≡ length texts
+as_many told files texts are = sym (length-map files told) ∙ ap length are ∙ length-map texts Some
+
+-- the head of a told text
+pub head_of_told : (told : Option Text) (text : Text) (groups : Groups) → IsHeadOf told groups → told ≡ Some text → read_head text ≡ Ok groups
+head_of_told None text groups of_told is = cc
+head_of_told (Some other) text groups of_told is = subst (λ (known : Option Text). IsHeadOf known groups) is of_told
+
+-- the report over sources that tell the traces of the files' texts is that of the texts
+pub report_says : {I : Type 0} (left : I → Option Text) (sources : List (Source I)) (groups : Groups) (format : Format) (verdict : Verdict) (report : Text) (head : Option Text) (files : List (Option Text)) →
+    IsHeadOf head groups → ((texts : List Text) → files ≡ map Some texts → Tells left sources (map trace_of texts)) → IsReportOver left sources groups format verdict report → IsReportOf format head files verdict report
+report_says left sources groups format verdict report head files of_head tells over = record {
+  groups = groups;
+  recording = over.recording;
+  one_a_rank = over.accepted.one_a_rank;
+  closed = over.accepted.closed;
+  of_texts = λ text texts head_is files_are. record {
+    is_head = head_of_told head text groups of_head head_is;
+    is_recording = over.of_traces (map trace_of texts) (tells texts files_are);
+  };
+  report_is = over.report_is;
+  verdict_is = over.verdict_is;
+}
+
+-- the text of a head says what its front says
+pub head_says : (told left : Option Text) (front : Text) (answer : Result Groups HeadFault) → left ≡ told → IsFrontOf left front → read_head front ≡ answer → IfSome told (λ text. read_head text ≡ answer)
+head_says None left front answer is of_left says = tt
+head_says (Some text) left front answer is of_left says =
+    let of_text = subst (λ (known : Option Text). IsFrontOf known front) is of_left in
+    let decided : read_head (take deciding_bytes text) ≡ read_head text = read_head-front text deciding_bytes (omega arith) in
+    sym decided ∙ sym (ap read_head of_text) ∙ says
+
+pub fault_says : (told left : Option Text) (front : Text) (fault : Fault) → left ≡ told → IsFrontOf left front → IsFaultOfHead (Some front) fault → IsFaultOfHead told fault
+fault_says told left front (Head fault) is of_left says = head_says told left front (Err fault) is of_left says
+fault_says told left front (Open path) is of_left says = tt
+fault_says told left front ReadHead is of_left says = tt
+fault_says told left front Memory is of_left says = tt
+fault_says told left front (FileCount ranks files) is of_left says = absurd says
+fault_says told left front (Refused refusal) is of_left says = absurd says
+fault_says told left front (Failed refusal) is of_left says = absurd says
+fault_says told left front (LintRefused lint) is of_left says = absurd says
+fault_says told left front (LintFailed lint) is of_left says = absurd says
+fault_says told left front (Unproved rank) is of_left says = absurd says
+fault_says told left front Write is of_left says = absurd says
+
+by_failure : (head : Text) (texts : List Text) (refusal : Refusal) (fails : Bool) → IsRefusalOfTexts head texts refusal → is_failure refusal.fault ≡ fails → IsFaultOfTexts head texts (if fails then Failed refusal else Refused refusal)
+by_failure head texts refusal true of_texts is = (of_texts, is)
+by_failure head texts refusal false of_texts is = (of_texts, is)
+
+-- the fault of a run over the sources is that of the texts
+pub run_fault_says : {I : Type 0} (left : I → Option Text) (may_stop : ℕ → ℕ → Type 0) (sources : List (Source I)) (groups : Groups) (head : Text) (texts : List Text) (fault : RunFault) →
+    read_head head ≡ Ok groups → ranks_of groups ≡ length texts → RefusesFeeds left may_stop sources groups fault → RefusesOver groups (map trace_of texts) fault → IsFaultOfTexts head texts (of_run fault)
+run_fault_says left may_stop sources groups head texts run.Memory is one_a_rank fed refuses = tt
+run_fault_says left may_stop sources groups head texts (run.Unproved rank) is one_a_rank fed refuses = subst (λ n. rank < n) one_a_rank fed
+run_fault_says left may_stop sources groups head texts run.Write is one_a_rank fed refuses = tt
+run_fault_says left may_stop sources groups head texts (run.Refused refusal) is one_a_rank fed refuses =
+    by_failure head texts refusal (is_failure refusal.fault) (record { groups = groups; is_head = is; of_traces = refuses }) refl

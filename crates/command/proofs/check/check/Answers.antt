@@ -1,0 +1,32 @@
+-- The answer over the sources is that of the files' texts.
+use Rattle.std.proofs.Common.{map, rules, ◌∙◌, ℕ, List, Bor}
+use Rattle.mpicall.specs.Trace.{trace_of}
+use Rattle.command.proofs.TextLemmas.{as_many, head_of_told, report_says, run_fault_says, tells_texts}
+use Rattle.command.proofs.check.check.Goals as goal
+
+pub returns-in-Ok-clause-verdict : goal.returns-in-Ok-clause-verdict
+returns-in-Ok-clause-verdict g c = λ text texts head_is files_are. record {
+  groups = c.in_ok-head.head;
+  is_head = head_of_told _ text _ c.in_ok-head.ensures.head head_is;
+  of_traces = c.in-Ok.ensures.verdict (map trace_of texts)
+      (tells_texts _ (λ file. g.P.Opener.told c.args.opener.now file.now) c.args.files.now texts c.in_ok-sources.ensures.told files_are);
+}
+
+pub returns-in-Ok-clause-written : goal.returns-in-Ok-clause-written
+returns-in-Ok-clause-written g c =
+    let told = λ (file : Bor (List ℕ)). g.P.Opener.told c.args.opener.now file.now in (
+      c.in-Ok.ensures.written.0,
+      report_says g.P.In.Input.left _ c.in_ok-head.head c.args.format c.in-Ok.verdict _ _ (map told c.args.files.now) c.in_ok-head.ensures.head
+          (λ texts files_are. tells_texts _ told c.args.files.now texts c.in_ok-sources.ensures.told files_are)
+          c.in-Ok.ensures.written.1,
+      c.in-Ok.ensures.written.2,
+    )
+
+pub returns-in-Err-clause-fault : goal.returns-in-Err-clause-fault
+returns-in-Err-clause-fault g c = λ text texts head_is files_are.
+    let told = λ (file : Bor (List ℕ)). g.P.Opener.told c.args.opener.now file.now in
+    let says = run_fault_says g.P.In.Input.left _ _ c.in_ok-head.head text texts c.in-Err.fault (head_of_told _ text _ c.in_ok-head.ensures.head head_is)
+    (search rules ∙ as_many told c.args.files.now texts files_are)
+    c.in-Err.ensures.fed
+    (c.in-Err.ensures.refused (map trace_of texts) (tells_texts _ told c.args.files.now texts c.in_ok-sources.ensures.told files_are)) in
+    rw (c.from-in-Err.ensures) says

@@ -1,0 +1,29 @@
+-- What a lint answers, by the text of its file where that is told.
+use Rattle.std.specs.Prelude.{◌≡◌, ℕ, true, false, Option, Some, Ok, Err, IfSome, List, ⊤}
+use Rattle.mpicall.specs.Trace.{trace_of}
+use Rattle.mpicall.specs.Lint.{TellsTrace}
+use Rattle.mpicall.specs.declared.lint.LintFault.{LintFault}
+use Rattle.command.specs.Faults.{is_source_failure}
+use Rattle.command.specs.declared.fault.Fault.{Fault}
+use Rattle.command.specs.declared.fault.Fault.TheVariants.{Open, LintRefused, LintFailed, Memory, Write}
+
+-- the text is a trace without a fault, and has so many calls
+abbrev pub IsCountOf : Option (List ℕ) → ℕ → Type 0
+IsCountOf told count = IfSome told (λ text. TellsTrace (Some (trace_of text)) (Ok count))
+
+-- the fault is that of the text's trace, at its place, or that of a read that failed
+abbrev pub IsTraceFault : Option (List ℕ) → LintFault → Type 0
+IsTraceFault told fault = IfSome told (λ text. TellsTrace (Some (trace_of text)) (Err fault))
+
+-- the file couldn't be opened, or its trace has a fault
+abbrev pub IsFaultOfTrace : Option (List ℕ) → Fault → Type 0
+IsFaultOfTrace told (Open path) = ⊤
+IsFaultOfTrace told (LintRefused fault) = IsTraceFault told fault × (is_source_failure fault.fault ≡ false)
+IsFaultOfTrace told (LintFailed fault) = IsTraceFault told fault × (is_source_failure fault.fault ≡ true)
+IsFaultOfTrace told fault = ⊥
+
+-- the same, or memory was wanted, or the answer couldn't be written
+abbrev pub IsFaultOfLint : Option (List ℕ) → Fault → Type 0
+IsFaultOfLint told Memory = ⊤
+IsFaultOfLint told Write = ⊤
+IsFaultOfLint told fault = IsFaultOfTrace told fault

@@ -1,0 +1,21 @@
+//! The program `mpiwait` over any words, files and outputs: what its words ask for, the check or the lint that
+//! does it, its texts and its exit statuses.
+//!
+//! - `given::run` runs it on the words of the process and gives what ends the process with the status.
+//! - `program::program` runs it on words that are texts, and gives the status.
+//! - `opener::Opener` is what opens the files that the words name; `opener::Disk` opens those of the machine.
+//!
+//! What stands on both outputs at the end, by the words and by the texts of the files, is the contract of these
+//! two; its definitions stand in `specs/`: `Asked` for the words, `Ends` for the end, `Texts` and `Lints` for
+//! what a check and a lint answer.
+#![tactic(auto)]
+
+pub mod capacity;
+mod check;
+pub mod fault;
+pub mod given;
+mod lint;
+pub mod opener;
+pub mod program;
+pub mod status;
+pub mod words;

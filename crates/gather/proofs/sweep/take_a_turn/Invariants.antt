@@ -1,6 +1,0 @@
--- The session is the same.
-use Rattle.gather.specs.Runs.{IsSameSession}
-use Rattle.gather.proofs.sweep.take_a_turn.Given as goal
-
-abbrev pub invariant-loop-rank : goal.invariant-loop-rank
-invariant-loop-rank l = IsSameSession l.fn.collector l.collector

@@ -1,6 +1,0 @@
--- The turns are later ones.
-use Rattle.gather.specs.Turns.{AreLater}
-use Rattle.gather.proofs.turns.take_a_round.Given as goal
-
-abbrev pub invariant-loop-rank : goal.invariant-loop-rank
-invariant-loop-rank g l = AreLater g.I.Input.left (g.G.Gate.may_stop l.gate) l.fn.turns.items l.fn.ledger l.turns.items l.ledger

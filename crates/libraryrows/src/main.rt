@@ -1,0 +1,129 @@
+//! Asks the library crates questions whose answers are known, and tells each answer that is another. It reads its
+//! rows from standard input, and tells at the end how many rows there were and how many answers were as wanted:
+//! `stdout` has both numbers, so that a row that is lost, or a line that can't be read, shows.
+//!
+//! A row begins with `row NAME`: a run of one rank without calls, and an empty text. Each further line sets
+//! something up, or asks something and has the answer behind ` -> `; where no answer stands, it is `ok`. Empty
+//! lines and those with `#` in front are passed over. Words have one space between two, and numbers are decimal.
+//! CALLS are a rank and lines of a trace with ` / ` between two, of which each may begin with its rank where that
+//! is another than the one before: `0 send 0 1 0 / finalize / 1 recv 0 0 0 / finalize`.
+//!
+//! Runs. `head LINE / LINE ..` begins a run without calls. Its analyser gets the calls of `offer`, and its pairs
+//! those of `add`; the first call that is refused is the answer, as `refused CODE WORDS`, for `add` as
+//! `refused PLACE CODE WORDS`.
+//!
+//! - `offer CALLS`, `offers N CALLS` (N times over), `all N LINE` (of each rank, the last first, the line N times
+//!   and then `finalize`); `add CALLS`, `adds N CALLS`
+//! - `told RANK LINE -> send RANK PLACE, recv RANK PLACE, wave COMM WAVE full` adds a call: its partners and its
+//!   wave, as far as there are such, or `none`
+//! - of the analyser: `stands -> N N ..`, `closed -> yes|no`, `ended RANK -> yes|no`,
+//!   `accepted RANK -> N`, `record RANK PLACE -> LINE`, `joins RANK PLACE -> COMM WAVE`, `touches LEAST MOST ->
+//!   within`; `mixes CALLS -> N mixes, N N ..`: in how many orders the ranks' lists may come, and where the ranks
+//!   stand after them, which is told once if it is alike after all
+//! - of the pairs: `added RANK -> N`, `over RANK -> yes|no`, `call RANK PLACE -> LINE`, `partner RANK PLACE
+//!   send|recv -> RANK PLACE`, `wave RANK PLACE -> COMM WAVE`, `member COMM WAVE MEMBER -> PLACE`, `started RANK
+//!   PLACE REQ -> PLACE`, `completed RANK PLACE INDEX -> PLACE`, `work -> N`, each `none` where there is none;
+//!   `findings -> kind COMM WAVE MEMBER WORD WORD, root COMM WAVE MEMBER ROOT ROOT, unreceived RANK PLACE, request
+//!   RANK PLACE REQ, group RANK PLACE`, or `none`
+//! - of the analyser's wait graph: `verdict -> free|hang`, `stuck -> RANK RANK ..`, `unmet RANK -> RANK PLACE, RANK none` (or `none`),
+//!   `causes -> cycle RANK RANK .., missing RANK PEER`, `report text|json -> TEXT`
+//! - of the head: `ranks -> N`, `comms -> N`, `size COMM -> N`, `grouprank COMM RANK -> N`, `worldrank COMM MEMBER
+//!   -> RANK`, the last three `none` where there is none
+//!
+//! Texts. In a TEXT `\n`, `\r`, `\0` and `\ff` are the bytes 10, 13, 0 and 255. Faults are `CODE WORDS`.
+//!
+//! - `text TEXT` sets the text, `more N TEXT` adds to it N times
+//! - `line TEXT` reads the TEXT and a line feed as a line of a trace, `asline` the text: its fault, or `ok` where it
+//!   is written as it was read
+//! - `values LINE -> Send standard, comm N, dest rank N, tag N` and alike: the call of a line, value by value
+//! - `ashead -> ranks N, comms N`, or `line N CODE WORDS`
+//! - `astrace -> N calls`, or `call N CODE WORDS`; `fronts N M` the same of the first N to M bytes; `gives N -> LINE
+//!   / end / end`: what a source gives when it is asked N times. Each is asked of inputs that give 1, 2, 7, 1000 or
+//!   all bytes a read, and told once if all agree
+//! - `fault N -> CODE WORDS` of a source, numbered from 0; `requests N -> all|none`: whether a wait may name so many;
+//!   `split COLOUR KEY / undefined KEY .. -> RANK RANK .. / RANK ..`: the groups of a split
+//!
+//! Lists of numbers in an arena, which a row has none of at first.
+//!
+//! - `newlist` makes the next one, from 0; `push LIST VALUE`, `move LIST PLACE LIST` (to the back), `append LIST LIST`
+//!   (the second's behind the first's)
+//! - `pop LIST -> VALUE`, `unlink LIST PLACE -> VALUE`, `list LIST -> VALUE VALUE ..`, each `none` where there is none;
+//!   `touched -> N`: how often a node was put into a list or taken out of one
+#![tactic(auto)]
+
+mod answer;
+mod calls;
+mod chains;
+mod desk;
+mod fault;
+mod fields;
+mod groups;
+mod mixes;
+mod pairs;
+mod runs;
+mod texts;
+mod waits;
+mod words;
+
+use desk::Desk;
+use fault::LineFault;
+use std::alloc::Global;
+use std::io;
+use std::sync::Wait;
+
+/// What a line came to.
+#[derive(Drop)]
+enum Outcome {
+    /// It asks nothing.
+    Nothing,
+    /// It was answered as it says.
+    Told,
+    /// It was answered otherwise.
+    Other(String),
+}
+
+/// Does what a line says. Without an answer of its own a line is answered `ok`.
+fn outcome_of(
+    alloc: Global,
+    desk: &mut Desk,
+    line: &str,
+    wait: &impl Wait,
+) -> Result<Outcome, LineFault> {
+    if line.is_empty() || line.starts_with('#') || desk.set(alloc, line)? {
+        return Ok(Outcome::Nothing);
+    }
+    let (asked, wanted) = line.rsplit_once(" -> ").unwrap_or((line, "ok"));
+    let answer = desk.answer(alloc, asked, wait)?;
+    if answer.as_str() == wanted {
+        Ok(Outcome::Told)
+    } else {
+        Ok(Outcome::Other(answer))
+    }
+}
+
+fn main(rt: HostRuntime) -> io::Result<()> {
+    let mut desk = match Desk::new(rt.alloc()) {
+        Ok(desk) => desk,
+        Err(fault) => return println!(rt; "no desk: {fault}"),
+    };
+    let (mut rows, mut answers) = (0u64, 0u64);
+    let mut name = String::new(rt.alloc());
+    for line in rt.lines(rt.alloc()) {
+        let line = line?;
+        if let Some(row) = line.as_str().strip_prefix("row ") {
+            rows = rows.saturating_add(1);
+            name = row.to_string(rt.alloc())?;
+            if let Err(fault) = desk.begin(rt.alloc()) {
+                println!(rt; "{name}: no row begins: {fault}")?;
+            }
+            continue;
+        }
+        match outcome_of(rt.alloc(), &mut desk, line.as_str(), &rt) {
+            Ok(Outcome::Nothing) => {}
+            Ok(Outcome::Told) => answers = answers.saturating_add(1),
+            Ok(Outcome::Other(answer)) => println!(rt; "{name}: {line}: answered {answer}")?,
+            Err(fault) => println!(rt; "{name}: {line}: {fault}")?,
+        }
+    }
+    println!(rt; "{rows} rows, {answers} answers")
+}

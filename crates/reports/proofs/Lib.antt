@@ -1,0 +1,4 @@
+pub mod LineLemmas
+pub mod JsonLemmas
+pub mod SpelledLemmas
+pub mod TellingLemmas

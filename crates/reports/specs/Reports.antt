@@ -1,0 +1,22 @@
+-- The report of a recording: its bytes, in either format.
+use Rattle.std.specs.Prelude.{◌≡◌, ℕ, Option, List}
+use Rattle.mpicall.specs.Device.{one_more, AppendsBeginning}
+use Rattle.mpigroup.specs.Groups.{Groups}
+use Rattle.pairing.specs.Recordings.{Lists}
+use Rattle.reports.specs.JsonReport.{json_report}
+use Rattle.reports.specs.TextReport.{text_report}
+use Rattle.reports.specs.declared.report.Format.{Format}
+use Rattle.reports.specs.declared.report.Format.TheVariants.{Text, Json}
+use Rattle.reports.specs.declared.report.ReportFault.{ReportFault}
+use Rattle.reports.specs.declared.report.ReportFault.TheVariants.{Memory, Write}
+
+unfoldable pub report_of : Format → Groups → Lists → List ℕ
+report_of Text groups recording = text_report groups recording
+report_of Json groups recording = json_report groups recording
+
+-- Only JSON takes memory, and where there is none the output is as it was; a failed write leaves a beginning
+-- of the report, and adds one to the count of failures.
+abbrev pub LeavesReport : {O : Type 0} → (O → Option (List ℕ)) → (O → ℕ) → O → O → Format → List ℕ → ReportFault → Type 0
+LeavesReport written failures old new format report Memory = (format ≡ Json) × (new ≡ old)
+LeavesReport written failures old new format report Write =
+    AppendsBeginning (written old) (written new) report × (failures new ≡ one_more (failures old))

@@ -1,0 +1,68 @@
+//! Stuck ranks as JSON.
+
+ghost use Rattle.std.specs.Prelude.{◌≡◌, slice_index, IfOk, string_bytes};
+ghost use Rattle.std.specs.List.{join_with_byte};
+ghost use Rattle.serde_json.specs.View.{view};
+ghost use Rattle.mpicall.specs.Spelling.{space};
+ghost use Rattle.moves.specs.Stands.{stands_of};
+ghost use Rattle.waitgraph.specs.Graphs.{IsGraphOf};
+ghost use Rattle.reports.specs.JsonReport.{each, rank_data};
+ghost use Rattle.waitgraph.specs.Stuck.{stuck_of, unmet_of};
+ghost use Rattle.reports.specs.TextReport.{present_fields};
+
+use crate::json::line::line_text;
+use crate::json::need::needs_value;
+use moves::analyser::Analyser;
+use moves::need::Need;
+use serde_json::{Value, json};
+use std::alloc::{AllocError, Global};
+use waitgraph::graph::Graph;
+
+fn stand_of(analyser: &Analyser, rank: u16) -> u32
+    ensures { result ≡ slice_index (stands_of analyser.now.groups analyser.now.recording) rank }
+{
+    analyser.stand(rank).unwrap_or(0)
+}
+
+/// The call at which a rank stands; no text where its list is at its end.
+fn present_text(alloc: Global, analyser: &Analyser, rank: u16) -> Result<String, AllocError>
+    ensures { IfOk result (λ text. string_bytes text ≡ join_with_byte space (present_fields analyser.now.groups analyser.now.recording rank)) }
+{
+    match analyser.record(rank, stand_of(analyser, rank)) {
+        Some(record) => line_text(alloc, &record),
+        None => Ok(String::new(alloc)),
+    }
+}
+
+/// A rank with its stand, its call there and its unmet needs.
+fn rank_value(
+    alloc: Global,
+    analyser: &Analyser,
+    rank: u16,
+    needs: &[Need],
+) -> Result<Value, AllocError>
+    requires { needs.now ≡ unmet_of analyser.now.groups analyser.now.recording rank }
+    ensures { IfOk result (λ value. view value ≡ rank_data analyser.now.groups analyser.now.recording rank) }
+{
+    let stand = stand_of(analyser, rank);
+    let call = present_text(alloc, analyser, rank)?;
+    let needs = needs_value(alloc, needs)?;
+    json!(in alloc; {"at": stand, "call": call, "needs": needs, "rank": rank})
+}
+
+#[tactic(auto, using(crate::proofs::JsonLemmas::one_told))]
+pub(crate) fn ranks_value(
+    alloc: Global,
+    analyser: &Analyser,
+    graph: &Graph,
+) -> Result<Value, AllocError>
+    requires { IsGraphOf analyser.now.groups analyser.now.recording graph.now }
+    ensures { IfOk result (λ value. view value ≡ each (rank_data analyser.now.groups analyser.now.recording) (stuck_of analyser.now.groups analyser.now.recording)) }
+{
+    let stuck = graph.stuck();
+    let mut list = Vec::new(alloc);
+    for rank in stuck {
+        list.push(rank_value(alloc, analyser, *rank, graph.unmet(*rank))?)?;
+    }
+    Ok(Value::from(list))
+}

@@ -1,0 +1,19 @@
+//! The report of a run that was recorded whole, as text or as JSON.
+//!
+//! What it promises, as contracts that are proved, by definitions of `specs/`:
+//!
+//! - `report::write_report` writes exactly the report of a recording, as text or as JSON (`TextReport`,
+//!   `JsonReport`, `Reports`): the verdict, who waits for whom where the ranks stand, the causes and the
+//!   findings, as the crate `waitgraph` defines them.
+//! - Where a write fails, what was written before is a beginning of that report. Memory is taken for JSON
+//!   alone; where it is wanted, nothing was written.
+//!
+//! ```text
+//! let graph = Graph::of(alloc, &analyser)?;
+//! write_report(alloc, &analyser, &graph, Format::Text, &mut output)?;
+//! ```
+#![tactic(auto)]
+
+mod json;
+pub mod report;
+mod word;

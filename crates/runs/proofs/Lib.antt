@@ -1,0 +1,6 @@
+pub mod HeldLemmas
+pub mod AlongLemmas
+pub mod ThreadLemmas
+pub mod TurnLemmas
+pub mod WholeLemmas
+pub mod RunLemmas

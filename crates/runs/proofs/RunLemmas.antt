@@ -1,0 +1,241 @@
+-- What the ranks' answers say of a run over the traces that their sources tell.
+use Rattle.std.proofs.Common.{◌≡◌, ◌↔◌, ℕ, ◌+◌, ◌<◌, List, [], ◌∷◌, length, map, sym, ap, ◌∙◌, refl, arith, zero, suc, Option, Some, None, IfSome, slice_get, subst, option_and_then, Result, Ok, Err, IfOk, IfErr, OnOk}
+use Rattle.std.specs.Io.KnownBytes.{Appends}
+use Rattle.mpicall.specs.Device.{AppendsBeginning}
+use Rattle.mpicall.specs.Trace.{Trace}
+use Rattle.mpicall.specs.Source.{coming}
+use Rattle.mpicall.specs.declared.call.Call.{Call}
+use Rattle.mpicall.specs.declared.source.Source.{Source}
+use Rattle.mpigroup.specs.Groups.{Groups, ranks_of}
+use Rattle.pairing.specs.Recordings.{Lists, calls_of}
+use Rattle.std.proofs.lemmas.Bool.{not-true, not_from_false}
+use Rattle.moves.specs.Stands.{lowest_run_over, stands_of, is_at_end}
+use Rattle.waitgraph.specs.Verdicts.{verdict_of, SomeRankIsStuck}
+use Rattle.waitgraph.specs.declared.verdict.Verdict.{Verdict}
+use Rattle.waitgraph.specs.declared.verdict.Verdict.TheVariants.{Hang}
+use Rattle.moves.proofs.StandLemmas.{no_run_brings_a_stuck_rank_to_its_end, every_maximal_run_ends_at_the_stands}
+use Rattle.gather.specs.Answers.{fault_of_rank, refusal_or, refusal_from, lists_of, SomeRankCannotEnd}
+use Rattle.runs.specs.Told.{Tells, IsVerdictOver, RefusesOver}
+use Rattle.runs.specs.Ranks.{told_by, AcceptsAll, AcceptsRank, LeavesReport, RefusesRun, IsRefusalOf}
+use Rattle.runs.proofs.HeldLemmas.{found_at, lowest_refusal}
+use Rattle.runs.specs.Runs.{of_close, RefusesFeeds, StopsWhereAllowed}
+use Rattle.gather.specs.declared.outcome.CloseFault.{CloseFault}
+use Rattle.gather.specs.declared.outcome.CloseFault.TheVariants as close
+use Rattle.runs.specs.Written.{IsReportOver, LeavesOutput, WritesReport}
+use Rattle.reports.specs.Reports.{report_of}
+use Rattle.reports.specs.declared.report.Format.{Format}
+use Rattle.gather.specs.declared.fault.Refusal.{Refusal}
+use Rattle.gather.specs.declared.fault.RunFault.{RunFault}
+use Rattle.gather.specs.declared.fault.RunFault.TheVariants.{Memory, Unproved, Refused, Write}
+
+-- what is told of each place of a list
+told_at : {A B : Type 0} (f : A → Option B) (xs : List A) (ys : List B) (place : ℕ) → map f xs ≡ map Some ys → option_and_then f (slice_get xs place) ≡ slice_get ys place
+told_at f [] [] place e = refl
+told_at f [] (y ∷ ys) place e = cc
+told_at f (x ∷ xs) [] place e = cc
+told_at f (x ∷ xs) (y ∷ ys) zero e = cc
+told_at f (x ∷ xs) (y ∷ ys) (suc place) e = told_at f xs ys place cc
+
+same_length : {A B : Type 0} (f : A → Option B) (xs : List A) (ys : List B) → map f xs ≡ map Some ys → length xs ≡ length ys
+same_length f [] [] e = refl
+same_length f [] (y ∷ ys) e = cc
+same_length f (x ∷ xs) [] e = cc
+same_length f (x ∷ xs) (y ∷ ys) e = ap suc (same_length f xs ys cc)
+
+-- no rank of some traces has a fault
+none_from : (groups : Groups) (first : ℕ) (traces : List Trace) → ((k : ℕ) (trace : Trace) → slice_get traces k ≡ Some trace → fault_of_rank groups (first + k) trace ≡ None) → refusal_from groups first traces ≡ None
+none_from groups first [] none = refl
+none_from groups first (trace ∷ traces) none =
+    let here : fault_of_rank groups first trace ≡ None = let e : first + 0 ≡ first = omega arith in subst (λ (n : ℕ). fault_of_rank groups n trace ≡ None) e (none 0 trace refl) in
+    let behind : refusal_from groups (first + 1) traces ≡ None =
+    none_from groups (first + 1) traces (λ k t at. let e : first + suc k ≡ first + 1 + k = omega arith in subst (λ (n : ℕ). fault_of_rank groups n t ≡ None) e (none (suc k) t at)) in
+    ap (λ f. refusal_or first f (refusal_from groups (first + 1) traces)) here ∙ behind
+
+-- the refusal, at this rank
+abbrev refusal_at : ℕ → Refusal → Option Refusal
+refusal_at rank refusal = Some (record { rank = rank; call = refusal.call; fault = refusal.fault })
+
+-- the lowest rank with a fault is the one that is told
+told_from : (groups : Groups) (first : ℕ) (traces : List Trace) (place : ℕ) (trace : Trace) (refusal : Refusal) → first + place ≡ refusal.rank → slice_get traces place ≡ Some trace → ((k : ℕ) (t : Trace) → k < place → slice_get traces k ≡ Some t → fault_of_rank groups (first + k) t ≡ None) → fault_of_rank groups refusal.rank trace ≡ Some (refusal.call, refusal.fault) → refusal_from groups first traces ≡ Some refusal
+told_from groups first [] zero trace refusal e at none is = cc
+told_from groups first [] (suc place) trace refusal e at none is = cc
+told_from groups first (t ∷ traces) zero trace refusal e at none is =
+    let rank : refusal.rank ≡ first = omega arith in
+    let here : t ≡ trace = cc in
+    let fault : fault_of_rank groups first t ≡ Some (refusal.call, refusal.fault) =
+    ap (fault_of_rank groups first) here ∙ subst (λ (n : ℕ). fault_of_rank groups n trace ≡ Some (refusal.call, refusal.fault)) rank is in
+    ap (λ f. refusal_or first f (refusal_from groups (first + 1) traces)) fault ∙ ap (λ (n : ℕ). refusal_at n refusal) (sym rank)
+told_from groups first (t ∷ traces) (suc place) trace refusal e at none is =
+    let here : fault_of_rank groups first t ≡ None = let e0 : first + 0 ≡ first = omega arith in subst (λ (n : ℕ). fault_of_rank groups n t ≡ None) e0 (none 0 t (omega arith) refl) in
+    let behind : refusal_from groups (first + 1) traces ≡ Some refusal =
+    told_from groups (first + 1) traces place trace refusal (omega arith) at
+    (λ k s below found. let e1 : first + suc k ≡ first + 1 + k = omega arith in subst (λ (n : ℕ). fault_of_rank groups n s ≡ None) e1 (none (suc k) s (omega arith) found)) is in
+    ap (λ f. refusal_or first f (refusal_from groups (first + 1) traces)) here ∙ behind
+
+-- lists that have each trace's records are those of the traces
+same_lists : (lists : Lists) (traces : List Trace) → length lists ≡ length traces → ((k : ℕ) (trace : Trace) → slice_get traces k ≡ Some trace → calls_of lists k ≡ trace.records) → lists ≡ lists_of traces
+same_lists [] [] e same = refl
+same_lists [] (t ∷ traces) e same = cc
+same_lists (l ∷ lists) [] e same = cc
+same_lists (l ∷ lists) (t ∷ traces) e same =
+    let here : l ≡ t.records = same 0 t refl in
+    let behind : lists ≡ lists_of traces = same_lists lists traces (omega arith) (λ k s at. same (suc k) s at) in
+    cc
+
+-- a rank that is stuck comes to its end in no run, and one that does so in none is stuck
+cannot_end : (groups : Groups) (lists : Lists) → SomeRankIsStuck groups lists ↔ SomeRankCannotEnd groups lists
+cannot_end groups lists = (
+  λ stuck. record {
+    rank = stuck.rank;
+    is_rank = stuck.is_rank;
+    in_no_run = λ states is_run.
+        no_run_brings_a_stuck_rank_to_its_end groups lists stuck.rank states is_run
+        (not-true (is_at_end lists (stands_of groups lists) stuck.rank) stuck.stays);
+  },
+  λ cannot. record {
+    rank = cannot.rank;
+    is_rank = cannot.is_rank;
+    stays = not_from_false (is_at_end lists (stands_of groups lists) cannot.rank)
+        (cannot.in_no_run (lowest_run_over groups lists) (every_maximal_run_ends_at_the_stands groups lists).0.is_run);
+  },
+)
+
+accepted_at : (groups : Groups) (rank : ℕ) (told : Option Trace) (trace : Trace) (calls : List Call) → AcceptsRank groups rank told calls → told ≡ Some trace → (calls ≡ trace.records) × (fault_of_rank groups rank trace ≡ None)
+accepted_at groups rank None trace calls a e = cc
+accepted_at groups rank (Some t) trace calls a e = let same : t ≡ trace = cc in subst (λ (s : Trace). (calls ≡ s.records) × (fault_of_rank groups rank s ≡ None)) same a
+
+in_list : {A : Type 0} (xs : List A) (k : ℕ) (x : A) → slice_get xs k ≡ Some x → k < length xs
+in_list [] zero x e = cc
+in_list [] (suc k) x e = cc
+in_list (y ∷ ys) zero x e = omega arith
+in_list (y ∷ ys) (suc k) x e = omega (arith, in_list ys k x e)
+
+each_accepted : {I : Type 0} (left : I → Option (List ℕ)) (groups : Groups) (sources : List (Source I)) (lists : Lists) (traces : List Trace) → length sources ≡ ranks_of groups → AcceptsAll groups (told_by left sources) lists → Tells left sources traces → (k : ℕ) (trace : Trace) → slice_get traces k ≡ Some trace → (calls_of lists k ≡ trace.records) × (fault_of_rank groups k trace ≡ None)
+each_accepted left groups sources lists traces one all tells k trace at =
+    let count : length sources ≡ length traces = same_length (coming left) sources traces tells in
+    let ranks = all.one_a_rank in
+    accepted_at groups k _ trace _ (all.accepted k (omega (arith, in_list traces k trace at))) (told_at (coming left) sources traces k tells ∙ at)
+
+-- the recording is that of the traces
+lists_are : {I : Type 0} (left : I → Option (List ℕ)) (groups : Groups) (sources : List (Source I)) (lists : Lists) (traces : List Trace) → length sources ≡ ranks_of groups → AcceptsAll groups (told_by left sources) lists → Tells left sources traces → lists ≡ lists_of traces
+lists_are left groups sources lists traces one all tells =
+    let count : length sources ≡ length traces = same_length (coming left) sources traces tells in
+    let ranks = all.one_a_rank in
+    same_lists lists traces (omega arith) (λ k trace at. (each_accepted left groups sources lists traces one all tells k trace at).0)
+
+pub verdict_over : {I : Type 0} (left : I → Option (List ℕ)) (groups : Groups) (sources : List (Source I)) (lists : Lists) (verdict : Verdict) (traces : List Trace) → length sources ≡ ranks_of groups → AcceptsAll groups (told_by left sources) lists → verdict ≡ verdict_of groups lists → ((verdict ≡ Hang) ↔ SomeRankIsStuck groups lists) → Tells left sources traces → IsVerdictOver groups traces verdict
+verdict_over left groups sources lists verdict traces one all value hang tells =
+    let each = each_accepted left groups sources lists traces one all tells in
+    let same : lists ≡ lists_of traces = lists_are left groups sources lists traces one all tells in
+    let both = cannot_end groups lists in
+    record {
+      no_refusal = none_from groups 0 traces (λ k trace at. let e : k ≡ 0 + k = omega arith in subst (λ (n : ℕ). fault_of_rank groups n trace ≡ None) e (each k trace at).1);
+      value = value ∙ ap (verdict_of groups) same;
+      hang = subst (λ (ls : Lists). (verdict ≡ Hang) ↔ SomeRankCannotEnd groups ls) same (λ is. both.0 (hang.0 is), λ cannot. hang.1 (both.1 cannot));
+    }
+
+-- the report of the recording is that of the run
+pub report_over : {I : Type 0} (left : I → Option (List ℕ)) (groups : Groups) (sources : List (Source I)) (lists : Lists) (format : Format) (verdict : Verdict) → length sources ≡ ranks_of groups → AcceptsAll groups (told_by left sources) lists → verdict ≡ verdict_of groups lists → IsReportOver left sources groups format verdict (report_of format groups lists)
+report_over left groups sources lists format verdict one all value = record {
+  recording = lists;
+  accepted = all;
+  of_traces = λ traces tells. lists_are left groups sources lists traces one all tells;
+  report_is = refl;
+  verdict_is = value;
+}
+
+no_fault_at : (groups : Groups) (rank : ℕ) (told : Option Trace) (trace : Trace) → IfSome told (λ t. fault_of_rank groups rank t ≡ None) → told ≡ Some trace → fault_of_rank groups rank trace ≡ None
+no_fault_at groups rank None trace h e = cc
+no_fault_at groups rank (Some t) trace h e = let same : t ≡ trace = cc in subst (λ (s : Trace). fault_of_rank groups rank s ≡ None) same h
+
+refusal_told : (groups : Groups) (refusal : Refusal) (told : Option Trace) (trace : Trace) → IfSome told (λ t. IsRefusalOf groups refusal.rank t refusal) → told ≡ Some trace → IsRefusalOf groups refusal.rank trace refusal
+refusal_told groups refusal None trace h e = cc
+refusal_told groups refusal (Some t) trace h e = let same : t ≡ trace = cc in subst (λ (s : Trace). IsRefusalOf groups refusal.rank s refusal) same h
+
+pub refused_over : {I : Type 0} (left : I → Option (List ℕ)) (groups : Groups) (sources : List (Source I)) (fault : RunFault) (traces : List Trace) → length sources ≡ ranks_of groups → RefusesRun groups (told_by left sources) fault → Tells left sources traces → RefusesOver groups traces fault
+refused_over left groups sources Memory traces one refuses tells = tt
+refused_over left groups sources (Unproved rank) traces one refuses tells = tt
+refused_over left groups sources Write traces one refuses tells = tt
+refused_over left groups sources (Refused refusal) traces one refuses tells =
+    let count : length sources ≡ length traces = same_length (coming left) sources traces tells in
+    let within : refusal.rank < length traces = omega (arith, refuses.is_rank) in
+    let there = found_at traces refusal.rank within in
+    let lower : (k : ℕ) (trace : Trace) → k < refusal.rank → slice_get traces k ≡ Some trace → fault_of_rank groups k trace ≡ None =
+    λ k trace below at. no_fault_at groups k _ trace (refuses.lowest k below) (told_at (coming left) sources traces k tells ∙ at) in
+    record {
+      is_rank = within;
+      lowest = lower;
+      its_own = λ own. told_from groups 0 traces refusal.rank there.0 refusal (omega arith) there.1
+          (λ k trace below at. let e : k ≡ 0 + k = omega arith in subst (λ (n : ℕ). fault_of_rank groups n trace ≡ None) e (lower k trace below at))
+          (refusal_told groups refusal _ there.0 refuses.its_own (told_at (coming left) sources traces refusal.rank tells ∙ there.1) own);
+    }
+
+-- the answer of a report is that of the run
+pub run_verdict : {I : Type 0} (left : I → Option (List ℕ)) (groups told : Groups) (sources : List (Source I)) (lists : Lists) (answer : Result Verdict RunFault) → length sources ≡ ranks_of groups → told ≡ groups → AcceptsAll groups (told_by left sources) lists → IfOk answer (λ verdict. verdict ≡ verdict_of told lists) → IfOk answer (λ verdict. (verdict ≡ Hang) ↔ SomeRankIsStuck told lists) → IfOk answer (λ verdict. (traces : List Trace) → Tells left sources traces → IsVerdictOver groups traces verdict)
+run_verdict left groups told sources lists (Err fault) one same all value hang = tt
+run_verdict left groups told sources lists (Ok verdict) one same all value hang = λ traces tells.
+    verdict_over left groups sources lists verdict traces one all (value ∙ ap (λ (gs : Groups). verdict_of gs lists) same)
+    (subst (λ (gs : Groups). (verdict ≡ Hang) ↔ SomeRankIsStuck gs lists) same hang) tells
+
+pub run_written : {I O : Type 0} (left : I → Option (List ℕ)) (written : O → Option (List ℕ)) (failures : O → ℕ) (groups told : Groups) (sources : List (Source I)) (lists : Lists) (format : Format) (old new : O) (answer : Result Verdict RunFault) → length sources ≡ ranks_of groups → told ≡ groups → AcceptsAll groups (told_by left sources) lists → IfOk answer (λ verdict. verdict ≡ verdict_of told lists) → OnOk answer (Appends (written old) (written new) (report_of format told lists)) → IfOk answer (WritesReport left written failures sources groups format old new)
+run_written left written failures groups told sources lists format old new (Err fault) one same all value report = tt
+run_written left written failures groups told sources lists format old new (Ok verdict) one same all value report = (
+  report_of format groups lists,
+  report_over left groups sources lists format verdict one all (value ∙ ap (λ (gs : Groups). verdict_of gs lists) same),
+  subst (λ (gs : Groups). Appends (written old) (written new) (report_of format gs lists)) same report,
+)
+
+pub run_output : {I O : Type 0} (left : I → Option (List ℕ)) (written : O → Option (List ℕ)) (failures : O → ℕ) (groups told : Groups) (sources : List (Source I)) (lists : Lists) (format : Format) (old new : O) (answer : Result Verdict RunFault) → length sources ≡ ranks_of groups → told ≡ groups → AcceptsAll groups (told_by left sources) lists → IfErr answer (LeavesReport written failures old new (report_of format told lists)) → IfErr answer (LeavesOutput left written failures sources groups format old new)
+run_output left written failures groups told sources lists format old new (Ok verdict) one same all leaves = tt
+run_output left written failures groups told sources lists format old new (Err Memory) one same all leaves = leaves
+run_output left written failures groups told sources lists format old new (Err (Unproved rank)) one same all leaves = absurd leaves
+run_output left written failures groups told sources lists format old new (Err (Refused refusal)) one same all leaves = absurd leaves
+run_output left written failures groups told sources lists format old new (Err Write) one same all leaves = (
+  (
+    verdict_of groups lists,
+    report_of format groups lists,
+    report_over left groups sources lists format (verdict_of groups lists) one all refl,
+    subst (λ (gs : Groups). AppendsBeginning (written old) (written new) (report_of format gs lists)) same leaves.0,
+  ),
+  leaves.1,
+)
+
+-- a report that fails refuses no rank
+pub report_refuses : {O : Type 0} (written : O → Option (List ℕ)) (failures : O → ℕ) (old new : O) (report : List ℕ) (groups : Groups) (traces : List Trace) (fault : RunFault) → LeavesReport written failures old new report fault → RefusesOver groups traces fault
+report_refuses written failures old new report groups traces Memory leaves = tt
+report_refuses written failures old new report groups traces (Unproved rank) leaves = absurd leaves
+report_refuses written failures old new report groups traces (Refused refusal) leaves = absurd leaves
+report_refuses written failures old new report groups traces Write leaves = tt
+
+-- a report that fails is no refusal of the ranks' feeds
+pub report_feeds : {O I : Type 0} (written : O → Option (List ℕ)) (failures : O → ℕ) (old new : O) (report : List ℕ) (left : I → Option (List ℕ)) (may_stop : ℕ → ℕ → Type 0) (sources : List (Source I)) (groups : Groups) (answer : Result Verdict RunFault) → IfErr answer (LeavesReport written failures old new report) → IfErr answer (RefusesFeeds left may_stop sources groups)
+report_feeds written failures old new report left may_stop sources groups (Ok verdict) leaves = tt
+report_feeds written failures old new report left may_stop sources groups (Err Memory) leaves = tt
+report_feeds written failures old new report left may_stop sources groups (Err (Unproved rank)) leaves = absurd leaves
+report_feeds written failures old new report left may_stop sources groups (Err (Refused refusal)) leaves = absurd leaves
+report_feeds written failures old new report left may_stop sources groups (Err Write) leaves = tt
+
+pub report_stops : {O : Type 0} (written : O → Option (List ℕ)) (failures : O → ℕ) (old new : O) (report : List ℕ) (may_stop : ℕ → ℕ → Type 0) (answer : Result Verdict RunFault) → IfErr answer (LeavesReport written failures old new report) → IfErr answer (StopsWhereAllowed may_stop)
+report_stops written failures old new report may_stop (Ok verdict) leaves = tt
+report_stops written failures old new report may_stop (Err Memory) leaves = tt
+report_stops written failures old new report may_stop (Err (Unproved rank)) leaves = absurd leaves
+report_stops written failures old new report may_stop (Err (Refused refusal)) leaves = absurd leaves
+report_stops written failures old new report may_stop (Err Write) leaves = tt
+
+-- a refusal of the ranks' feeds is one over the traces that their sources tell
+feeds_refuse : {I : Type 0} (left : I → Option (List ℕ)) (may_stop : ℕ → ℕ → Type 0) (groups : Groups) (sources : List (Source I)) (fault : CloseFault) → length sources ≡ ranks_of groups → RefusesFeeds left may_stop sources groups (of_close fault) → RefusesRun groups (told_by left sources) (of_close fault)
+feeds_refuse left may_stop groups sources close.Memory one refuses = tt
+feeds_refuse left may_stop groups sources (close.Unproved rank) one refuses = tt
+feeds_refuse left may_stop groups sources (close.Refused refusal) one refuses = lowest_refusal left may_stop sources groups refusal one refuses
+
+pub close_refuses : {I : Type 0} (left : I → Option (List ℕ)) (may_stop : ℕ → ℕ → Type 0) (groups : Groups) (sources : List (Source I)) (fault : CloseFault) (told : RunFault) → told ≡ of_close fault → length sources ≡ ranks_of groups → RefusesFeeds left may_stop sources groups (of_close fault) → (traces : List Trace) → Tells left sources traces → RefusesOver groups traces told
+close_refuses left may_stop groups sources fault told is one refuses traces tells =
+    rw is (refused_over left groups sources (of_close fault) traces one (feeds_refuse left may_stop groups sources fault one refuses) tells)
+
+close_leaves : {I O : Type 0} (left : I → Option (List ℕ)) (written : O → Option (List ℕ)) (failures : O → ℕ) (groups : Groups) (sources : List (Source I)) (format : Format) (out : O) (fault : CloseFault) → LeavesOutput left written failures sources groups format out out (of_close fault)
+close_leaves left written failures groups sources format out close.Memory = refl
+close_leaves left written failures groups sources format out (close.Unproved rank) = refl
+close_leaves left written failures groups sources format out (close.Refused refusal) = refl
+
+pub close_output : {I O : Type 0} (left : I → Option (List ℕ)) (written : O → Option (List ℕ)) (failures : O → ℕ) (groups : Groups) (sources : List (Source I)) (format : Format) (out : O) (fault : CloseFault) (told : RunFault) → told ≡ of_close fault → LeavesOutput left written failures sources groups format out out told
+close_output left written failures groups sources format out fault told is = rw is (close_leaves left written failures groups sources format out fault)

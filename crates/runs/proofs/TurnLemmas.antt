@@ -1,0 +1,265 @@
+-- What the turns over the sources keep.
+use Rattle.std.proofs.Common.{◌≡◌, ◌≢◌, ℕ, zero, suc, ◌+◌, ◌<◌, ◌≤◌, Bool, true, false, All, take, Option, Some, None, List, [], ◌∷◌, ◌++◌, length, map, get_or, slice_get, slice_set, refl, sym, ap, subst, ◌∙◌, ⊎_elim, arith, append_assoc, append-nil}
+use Rattle.std.proofs.lemmas.Bool.{cases_eq}
+use Rattle.std.proofs.lemmas.List.{length-map, length-set, map-append, take_all}
+use Rattle.std.proofs.lemmas.List.Elements.{All-append, All-cons, All-tail}
+use Rattle.std.proofs.Math.Seq.{take-suc}
+use Rattle.std.proofs.lemmas.Option.{slice_get-get_or, slice_get_within}
+use Rattle.mpicall.specs.Ending.{ends_list}
+use Rattle.mpicall.specs.Source.{coming}
+use Rattle.mpicall.specs.Trace.{Trace}
+use Rattle.mpicall.specs.declared.call.Call.{Call}
+use Rattle.mpicall.specs.declared.fault.SourceFault.{SourceFault}
+use Rattle.mpicall.specs.declared.source.Source.{Source}
+use Rattle.pairing.specs.Recordings.{is_ended}
+use Rattle.pairing.proofs.NumberLemmas.{slice_get-set_same, slice_get-set_other}
+use Rattle.rankfeed.specs.Items.{calls_among, end_of, end_the_list, item_ends_list, last_behind, mark_in}
+use Rattle.rankfeed.specs.declared.item.Ending.{Ending}
+use Rattle.rankfeed.specs.declared.item.Ending.TheVariants.{Sealed, Torn}
+use Rattle.rankfeed.specs.declared.item.Item.{Item}
+use Rattle.rankfeed.specs.declared.item.Item.TheVariants.{Entry, Mark}
+use Rattle.rankfeed.proofs.ItemLemmas.{last_item-push}
+use Rattle.gather.specs.Collected.{Kept, nothing_kept, torn, EntersRecord, IsKeptIn, Leaves}
+use Rattle.gather.specs.Fed.{marked, Continues, IsFed}
+use Rattle.gather.specs.Reads.{IsReading}
+use Rattle.runs.specs.Turns.{IsWhole, IsGoing, CameOf, IsTurnOf, source_of, IsBegun, IsOver, IsLater, AreTurnsOf, AreLater, IsReadOf, AreReadOf}
+use Rattle.gather.specs.declared.fault.RankFault.TheVariants.{OfSource}
+use Rattle.gather.specs.declared.ledger.Stepped.{Stepped}
+use Rattle.runs.specs.declared.turn.Turn.{Turn}
+use Rattle.gather.proofs.CollectedLemmas.{end_of-push, mark_sealed, nothing_new, record_leaves, record_own, torn_leaves, torn_own}
+use Rattle.gather.proofs.FedLemmas.{begins, marked_calls}
+use Rattle.runs.proofs.HeldLemmas.{found_at, same_ended}
+use Rattle.gather.proofs.OpenLemmas.{kept_at_first, places_at_first}
+
+-- The items of a source that is being read.
+
+no_mark_behind : (call : Call) (calls : List Call) → mark_in (last_behind (Some (Entry call)) (map Entry calls)) ≡ None
+no_mark_behind call [] = refl
+no_mark_behind call (next ∷ calls) = no_mark_behind next calls
+
+no_mark : (calls : List Call) → end_of (map Entry calls) ≡ None
+no_mark [] = refl
+no_mark (call ∷ calls) = no_mark_behind call calls
+
+unended : (told now : Option Trace) (items : List Item) → Continues told items now → end_of items ≡ None
+unended told now items c = ap end_of c.are ∙ no_mark c.calls
+
+ends_with : (items : List Item) (call : Call) → end_the_list (items ++ Entry call ∷ []) ≡ ends_list call
+ends_with items call = ap item_ends_list (last_item-push items (Entry call))
+
+sealed_calls : (told now : Option Trace) (items : List Item) → Continues told items now → end_the_list items ≡ true → is_ended (calls_among (items ++ Mark Sealed ∷ [])) ≡ true
+sealed_calls told now items c ends =
+    let whole : items ++ Mark Sealed ∷ [] ≡ marked c.calls Sealed = ap (λ (xs : List Item). xs ++ Mark Sealed ∷ []) c.are in
+    ap (λ (xs : List Item). is_ended (calls_among xs)) whole
+    ∙ ap (λ (calls : List Call). is_ended calls) (marked_calls c.calls Sealed)
+    ∙ sym (same_ended c.calls) ∙ ap end_the_list (sym c.are) ∙ ends
+
+never_sealed : (items : List Item) (fault : SourceFault) → end_of (items ++ Mark (Torn fault) ∷ []) ≡ Some Sealed → ⊥
+never_sealed items fault is = let e : Some (Torn fault) ≡ Some Sealed = sym (end_of-push items (Mark (Torn fault))) ∙ is in absurd cc
+
+-- One record more of a source, or its end.
+
+module _ {I : Type 0} (left : I → Option (List ℕ)) (may_stop : ℕ → ℕ → Type 0) (rank : ℕ) (old new : Turn I) (before : Kept) where
+  came_going : (source : Source I) (items : List Item) → old.over ≡ false → CameOf left (may_stop rank) source old items old.over → IsGoing left source old items
+  came_going source items was came = subst (λ (over : Bool). CameOf left (may_stop rank) source old items over) was came
+
+  goes_on : (source : Source I) (items : List Item) → new.over ≡ false → IsGoing left source new items → CameOf left (may_stop rank) source new items new.over
+  goes_on source items is going = subst (λ (over : Bool). CameOf left (may_stop rank) source new items over) (sym is) going
+
+  comes_whole : (source : Source I) (items : List Item) → new.over ≡ true → IsWhole (coming left source) (may_stop rank) items → CameOf left (may_stop rank) source new items new.over
+  comes_whole source items is whole = subst (λ (over : Bool). CameOf left (may_stop rank) source new items over) (sym is) whole
+
+  pub later_record : (after : Kept) (call : Call) (answer : Stepped) → rank < length before.recording → old.over ≡ false → new.over ≡ false → new.done ≡ ends_list call → EntersRecord rank call before answer after →
+      ((start : Source I) (items : List Item) → end_the_list items ≡ old.done → IsReading left start old.source items old.line → IsReading left start new.source (items ++ Entry call ∷ []) new.line) →
+      IsLater left may_stop rank old before new after
+  later_record after call answer within was is done enters reads =
+      let leaves = record_leaves rank before after call answer enters in record {
+        leaves = leaves;
+        turn = λ source of. let going = came_going source of.items was of.came in record {
+          items = of.items ++ Entry call ∷ [];
+          places = leaves.places ∙ of.places ∙ sym leaves.ranks;
+          came = goes_on source (of.items ++ Entry call ∷ []) is (record { read = reads source of.items going.done going.read; done = ends_with of.items call ∙ sym done });
+          kept_so = λ calm. record_own rank of.items before after call answer within of.places calm enters (unended _ _ of.items going.read.told) (of.kept_so (leaves.unwanted calm));
+        };
+      }
+
+  pub later_sealed : (end : Ending) → end ≡ Sealed → old.over ≡ false → new.over ≡ true → old.done ≡ true →
+      ((start : Source I) (items : List Item) → end_the_list items ≡ old.done → IsReading left start old.source items old.line → IsFed (coming left start) (may_stop rank) (items ++ Mark end ∷ [])) →
+      IsLater left may_stop rank old before new before
+  later_sealed end is_end was is done ends = record {
+    leaves = nothing_new rank before before refl;
+    turn = λ source of. let going = came_going source of.items was of.came in record {
+      items = of.items ++ Mark Sealed ∷ [];
+      places = of.places;
+      came = comes_whole source (of.items ++ Mark Sealed ∷ []) is (record {
+        fed = subst (λ (e : Ending). IsFed (coming left source) (may_stop rank) (of.items ++ Mark e ∷ [])) is_end (ends source of.items going.done going.read);
+        sealed = λ e. sealed_calls _ _ of.items going.read.told (going.done ∙ done);
+      });
+      kept_so = λ calm. mark_sealed before.groups rank of.items _ _ (of.kept_so calm) (unended _ _ of.items going.read.told);
+    };
+  }
+
+  pub later_torn : (after : Kept) (end : Ending) (fault : SourceFault) → end ≡ Torn fault → rank < length before.recording → old.over ≡ false → new.over ≡ true → after ≡ torn before rank (OfSource fault) →
+      ((start : Source I) (items : List Item) → end_the_list items ≡ old.done → IsReading left start old.source items old.line → IsFed (coming left start) (may_stop rank) (items ++ Mark end ∷ [])) →
+      IsLater left may_stop rank old before new after
+  later_torn after end fault is_end within was is tears ends =
+      let leaves = torn_leaves rank before after (OfSource fault) tears in record {
+        leaves = leaves;
+        turn = λ source of. let going = came_going source of.items was of.came in record {
+          items = of.items ++ Mark (Torn fault) ∷ [];
+          places = leaves.places ∙ of.places ∙ sym leaves.ranks;
+          came = comes_whole source (of.items ++ Mark (Torn fault) ∷ []) is (record {
+            fed = subst (λ (e : Ending). IsFed (coming left source) (may_stop rank) (of.items ++ Mark e ∷ [])) is_end (ends source of.items going.done going.read);
+            sealed = λ e. absurd (never_sealed of.items fault e);
+          });
+          kept_so = λ calm. torn_own rank of.items before after fault within of.places (leaves.unwanted calm) tears (unended _ _ of.items going.read.told) (of.kept_so (leaves.unwanted calm));
+        };
+      }
+
+-- Later times follow one another.
+
+leaves_still : (rank : ℕ) (old now new : Kept) → Leaves rank old now → Leaves rank now new → Leaves rank old new
+leaves_still rank old now new first then = record {
+  groups = then.groups ∙ first.groups;
+  ranks = then.ranks ∙ first.ranks;
+  places = then.places ∙ first.places;
+  unwanted = λ e. first.unwanted (then.unwanted e);
+  calls = λ other differs. then.calls other differs ∙ first.calls other differs;
+  faults = λ other differs. then.faults other differs ∙ first.faults other differs;
+}
+
+pub later_first : {I : Type 0} (left : I → Option (List ℕ)) (may_stop : ℕ → ℕ → Type 0) (rank : ℕ) (turn : Turn I) (kept : Kept) → IsLater left may_stop rank turn kept turn kept
+later_first left may_stop rank turn kept = record { leaves = nothing_new rank kept kept refl; turn = λ source of. of }
+
+pub later_still : {I : Type 0} (left : I → Option (List ℕ)) (may_stop : ℕ → ℕ → Type 0) (rank : ℕ) (old now new : Turn I) (before then after : Kept) → IsLater left may_stop rank old before now then → IsLater left may_stop rank now then new after → IsLater left may_stop rank old before new after
+later_still left may_stop rank old now new before then after first next = record {
+  leaves = leaves_still rank before then after first.leaves next.leaves;
+  turn = λ source of. next.turn source (first.turn source of);
+}
+
+pub are_later_first : {I : Type 0} (left : I → Option (List ℕ)) (may_stop : ℕ → ℕ → Type 0) (turns : List (Turn I)) (kept : Kept) → AreLater left may_stop turns kept turns kept
+are_later_first left may_stop turns kept = record { count = refl; ranks = refl; places = refl; groups = refl; turns = λ sources all. all }
+
+pub are_later_still : {I : Type 0} (left : I → Option (List ℕ)) (may_stop : ℕ → ℕ → Type 0) (old now new : List (Turn I)) (before then after : Kept) → AreLater left may_stop old before now then → AreLater left may_stop now then new after → AreLater left may_stop old before new after
+are_later_still left may_stop old now new before then after first next = record {
+  count = next.count ∙ first.count;
+  ranks = next.ranks ∙ first.ranks;
+  places = next.places ∙ first.places;
+  groups = next.groups ∙ first.groups;
+  turns = λ sources all. next.turns sources (first.turns sources all);
+}
+
+-- One turn goes on, and the others stay.
+
+other_stays : {I : Type 0} (left : I → Option (List ℕ)) (may_stop : ℕ → ℕ → Type 0) (rank other : ℕ) (source : Source I) (turn : Turn I) (before after : Kept) → Leaves rank before after → other ≢ rank → IsTurnOf left may_stop other source turn before → IsTurnOf left may_stop other source turn after
+other_stays left may_stop rank other source turn before after leaves differs of = record {
+  items = of.items;
+  places = leaves.places ∙ of.places ∙ sym leaves.ranks;
+  came = of.came;
+  kept_so = λ calm. rw (leaves.calls other differs, leaves.faults other differs, leaves.groups) (of.kept_so (leaves.unwanted calm));
+}
+
+one_goes_on : {I : Type 0} (left : I → Option (List ℕ)) (may_stop : ℕ → ℕ → Type 0) (turns : List (Turn I)) (rank : ℕ) (was now : Turn I) (before after : Kept) (sources : List (Source I)) (other : ℕ) (source : Source I) (turn : Turn I) → rank < length turns → slice_get turns rank ≡ Some was → IsLater left may_stop rank was before now after → AreTurnsOf left may_stop sources turns before → slice_get sources other ≡ Some source → slice_get (slice_set turns rank now) other ≡ Some turn → IsTurnOf left may_stop other source turn after
+one_goes_on {I = I} left may_stop turns rank was now before after sources other source turn within at later all at_source at_turn =
+    ⊎_elim
+    (λ (same : other ≡ rank).
+    let there : Some now ≡ Some turn = sym (slice_get-set_same turns rank now within) ∙ ap (slice_get (slice_set turns rank now)) (sym same) ∙ at_turn in
+    let is : now ≡ turn = cc in
+    let here : slice_get sources rank ≡ Some source = ap (slice_get sources) (sym same) ∙ at_source in
+    subst (λ (n : ℕ). IsTurnOf left may_stop n source turn after) (sym same)
+    (subst (λ (t : Turn I). IsTurnOf left may_stop rank source t after) is (later.turn source (all.each rank source was here at))))
+    (λ (differs : other ≡ rank → ⊥).
+    other_stays left may_stop rank other source turn before after later.leaves differs
+    (all.each other source turn at_source (sym (slice_get-set_other turns rank other now differs) ∙ at_turn)))
+    (cases_eq other rank)
+
+pub set_later : {I : Type 0} (left : I → Option (List ℕ)) (may_stop : ℕ → ℕ → Type 0) (turns : List (Turn I)) (place rank : ℕ) (was now : Turn I) (before after : Kept) → place ≡ rank → rank < length turns → was ≡ get_or turns place was → IsLater left may_stop rank was before now after → AreLater left may_stop turns before (slice_set turns place now) after
+set_later left may_stop turns place rank was now before after same within read later =
+    let at : slice_get turns rank ≡ Some was = slice_get-get_or turns rank was within ∙ ap Some (ap (λ (n : ℕ). get_or turns n was) (sym same) ∙ sym read) in
+    rw same (record {
+      count = length-set turns rank now;
+      ranks = later.leaves.ranks;
+      places = later.leaves.places;
+      groups = later.leaves.groups;
+      turns = λ sources all. record {
+        count = length-set turns rank now ∙ all.count;
+        each = λ other source turn at_source at_turn. one_goes_on left may_stop turns rank was now before after sources other source turn within at later all at_source at_turn;
+      };
+    })
+
+-- Turns that begin.
+
+pub one_begun : {I : Type 0} (turns more : List (Turn I)) (turn : Turn I) → All (λ turn. IsBegun turn) turns → IsBegun turn → more ≡ turns ++ turn ∷ [] → All (λ turn. IsBegun turn) more
+one_begun turns more turn all one is = rw is (All-append (λ turn. IsBegun turn) turns (turn ∷ []) all (All-cons (λ turn. IsBegun turn) turn [] one (λ k other none. absurd (omega (arith, none)))))
+
+-- one source more has its turn
+pub one_more_source : {I : Type 0} (turns more : List (Turn I)) (turn : Turn I) (source : Source I) (sources now rest : List (Source I)) → map source_of turns ++ now ≡ sources → now ≡ source ∷ rest → source_of turn ≡ source → more ≡ turns ++ turn ∷ [] → map source_of more ++ rest ≡ sources
+one_more_source turns more turn source sources now rest so begins same is =
+    ap (λ ts. map source_of ts ++ rest) is
+    ∙ ap (λ ss. ss ++ rest) (map-append source_of turns (turn ∷ []))
+    ∙ append_assoc (map source_of turns) (source_of turn ∷ []) rest
+    ∙ ap (λ s. map source_of turns ++ s ∷ rest) same
+    ∙ ap (λ ss. map source_of turns ++ ss) (sym begins) ∙ so
+
+pub all_sources : {I : Type 0} (turns : List (Turn I)) (sources now : List (Source I)) → map source_of turns ++ now ≡ sources → length now ≡ 0 → map source_of turns ≡ sources
+all_sources turns sources [] so none = sym (append-nil (map source_of turns)) ∙ so
+all_sources turns sources (s ∷ ss) so none = absurd (omega (arith, none))
+
+all_at : {X : Type 0} (P : X → Type 0) (xs : List X) (k : ℕ) (x : X) → All P xs → slice_get xs k ≡ Some x → P x
+all_at P [] k x all at = cc
+all_at P (y ∷ ys) zero x all at = let same : y ≡ x = cc in subst P same (all 0 y (omega arith))
+all_at P (y ∷ ys) (suc k) x all at = all_at P ys k x (All-tail P y ys all) at
+
+source_at : {I : Type 0} (turns : List (Turn I)) (k : ℕ) (turn : Turn I) → slice_get turns k ≡ Some turn → slice_get (map source_of turns) k ≡ Some turn.source
+source_at [] k turn at = cc
+source_at {I = I} (t ∷ ts) zero turn at = let same : t ≡ turn = cc in ap (λ (one : Turn I). Some one.source) same
+source_at (t ∷ ts) (suc k) turn at = source_at ts k turn at
+
+turn_begun : {I : Type 0} (left : I → Option (List ℕ)) (may_stop : ℕ → ℕ → Type 0) (rank : ℕ) (turn : Turn I) (kept : Kept) → kept ≡ nothing_kept kept.groups → IsBegun turn → IsTurnOf left may_stop rank turn.source turn kept
+turn_begun left may_stop rank turn kept nothing begun = record {
+  items = [];
+  places = subst (λ (k : Kept). length k.faults ≡ length k.recording) (sym nothing) (places_at_first kept.groups);
+  came = subst (λ (over : Bool). CameOf left (may_stop rank) turn.source turn [] over) (sym begun.2) (record {
+    read = record { fresh = turn.fresh begun.2; told = begins (coming left turn.source) [] refl; at = rw begun.0 refl };
+    done = sym begun.1;
+  });
+  kept_so = λ calm. subst (λ (k : Kept). IsKeptIn rank [] k) (sym nothing) (kept_at_first kept.groups rank);
+}
+
+all_begun : {I : Type 0} (left : I → Option (List ℕ)) (may_stop : ℕ → ℕ → Type 0) (sources : List (Source I)) (turns : List (Turn I)) (kept : Kept) → kept ≡ nothing_kept kept.groups → map source_of turns ≡ sources → All (λ turn. IsBegun turn) turns → AreTurnsOf left may_stop sources turns kept
+all_begun {I = I} left may_stop sources turns kept nothing are all = record {
+  count = sym (length-map turns source_of) ∙ ap length are;
+  each = λ rank source turn at_source at_turn.
+      let there : Some turn.source ≡ Some source = sym (source_at turns rank turn at_turn) ∙ ap (λ (ss : List (Source I)). slice_get ss rank) are ∙ at_source in
+      let same : turn.source ≡ source = cc in
+      subst (λ (one : Source I). IsTurnOf left may_stop rank one turn kept) same (turn_begun left may_stop rank turn kept nothing (all_at (λ turn. IsBegun turn) turns rank turn all at_turn));
+}
+
+-- Turns that are over.
+
+read_by : {I : Type 0} (left : I → Option (List ℕ)) (may_stop : ℕ → ℕ → Type 0) (rank : ℕ) (source : Source I) (turn : Turn I) (kept : Kept) → turn.over ≡ true → IsTurnOf left may_stop rank source turn kept → IsReadOf left may_stop rank source kept
+read_by left may_stop rank source turn kept over of = record {
+  items = of.items;
+  whole = subst (λ (o : Bool). CameOf left (may_stop rank) source turn of.items o) over of.came;
+  kept_so = of.kept_so;
+}
+
+pub all_read : {I : Type 0} (left : I → Option (List ℕ)) (may_stop : ℕ → ℕ → Type 0) (sources : List (Source I)) (begun over : List (Turn I)) (first last : Kept) → length first.recording ≡ length sources → first ≡ nothing_kept first.groups → map source_of begun ≡ sources → All (λ turn. IsBegun turn) begun → AreLater left may_stop begun first over last → All (λ turn. IsOver turn) over → AreReadOf left may_stop sources last
+all_read left may_stop sources begun over first last one nothing are all later ends =
+    let turns = later.turns sources (all_begun left may_stop sources begun first nothing are all) in record {
+      one_a_rank = later.ranks ∙ one;
+      places = later.places ∙ subst (λ (k : Kept). length k.faults ≡ length k.recording) (sym nothing) (places_at_first first.groups) ∙ sym later.ranks;
+      each = λ rank source at.
+          let turn = found_at over rank (omega (arith, turns.count, slice_get_within sources rank source at)) in
+          read_by left may_stop rank source turn.0 last (all_at (λ turn. IsOver turn) over rank turn.0 ends turn.1) (turns.each rank source turn.0 at turn.1);
+    }
+
+-- one turn more is over
+pub over_more : {X : Type 0} (P : X → Type 0) (xs : List X) (i : ℕ) (x d : X) → i < length xs → x ≡ get_or xs i d → P x → All P (take i xs) → All P (take (i + 1) xs)
+over_more P xs i x d within is p all =
+    let next : i + 1 ≡ suc i = omega arith in
+    rw (next, take-suc xs i d within) (All-append P (take i xs) (get_or xs i d ∷ []) all (All-cons P (get_or xs i d) [] (subst P is p) (λ k other none. absurd (omega (arith, none)))))
+
+-- all were looked at
+pub over_all : {X : Type 0} (P : X → Type 0) (xs : List X) (i : ℕ) → length xs ≤ i → All P (take i xs) → All P xs
+over_all {X = X} P xs i whole all = subst (λ (ys : List X). All P ys) (take_all i xs whole) all

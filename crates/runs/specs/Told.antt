@@ -1,0 +1,51 @@
+-- What an answer says of traces, where the sources' inputs tell them. These are the words of `run`; what it
+-- stands on speaks of each rank alone, by the words of `Ranks`.
+use Rattle.std.specs.Prelude.{◌≡◌, ◌↔◌, ℕ, ◌<◌, Bool, true, false, ⊤, Option, Some, None, List, length, map, slice_get, All}
+use Rattle.mpicall.specs.Source.{coming, ended}
+use Rattle.mpicall.specs.declared.source.Source.{Source}
+use Rattle.mpicall.specs.Trace.{Trace}
+use Rattle.mpicall.specs.declared.fault.SourceFault.TheVariants.{ReadFailed, GateStopped, ThreadNotStarted}
+use Rattle.mpigroup.specs.Groups.{Groups}
+use Rattle.gather.specs.Answers.{fault_of_rank, refusal_of, lists_of, SomeRankCannotEnd}
+use Rattle.waitgraph.specs.Verdicts.{verdict_of}
+use Rattle.waitgraph.specs.declared.verdict.Verdict.{Verdict}
+use Rattle.waitgraph.specs.declared.verdict.Verdict.TheVariants.{Hang}
+use Rattle.gather.specs.declared.fault.RankFault.{RankFault}
+use Rattle.gather.specs.declared.fault.RankFault.TheVariants.{OfSource}
+use Rattle.gather.specs.declared.fault.Refusal.{Refusal}
+use Rattle.gather.specs.declared.fault.RunFault.{RunFault}
+use Rattle.gather.specs.declared.fault.RunFault.TheVariants.{Memory, Unproved, Refused, Write}
+
+-- the fault is none of the bytes: a read failed, the gate stopped the reading, or no thread started
+abbrev pub is_from_outside : RankFault → Bool
+is_from_outside (OfSource ReadFailed) = true
+is_from_outside (OfSource GateStopped) = true
+is_from_outside (OfSource ThreadNotStarted) = true
+is_from_outside fault = false
+
+-- no record was asked of the sources so far
+abbrev pub AreFresh : {I : Type 0} → List (Source I) → Type 0
+AreFresh sources = All (λ source. ended source ≡ None) sources
+
+-- the sources tell these traces, one a rank
+abbrev pub Tells : {I : Type 0} → (I → Option (List ℕ)) → List (Source I) → List Trace → Type 0
+Tells left sources traces = map (coming left) sources ≡ map Some traces
+
+-- the refusal is that of the lowest rank that has a fault over these traces; where its fault comes from outside,
+-- no lower rank has one
+pub record IsRefusalOver (groups : Groups) (traces : List Trace) (refusal : Refusal) : Type 0 where
+  pub is_rank : refusal.rank < length traces
+  pub lowest : (rank : ℕ) (trace : Trace) → rank < refusal.rank → slice_get traces rank ≡ Some trace → fault_of_rank groups rank trace ≡ None
+  pub its_own : is_from_outside refusal.fault ≡ false → refusal_of groups traces ≡ Some refusal
+
+abbrev pub RefusesOver : Groups → List Trace → RunFault → Type 0
+RefusesOver groups traces Memory = ⊤
+RefusesOver groups traces (Unproved rank) = ⊤
+RefusesOver groups traces (Refused refusal) = IsRefusalOver groups traces refusal
+RefusesOver groups traces Write = ⊤
+
+-- no rank has a fault over these traces, and the verdict is theirs
+pub record IsVerdictOver (groups : Groups) (traces : List Trace) (verdict : Verdict) : Type 0 where
+  pub no_refusal : refusal_of groups traces ≡ None
+  pub value : verdict ≡ verdict_of groups (lists_of traces)
+  pub hang : (verdict ≡ Hang) ↔ SomeRankCannotEnd groups (lists_of traces)

@@ -1,0 +1,34 @@
+//! The report of a run over the sources of its ranks.
+//!
+//! `run::run` reads one source a rank, all at once and each by a thread of its own, and writes the report of
+//! the run: whether some rank can't reach its Finalize, whatever way the run goes. `run::run_by` does the same,
+//! or reads the sources by turns in one thread, with no feed between.
+//!
+//! What it promises, as contracts that are proved:
+//!
+//! - At Ok no rank had a fault, and the verdict is that of the traces that the sources' bytes hold by
+//!   definition. It is `Hang` exactly if some rank comes to its Finalize in no run over them.
+//! - The output then has the report of these traces, in the format that was asked for.
+//! - At a refusal nothing was written. The rank is the lowest with a fault, and the place and the fault
+//!   are that rank's first, by definition.
+//! - A write that failed is told only where that device's count of failures rose.
+//!
+//! By threads it stands on the sessions of the crate `gather`; `threads` feeds one from a source by a thread for
+//! each rank. By turns each record goes straight to what a session keeps.
+//!
+//! The definitions stand in `specs/`: `Told` says what an answer says where the inputs tell their bytes, `Written`
+//! what was written then, `Runs` what a run answers by what was read.
+//!
+//! ```text
+//! let head = Head::read(b"ranks 1\n")?;
+//! let sources = vec![in alloc; Source::new(MemoryInput::new(b"finalize\n"))]?;
+//! let verdict = run(alloc, head, sources, 64, &OpenGate, Format::Text, &mut output, &rt)?;
+//! ```
+#![tactic(auto)]
+
+mod gathering;
+pub mod run;
+mod sweep;
+pub mod threads;
+mod turn;
+mod turns;

@@ -1,0 +1,66 @@
+/* A hash table with linear probing; at most half of its places are used. See requests.h. */
+#include "requests.h"
+#include <stdio.h>
+#include <stdlib.h>
+
+static Request *places;
+static size_t room, used; /* room is a power of two */
+
+static size_t home(uintptr_t handle) {
+    return ((uint64_t)handle * 0x9e3779b97f4a7c15u >> 20) & (room - 1);
+}
+
+/* Where the handle is, or the free place where it would be. */
+static Request *place_of(uintptr_t handle) {
+    size_t at = home(handle);
+    while (places[at].handle != 0 && places[at].handle != handle)
+        at = (at + 1) & (room - 1);
+    return &places[at];
+}
+
+static void grow(void) {
+    Request *old = places;
+    size_t old_room = room;
+    room = room ? 2 * room : 1024;
+    places = calloc(room, sizeof *places);
+    if (!places) {
+        fputs("mpiwait-record: no memory\n", stderr);
+        abort();
+    }
+    for (size_t i = 0; i < old_room; i++)
+        if (old[i].handle != 0)
+            *place_of(old[i].handle) = old[i];
+    free(old);
+}
+
+Request *requests_find(uintptr_t handle) {
+    if (used == 0 || handle == 0)
+        return NULL;
+    Request *found = place_of(handle);
+    return found->handle == handle ? found : NULL;
+}
+
+Request *requests_add(uintptr_t handle) {
+    if (2 * (used + 1) > room)
+        grow();
+    Request *new = place_of(handle);
+    used += new->handle == 0;
+    *new = (Request){.handle = handle};
+    return new;
+}
+
+/* Requests behind the free place move up to it, where it lies on the way from their home. */
+void requests_remove(uintptr_t handle) {
+    Request *found = requests_find(handle);
+    if (!found)
+        return;
+    size_t hole = found - places, mask = room - 1;
+    for (size_t at = (hole + 1) & mask; places[at].handle != 0; at = (at + 1) & mask) {
+        if (((at - home(places[at].handle)) & mask) >= ((at - hole) & mask)) {
+            places[hole] = places[at];
+            hole = at;
+        }
+    }
+    places[hole] = (Request){0};
+    used--;
+}

@@ -1,0 +1,161 @@
+"""A recorded run that was closed: its head, its traces, and where in the program each call was made.
+
+An unproved companion of mpiwait, as all of tools/.
+"""
+
+import json
+import subprocess
+from functools import cache
+from pathlib import Path
+
+from journal import Journal
+
+STARTS = {"isend", "issend", "ibsend", "irecv"}
+
+
+class Call:
+    """One line of a trace, with the MPI call that it stands for."""
+
+    def __init__(self, run, rank, at):
+        self.run, self.rank, self.at = run, rank, at
+        self.line = run.trace(rank)[at]
+        self.word, *self.fields = self.line.split(" ")
+        self.name, site = run.calls(rank)[at].split(" ")
+        self.site = int(site)
+
+    @property
+    def where(self):
+        """Its place in the program, as `file:line` if that is known."""
+        return self.run.places.where(self.rank, self.site)
+
+    @property
+    def is_start(self):
+        return self.word in STARTS or self.word.startswith("i")
+
+    @property
+    def comm(self):
+        return int(self.fields[1 if self.is_start else 0])
+
+    def message(self):
+        """What it sends or receives, in words; nothing for other calls."""
+        fields = self.fields[1:] if self.is_start else self.fields
+        if self.word in ("send", "ssend", "bsend", "isend", "issend", "ibsend"):
+            return f"to {self._peer(fields[1])} with tag {fields[2]}"
+        if self.word in ("recv", "irecv", "probe"):
+            return f"from {self._peer(fields[1])} with tag {fields[2]}"
+        if self.word == "sendrecv":
+            return (f"to {self._peer(fields[1])} with tag {fields[2]}, from {self._peer(fields[3])} with tag {fields[4]}")
+        return ""
+
+    def peers(self):
+        """The ranks of the world of which it may wait for calls."""
+        fields = self.fields[1:] if self.is_start else self.fields
+        if self.word in ("sendrecv",):
+            named = [fields[1], fields[3]]
+        elif self.message():
+            named = [fields[1]]
+        else:
+            return set(self.run.group(self.comm))
+        return {self.run.group(self.comm)[int(peer)] for peer in named if peer != "null"}
+
+    def _peer(self, field):
+        return "nobody" if field == "null" else f"rank {self.run.group(self.comm)[int(field)]}"
+
+    def starts(self):
+        """The calls that started the requests which a wait names."""
+        wanted = set(self.fields[1:] if self.word == "waitany" else self.fields)
+        found = []
+        for at in range(self.at - 1, -1, -1):
+            word, *fields = self.run.trace(self.rank)[at].split(" ")
+            if word.startswith("i") and fields[0] in wanted:
+                wanted.discard(fields[0])
+                found.append(Call(self.run, self.rank, at))
+            if not wanted:
+                break
+        return found[::-1]
+
+
+class Run:
+    def __init__(self, folder):
+        self.folder = Path(folder)
+        self.recording = json.loads((self.folder / "recording.json").read_text())
+        head = (self.folder / "head").read_text().splitlines()
+        self.ranks = int(head[0].split(" ")[1])
+        self._groups = [list(range(self.ranks))] + [[int(rank) for rank in line.split(" ")[1:]] for line in head[1:]]
+        self.places = Places(self.folder)
+        self.trace = cache(lambda rank: (self.folder / f"r{rank}").read_text().splitlines())
+        self.calls = cache(lambda rank: (self.folder / f"calls{rank}").read_text().splitlines())
+        self.call = cache(lambda rank, at: Call(self, rank, at))
+
+    def report(self):
+        """The checker's report, or None where it gave none."""
+        path = self.folder / "report.json"
+        return json.loads(path.read_text()) if path.exists() else None
+
+    def group(self, comm):
+        return self._groups[comm]
+
+    def last_call(self, rank):
+        return self.call(rank, len(self.trace(rank)) - 1) if self.trace(rank) else None
+
+    def in_wave(self, comm, wave, rank):
+        """The call of a rank that is the wave-th, from 0, of those that all members of a communicator make."""
+        for at, line in enumerate(self.trace(rank)):
+            if is_collective(line, comm):
+                if wave == 0:
+                    return self.call(rank, at)
+                wave -= 1
+        return None
+
+
+def is_collective(line, comm):
+    word, *fields = line.split(" ")
+    if word in ("finalize", "open", "sendrecv", "send", "ssend", "bsend", "recv", "probe") or word.startswith("wait"):
+        return False
+    if word in STARTS:
+        return False
+    return fields[1 if word.startswith("i") else 0] == str(comm)
+
+
+class Places:
+    """Looks up lines of code: addr2line finds them by the debug information of the program."""
+
+    def __init__(self, folder):
+        self._sites = cache(lambda rank: Journal(folder / "journal", rank).sites())
+        self._looked_up = cache(look_up)
+
+    def where(self, rank, site):
+        """One line for a place: the first frame whose line is known, and what called it."""
+        frames = self.frames(rank, site)
+        return ", called from ".join(frames[:1] + [frame for frame in frames[1:] if ":" in frame]) if frames else ""
+
+    def frames(self, rank, site):
+        return [self._looked_up(frame) for frame in self._sites(rank).get(site, [])]
+
+
+def look_up(frame):
+    """`FILE:LINE` for a frame `MODULE+0xOFFSET`, where that is known; else itself, and the symbol before it.
+    The offset is that of the return, which may lie behind the line of the call."""
+    module, plus, offset = frame.rpartition("+0x")
+    if not plus:
+        return short(frame)
+    try:
+        said = subprocess.run(
+            ["addr2line", "-f", "-C", "-e", module, hex(int(offset, 16) - 1)], capture_output=True, text=True, check=False
+        ).stdout.splitlines()
+    except OSError:
+        said = []
+    function, line = said if len(said) == 2 else ("??", "??:0")
+    if not line.startswith("??"):
+        return short(line.split(" (")[0])
+    name = f"{Path(module).name}+0x{offset}"
+    return f"{name} (behind the symbol {function[:60]})" if function != "??" else name
+
+
+def short(line):
+    """A path below the folder in which we are is named from there."""
+    path, colon, number = line.rpartition(":")
+    try:
+        return f"{Path(path).relative_to(Path.cwd())}{colon}{number}"
+    except ValueError:
+        return line
