@@ -42,6 +42,7 @@ pub struct Analyser {
 impl Drop for Analyser {
     fn drop(self) {
         let Analyser {
+            reading: _,
             pairs: _,
             stands: _,
             waves: _,

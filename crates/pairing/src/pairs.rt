@@ -51,6 +51,7 @@ impl Drop for Pairs {
             head: _,
             notes: _,
             tables: _,
+            probing: _,
         } = self;
     }
 }
