@@ -40,7 +40,7 @@ IsFaultOfOpening fault = ⊥
 pub record IsVerdictOfTexts (head : List ℕ) (texts : List (List ℕ)) (verdict : Verdict) : Type 0 where
   pub groups : Groups
   pub is_head : read_head head ≡ Ok groups
-  pub of_traces : IsVerdictOver groups (map trace_of texts) verdict
+  pub of_traces : IsVerdictOver reading groups (map trace_of texts) verdict
 
 -- the text of the head gives the groups, and the recording is that of the traces which the other texts hold
 pub record IsRunOfTexts (head : List ℕ) (texts : List (List ℕ)) (groups : Groups) (recording : Lists) : Type 0 where
@@ -56,7 +56,7 @@ pub record IsReportOf (format : Format) (head : Option (List ℕ)) (files : List
   pub closed : IsClosed recording
   pub of_texts : (text : List ℕ) (texts : List (List ℕ)) → head ≡ Some text → files ≡ map Some texts → IsRunOfTexts text texts groups recording
   pub report_is : report ≡ report_of format groups recording
-  pub verdict_is : verdict ≡ verdict_of groups recording
+  pub verdict_is : verdict ≡ verdict_of reading groups recording
 
 -- the report stands behind what was there
 abbrev pub WritesReport : {O : Type 0} → (O → Option (List ℕ)) → O → O → Format → Option (List ℕ) → List (Option (List ℕ)) → Verdict → Type 0

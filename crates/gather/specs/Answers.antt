@@ -1,5 +1,6 @@
 -- The answer of a run over the sources of its ranks: the refusal of the lowest rank that has a fault, or
 -- the recording of all their records with its verdict.
+use Rattle.moves.specs.declared.reading.Reading.{Reading}
 use Rattle.std.specs.Prelude.{◌≡◌, ℕ, ◌+◌, ◌<◌, true, false, if◌then◌else◌, Option, Some, None, List, [], ◌∷◌, ◌++◌, length, map}
 use Rattle.mpicall.specs.Trace.{Trace, End, Sealed, Torn, trace_of}
 use Rattle.mpicall.specs.declared.call.Call.{Call}
@@ -59,7 +60,7 @@ abbrev pub lists_of : List Trace → Lists
 lists_of traces = map (λ trace. trace.records) traces
 
 -- some rank comes to its Finalize in no run over the recording
-pub record SomeRankCannotEnd (groups : Groups) (recording : Lists) : Type 0 where
+pub record SomeRankCannotEnd (reading : Reading) (groups : Groups) (recording : Lists) : Type 0 where
   pub rank : ℕ
   pub is_rank : rank < length recording
-  pub in_no_run : (states : List State) → IsRunOver groups recording states → is_at_end recording (end_over recording states) rank ≡ false
+  pub in_no_run : (states : List State) → IsRunOver reading groups recording states → is_at_end recording (end_over recording states) rank ≡ false

@@ -28,7 +28,7 @@ pub struct Collector {
     ledger: Ledger,
     publisher: Publisher,
     ghost collects: { Collects takers.items ledger },
-    ghost passed: { ArePassed ledger.groups ledger.recording (published_by publisher) },
+    ghost passed: { ArePassed ledger.reading ledger.groups ledger.recording (published_by publisher) },
 }
 
 impl Drop for Collector {
@@ -100,7 +100,7 @@ impl Collector {
         publisher: Publisher,
     ) -> Collector
         requires collects { Collects takers.items ledger }
-        requires passed { ArePassed ledger.groups ledger.recording (published_by publisher) }
+        requires passed { ArePassed ledger.reading ledger.groups ledger.recording (published_by publisher) }
         ensures rings { rings result ≡ map taker_ring takers.items }
         ensures received { received_from result ≡ received_in takers.items }
         ensures kept { kept result ≡ ledger }

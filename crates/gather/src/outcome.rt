@@ -31,7 +31,7 @@ pub enum CloseFault {
 pub struct Outcome {
     analyser: Analyser,
     graph: Graph,
-    ghost waits: { IsGraphOf analyser.groups analyser.recording graph },
+    ghost waits: { IsGraphOf analyser.reading analyser.groups analyser.recording graph },
 }
 
 impl Drop for Outcome {
@@ -58,8 +58,8 @@ impl Outcome {
 
     /// Whether the run can hang.
     pub fn verdict(&self) -> Verdict
-        ensures value { result ≡ verdict_of self.now.analyser.groups self.now.analyser.recording }
-        ensures hang { (result ≡ Hang) ↔ SomeRankIsStuck self.now.analyser.groups self.now.analyser.recording }
+        ensures value { result ≡ verdict_of self.now.analyser.reading self.now.analyser.groups self.now.analyser.recording }
+        ensures hang { (result ≡ Hang) ↔ SomeRankIsStuck self.now.analyser.reading self.now.analyser.groups self.now.analyser.recording }
     {
         self.graph.verdict()
     }
@@ -73,7 +73,7 @@ impl Outcome {
 
     /// Who waits for whom, and why.
     pub fn graph(&self) -> &Graph
-        ensures { IsGraphOf self.now.analyser.groups self.now.analyser.recording result.now }
+        ensures { IsGraphOf self.now.analyser.reading self.now.analyser.groups self.now.analyser.recording result.now }
     {
         &self.graph
     }

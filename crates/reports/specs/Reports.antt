@@ -11,8 +11,8 @@ use Rattle.reports.specs.declared.report.ReportFault.{ReportFault}
 use Rattle.reports.specs.declared.report.ReportFault.TheVariants.{Memory, Write}
 
 unfoldable pub report_of : Format → Groups → Lists → List ℕ
-report_of Text groups recording = text_report groups recording
-report_of Json groups recording = json_report groups recording
+report_of Text groups recording = text_report reading groups recording
+report_of Json groups recording = json_report reading groups recording
 
 -- Only JSON takes memory, and where there is none the output is as it was; a failed write leaves a beginning
 -- of the report, and adds one to the count of failures.

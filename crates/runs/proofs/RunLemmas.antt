@@ -1,4 +1,5 @@
 -- What the ranks' answers say of a run over the traces that their sources tell.
+use Rattle.moves.specs.declared.reading.Reading.{Reading}
 use Rattle.std.proofs.Common.{◌≡◌, ◌↔◌, ℕ, ◌+◌, ◌<◌, List, [], ◌∷◌, length, map, sym, ap, ◌∙◌, refl, arith, zero, suc, Option, Some, None, IfSome, slice_get, subst, option_and_then, Result, Ok, Err, IfOk, IfErr, OnOk}
 use Rattle.std.specs.Io.KnownBytes.{Appends}
 use Rattle.mpicall.specs.Device.{AppendsBeginning}
@@ -83,20 +84,20 @@ same_lists (l ∷ lists) (t ∷ traces) e same =
     cc
 
 -- a rank that is stuck comes to its end in no run, and one that does so in none is stuck
-cannot_end : (groups : Groups) (lists : Lists) → SomeRankIsStuck groups lists ↔ SomeRankCannotEnd groups lists
-cannot_end groups lists = (
+cannot_end : (reading : Reading) (groups : Groups) (lists : Lists) → SomeRankIsStuck reading groups lists ↔ SomeRankCannotEnd reading groups lists
+cannot_end reading groups lists = (
   λ stuck. record {
     rank = stuck.rank;
     is_rank = stuck.is_rank;
     in_no_run = λ states is_run.
         no_run_brings_a_stuck_rank_to_its_end groups lists stuck.rank states is_run
-        (not-true (is_at_end lists (stands_of groups lists) stuck.rank) stuck.stays);
+        (not-true (is_at_end lists (stands_of reading groups lists) stuck.rank) stuck.stays);
   },
   λ cannot. record {
     rank = cannot.rank;
     is_rank = cannot.is_rank;
-    stays = not_from_false (is_at_end lists (stands_of groups lists) cannot.rank)
-        (cannot.in_no_run (lowest_run_over groups lists) (every_maximal_run_ends_at_the_stands groups lists).0.is_run);
+    stays = not_from_false (is_at_end lists (stands_of reading groups lists) cannot.rank)
+        (cannot.in_no_run (lowest_run_over reading groups lists) (every_maximal_run_ends_at_the_stands groups lists).0.is_run);
   },
 )
 
@@ -123,19 +124,19 @@ lists_are left groups sources lists traces one all tells =
     let ranks = all.one_a_rank in
     same_lists lists traces (omega arith) (λ k trace at. (each_accepted left groups sources lists traces one all tells k trace at).0)
 
-pub verdict_over : {I : Type 0} (left : I → Option (List ℕ)) (groups : Groups) (sources : List (Source I)) (lists : Lists) (verdict : Verdict) (traces : List Trace) → length sources ≡ ranks_of groups → AcceptsAll groups (told_by left sources) lists → verdict ≡ verdict_of groups lists → ((verdict ≡ Hang) ↔ SomeRankIsStuck groups lists) → Tells left sources traces → IsVerdictOver groups traces verdict
+pub verdict_over : {I : Type 0} (left : I → Option (List ℕ)) (reading : Reading) (groups : Groups) (sources : List (Source I)) (lists : Lists) (verdict : Verdict) (traces : List Trace) → length sources ≡ ranks_of groups → AcceptsAll groups (told_by left sources) lists → verdict ≡ verdict_of reading groups lists → ((verdict ≡ Hang) ↔ SomeRankIsStuck reading groups lists) → Tells left sources traces → IsVerdictOver reading groups traces verdict
 verdict_over left groups sources lists verdict traces one all value hang tells =
     let each = each_accepted left groups sources lists traces one all tells in
     let same : lists ≡ lists_of traces = lists_are left groups sources lists traces one all tells in
-    let both = cannot_end groups lists in
+    let both = cannot_end reading groups lists in
     record {
       no_refusal = none_from groups 0 traces (λ k trace at. let e : k ≡ 0 + k = omega arith in subst (λ (n : ℕ). fault_of_rank groups n trace ≡ None) e (each k trace at).1);
-      value = value ∙ ap (verdict_of groups) same;
-      hang = subst (λ (ls : Lists). (verdict ≡ Hang) ↔ SomeRankCannotEnd groups ls) same (λ is. both.0 (hang.0 is), λ cannot. hang.1 (both.1 cannot));
+      value = value ∙ ap (verdict_of reading groups) same;
+      hang = subst (λ (ls : Lists). (verdict ≡ Hang) ↔ SomeRankCannotEnd reading groups ls) same (λ is. both.0 (hang.0 is), λ cannot. hang.1 (both.1 cannot));
     }
 
 -- the report of the recording is that of the run
-pub report_over : {I : Type 0} (left : I → Option (List ℕ)) (groups : Groups) (sources : List (Source I)) (lists : Lists) (format : Format) (verdict : Verdict) → length sources ≡ ranks_of groups → AcceptsAll groups (told_by left sources) lists → verdict ≡ verdict_of groups lists → IsReportOver left sources groups format verdict (report_of format groups lists)
+pub report_over : {I : Type 0} (left : I → Option (List ℕ)) (reading : Reading) (groups : Groups) (sources : List (Source I)) (lists : Lists) (format : Format) (verdict : Verdict) → length sources ≡ ranks_of groups → AcceptsAll groups (told_by left sources) lists → verdict ≡ verdict_of reading groups lists → IsReportOver left sources groups format verdict (report_of format groups lists)
 report_over left groups sources lists format verdict one all value = record {
   recording = lists;
   accepted = all;
@@ -171,7 +172,7 @@ refused_over left groups sources (Refused refusal) traces one refuses tells =
     }
 
 -- the answer of a report is that of the run
-pub run_verdict : {I : Type 0} (left : I → Option (List ℕ)) (groups told : Groups) (sources : List (Source I)) (lists : Lists) (answer : Result Verdict RunFault) → length sources ≡ ranks_of groups → told ≡ groups → AcceptsAll groups (told_by left sources) lists → IfOk answer (λ verdict. verdict ≡ verdict_of told lists) → IfOk answer (λ verdict. (verdict ≡ Hang) ↔ SomeRankIsStuck told lists) → IfOk answer (λ verdict. (traces : List Trace) → Tells left sources traces → IsVerdictOver groups traces verdict)
+pub run_verdict : {I : Type 0} (left : I → Option (List ℕ)) (groups told : Groups) (sources : List (Source I)) (lists : Lists) (answer : Result Verdict RunFault) → length sources ≡ ranks_of groups → told ≡ groups → AcceptsAll groups (told_by left sources) lists → IfOk answer (λ verdict. verdict ≡ verdict_of told lists) → IfOk answer (λ verdict. (verdict ≡ Hang) ↔ SomeRankIsStuck told lists) → IfOk answer (λ verdict. (traces : List Trace) → Tells left sources traces → IsVerdictOver reading groups traces verdict)
 run_verdict left groups told sources lists (Err fault) one same all value hang = tt
 run_verdict left groups told sources lists (Ok verdict) one same all value hang = λ traces tells.
     verdict_over left groups sources lists verdict traces one all (value ∙ ap (λ (gs : Groups). verdict_of gs lists) same)
@@ -192,9 +193,9 @@ run_output left written failures groups told sources lists format old new (Err (
 run_output left written failures groups told sources lists format old new (Err (Refused refusal)) one same all leaves = absurd leaves
 run_output left written failures groups told sources lists format old new (Err Write) one same all leaves = (
   (
-    verdict_of groups lists,
+    verdict_of reading groups lists,
     report_of format groups lists,
-    report_over left groups sources lists format (verdict_of groups lists) one all refl,
+    report_over left groups sources lists format (verdict_of reading groups lists) one all refl,
     subst (λ (gs : Groups). AppendsBeginning (written old) (written new) (report_of format gs lists)) same leaves.0,
   ),
   leaves.1,

@@ -95,7 +95,7 @@ module _ {I : Type 0} (left : I → Option (List ℕ)) (may_stop : ℕ → ℕ �
         fed = subst (λ (e : Ending). IsFed (coming left source) (may_stop rank) (of.items ++ Mark e ∷ [])) is_end (ends source of.items going.done going.read);
         sealed = λ e. sealed_calls _ _ of.items going.read.told (going.done ∙ done);
       });
-      kept_so = λ calm. mark_sealed before.groups rank of.items _ _ (of.kept_so calm) (unended _ _ of.items going.read.told);
+      kept_so = λ calm. mark_sealed before.reading before.groups rank of.items _ _ (of.kept_so calm) (unended _ _ of.items going.read.told);
     };
   }
 

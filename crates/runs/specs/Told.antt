@@ -1,5 +1,6 @@
 -- What an answer says of traces, where the sources' inputs tell them. These are the words of `run`; what it
 -- stands on speaks of each rank alone, by the words of `Ranks`.
+use Rattle.moves.specs.declared.reading.Reading.{Reading}
 use Rattle.std.specs.Prelude.{◌≡◌, ◌↔◌, ℕ, ◌<◌, Bool, true, false, ⊤, Option, Some, None, List, length, map, slice_get, All}
 use Rattle.mpicall.specs.Source.{coming, ended}
 use Rattle.mpicall.specs.declared.source.Source.{Source}
@@ -45,7 +46,7 @@ RefusesOver groups traces (Refused refusal) = IsRefusalOver groups traces refusa
 RefusesOver groups traces Write = ⊤
 
 -- no rank has a fault over these traces, and the verdict is theirs
-pub record IsVerdictOver (groups : Groups) (traces : List Trace) (verdict : Verdict) : Type 0 where
+pub record IsVerdictOver (reading : Reading) (groups : Groups) (traces : List Trace) (verdict : Verdict) : Type 0 where
   pub no_refusal : refusal_of groups traces ≡ None
-  pub value : verdict ≡ verdict_of groups (lists_of traces)
-  pub hang : (verdict ≡ Hang) ↔ SomeRankCannotEnd groups (lists_of traces)
+  pub value : verdict ≡ verdict_of reading groups (lists_of traces)
+  pub hang : (verdict ≡ Hang) ↔ SomeRankCannotEnd reading groups (lists_of traces)

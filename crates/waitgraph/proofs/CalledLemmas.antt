@@ -1,4 +1,5 @@
 -- A need that a rank has reached a place names a call of that rank.
+use Rattle.moves.specs.declared.reading.Reading.{Reading}
 use Rattle.std.proofs.Common.{◌≡◌, ℕ, Bool, true, false, if◌then◌else◌, Option, Some, None, List, [], ◌∷◌, ◌++◌, length, map, flat_map, refl, ◌∙◌}
 use Rattle.std.specs.Prelude.{nat_lt, is_some}
 use Rattle.std.specs.List.{slice_get, list_all}
@@ -19,7 +20,7 @@ use Rattle.pairing.proofs.PartnerLemmas.{partner_parts}
 use Rattle.pairing.proofs.RequestLemmas.{place_within}
 use Rattle.moves.specs.declared.need.Need.{Need}
 use Rattle.moves.specs.declared.need.Need.TheVariants.{At, Lacking}
-use Rattle.moves.specs.Needs.{world_of, half_need, half_needs, member_need, wave_needs, is_buffered, operation_needs, operation_needs_at, request_needs, needs_of_call, needs_of}
+use Rattle.moves.specs.Needs.{world_of, half_need, half_needs, member_need, wave_needs, sends_freely, operation_needs, operation_needs_at, request_needs, needs_of_call, needs_of}
 
 -- a need that names a place names one of a call
 abbrev pub is_call : Lists → Need → Bool
@@ -58,40 +59,40 @@ sends_called : (groups : Groups) (recording : Lists) (rank place : ℕ) (call : 
 sends_called groups recording rank place call true = refl
 sends_called groups recording rank place call false = halves_called groups recording rank place SendHalf (message_of SendHalf call)
 
-operation_called : (groups : Groups) (recording : Lists) (rank place : ℕ) (call : Call) → list_all (is_call recording) (operation_needs groups recording rank place call) ≡ true
-operation_called groups recording rank place call =
-    both_called (is_call recording) ((if is_buffered call then [] else half_needs groups recording rank place SendHalf call) ++ half_needs groups recording rank place RecvHalf call) (wave_needs groups recording rank place)
-    (both_called (is_call recording) (if is_buffered call then [] else half_needs groups recording rank place SendHalf call) (half_needs groups recording rank place RecvHalf call)
-    (sends_called groups recording rank place call (is_buffered call))
+operation_called : (reading : Reading) (groups : Groups) (recording : Lists) (rank place : ℕ) (call : Call) → list_all (is_call recording) (operation_needs reading groups recording rank place call) ≡ true
+operation_called reading groups recording rank place call =
+    both_called (is_call recording) ((if sends_freely reading call then [] else half_needs groups recording rank place SendHalf call) ++ half_needs groups recording rank place RecvHalf call) (wave_needs groups recording rank place)
+    (both_called (is_call recording) (if sends_freely reading call then [] else half_needs groups recording rank place SendHalf call) (half_needs groups recording rank place RecvHalf call)
+    (sends_called groups recording rank place call (sends_freely reading call))
     (halves_called groups recording rank place RecvHalf (message_of RecvHalf call)))
     (wave_called groups recording (wave_of recording rank place))
 
-operation_there_called : (groups : Groups) (recording : Lists) (rank place : ℕ) (there : Option Call) → list_all (is_call recording) (option_map_or (operation_needs groups recording rank place) there []) ≡ true
-operation_there_called groups recording rank place None = refl
-operation_there_called groups recording rank place (Some call) = operation_called groups recording rank place call
+operation_there_called : (reading : Reading) (groups : Groups) (recording : Lists) (rank place : ℕ) (there : Option Call) → list_all (is_call recording) (option_map_or (operation_needs reading groups recording rank place) there []) ≡ true
+operation_there_called reading groups recording rank place None = refl
+operation_there_called reading groups recording rank place (Some call) = operation_called reading groups recording rank place call
 
-started_called : (groups : Groups) (recording : Lists) (rank : ℕ) (start : Option ℕ) → list_all (is_call recording) (option_map_or (operation_needs_at groups recording rank) start []) ≡ true
-started_called groups recording rank None = refl
-started_called groups recording rank (Some start) = operation_there_called groups recording rank start (slice_get (calls_of recording rank) start)
+started_called : (reading : Reading) (groups : Groups) (recording : Lists) (rank : ℕ) (start : Option ℕ) → list_all (is_call recording) (option_map_or (operation_needs_at reading groups recording rank) start []) ≡ true
+started_called reading groups recording rank None = refl
+started_called reading groups recording rank (Some start) = operation_there_called reading groups recording rank start (slice_get (calls_of recording rank) start)
 
-requests_called : (groups : Groups) (recording : Lists) (rank place : ℕ) (reqs : List ℕ) → list_all (is_call recording) (flat_map (request_needs groups recording rank place) reqs) ≡ true
-requests_called groups recording rank place [] = refl
-requests_called groups recording rank place (req ∷ reqs) =
-    both_called (is_call recording) (request_needs groups recording rank place req) (flat_map (request_needs groups recording rank place) reqs)
-    (started_called groups recording rank (started_before recording rank place req))
-    (requests_called groups recording rank place reqs)
+requests_called : (reading : Reading) (groups : Groups) (recording : Lists) (rank place : ℕ) (reqs : List ℕ) → list_all (is_call recording) (flat_map (request_needs reading groups recording rank place) reqs) ≡ true
+requests_called reading groups recording rank place [] = refl
+requests_called reading groups recording rank place (req ∷ reqs) =
+    both_called (is_call recording) (request_needs reading groups recording rank place req) (flat_map (request_needs reading groups recording rank place) reqs)
+    (started_called reading groups recording rank (started_before recording rank place req))
+    (requests_called reading groups recording rank place reqs)
 
-call_called : (groups : Groups) (recording : Lists) (rank place : ℕ) (call : Call) (starter : Bool) → list_all (is_call recording) (if starter then [] else operation_needs groups recording rank place call ++ flat_map (request_needs groups recording rank place) (completes call)) ≡ true
-call_called groups recording rank place call true = refl
-call_called groups recording rank place call false =
-    both_called (is_call recording) (operation_needs groups recording rank place call) (flat_map (request_needs groups recording rank place) (completes call))
-    (operation_called groups recording rank place call)
-    (requests_called groups recording rank place (completes call))
+call_called : (reading : Reading) (groups : Groups) (recording : Lists) (rank place : ℕ) (call : Call) (starter : Bool) → list_all (is_call recording) (if starter then [] else operation_needs reading groups recording rank place call ++ flat_map (request_needs reading groups recording rank place) (completes call)) ≡ true
+call_called reading groups recording rank place call true = refl
+call_called reading groups recording rank place call false =
+    both_called (is_call recording) (operation_needs reading groups recording rank place call) (flat_map (request_needs reading groups recording rank place) (completes call))
+    (operation_called reading groups recording rank place call)
+    (requests_called reading groups recording rank place (completes call))
 
-there_called : (groups : Groups) (recording : Lists) (rank place : ℕ) (there : Option Call) → list_all (is_call recording) (option_map_or (needs_of_call groups recording rank place) there []) ≡ true
-there_called groups recording rank place None = refl
-there_called groups recording rank place (Some call) = call_called groups recording rank place call (is_some (starts call))
+there_called : (reading : Reading) (groups : Groups) (recording : Lists) (rank place : ℕ) (there : Option Call) → list_all (is_call recording) (option_map_or (needs_of_call reading groups recording rank place) there []) ≡ true
+there_called reading groups recording rank place None = refl
+there_called reading groups recording rank place (Some call) = call_called reading groups recording rank place call (is_some (starts call))
 
 -- each need of a call names a call, or what a rank lacks
-pub needs_called : (groups : Groups) (recording : Lists) (rank place : ℕ) → list_all (is_call recording) (needs_of groups recording rank place) ≡ true
-needs_called groups recording rank place = there_called groups recording rank place (slice_get (calls_of recording rank) place)
+pub needs_called : (reading : Reading) (groups : Groups) (recording : Lists) (rank place : ℕ) → list_all (is_call recording) (needs_of reading groups recording rank place) ≡ true
+needs_called reading groups recording rank place = there_called reading groups recording rank place (slice_get (calls_of recording rank) place)

@@ -17,13 +17,13 @@ first_by [] hang = cc
 first_by (first ∷ ranks) hang = (first, inl refl)
 
 pub hang_tells_of_a_stuck_rank : HangTellsOfAStuckRank
-hang_tells_of_a_stuck_rank groups recording = (
+hang_tells_of_a_stuck_rank reading groups recording = (
   λ hang.
-      let first = first_by (stuck_of groups recording) hang in
-      let kept = kept_among first.0 (is_stuck groups recording) (range_with_len 0 (length recording)) first.1 in
+      let first = first_by (stuck_of reading groups recording) hang in
+      let kept = kept_among first.0 (is_stuck reading groups recording) (range_with_len 0 (length recording)) first.1 in
       let range = among_range first.0 0 (length recording) kept.0 in
       record { rank = first.0; is_rank = omega (arith, range.1); stays = kept.1 },
   λ stuck.
-      hang_by (stuck_of groups recording) stuck.rank
-      (among_kept stuck.rank (is_stuck groups recording) (range_with_len 0 (length recording)) (range_among stuck.rank 0 (length recording) (omega arith) (omega (arith, stuck.is_rank))) stuck.stays),
+      hang_by (stuck_of reading groups recording) stuck.rank
+      (among_kept stuck.rank (is_stuck reading groups recording) (range_with_len 0 (length recording)) (range_among stuck.rank 0 (length recording) (omega arith) (omega (arith, stuck.is_rank))) stuck.stays),
 )

@@ -1,6 +1,7 @@
 -- Why ranks are stuck. A stuck rank waits by its first unmet need alone, for another rank or for a call that
 -- another rank lacks. The walk from rank to rank by these needs comes to a cycle of ranks or to a call that
 -- is missing: that is the cause.
+use Rattle.moves.specs.declared.reading.Reading.{Reading}
 use Rattle.std.specs.Prelude.{◌≡◌, ℕ, zero, suc, ◌+◌, ◌-◌, ◌<◌, ◌≤◌, ◌==◌, true, nat_le, if◌then◌else◌, Option, Some, None, option_map, option_and_then, unwrap_or, List, [], ◌∷◌, ◌++◌, length, map, slice_get}
 use Rattle.std.specs.List.{list_all, filter_map, range_with_len}
 use Rattle.mpigroup.specs.Groups.{Groups}
@@ -29,12 +30,12 @@ abbrev pub Waits : Type 0
 Waits = List (List Need)
 
 -- the unmet needs of each rank in a state
-abbrev pub waits_at : Groups → Lists → State → Waits
-waits_at groups recording stands = map (unmet_at groups recording stands) (range_with_len 0 (length recording))
+abbrev pub waits_at : Reading → Groups → Lists → State → Waits
+waits_at reading groups recording stands = map (unmet_at reading groups recording stands) (range_with_len 0 (length recording))
 
 -- and at the stands
-abbrev pub waits_of : Groups → Lists → Waits
-waits_of groups recording = waits_at groups recording (stands_of groups recording)
+abbrev pub waits_of : Reading → Groups → Lists → Waits
+waits_of reading groups recording = waits_at reading groups recording (stands_of reading groups recording)
 
 -- the unmet needs of a rank; none where there is no such rank
 abbrev pub needs_in : Waits → ℕ → List Need
@@ -61,8 +62,8 @@ abbrev pub walks_in : Waits → Walks
 walks_in waits = map onward_of waits
 
 -- how it does over a recording
-abbrev pub walks_of : Groups → Lists → Walks
-walks_of groups recording = walks_in (waits_of groups recording)
+abbrev pub walks_of : Reading → Groups → Lists → Walks
+walks_of reading groups recording = walks_in (waits_of reading groups recording)
 
 -- how it goes on from a rank
 abbrev pub onward_in : Walks → ℕ → Option Onward
@@ -110,8 +111,8 @@ causes_in walks =
     filter_map (cycle_at walks) (range_with_len 0 (length walks)) ++ filter_map (missing_at walks) (range_with_len 0 (length walks))
 
 -- the causes of a recording
-abbrev pub causes_of : Groups → Lists → List CauseView
-causes_of groups recording = causes_in (walks_of groups recording)
+abbrev pub causes_of : Reading → Groups → Lists → List CauseView
+causes_of reading groups recording = causes_in (walks_of reading groups recording)
 
 -- the rank to which the walk from a rank comes after so many steps
 abbrev pub after : Walks → ℕ → ℕ → Option ℕ
@@ -144,15 +145,15 @@ abbrev pub IsListed : CauseView → List CauseView → Type 0
 IsListed cause causes = (index : ℕ) × (slice_get causes index ≡ Some cause)
 
 -- the causes of a recording are those to which the walks from its stuck ranks come, each listed once
-pub record TellsCauses (groups : Groups) (recording : Lists) : Type 0 where
-  pub each_walk_ends : (rank : ℕ) → rank < length recording → is_stuck groups recording rank ≡ true →
-      (cause : CauseView) × IsListed cause (causes_of groups recording) × EndsWith (walks_of groups recording) rank cause
-  pub each_is_an_end : (cause : CauseView) → IsListed cause (causes_of groups recording) →
-      (rank : ℕ) × (rank < length recording) × (is_stuck groups recording rank ≡ true) × EndsWith (walks_of groups recording) rank cause
+pub record TellsCauses (reading : Reading) (groups : Groups) (recording : Lists) : Type 0 where
+  pub each_walk_ends : (rank : ℕ) → rank < length recording → is_stuck reading groups recording rank ≡ true →
+      (cause : CauseView) × IsListed cause (causes_of reading groups recording) × EndsWith (walks_of reading groups recording) rank cause
+  pub each_is_an_end : (cause : CauseView) → IsListed cause (causes_of reading groups recording) →
+      (rank : ℕ) × (rank < length recording) × (is_stuck reading groups recording rank ≡ true) × EndsWith (walks_of reading groups recording) rank cause
   pub none_twice : (index other : ℕ) (cause : CauseView) →
-      slice_get (causes_of groups recording) index ≡ Some cause → slice_get (causes_of groups recording) other ≡ Some cause → index ≡ other
+      slice_get (causes_of reading groups recording) index ≡ Some cause → slice_get (causes_of reading groups recording) other ≡ Some cause → index ≡ other
 
 -- Law: over every closed recording, the walk from each stuck rank comes to a cause that is listed, and each
 -- cause that is listed is one to which the walk from some stuck rank comes.
 abbrev pub WalksEndInTheCauses : Type 0
-WalksEndInTheCauses = (groups : Groups) (recording : Lists) → IsClosed recording → TellsCauses groups recording
+WalksEndInTheCauses = (reading : Reading) (groups : Groups) (recording : Lists) → IsClosed recording → TellsCauses reading groups recording

@@ -1,4 +1,5 @@
 -- What contracts see of a wait graph.
+use Rattle.moves.specs.declared.reading.Reading.{Reading}
 use Rattle.std.specs.Prelude.{◌≡◌, ℕ, List}
 use Rattle.mpigroup.specs.Groups.{Groups}
 use Rattle.pairing.specs.Recordings.{Lists}
@@ -15,8 +16,8 @@ pub record Waiting : Type 0 where
   pub findings : List Finding
 
 -- the graph is that of the recording
-pub record IsGraphOf (groups : Groups) (recording : Lists) (graph : Waiting) : Type 0 where
-  pub stuck : graph.stuck ≡ stuck_of groups recording
-  pub unmet : (rank : ℕ) → needs_in graph.waits rank ≡ unmet_of groups recording rank
-  pub causes : graph.causes ≡ causes_of groups recording
+pub record IsGraphOf (reading : Reading) (groups : Groups) (recording : Lists) (graph : Waiting) : Type 0 where
+  pub stuck : graph.stuck ≡ stuck_of reading groups recording
+  pub unmet : (rank : ℕ) → needs_in graph.waits rank ≡ unmet_of reading groups recording rank
+  pub causes : graph.causes ≡ causes_of reading groups recording
   pub findings : graph.findings ≡ findings_of groups recording

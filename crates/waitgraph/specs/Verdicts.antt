@@ -1,5 +1,6 @@
 -- The verdict over a run, by this project's strict reading: it can hang exactly if some rank does not come
 -- to stand at its end (MPI 4.0, section 11.2.2: each process must call MPI_Finalize).
+use Rattle.moves.specs.declared.reading.Reading.{Reading}
 use Rattle.std.specs.Prelude.{◌≡◌, ◌↔◌, ℕ, ◌<◌, true, List, [], ◌∷◌, length}
 use Rattle.mpigroup.specs.Groups.{Groups}
 use Rattle.pairing.specs.Recordings.{Lists}
@@ -13,15 +14,15 @@ verdict_by [] = Free
 verdict_by (rank ∷ ranks) = Hang
 
 -- the verdict by the stuck ranks
-abbrev pub verdict_of : Groups → Lists → Verdict
-verdict_of groups recording = verdict_by (stuck_of groups recording)
+abbrev pub verdict_of : Reading → Groups → Lists → Verdict
+verdict_of reading groups recording = verdict_by (stuck_of reading groups recording)
 
 -- some rank is stuck
-pub record SomeRankIsStuck (groups : Groups) (recording : Lists) : Type 0 where
+pub record SomeRankIsStuck (reading : Reading) (groups : Groups) (recording : Lists) : Type 0 where
   pub rank : ℕ
   pub is_rank : rank < length recording
-  pub stays : is_stuck groups recording rank ≡ true
+  pub stays : is_stuck reading groups recording rank ≡ true
 
 -- Law: over every recording, the verdict is hang exactly where some rank is stuck.
 abbrev pub HangTellsOfAStuckRank : Type 0
-HangTellsOfAStuckRank = (groups : Groups) (recording : Lists) → (verdict_of groups recording ≡ Hang) ↔ SomeRankIsStuck groups recording
+HangTellsOfAStuckRank = (reading : Reading) (groups : Groups) (recording : Lists) → (verdict_of reading groups recording ≡ Hang) ↔ SomeRankIsStuck reading groups recording

@@ -15,6 +15,7 @@ use crate::verdict::Verdict;
 use crate::walk::{causes_in, walks_in};
 use moves::analyser::Analyser;
 use moves::need::Need;
+use moves::reading::Reading;
 use pairing::pairs::Pairs;
 use std::alloc::{AllocError, Global};
 use std::marker::Model;
@@ -71,25 +72,35 @@ fn stuck_at(alloc: Global, pairs: &Pairs, stands: &[u32]) -> Result<Vec<u16>, Al
     Ok(stuck)
 }
 
-fn waits_at(alloc: Global, pairs: &Pairs, stands: &[u32]) -> Result<Vec<Unmet>, AllocError>
-    ensures value { IfOk result (λ waits. waits.items ≡ waits_at pairs.now.groups pairs.now.recording stands.now) }
+fn waits_at(
+    alloc: Global,
+    reading: Reading,
+    pairs: &Pairs,
+    stands: &[u32],
+) -> Result<Vec<Unmet>, AllocError>
+    ensures value { IfOk result (λ waits. waits.items ≡ waits_at reading pairs.now.groups pairs.now.recording stands.now) }
     ensures few { IfOk result (λ waits. length waits.items < 65536) }
 {
     let mut waits = Vec::new(alloc);
     for rank in 0..pairs.head().ranks() {
-        waits.push(unmet_at(alloc, pairs, stands, rank)?)?;
+        waits.push(unmet_at(alloc, reading, pairs, stands, rank)?)?;
     }
     Ok(waits)
 }
 
-fn graph_at(alloc: Global, pairs: &Pairs, stands: &[u32]) -> Result<Graph, AllocError>
+fn graph_at(
+    alloc: Global,
+    reading: Reading,
+    pairs: &Pairs,
+    stands: &[u32],
+) -> Result<Graph, AllocError>
     ensures stuck { IfOk result (λ graph. graph.stuck ≡ stuck_at pairs.now.recording stands.now) }
-    ensures waits { IfOk result (λ graph. graph.waits ≡ waits_at pairs.now.groups pairs.now.recording stands.now) }
-    ensures causes { IfOk result (λ graph. graph.causes ≡ causes_in (walks_in (waits_at pairs.now.groups pairs.now.recording stands.now))) }
+    ensures waits { IfOk result (λ graph. graph.waits ≡ waits_at reading pairs.now.groups pairs.now.recording stands.now) }
+    ensures causes { IfOk result (λ graph. graph.causes ≡ causes_in (walks_in (waits_at reading pairs.now.groups pairs.now.recording stands.now))) }
     ensures findings { IfOk result (λ graph. graph.findings ≡ findings_of pairs.now.groups pairs.now.recording) }
 {
     let stuck = stuck_at(alloc, pairs, stands)?;
-    let waits = waits_at(alloc, pairs, stands)?;
+    let waits = waits_at(alloc, reading, pairs, stands)?;
     let walks = walks_in(alloc, &waits)?;
     let causes = causes_in(alloc, &walks)?;
     let findings = findings(alloc, pairs)?;
@@ -103,7 +114,7 @@ fn graph_at(alloc: Global, pairs: &Pairs, stands: &[u32]) -> Result<Graph, Alloc
 
 /// The ranks' stands.
 fn stands_of(alloc: Global, analyser: &Analyser) -> Result<Vec<u32>, AllocError>
-    ensures { IfOk result (λ stands. stands.items ≡ stands_of analyser.now.groups analyser.now.recording) }
+    ensures { IfOk result (λ stands. stands.items ≡ stands_of analyser.now.reading analyser.now.groups analyser.now.recording) }
 {
     let mut stands = Vec::new(alloc);
     for rank in 0..analyser.head().ranks() {
@@ -121,13 +132,13 @@ impl Graph {
     /// the way: the stands, the marks of calls, the walks and the groups.
     pub fn of(alloc: Global, analyser: &Analyser) -> Result<Graph, AllocError>
         requires { IsClosed analyser.now.recording }
-        ensures stuck { IfOk result (λ graph. graph.stuck ≡ stuck_of analyser.now.groups analyser.now.recording) }
-        ensures unmet { IfOk result (λ graph. (rank : ℕ) → needs_in graph.waits rank ≡ unmet_of analyser.now.groups analyser.now.recording rank) }
-        ensures causes { IfOk result (λ graph. graph.causes ≡ causes_of analyser.now.groups analyser.now.recording) }
+        ensures stuck { IfOk result (λ graph. graph.stuck ≡ stuck_of analyser.now.reading analyser.now.groups analyser.now.recording) }
+        ensures unmet { IfOk result (λ graph. (rank : ℕ) → needs_in graph.waits rank ≡ unmet_of analyser.now.reading analyser.now.groups analyser.now.recording rank) }
+        ensures causes { IfOk result (λ graph. graph.causes ≡ causes_of analyser.now.reading analyser.now.groups analyser.now.recording) }
         ensures findings { IfOk result (λ graph. graph.findings ≡ findings_of analyser.now.groups analyser.now.recording) }
     {
         let stands = stands_of(alloc, analyser)?;
-        let graph = graph_at(alloc, analyser.pairs(), &stands)?;
+        let graph = graph_at(alloc, analyser.reading(), analyser.pairs(), &stands)?;
         Ok(graph)
     }
 

@@ -9,5 +9,5 @@ pub returns-clause-hang : goal.returns-clause-hang
 returns-clause-hang c =
     let groups = c.args.self.now.analyser.groups in
     let recording = c.args.self.now.analyser.recording in
-    let same : c.verdict.result ≡ verdict_of groups recording = c.verdict.ensures ∙ ap verdict_by c.args.self.now.waits.stuck in
-    subst (λ (verdict : Verdict). (verdict ≡ Hang) ↔ SomeRankIsStuck groups recording) (sym same) (hang_tells_of_a_stuck_rank groups recording)
+    let same : c.verdict.result ≡ verdict_of reading groups recording = c.verdict.ensures ∙ ap verdict_by c.args.self.now.waits.stuck in
+    subst (λ (verdict : Verdict). (verdict ≡ Hang) ↔ SomeRankIsStuck reading groups recording) (sym same) (hang_tells_of_a_stuck_rank reading groups recording)

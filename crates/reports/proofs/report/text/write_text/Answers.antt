@@ -20,31 +20,31 @@ lines_of_views (cause ∷ causes) = ap (λ (bytes : List ℕ). cause_line (view_
 
 -- the report in its four parts
 verdict_part : Groups → Lists → List ℕ
-verdict_part groups recording = verdict_line (verdict_of groups recording)
+verdict_part groups recording = verdict_line (verdict_of reading groups recording)
 
 ranks_part : Groups → Lists → List ℕ
-ranks_part groups recording = flat_map (rank_lines groups recording) (stuck_of groups recording)
+ranks_part groups recording = flat_map (rank_lines reading groups recording) (stuck_of reading groups recording)
 
 causes_part : Groups → Lists → List ℕ
-causes_part groups recording = flat_map cause_line (causes_of groups recording)
+causes_part groups recording = flat_map cause_line (causes_of reading groups recording)
 
 findings_part : Groups → Lists → List ℕ
 findings_part groups recording = flat_map finding_line (findings_of groups recording)
 
-in_parts : (groups : Groups) (recording : Lists) → text_report groups recording ≡ ((verdict_part groups recording ++ ranks_part groups recording) ++ causes_part groups recording) ++ findings_part groups recording
+in_parts : (groups : Groups) (recording : Lists) → text_report reading groups recording ≡ ((verdict_part groups recording ++ ranks_part groups recording) ++ causes_part groups recording) ++ findings_part groups recording
 unfolding text_report verdict_part ranks_part causes_part findings_part
 in_parts groups recording = refl
 
 -- what is written is that part
-verdict_is : (groups : Groups) (recording : Lists) (verdict : Verdict) (none page : List ℕ) → none ≡ [] → verdict ≡ verdict_of groups recording → page ≡ none ++ verdict_line verdict → page ≡ [] ++ verdict_part groups recording
+verdict_is : (groups : Groups) (recording : Lists) (verdict : Verdict) (none page : List ℕ) → none ≡ [] → verdict ≡ verdict_of reading groups recording → page ≡ none ++ verdict_line verdict → page ≡ [] ++ verdict_part groups recording
 unfolding verdict_part
 verdict_is groups recording verdict none page empty is put = put ∙ rw (empty, is) refl
 
-ranks_are : (groups : Groups) (recording : Lists) (stuck : List ℕ) → stuck ≡ stuck_of groups recording → flat_map (rank_lines groups recording) stuck ≡ ranks_part groups recording
+ranks_are : (groups : Groups) (recording : Lists) (stuck : List ℕ) → stuck ≡ stuck_of reading groups recording → flat_map (rank_lines reading groups recording) stuck ≡ ranks_part groups recording
 unfolding ranks_part
 ranks_are groups recording stuck is = rw is refl
 
-causes_are : (groups : Groups) (recording : Lists) (causes : List Cause) → map view_of causes ≡ causes_of groups recording → flat_map (λ cause. cause_line (view_of cause)) causes ≡ causes_part groups recording
+causes_are : (groups : Groups) (recording : Lists) (causes : List Cause) → map view_of causes ≡ causes_of reading groups recording → flat_map (λ cause. cause_line (view_of cause)) causes ≡ causes_part groups recording
 unfolding causes_part
 causes_are groups recording causes is = sym (lines_of_views causes) ∙ ap (λ views. flat_map cause_line views) is
 

@@ -14,6 +14,6 @@ returns-clause-unmet c rank =
     ap (λ (waits : List (List Need)). needs_in waits rank)
     (c.in_ok-graph.ensures.waits
     ∙ ap (λ (g : Groups). waits_at g c.pairs.result.now.recording c.deref.result.now) c.pairs.ensures.groups
-    ∙ ap (λ (r : Lists). waits_at groups r c.deref.result.now) c.pairs.ensures.recording
-    ∙ ap (λ (s : List ℕ). waits_at groups recording s) (c.deref.ensures.value ∙ c.in_ok-stands.ensures))
-    ∙ waits_are groups recording (stands_of groups recording) rank
+    ∙ ap (λ (r : Lists). waits_at reading groups r c.deref.result.now) c.pairs.ensures.recording
+    ∙ ap (λ (s : List ℕ). waits_at reading groups recording s) (c.deref.ensures.value ∙ c.in_ok-stands.ensures))
+    ∙ waits_are reading groups recording (stands_of reading groups recording) rank
