@@ -1,5 +1,4 @@
 -- What is kept of a rank once one more item of it was received.
-use Rattle.moves.specs.declared.reading.Reading.{Reading}
 use Rattle.std.proofs.Common.{◌≡◌, ◌≢◌, ℕ, ◌+◌, ◌<◌, ◌≤◌, Bool, true, false, not, ◌&&◌, is_none, Option, Some, None, List, [], ◌∷◌, ◌++◌, length, take, map, refl, sym, ap, subst, ◌∙◌, ⊎_elim, arith, append_assoc, append-nil, get_or-set_same, get_or-set_other, slice_set}
 use Rattle.std.proofs.lemmas.List.{length_push, take-append-le, length-set, length-map}
 use Rattle.std.proofs.lemmas.Option.{unwrap_or-slice_get, none-some}
@@ -61,11 +60,11 @@ goes_on : (place : ℕ) (own : Option CallFault) (x y z : Option PlacedFault) �
 goes_on place None x y z on e = on e
 goes_on place (Some f) x y z on e = absurd (none-some _ (sym e))
 
-fault_goes_on : (reading : Reading) (groups : Groups) (rank : ℕ) (before calls more : List Call) (mark : Option Ending) → fault_in groups rank before calls None ≡ None → fault_in groups rank before (calls ++ more) mark ≡ fault_in groups rank (before ++ calls) more mark
-fault_goes_on reading groups rank before [] more mark e = ap (λ (b : List Call). fault_in groups rank b more mark) (sym (append-nil before))
-fault_goes_on reading groups rank before (call ∷ calls) more mark e =
+fault_goes_on : (groups : Groups) (rank : ℕ) (before calls more : List Call) (mark : Option Ending) → fault_in groups rank before calls None ≡ None → fault_in groups rank before (calls ++ more) mark ≡ fault_in groups rank (before ++ calls) more mark
+fault_goes_on groups rank before [] more mark e = ap (λ (b : List Call). fault_in groups rank b more mark) (sym (append-nil before))
+fault_goes_on groups rank before (call ∷ calls) more mark e =
     goes_on (length before) (fault_of groups rank before call) _ _ _
-    (λ none. fault_goes_on reading groups rank (before ++ call ∷ []) calls more mark none ∙ ap (λ (b : List Call). fault_in groups rank b more mark) (append_assoc before (call ∷ []) calls)) e
+    (λ none. fault_goes_on groups rank (before ++ call ∷ []) calls more mark none ∙ ap (λ (b : List Call). fault_in groups rank b more mark) (append_assoc before (call ∷ []) calls)) e
 
 -- the place of a first fault is none behind the records
 
@@ -102,36 +101,36 @@ one_more_stays groups rank items calls fault x k none =
     }
 
 -- where no fault is kept, the first fault with one more item is that behind the records
-first_with : (reading : Reading) (groups : Groups) (rank : ℕ) (items : List Item) (calls : List Call) (x : Item) → IsKeptOf groups rank items calls None → end_of items ≡ None → fault_of_items groups rank (items ++ x ∷ []) ≡ fault_in groups rank calls (calls_among (x ∷ [])) (mark_in (Some x))
-first_with reading groups rank items calls x k none =
+first_with : (groups : Groups) (rank : ℕ) (items : List Item) (calls : List Call) (x : Item) → IsKeptOf groups rank items calls None → end_of items ≡ None → fault_of_items groups rank (items ++ x ∷ []) ≡ fault_in groups rank calls (calls_among (x ∷ [])) (mark_in (Some x))
+first_with groups rank items calls x k none =
     let is : fault_in groups rank [] (calls_among items) None ≡ None = sym (k.first ∙ fault_so_far groups rank items none) in
-    fault_with groups rank items x ∙ fault_goes_on reading groups rank [] (calls_among items) (calls_among (x ∷ [])) _ is
+    fault_with groups rank items x ∙ fault_goes_on groups rank [] (calls_among items) (calls_among (x ∷ [])) _ is
     ∙ ap (λ (cs : List Call). fault_in groups rank cs (calls_among (x ∷ [])) (mark_in (Some x))) (sym k.before)
 
-record_accepted : (reading : Reading) (groups : Groups) (rank : ℕ) (items : List Item) (calls : List Call) (call : Call) → IsKeptOf groups rank items calls None → end_of items ≡ None → fault_of groups rank calls call ≡ None → IsKeptOf groups rank (items ++ Entry call ∷ []) (calls ++ call ∷ []) None
-record_accepted reading groups rank items calls call k none lawful = record {
-  first = sym (first_with reading groups rank items calls (Entry call) k none ∙ ap (λ own. or_behind (length calls) own None) lawful);
+record_accepted : (groups : Groups) (rank : ℕ) (items : List Item) (calls : List Call) (call : Call) → IsKeptOf groups rank items calls None → end_of items ≡ None → fault_of groups rank calls call ≡ None → IsKeptOf groups rank (items ++ Entry call ∷ []) (calls ++ call ∷ []) None
+record_accepted groups rank items calls call k none lawful = record {
+  first = sym (first_with groups rank items calls (Entry call) k none ∙ ap (λ own. or_behind (length calls) own None) lawful);
   before = ap (λ (cs : List Call). cs ++ call ∷ []) k.before ∙ sym (calls_among-append items (Entry call ∷ []));
 }
 
-record_refused : (reading : Reading) (groups : Groups) (rank : ℕ) (items : List Item) (calls : List Call) (call : Call) (fault : CallFault) → IsKeptOf groups rank items calls None → end_of items ≡ None → fault_of groups rank calls call ≡ Some fault → IsKeptOf groups rank (items ++ Entry call ∷ []) calls (Some (length calls, OfCall fault))
-record_refused reading groups rank items calls call fault k none is = record {
-  first = sym (first_with reading groups rank items calls (Entry call) k none ∙ ap (λ own. or_behind (length calls) own None) is);
+record_refused : (groups : Groups) (rank : ℕ) (items : List Item) (calls : List Call) (call : Call) (fault : CallFault) → IsKeptOf groups rank items calls None → end_of items ≡ None → fault_of groups rank calls call ≡ Some fault → IsKeptOf groups rank (items ++ Entry call ∷ []) calls (Some (length calls, OfCall fault))
+record_refused groups rank items calls call fault k none is = record {
+  first = sym (first_with groups rank items calls (Entry call) k none ∙ ap (λ own. or_behind (length calls) own None) is);
   before = sym (ap (take (length calls)) (calls_among-append items (Entry call ∷ []) ∙ ap (λ (cs : List Call). cs ++ call ∷ []) (sym k.before)) ∙ take-append_seam calls (call ∷ []));
 }
 
-mark_torn : (reading : Reading) (groups : Groups) (rank : ℕ) (items : List Item) (calls : List Call) (fault : SourceFault) → IsKeptOf groups rank items calls None → end_of items ≡ None → IsKeptOf groups rank (items ++ Mark (Torn fault) ∷ []) calls (Some (length calls, OfSource fault))
-mark_torn reading groups rank items calls fault k none = record {
-  first = sym (first_with reading groups rank items calls (Mark (Torn fault)) k none);
+mark_torn : (groups : Groups) (rank : ℕ) (items : List Item) (calls : List Call) (fault : SourceFault) → IsKeptOf groups rank items calls None → end_of items ≡ None → IsKeptOf groups rank (items ++ Mark (Torn fault) ∷ []) calls (Some (length calls, OfSource fault))
+mark_torn groups rank items calls fault k none = record {
+  first = sym (first_with groups rank items calls (Mark (Torn fault)) k none);
   before = sym (ap (take (length calls)) (calls_among-append items (Mark (Torn fault) ∷ []) ∙ ap (λ (cs : List Call). cs ++ []) (sym k.before)) ∙ take-append_seam calls []);
 }
 
-pub mark_sealed : (reading : Reading) (groups : Groups) (rank : ℕ) (items : List Item) (calls : List Call) (fault : Option PlacedFault) → IsKeptOf groups rank items calls fault → end_of items ≡ None → IsKeptOf groups rank (items ++ Mark Sealed ∷ []) calls fault
-mark_sealed reading groups rank items calls None k none = record {
-  first = sym (first_with reading groups rank items calls (Mark Sealed) k none);
+pub mark_sealed : (groups : Groups) (rank : ℕ) (items : List Item) (calls : List Call) (fault : Option PlacedFault) → IsKeptOf groups rank items calls fault → end_of items ≡ None → IsKeptOf groups rank (items ++ Mark Sealed ∷ []) calls fault
+mark_sealed groups rank items calls None k none = record {
+  first = sym (first_with groups rank items calls (Mark Sealed) k none);
   before = k.before ∙ sym (calls_among-append items (Mark Sealed ∷ []) ∙ append-nil (calls_among items));
 }
-mark_sealed reading groups rank items calls (Some fault) k none = one_more_stays groups rank items calls fault (Mark Sealed) k none
+mark_sealed groups rank items calls (Some fault) k none = one_more_stays groups rank items calls fault (Mark Sealed) k none
 
 -- a torn trace has a fault
 
@@ -162,10 +161,11 @@ closed_has_fault (Some fault) wanted e unwanted = (fault, refl)
 -- what is kept of the other ranks
 
 pub nothing_new : (rank : ℕ) (before after : Kept) → after ≡ before → Leaves rank before after
-nothing_new rank before after same = rw same (record { groups = refl; ranks = refl; places = refl; unwanted = λ e. e; calls = λ other differs. refl; faults = λ other differs. refl })
+nothing_new rank before after same = rw same (record { reading = refl; groups = refl; ranks = refl; places = refl; unwanted = λ e. e; calls = λ other differs. refl; faults = λ other differs. refl })
 
 one_record : (rank : ℕ) (before after : Kept) (call : Call) → after ≡ with_record before rank call → Leaves rank before after
 one_record rank before after call is = rw is (record {
+  reading = refl;
   groups = refl;
   ranks = length-set before.recording rank (calls_of before.recording rank ++ call ∷ []);
   places = refl;
@@ -186,6 +186,7 @@ fault_there faults rank fault within =
 
 one_fault : (rank : ℕ) (before after : Kept) (fault : RankFault) → after ≡ with_fault before rank fault → Leaves rank before after
 one_fault rank before after fault is = rw is (record {
+  reading = refl;
   groups = refl;
   ranks = refl;
   places = length-set before.faults rank (Some (length (calls_of before.recording rank), fault));
@@ -196,6 +197,7 @@ one_fault rank before after fault is = rw is (record {
 
 memory_wanted : (rank : ℕ) (before after : Kept) → after ≡ wanting before → Leaves rank before after
 memory_wanted rank before after is = rw is (record {
+  reading = refl;
   groups = refl;
   ranks = refl;
   places = refl;
@@ -234,7 +236,7 @@ own_accepted : (rank : ℕ) (items : List Item) (before : Kept) (call : Call) �
 own_accepted rank items before call within unrefused lawful none k =
     let calls = calls_of before.recording rank in
     let was : IsKeptOf before.groups rank items calls None = subst (λ (f : Option PlacedFault). IsKeptOf before.groups rank items calls f) unrefused k in
-    rw (calls_of-appended before.recording rank call within, unrefused) (record_accepted before.reading before.groups rank items calls call was none lawful)
+    rw (calls_of-appended before.recording rank call within, unrefused) (record_accepted before.groups rank items calls call was none lawful)
 
 own_fault : (rank : ℕ) (items : List Item) (before : Kept) (fault : RankFault) → rank < length before.faults → IsKeptOf before.groups rank items (calls_of before.recording rank) (Some (length (calls_of before.recording rank), fault)) → IsKeptIn rank items (with_fault before rank fault)
 own_fault rank items before fault within k = rw (fault_there before.faults rank (Some (length (calls_of before.recording rank), fault)) within) k
@@ -250,7 +252,7 @@ record_own rank items before after call Stepped.Took within both unwanted so non
 record_own rank items before after call Refused within both unwanted so none k =
     let calls = calls_of before.recording rank in
     let was : IsKeptOf before.groups rank items calls None = subst (λ (f : Option PlacedFault). IsKeptOf before.groups rank items calls f) (open_has_none _ _ so.0) k in
-    rw so.1.2 (own_fault rank _ before (OfCall so.1.0) (omega (arith, within, both)) (record_refused before.reading before.groups rank items calls call so.1.0 was none so.1.1))
+    rw so.1.2 (own_fault rank _ before (OfCall so.1.0) (omega (arith, within, both)) (record_refused before.groups rank items calls call so.1.0 was none so.1.1))
 record_own rank items before after call Discarded within both unwanted so none k =
     ⊎_elim
     (λ (closed : (is_open before rank ≡ false) × (after ≡ before)).
@@ -269,7 +271,7 @@ torn_own rank items before after fault within both calm is none k =
     let calls = calls_of before.recording rank in
     let was : IsKeptOf before.groups rank items calls None = subst (λ (f : Option PlacedFault). IsKeptOf before.groups rank items calls f) (open_has_none _ _ o) k in
     let now : after ≡ with_fault before rank (OfSource fault) = is ∙ rw o refl in
-    rw now (own_fault rank _ before (OfSource fault) (omega (arith, within, both)) (mark_torn before.reading before.groups rank items calls fault was none)))
+    rw now (own_fault rank _ before (OfSource fault) (omega (arith, within, both)) (mark_torn before.groups rank items calls fault was none)))
     (λ (s : is_open before rank ≡ false).
     let now : after ≡ before = is ∙ rw s refl in
     rw now (own_discarded rank items before (Mark (Torn fault)) (closed_has_fault _ _ s calm) none k))
@@ -298,7 +300,7 @@ enters_own rank items now before after (Took.Record call) answer None within bot
 enters_own rank items now before after Took.Empty answer None within both calm unwanted so end receives k =
     rw (receives, so.1) k
 enters_own rank items now before after Took.Sealed answer None within both calm unwanted so end receives k =
-    rw (receives, so.1) (mark_sealed before.reading before.groups rank items (calls_of before.recording rank) _ k end)
+    rw (receives, so.1) (mark_sealed before.groups rank items (calls_of before.recording rank) _ k end)
 enters_own rank items now before after (Took.Torn fault) answer None within both calm unwanted so end receives k =
     rw receives (torn_own rank items before after fault within both calm so.1 end k)
 

@@ -38,6 +38,7 @@ pub record Steps (rank : ℕ) (old : Collector) (answer : Stepped) (new : Collec
 -- from one rank's feed alone more was received, and memory that was wanted is wanted still
 pub record ReceivesFrom (rank : ℕ) (old new : Collector) : Type 0 where
   pub names : rings new ≡ rings old
+  pub reading : (kept new).reading ≡ (kept old).reading
   pub groups : (kept new).groups ≡ (kept old).groups
   pub wanted : (kept old).wanted ≡ true → (kept new).wanted ≡ true
   pub others : (other : ℕ) → other ≢ rank → received_from new other ≡ received_from old other

@@ -9,6 +9,7 @@ use Rattle.gather.specs.declared.outcome.Outcome.{Outcome}
 -- no fault of a rank is kept, and the outcome is that of the records, which are closed
 pub record IsOutcomeOfKept (kept : Kept) (outcome : Outcome) : Type 0 where
   pub no_refusal : refusal_kept kept ≡ None
+  pub same_reading : outcome.analyser.reading ≡ kept.reading
   pub same_groups : outcome.analyser.groups ≡ kept.groups
   pub recording : outcome.analyser.recording ≡ kept.recording
   pub closed : IsClosed kept.recording

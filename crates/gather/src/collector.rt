@@ -195,6 +195,7 @@ impl Collector {
         requires { AreReceiptsOf (rings self.old) receipts.items }
         ensures names { rings self.new ≡ rings self.old }
         ensures missing { result ≡ first_missing receipts.items }
+        ensures reading { (kept self.new).reading ≡ (kept self.old).reading }
         ensures groups { (kept self.new).groups ≡ (kept self.old).groups }
         ensures wanted { (kept self.old).wanted ≡ true → (kept self.new).wanted ≡ true }
         ensures all { AllReceived receipts.items (received_from self.new) }
@@ -231,7 +232,7 @@ impl Collector {
     /// `Refused`, for the lowest rank that has a fault.
     pub fn close(self, receipts: Vec<Option<Receipt>>) -> Result<Outcome, CloseFault>
         requires { AreReceiptsOf (rings self) receipts.items }
-        ensures answer { Closes (kept self).groups receipts.items result }
+        ensures answer { Closes (kept self).reading (kept self).groups receipts.items result }
         ensures wanting { (kept self).wanted ≡ true → result ≡ Err Memory }
     {
         let mut collector = self;

@@ -7,6 +7,7 @@ use Rattle.gather.proofs.outcome.Outcome.verdict.Goals as goal
 
 pub returns-clause-hang : goal.returns-clause-hang
 returns-clause-hang c =
+    let reading = c.args.self.now.analyser.reading in
     let groups = c.args.self.now.analyser.groups in
     let recording = c.args.self.now.analyser.recording in
     let same : c.verdict.result ≡ verdict_of reading groups recording = c.verdict.ensures ∙ ap verdict_by c.args.self.now.waits.stuck in

@@ -6,7 +6,7 @@ use Rattle.watches.proofs.PassedLemmas.{first_passed}
 use Rattle.gather.proofs.session.Session.open.Goals as goal
 
 pub of-requires-clause-collects : goal.of-requires-clause-collects
-of-requires-clause-collects g c = opened c.args.head c.in-Ok.feeds.items c.in-Ok.takers.items c.in-Ok-new.ledger c.ranks-ranks.result c.in-Ok.ensures.names c.in-Ok.ensures.ranks c.ranks-ranks.ensures.value c.in-Ok.ensures.takers c.in-Ok-new.ensures
+of-requires-clause-collects g c = opened c.args.reading c.args.head c.in-Ok.feeds.items c.in-Ok.takers.items c.in-Ok-new.ledger c.ranks-ranks.result c.in-Ok.ensures.names c.in-Ok.ensures.ranks c.ranks-ranks.ensures.value c.in-Ok.ensures.takers c.in-Ok-new.ensures
 
 pub of-requires-clause-passed : goal.of-requires-clause-passed
 of-requires-clause-passed g c = first_passed c.in-Ok-new.ledger.reading c.in-Ok-new.ledger.groups c.in-Ok-new.ledger.recording (published_by c.in_ok-publisher.publisher) c.in_ok-publisher.ensures.published
