@@ -6,7 +6,7 @@ ghost use Rattle.pairing.specs.Envelopes.{message_of};
 ghost use Rattle.pairing.specs.Beside.{partner_in, wave_in};
 ghost use Rattle.pairing.specs.Requests.{starts, completes};
 ghost use Rattle.pairing.specs.Waves.{joins};
-ghost use Rattle.pairing.specs.Pairs.{kind_of, mode_of};
+ghost use Rattle.pairing.specs.Pairs.{bytes_told, kind_of, mode_of};
 ghost use Rattle.pairing.specs.Notes.{completed_starts, start_of};
 ghost use Rattle.pairing.specs.Packed.{IsStored, req_at, noted_of};
 
@@ -79,6 +79,14 @@ impl<'a> Note<'a> {
         ensures { result ≡ mode_of self.now.call }
     {
         self.entry.call.mode()
+    }
+
+    /// How many bytes a call that sends tells of its message; None where it tells none, and for every other
+    /// call.
+    pub(crate) fn bytes(&self) -> Option<u32>
+        ensures { result ≡ bytes_told self.now.call }
+    {
+        self.entry.call.bytes()
     }
 
     /// The kind of a collective that isn't started alone; None for every other call.

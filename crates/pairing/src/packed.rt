@@ -6,7 +6,7 @@ ghost use Rattle.mpicall.specs.Ending.{ends_list};
 ghost use Rattle.pairing.specs.Envelopes.{message_of};
 ghost use Rattle.pairing.specs.Requests.{starts};
 ghost use Rattle.pairing.specs.Waves.{joins};
-ghost use Rattle.pairing.specs.Pairs.{kind_of, mode_of};
+ghost use Rattle.pairing.specs.Pairs.{bytes_told, kind_of, mode_of};
 ghost use Rattle.pairing.specs.Packed.{request_of, unpack};
 ghost use Rattle.pairing.specs.declared.packed.Entry.{Entry};
 
@@ -111,10 +111,16 @@ impl Packed {
     {
         match *self {
             Packed::Send {
-                comm, dest, tag, ..
+                comm,
+                dest,
+                tag,
+                ..
             }
             | Packed::Isend {
-                comm, dest, tag, ..
+                comm,
+                dest,
+                tag,
+                ..
             }
             | Packed::Sendrecv {
                 comm,
@@ -136,7 +142,10 @@ impl Packed {
         match *self {
             Packed::Recv { comm, source, tag }
             | Packed::Irecv {
-                comm, source, tag, ..
+                comm,
+                source,
+                tag,
+                ..
             }
             | Packed::Sendrecv {
                 comm,
@@ -169,6 +178,19 @@ impl Packed {
     {
         match *self {
             Packed::Send { mode, .. } | Packed::Isend { mode, .. } => Some(mode),
+            _ => None,
+        }
+    }
+
+    /// How many bytes a call that sends tells of its message; None where it tells none, and for every other
+    /// call.
+    pub(crate) fn bytes(&self) -> Option<u32>
+        ensures { (entries : List Entry) (starts : List ℕ) → result ≡ bytes_told (unpack entries starts self.now) }
+    {
+        match *self {
+            Packed::Send { bytes, .. }
+            | Packed::Isend { bytes, .. }
+            | Packed::Sendrecv { bytes, .. } => bytes.bytes(),
             _ => None,
         }
     }
