@@ -7,6 +7,7 @@ ghost use Rattle.pairing.specs.Beside.{partner_in, wave_in};
 ghost use Rattle.pairing.specs.Requests.{starts, completes};
 ghost use Rattle.pairing.specs.Waves.{joins};
 ghost use Rattle.pairing.specs.Pairs.{bytes_told, kind_of, mode_of};
+ghost use Rattle.pairing.specs.Probed.{probed_message};
 ghost use Rattle.pairing.specs.Notes.{completed_starts, start_of};
 ghost use Rattle.pairing.specs.Packed.{IsStored, req_at, noted_of};
 
@@ -72,6 +73,14 @@ impl<'a> Note<'a> {
         ensures { result ≡ message_of half self.now.call }
     {
         self.entry.call.message(half)
+    }
+
+    /// The message that the call probes for. None where it is no probe, and where its source is
+    /// MPI_PROC_NULL.
+    pub(crate) fn probed(&self) -> Option<Message>
+        ensures { result ≡ probed_message self.now.call }
+    {
+        self.entry.call.probed()
     }
 
     /// The mode of a call that sends, blocking or not; None for every other call, MPI_Sendrecv too.

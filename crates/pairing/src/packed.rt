@@ -7,6 +7,7 @@ ghost use Rattle.pairing.specs.Envelopes.{message_of};
 ghost use Rattle.pairing.specs.Requests.{starts};
 ghost use Rattle.pairing.specs.Waves.{joins};
 ghost use Rattle.pairing.specs.Pairs.{bytes_told, kind_of, mode_of};
+ghost use Rattle.pairing.specs.Probed.{probed_message};
 ghost use Rattle.pairing.specs.Packed.{request_of, unpack};
 ghost use Rattle.pairing.specs.declared.packed.Entry.{Entry};
 
@@ -169,6 +170,20 @@ impl Packed {
         match half {
             Half::Send => self.sent(),
             Half::Recv => self.received(),
+        }
+    }
+
+    /// The message that the call probes for. None where it is no probe, and where its source is
+    /// MPI_PROC_NULL.
+    pub(crate) fn probed(&self) -> Option<Message>
+        ensures { (entries : List Entry) (starts : List ℕ) → result ≡ probed_message (unpack entries starts self.now) }
+    {
+        match *self {
+            Packed::Probe { comm, source, tag } => match source.peer() {
+                Peer::Rank(peer) => Some(Message { comm, peer, tag }),
+                Peer::Null => None,
+            },
+            _ => None,
         }
     }
 

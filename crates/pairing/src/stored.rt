@@ -6,6 +6,7 @@ ghost use Rattle.pairing.specs.Envelopes.{message_of};
 ghost use Rattle.pairing.specs.Requests.{starts, completes};
 ghost use Rattle.pairing.specs.Waves.{joins};
 ghost use Rattle.pairing.specs.Pairs.{bytes_told, kind_of, mode_of};
+ghost use Rattle.pairing.specs.Probed.{probed_message};
 
 use crate::envelope::{Half, Message};
 use crate::note::Note;
@@ -49,6 +50,14 @@ impl<'a> StoredCall<'a> {
         ensures { result ≡ message_of half self.now }
     {
         self.note.message(half)
+    }
+
+    /// The message that the call probes for. None where it is no probe, and where its source is
+    /// MPI_PROC_NULL.
+    pub fn probed(&self) -> Option<Message>
+        ensures { result ≡ probed_message self.now }
+    {
+        self.note.probed()
     }
 
     /// The mode of a call that sends, blocking or not; None for every other call, MPI_Sendrecv too.
