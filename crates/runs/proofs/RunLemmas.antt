@@ -90,14 +90,14 @@ cannot_end reading groups lists = (
     rank = stuck.rank;
     is_rank = stuck.is_rank;
     in_no_run = λ states is_run.
-        no_run_brings_a_stuck_rank_to_its_end groups lists stuck.rank states is_run
+        no_run_brings_a_stuck_rank_to_its_end reading groups lists stuck.rank states is_run
         (not-true (is_at_end lists (stands_of reading groups lists) stuck.rank) stuck.stays);
   },
   λ cannot. record {
     rank = cannot.rank;
     is_rank = cannot.is_rank;
     stays = not_from_false (is_at_end lists (stands_of reading groups lists) cannot.rank)
-        (cannot.in_no_run (lowest_run_over reading groups lists) (every_maximal_run_ends_at_the_stands groups lists).0.is_run);
+        (cannot.in_no_run (lowest_run_over reading groups lists) (every_maximal_run_ends_at_the_stands reading groups lists).0.is_run);
   },
 )
 

@@ -9,6 +9,9 @@ pub mod UnmetLemmas
 pub mod WalkLemmas
 pub mod PigeonLemmas
 pub mod CycleLemmas
+pub mod LeastLemmas
+pub mod SweepLemmas
+pub mod GoingLemmas
 pub mod WalkLaws
 pub mod ListedLemmas
 pub mod CalledLemmas

@@ -64,7 +64,7 @@ ends_at calls closed = record {
 -- no rank stands past its end
 not_past : (reading : Reading) (groups : Groups) (recording : Lists) (rank : ℕ) (ends : EndsAt (calls_of recording rank)) → slice_index (stands_of reading groups recording) rank ≤ ends.end
 not_past reading groups recording rank ends =
-    no_call_behind_the_end_is_reached groups recording rank ends.end ends.last (lowest_run_over reading groups recording) (every_maximal_run_ends_at_the_stands groups recording).0.is_run ends.is_there ends.ends
+    no_call_behind_the_end_is_reached reading groups recording rank ends.end ends.last (lowest_run_over reading groups recording) (every_maximal_run_ends_at_the_stands reading groups recording).0.is_run ends.is_there ends.ends
 
 -- the present call of a stuck rank
 pub record StandsBefore (reading : Reading) (groups : Groups) (recording : Lists) (rank : ℕ) : Type 0 where
@@ -100,7 +100,7 @@ stuck_from reading groups recording rank present = rw (present.is_present, prese
 
 rank_count : (reading : Reading) (groups : Groups) (recording : Lists) → length (stands_of reading groups recording) ≡ length recording
 rank_count reading groups recording =
-    reached_ranks (can_move reading groups recording) (length recording) (stands_of reading groups recording) (every_maximal_run_ends_at_the_stands groups recording).1.is_reached
+    reached_ranks (can_move reading groups recording) (length recording) (stands_of reading groups recording) (every_maximal_run_ends_at_the_stands reading groups recording).1.is_reached
 
 first_of : (need : Need) (needs : List Need) → Among need needs → (first : Need) × (slice_get needs 0 ≡ Some first)
 first_of need [] h = absurd h
@@ -134,7 +134,7 @@ needs_before : (reading : Reading) (groups : Groups) (recording : Lists) (rank :
 needs_before reading groups recording rank is_rank present =
     let stands = stands_of reading groups recording in
     let needs = needs_of reading groups recording rank (slice_index (stands_of reading groups recording) rank) in
-    let cannot = (every_maximal_run_ends_at_the_stands groups recording).1.is_stuck rank (omega (arith, rank_count reading groups recording)) in
+    let cannot = (every_maximal_run_ends_at_the_stands reading groups recording).1.is_stuck rank (omega (arith, rank_count reading groups recording)) in
     let unmet : list_all (is_met (stands_of reading groups recording)) (needs_of reading groups recording rank (slice_index (stands_of reading groups recording) rank)) ≡ false =
     not_all groups recording rank present.call (list_all (is_met (stands_of reading groups recording)) (needs_of reading groups recording rank (slice_index (stands_of reading groups recording) rank))) present.is_present present.is_no_end cannot in
     let one = one_fails (is_met (stands_of reading groups recording)) (needs_of reading groups recording rank (slice_index (stands_of reading groups recording) rank)) unmet in

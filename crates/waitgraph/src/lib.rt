@@ -25,7 +25,9 @@
 pub mod cause;
 pub mod finding;
 pub mod graph;
+pub mod loose;
 pub mod onward;
+pub mod standing;
 pub mod unmet;
 pub mod verdict;
 pub mod walk;

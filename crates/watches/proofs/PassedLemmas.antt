@@ -36,7 +36,7 @@ passed_on reading groups recording longer list more are = λ k d below. passed_s
 stands_passed : (reading : Reading) (groups : Groups) (recording : Lists) (places : List ℕ) → places ≡ places_of (stands_of reading groups recording) → Passes reading groups recording places
 stands_passed reading groups recording places are = record {
   state = stands_of reading groups recording;
-  is_reached = (every_maximal_run_ends_at_the_stands groups recording).1.is_reached;
+  is_reached = (every_maximal_run_ends_at_the_stands reading groups recording).1.is_reached;
   are_its_places = are;
 }
 

@@ -15,7 +15,7 @@ use Rattle.waitgraph.proofs.graph.stands_of.Goals as goal
 -- there is a stand for each rank
 stand_for_each : (groups : Groups) (recording : Lists) → length (stands_of reading groups recording) ≡ length recording
 stand_for_each groups recording =
-    reached_ranks (can_move reading groups recording) (length recording) (stands_of reading groups recording) (every_maximal_run_ends_at_the_stands groups recording).1.is_reached
+    reached_ranks (can_move reading groups recording) (length recording) (stands_of reading groups recording) (every_maximal_run_ends_at_the_stands reading groups recording).1.is_reached
 
 one_more : (stands : List ℕ) (rank stand : ℕ) → slice_get stands rank ≡ Some stand → take rank stands ++ stand ∷ [] ≡ take (rank + 1) stands
 one_more stands rank stand h =

@@ -3,7 +3,7 @@ use Rattle.mpigroup.specs.Groups.{Groups}
 use Rattle.pairing.specs.Recordings.{Lists}
 use Rattle.moves.specs.declared.need.Need.{Need}
 use Rattle.moves.specs.Stands.{stands_of}
-use Rattle.waitgraph.specs.Causes.{waits_at, needs_in}
+use Rattle.waitgraph.specs.Waits.{waits_at, needs_in}
 use Rattle.waitgraph.proofs.UnmetLemmas.{waits_are}
 use Rattle.waitgraph.proofs.graph.Graph.of.Goals as goal
 
