@@ -4,7 +4,7 @@
 use Rattle.moves.specs.declared.reading.Reading.{Reading}
 use Rattle.std.specs.Prelude.{◌≡◌, ◌↔◌, ℕ, ◌<◌, Bool, true, false, List, [], ◌∷◌, length}
 use Rattle.mpigroup.specs.Groups.{Groups}
-use Rattle.pairing.specs.Recordings.{Lists}
+use Rattle.pairing.specs.Recordings.{Lists, IsClosed}
 use Rattle.waitgraph.specs.Stuck.{is_stuck}
 use Rattle.waitgraph.specs.Held.{held_of, is_held, is_some_left_open}
 use Rattle.waitgraph.specs.declared.verdict.Verdict.{Verdict}
@@ -36,14 +36,14 @@ pub record SomeRankIsHeld (reading : Reading) (groups : Groups) (recording : Lis
 abbrev pub HangTellsOfAHeldRank : Type 0
 HangTellsOfAHeldRank = (reading : Reading) (groups : Groups) (recording : Lists) → (verdict_of reading groups recording ≡ Hang) ↔ SomeRankIsHeld reading groups recording
 
--- Law: where no list was left open, a rank is held exactly if it is stuck.
+-- Law: over every closed recording of which no list was left open, a rank is held exactly if it is stuck.
 abbrev pub WithoutOpenTheStuckAreHeld : Type 0
 WithoutOpenTheStuckAreHeld =
-    (reading : Reading) (groups : Groups) (recording : Lists) → is_some_left_open recording ≡ false →
+    (reading : Reading) (groups : Groups) (recording : Lists) → IsClosed recording → is_some_left_open recording ≡ false →
     (rank : ℕ) → rank < length recording → is_held reading groups recording rank ≡ is_stuck reading groups recording rank
 
 -- Law: so the verdict is then hang exactly where some rank is stuck.
 abbrev pub HangTellsOfAStuckRank : Type 0
 HangTellsOfAStuckRank =
-    (reading : Reading) (groups : Groups) (recording : Lists) → is_some_left_open recording ≡ false →
+    (reading : Reading) (groups : Groups) (recording : Lists) → IsClosed recording → is_some_left_open recording ≡ false →
     (verdict_of reading groups recording ≡ Hang) ↔ SomeRankIsStuck reading groups recording

@@ -100,19 +100,19 @@ fn waits_at(
 }
 
 /// What the needs of all ranks come to: who is held, how the walk goes on from each rank, and why.
-struct Search {
+struct Found {
     held: Vec<u16>,
     causes: Vec<Cause>,
     left_open: bool,
 }
 
 /// Finds the held ranks and the causes, by what each rank waits for and where it stands.
-fn search(
+fn who_is_held(
     alloc: Global,
     pairs: &Pairs,
     standings: &[Standing],
     waits: &[Unmet],
-) -> Result<Search, AllocError>
+) -> Result<Found, AllocError>
     requires few { length standings.now < 65536 }
     ensures held { IfOk result (λ found. found.held.items ≡ filter (are_held (opened_of pairs.now.recording) standings.now waits.now) (range_with_len 0 (length standings.now))) }
     ensures causes { IfOk result (λ found. map view_of found.causes.items ≡ causes_in (walks_in (opened_of pairs.now.recording) standings.now waits.now)) }
@@ -124,7 +124,7 @@ fn search(
     let walks = walks_in(alloc, &opened, standings, waits, &loose)?;
     let causes = causes_in(alloc, &walks)?;
     let left_open = is_some(&opened);
-    Ok(Search {
+    Ok(Found {
         held,
         causes,
         left_open,
@@ -147,11 +147,11 @@ fn graph_at(
     let stuck = stuck_at(alloc, pairs, stands)?;
     let waits = waits_at(alloc, reading, pairs, stands)?;
     let standings = standings_at(alloc, pairs, stands)?;
-    let Search {
+    let Found {
         held,
         causes,
         left_open,
-    } = search(alloc, pairs, &standings, &waits)?;
+    } = who_is_held(alloc, pairs, &standings, &waits)?;
     let findings = findings(alloc, pairs)?;
     Ok(Graph {
         stuck,

@@ -18,12 +18,12 @@ pub fn hang_tells_of_a_held_rank()
     ensures { HangTellsOfAHeldRank }
 {}
 
-/// Where no list was left open, a rank is held exactly if it is stuck.
+/// Over every closed recording of which no list was left open, a rank is held exactly if it is stuck.
 pub fn without_open_the_stuck_are_held()
     ensures { WithoutOpenTheStuckAreHeld }
 {}
 
-/// Where no list was left open, the verdict is `Hang` exactly where some rank is stuck.
+/// Over every closed recording of which no list was left open, the verdict is `Hang` exactly where some rank is stuck.
 pub fn hang_tells_of_a_stuck_rank()
     ensures { HangTellsOfAStuckRank }
 {}
