@@ -60,6 +60,7 @@ mod fields;
 mod groups;
 mod mixes;
 mod pairs;
+mod readings;
 mod runs;
 mod texts;
 mod waits;
