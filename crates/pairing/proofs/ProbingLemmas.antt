@@ -69,7 +69,6 @@ behind_last groups recording rank call e is_rank fails =
     taken : (xs : List Call) → take (length xs) xs ≡ xs
     taken [] = refl
     taken (x ∷ xs) = ap (λ (ys : List Call). x ∷ ys) (taken xs)
-
     whole : (xs : List Call) → length (places (has_envelope groups rank RecvHalf e) xs) ≤ count_before (has_envelope groups rank RecvHalf e) xs (length xs)
     whole xs = rw (taken xs) (omega arith)
 
@@ -94,7 +93,6 @@ which groups recording rank call r place e is_rank h =
     there x p probes =
         let parts = and_then_parts (probed_envelope groups x) (slice_get (calls_of recording x) p) e probes in
         record { probes = probes; within = slice_get_within (calls_of recording x) p parts.0 parts.1 }
-
     own : r ≡ rank → option_and_then (probed_envelope groups rank) (slice_get (calls_of recording rank ++ call ∷ []) place) ≡ Some e → WasThere groups recording r place e ⊎ IsLast groups recording rank call r place e
     own same probes =
         ⊎_elim
@@ -147,23 +145,18 @@ sits_more groups recording seating old new rank call e is_rank is_probe sits are
   where
     grows : (s : ℕ) (v : Option ℕ) → slice_get old.seats.items s ≡ Some v → slice_get new.seats.items s ≡ Some v
     grows s v h = grown (open_at old e) old.seats.items new.seats.items sits.seats s v h
-
     lacks : (f : Envelope) → has_envelope groups rank RecvHalf f call ≡ false
     lacks f = rw (no_receive groups rank call e is_probe) refl
-
     sits_there : slice_get new.seats.items (seat_for old e) ≡ Some None
     sits_there = sat (open_at old e) old.seats.items new.seats.items sits.seats (λ s h. are.empty e s h)
-
     opens : open_at new e ≡ Some (seat_for old e)
     opens = sits.opens e ∙ ap (λ b. if b then Some (seat_for old e) else open_at old e) (same_refl e)
-
     stays_open : (f : Envelope) (s : ℕ) → open_at old f ≡ Some s → open_at new f ≡ Some s
     stays_open f s h =
         ⊎_elim
         (λ (same : f ≡ e). subst (λ (g : Envelope). open_at old g ≡ Some s → open_at new g ≡ Some s) (sym same) (λ own. opens ∙ ap (λ (o : Option ℕ). Some (unwrap_or o (length old.seats.items))) own) h)
         (λ (differs : is_same_envelope f e ≡ false). sits.opens f ∙ ap (λ b. if b then Some (seat_for old e) else open_at old f) differs ∙ h)
         (differ f e (is_same_envelope f e) refl)
-
     was : (r place : ℕ) (f : Envelope) → WasThere groups recording r place f → IsSeatOf groups (appended recording rank call) (seated seating rank (length (calls_of recording rank)) (Some (seat_for old e))) new r place f
     was r place f there =
         let it = are.seat r place f there.probes in
@@ -174,7 +167,6 @@ sits_more groups recording seating old new rank call e is_rank is_probe sits are
           has = grows it.seat (receive_behind groups recording r place f) it.has ∙ ap (λ (o : Option ℕ). Some o) (sym behind);
           waits = λ none. stays_open f it.seat (it.waits (sym behind ∙ none));
         }
-
     last : (r place : ℕ) (f : Envelope) → IsLast groups recording rank call r place f → IsSeatOf groups (appended recording rank call) (seated seating rank (length (calls_of recording rank)) (Some (seat_for old e))) new r place f
     last r place f it =
         let same : e ≡ f = same_Some e f (sym is_probe ∙ it.probes) in
@@ -188,26 +180,21 @@ sits_more groups recording seating old new rank call e is_rank is_probe sits are
           has = sits_there ∙ ap (λ (o : Option ℕ). Some o) (sym none);
           waits = λ h. opens;
         })))
-
     seat : (r place : ℕ) (f : Envelope) → probed_envelope_at groups (appended recording rank call) r place ≡ Some f → IsSeatOf groups (appended recording rank call) (seated seating rank (length (calls_of recording rank)) (Some (seat_for old e))) new r place f
     seat r place f h = ⊎_elim (was r place f) (last r place f) (which groups recording rank call r place f is_rank h)
-
     open_was : (f : Envelope) (s : ℕ) → is_same_envelope f e ≡ false → open_at new f ≡ Some s → open_at old f ≡ Some s
     open_was f s differs h = sym (ap (λ b. if b then Some (seat_for old e) else open_at old f) differs) ∙ sym (sits.opens f) ∙ h
-
     empty : (f : Envelope) (s : ℕ) → open_at new f ≡ Some s → slice_get new.seats.items s ≡ Some None
     empty f s h =
         ⊎_elim
         (λ (same : f ≡ e). subst (λ (x : ℕ). slice_get new.seats.items x ≡ Some None) (same_Some (seat_for old e) s (sym opens ∙ ap (open_at new) (sym same) ∙ h)) sits_there)
         (λ (differs : is_same_envelope f e ≡ false). grows s None (are.empty f s (open_was f s differs h)))
         (differ f e (is_same_envelope f e) refl)
-
     against : (g : Envelope) (s : ℕ) → seat_for old e ≡ s → open_at old g ≡ Some s → e ≡ g
     against g s at h =
         alone (open_at old e) old.seats.items e g
         (λ own is same. are.once e g s (is ∙ ap (λ (x : ℕ). Some x) (sym same ∙ at)) h)
         (subst (λ (x : ℕ). slice_get old.seats.items x ≡ Some None) (sym at) (are.empty g s h))
-
     once : (f g : Envelope) (s : ℕ) → open_at new f ≡ Some s → open_at new g ≡ Some s → f ≡ g
     once f g s h h' =
         ⊎_elim
@@ -259,26 +246,20 @@ follows_more groups recording seating old new rank call e is_rank no_probe recei
   where
     unless : Envelope → Bool → Option ℕ
     unless f b = if b then None else open_at old f
-
     closes : (f : Envelope) (s : ℕ) → open_at new f ≡ Some s → (is_same_envelope f e ≡ false) × (open_at old f ≡ Some s)
     closes f s h =
         ⊎_elim
         (λ (same : f ≡ e). absurd (none-some s (sym (ap (unless f) (ap (λ (g : Envelope). is_same_envelope g e) same ∙ same_refl e)) ∙ sym (follows.opens f) ∙ h)))
         (λ (differs : is_same_envelope f e ≡ false). (differs, sym (ap (unless f) differs) ∙ sym (follows.opens f) ∙ h))
         (differ f e (is_same_envelope f e) refl)
-
     not_own : (f : Envelope) (s : ℕ) → is_same_envelope f e ≡ false → open_at old f ≡ Some s → open_at old e ≡ Some s → ⊥
     not_own f s differs h own = false≢true (sym differs ∙ ap (λ (g : Envelope). is_same_envelope g e) (are.once f e s h own) ∙ same_refl e)
-
     at_other : (s : ℕ) → (open_at old e ≡ Some s → ⊥) → slice_get new.seats.items s ≡ slice_get old.seats.items s
     at_other s differs = rw follows.seats (filled_other (open_at old e) old.seats.items (length (calls_of recording rank)) s differs)
-
     empty : (f : Envelope) (s : ℕ) → open_at new f ≡ Some s → slice_get new.seats.items s ≡ Some None
     empty f s h = let was = closes f s h in at_other s (not_own f s was.0 was.1) ∙ are.empty f s was.1
-
     once : (f g : Envelope) (s : ℕ) → open_at new f ≡ Some s → open_at new g ≡ Some s → f ≡ g
     once f g s h h' = are.once f g s (closes f s h).1 (closes g s h').1
-
     differs_in : (f : Envelope) → is_same_envelope f e ≡ false → has_envelope groups rank RecvHalf f call ≡ false
     differs_in f differs =
         ⊎_elim
@@ -287,13 +268,10 @@ follows_more groups recording seating old new rank call e is_rank no_probe recei
         absurd (false≢true (sym differs ∙ ap (λ (g : Envelope). is_same_envelope g e) (sym same) ∙ same_refl e)))
         (λ (no : has_envelope groups rank RecvHalf f call ≡ false). no)
         (cases_Bool (has_envelope groups rank RecvHalf f call))
-
     has_own : has_envelope groups rank RecvHalf e call ≡ true
     has_own = rw receives (same_envelope_refl e)
-
     beside : (r place : ℕ) (f : Envelope) → WasThere groups recording r place f → seated seating rank (length (calls_of recording rank)) None r place ≡ seating r place
     beside r place f there = beside_other seating rank (length (calls_of recording rank)) None r place (λ same here. absurd (omega (arith, there.within, here, ap (λ (x : ℕ). length (calls_of recording x)) same)))
-
     -- a probe of another envelope
     other : (r place : ℕ) (f : Envelope) → WasThere groups recording r place f → is_same_envelope f e ≡ false → IsSeatOf groups (appended recording rank call) (seated seating rank (length (calls_of recording rank)) None) new r place f
     other r place f there differs =
@@ -312,21 +290,18 @@ follows_more groups recording seating old new rank call e is_rank no_probe recei
             by_behind : (o : Option ℕ) → receive_behind groups recording r place f ≡ o → ⊥
             by_behind None is = not_own f it.seat differs (it.waits is) own
             by_behind (Some there) is = absurd (none-some there (same_Some None (Some there) (sym (are.empty e it.seat own) ∙ it.has ∙ ap (λ (o : Option ℕ). Some o) is)))
-
     -- a probe of the same
     own_one : (place : ℕ) → WasThere groups recording rank place e → IsSeatOf groups (appended recording rank call) (seated seating rank (length (calls_of recording rank)) None) new rank place e
     own_one place there = by_behind (receive_behind groups recording rank place e) refl
       where
         it : IsSeatOf groups recording seating old rank place e
         it = are.seat rank place e there.probes
-
         more : receive_behind groups (appended recording rank call) rank place e ≡ slice_get (places_of groups recording rank RecvHalf e ++ length (calls_of recording rank) ∷ []) (number_of groups recording rank RecvHalf e place)
         more = behind_more groups recording rank call place e is_rank (omega (arith, there.within)) has_own
-
         by_behind : (o : Option ℕ) → receive_behind groups recording rank place e ≡ o → IsSeatOf groups (appended recording rank call) (seated seating rank (length (calls_of recording rank)) None) new rank place e
         by_behind None is =
             let now : receive_behind groups (appended recording rank call) rank place e ≡ Some (length (calls_of recording rank)) =
-            more ∙ ap (slice_get (places_of groups recording rank RecvHalf e ++ length (calls_of recording rank) ∷ [])) (all_before groups recording rank place e is) ∙ get_end (places_of groups recording rank RecvHalf e) (length (calls_of recording rank)) in
+                more ∙ ap (slice_get (places_of groups recording rank RecvHalf e ++ length (calls_of recording rank) ∷ [])) (all_before groups recording rank place e is) ∙ get_end (places_of groups recording rank RecvHalf e) (length (calls_of recording rank)) in
             record {
               seat = it.seat;
               stands_there = beside rank place e there ∙ it.stands_there;
@@ -335,14 +310,13 @@ follows_more groups recording seating old new rank call e is_rank no_probe recei
             }
         by_behind (Some found) is =
             let now : receive_behind groups (appended recording rank call) rank place e ≡ Some found =
-            more ∙ slice_get-front (places_of groups recording rank RecvHalf e) (length (calls_of recording rank) ∷ []) (number_of groups recording rank RecvHalf e place) (slice_get_within (places_of groups recording rank RecvHalf e) (number_of groups recording rank RecvHalf e place) found is) ∙ is in
+                more ∙ slice_get-front (places_of groups recording rank RecvHalf e) (length (calls_of recording rank) ∷ []) (number_of groups recording rank RecvHalf e place) (slice_get_within (places_of groups recording rank RecvHalf e) (number_of groups recording rank RecvHalf e place) found is) ∙ is in
             record {
               seat = it.seat;
               stands_there = beside rank place e there ∙ it.stands_there;
               has = at_other it.seat (λ own. absurd (none-some found (same_Some None (Some found) (sym (are.empty e it.seat own) ∙ it.has ∙ ap (λ (o : Option ℕ). Some o) is)))) ∙ it.has ∙ ap (λ (o : Option ℕ). Some o) (is ∙ sym now);
               waits = λ none. absurd (none-some found (sym none ∙ now));
             }
-
     seat : (r place : ℕ) (f : Envelope) → probed_envelope_at groups (appended recording rank call) r place ≡ Some f → IsSeatOf groups (appended recording rank call) (seated seating rank (length (calls_of recording rank)) None) new r place f
     seat r place f h =
         let there = was_there groups recording rank call r place f is_rank no_probe h in
@@ -411,13 +385,3 @@ seen_by groups recording seating probes rank place seat e are is_probe stands =
 
 pub has_seat : (groups : Groups) (recording : Lists) (seating : Seating) (probes : Probes) (rank place : ℕ) (e : Envelope) → AreSeated groups recording seating probes → probed_envelope_at groups recording rank place ≡ Some e → seating rank place ≡ None → ⊥
 has_seat groups recording seating probes rank place e are is_probe none = none-some (are.seat rank place e is_probe).seat (sym none ∙ (are.seat rank place e is_probe).stands_there)
-
--- without seats no call is a probe
-pub none_probed : (groups : Groups) (recording : Lists) (seating : Seating) (probes : Probes) (rank place : ℕ) → length probes.seats.items ≡ 0 → AreSeated groups recording seating probes → probed_of groups recording rank place ≡ None
-none_probed groups recording seating probes rank place none are = by_envelope (probed_envelope_at groups recording rank place) refl
-  where
-    by_envelope : (o : Option Envelope) → probed_envelope_at groups recording rank place ≡ o → probed_of groups recording rank place ≡ None
-    by_envelope None h = rw h refl
-    by_envelope (Some e) h =
-        let it = are.seat rank place e h in
-        absurd (omega (arith, none, slice_get_within probes.seats.items it.seat (receive_behind groups recording rank place e) it.has))

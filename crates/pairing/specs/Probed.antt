@@ -32,10 +32,6 @@ probed_by groups recording rank place e = numbered groups recording SendHalf e (
 abbrev pub probed_of : Groups → Lists → ℕ → ℕ → Option (ℕ × ℕ)
 probed_of groups recording rank place = option_and_then (probed_by groups recording rank place) (probed_envelope_at groups recording rank place)
 
--- no call sees a send as a probe does
-abbrev pub NoneIsProbed : Groups → Lists → Type 0
-NoneIsProbed groups recording = (rank place : ℕ) → probed_of groups recording rank place ≡ None
-
 -- the place of the receive of the envelope that stands next behind the rank's place, or at it
 abbrev pub receive_behind : Groups → Lists → ℕ → ℕ → Envelope → Option ℕ
 receive_behind groups recording rank place e =

@@ -1,11 +1,11 @@
 //! Calls of all ranks, added one by one, with what each means for the others.
 
-ghost use Rattle.std.specs.Prelude.{◌≡◌, ◌<◌, ◌≤◌, ℕ, [], length, replicate, slice_get, option_map, None, Err, IfOk, IfErr, IfNone, IfSome, OnOk, OnErr, false, true};
+ghost use Rattle.std.specs.Prelude.{◌≡◌, ◌<◌, ◌≤◌, ℕ, [], length, replicate, slice_get, option_map, None, Err, IfOk, IfErr, IfNone, IfSome, OnOk, OnErr, true};
 ghost use Rattle.mpigroup.specs.Groups.{ranks_of};
 ghost use Rattle.pairing.specs.Limits.{most_calls};
 ghost use Rattle.pairing.specs.Recordings.{Lists, calls_of, appended, is_ended, has_end};
 ghost use Rattle.pairing.specs.Partners.{partner_of};
-ghost use Rattle.pairing.specs.Probed.{probed_of, seen_from, NoneIsProbed};
+ghost use Rattle.pairing.specs.Probed.{probed_of, seen_from};
 ghost use Rattle.pairing.specs.Seated.{IsProbing};
 ghost use Rattle.pairing.specs.Requests.{started_of};
 ghost use Rattle.pairing.specs.Waves.{wave_of, member_of};
@@ -19,12 +19,12 @@ ghost use Rattle.pairing.specs.declared.added.PairFault.TheVariants.{Refused};
 
 use crate::added::{Added, Joined, PairFault};
 use crate::envelope::{Envelope, Half, rank_of_half};
+use crate::probes::probed_envelope;
 use crate::fault::CallFault;
 use crate::first_fault::first_fault;
 use crate::matches::Halves;
 use crate::meeting::meet_halves;
 use crate::notes::Notes;
-use crate::probes::probed_envelope;
 use crate::probing::Probing;
 use crate::request::waits_for;
 use crate::stored::StoredCall;
@@ -412,14 +412,6 @@ impl Pairs {
         ensures { result ≡ partner_of self.now.groups self.now.recording rank place half }
     {
         partner_of(&self.head, &self.notes, rank, place, half)
-    }
-
-    /// Whether there may be a probe among the calls. Where this answers false, no call sees a send by
-    /// `probed`.
-    pub fn has_probes(&self) -> bool
-        ensures { result ≡ false → NoneIsProbed self.now.groups self.now.recording }
-    {
-        self.probing.has_probes()
     }
 
     /// The rank and place of the send that the probe at `place` sees; None where no probe stands there, and

@@ -1,15 +1,15 @@
 //! Seats of probes.
 
-ghost use Rattle.std.specs.Prelude.{◌≡◌, ◌<◌, ◌^◌, ◌++◌, ◌∷◌, ℕ, false, [], length, replicate, Option, None, Some, OnOk, slice_get, slice_set, option_map, option_and_then, is_some, vec_len, vec_capacity};
+ghost use Rattle.std.specs.Prelude.{◌≡◌, ◌<◌, ◌^◌, ◌++◌, ◌∷◌, ℕ, [], length, replicate, Option, None, Some, OnOk, slice_get, slice_set, option_map, option_and_then, is_some, vec_len, vec_capacity};
 ghost use Rattle.std.specs.Option.{option_map_or};
 ghost use Rattle.indexmap.specs.IndexMap.{spare};
 ghost use Rattle.mpigroup.specs.Groups.{Groups};
 ghost use Rattle.pairing.specs.Recordings.{Lists, calls_of, appended};
-ghost use Rattle.pairing.specs.Probed.{probed_message, probed_envelope, NoneIsProbed};
+ghost use Rattle.pairing.specs.Probed.{probed_message, probed_envelope};
 ghost use Rattle.pairing.specs.Probing.{open_at, seat_for, Seating, seated, AreSeated, HasRoomToSit, Sits, Follows};
 
-use crate::envelope::{Envelope, Half, Message, envelope_of};
 use indexmap::IndexMap;
+use crate::envelope::{Envelope, Half, Message, envelope_of};
 use mpicall::call::{Call, Peer};
 use mpicall::record::Record;
 use mpigroup::head::Head;
@@ -68,13 +68,6 @@ impl Probes {
             seats: Vec::new(alloc),
             unfilled: IndexMap::new(alloc),
         }
-    }
-
-    /// Whether some probe has a seat.
-    pub(crate) fn has_probes(&self) -> bool
-        ensures { (groups : Groups) (recording : Lists) (seating : Seating) → AreSeated groups recording seating self.now → result ≡ false → NoneIsProbed groups recording }
-    {
-        !self.seats.is_empty()
     }
 
     fn reserve_seat(&mut self) -> Result<(), AllocError>

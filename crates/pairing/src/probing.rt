@@ -1,10 +1,9 @@
 //! Which probes there are, and where the receives stand that come behind them.
 
-ghost use Rattle.std.specs.Prelude.{◌≡◌, ◌<◌, ℕ, false, [], Some, None, Option, length, replicate, option_map, option_and_then, slice_get, OnOk};
+ghost use Rattle.std.specs.Prelude.{◌≡◌, ◌<◌, ℕ, [], Some, None, Option, length, replicate, option_map, option_and_then, slice_get, OnOk};
 ghost use Rattle.indexmap.specs.IndexMap.{spare};
 ghost use Rattle.mpigroup.specs.Groups.{Groups};
 ghost use Rattle.pairing.specs.Recordings.{Lists, calls_of, appended};
-ghost use Rattle.pairing.specs.Probed.{NoneIsProbed};
 ghost use Rattle.pairing.specs.Probing.{seated};
 ghost use Rattle.pairing.specs.Seated.{seat_in, IsProbing, HasRoomToProbe};
 
@@ -44,13 +43,6 @@ impl Probing {
         ensures { result ≡ seat_in self.now rank place }
     {
         self.seats.get(&Spot { rank, place }).copied()
-    }
-
-    /// Whether there are probes.
-    pub(crate) fn has_probes(&self) -> bool
-        ensures { (groups : Groups) (recording : Lists) → IsProbing groups recording self.now → result ≡ false → NoneIsProbed groups recording }
-    {
-        self.probes.has_probes()
     }
 
     /// The place of the receive behind the probes of a seat.

@@ -16,6 +16,7 @@ pub mod WalkLaws
 pub mod ListedLemmas
 pub mod CalledLemmas
 pub mod StuckLemmas
+pub mod WalkingLemmas
 pub mod AlikeLemmas
 pub mod PlainLemmas
 pub mod VerdictLemmas
