@@ -1,14 +1,15 @@
 -- How the walk goes on from a held rank.
-use Rattle.std.proofs.Common.{◌≡◌, ◌≢◌, ◌⊎◌, ℕ, zero, suc, ◌+◌, ◌<◌, ◌≤◌, Bool, true, false, not, ◌&&◌, ◌||◌, find, if◌then◌else◌, Option, Some, None, unwrap_or, List, [], ◌∷◌, length, refl, sym, ap, subst, ◌∙◌, ⊎_elim, arith}
+use Rattle.std.proofs.Common.{◌≡◌, ◌≢◌, ◌⊎◌, ℕ, zero, suc, ◌+◌, ◌<◌, ◌≤◌, Bool, true, false, not, ◌&&◌, ◌||◌, find, if◌then◌else◌, Option, Some, None, unwrap_or, List, [], ◌∷◌, length, take, get_or, refl, sym, ap, subst, ◌∙◌, ⊎_elim, arith}
 use Rattle.std.specs.List.{slice_get, list_all}
 use Rattle.std.specs.Option.{option_map}
-use Rattle.std.proofs.lemmas.Option.{none-some, same_Some}
+use Rattle.std.proofs.lemmas.List.{take_all}
+use Rattle.std.proofs.lemmas.Option.{none-some, same_Some, slice_get-get_or}
 use Rattle.std.proofs.lemmas.Bool.{cases_Bool, false≢true}
 use Rattle.moves.specs.declared.need.Need.{Need}
 use Rattle.moves.specs.declared.need.Need.TheVariants.{At, Lacking}
 use Rattle.waitgraph.specs.Least.{Set}
 use Rattle.waitgraph.specs.Waits.{Waits, needs_in}
-use Rattle.waitgraph.specs.Loose.{standing_of, is_on, loosens_at, loosens, are_loose, is_held_at, are_held, goes_on, onward, onward_of, FitTogether, GoesOnOrEnds, HeldRanksGoOn}
+use Rattle.waitgraph.specs.Loose.{standing_of, is_on, loosens_at, loosens, are_loose, is_held_at, are_held, goes_on, onward, onward_by, onward_of, FitTogether, GoesOnOrEnds, HeldRanksGoOn}
 use Rattle.waitgraph.specs.declared.standing.Standing.{Standing}
 use Rattle.waitgraph.specs.declared.standing.Standing.TheVariants.{AtFinalize, AtOpen, Stuck}
 use Rattle.waitgraph.specs.declared.onward.Onward.{Onward}
@@ -101,3 +102,39 @@ held_ranks_go_on opened standings waits rank fit held =
     let one = fails_one (is_on opened (are_loose opened standings waits)) (needs_in waits rank) some in
     let it = finds (goes_on opened (are_held opened standings waits)) (needs_in waits rank) one.index one.need one.is_there (decides opened standings waits rank one.index one.need fit one.is_there one.is_so) in
     rw (held, it.found) (tells opened (are_held opened standings waits) it.need (subst (λ (n : Need). goes_on opened (are_held opened standings waits) n ≡ true) it.is_it it.stands.is_so))
+
+-- the first of some needs that passes, where none before it does
+pub find_first : (test : Need → Bool) (needs : List Need) (index : ℕ) (need : Need) → slice_get needs index ≡ Some need → list_all (λ n. not (test n)) (take index needs) ≡ true → test need ≡ true → find test needs ≡ Some need
+find_first test [] index need there none passes = absurd (none-some need there)
+find_first test (first ∷ needs) zero need there none passes =
+    let here : first ≡ need = same_Some first need there in
+    let so : test first ≡ true = ap test here ∙ passes in
+    rw so (ap (λ (n : Need). Some n) here)
+find_first test (first ∷ needs) (suc index) need there none passes =
+    let both = and_true (not (test first)) (list_all (λ n. not (test n)) (take index needs)) none in
+    let fails : test first ≡ false = not_true (test first) both.0 in
+    rw fails (find_first test needs index need there both.1 passes)
+  where
+    not_true : (b : Bool) → not b ≡ true → b ≡ false
+    not_true true h = cc
+    not_true false h = refl
+
+pub find_none : (test : Need → Bool) (needs : List Need) → list_all (λ n. not (test n)) needs ≡ true → find test needs ≡ None
+find_none test [] none = refl
+find_none test (first ∷ needs) none =
+    let both = and_true (not (test first)) (list_all (λ n. not (test n)) needs) none in
+    let fails : test first ≡ false = not_true (test first) both.0 in
+    rw fails (find_none test needs both.1)
+  where
+    not_true : (b : Bool) → not b ≡ true → b ≡ false
+    not_true true h = cc
+    not_true false h = refl
+
+-- the walk goes on by the first need by which it does, and by none where there is none
+pub onward_found : (opened held : Set) (needs : List Need) (index : ℕ) (need d : Need) (answer : Onward) → index < length needs → need ≡ get_or needs index d → list_all (λ n. not (goes_on opened held n)) (take index needs) ≡ true → goes_on opened held need ≡ true → answer ≡ onward opened need → Some answer ≡ onward_by opened held needs
+onward_found opened held needs index need d answer within at none passes is =
+    rw (find_first (goes_on opened held) needs index need (slice_get-get_or needs index d within ∙ ap (λ (n : Need). Some n) (sym at)) none passes) (ap (λ (o : Onward). Some o) is)
+
+pub onward_none : (opened held : Set) (needs : List Need) (index : ℕ) → length needs ≤ index → list_all (λ n. not (goes_on opened held n)) (take index needs) ≡ true → None ≡ onward_by opened held needs
+onward_none opened held needs index past none =
+    rw (find_none (goes_on opened held) needs (subst (λ (ns : List Need). list_all (λ n. not (goes_on opened held n)) ns ≡ true) (take_all index needs past) none)) refl
