@@ -11,4 +11,5 @@ pub mod WaveLemmas
 pub mod WaitLemmas
 pub mod ReachLemmas
 pub mod TouchLemmas
+pub mod WakeLemmas
 pub mod SettleLemmas

@@ -16,12 +16,13 @@ use Rattle.pairing.specs.declared.envelope.Message.{Message}
 use Rattle.pairing.specs.Recordings.{Lists, calls_of, GoesOn}
 use Rattle.pairing.specs.Envelopes.{message_of}
 use Rattle.pairing.specs.Partners.{partner_of}
+use Rattle.pairing.specs.Probed.{probed_message, probed_of}
 use Rattle.pairing.specs.Requests.{starts, completes, started_before}
 use Rattle.pairing.specs.Waves.{place_in_wave, wave_of}
 use Rattle.moves.specs.Runs.{State, StandsNoLater, IsPersistent, IsBounded}
 use Rattle.moves.specs.declared.need.Need.{Need}
 use Rattle.moves.specs.declared.need.Need.TheVariants.{At, Lacking}
-use Rattle.moves.specs.Needs.{world_of, half_need, half_needs, member_need, wave_needs, sends_freely, operation_needs, operation_needs_at, request_needs, needs_of_call, needs_of, is_met, may_pass, can_move}
+use Rattle.moves.specs.Needs.{world_of, half_need, half_needs, probe_need, probe_needs, member_need, wave_needs, sends_freely, operation_needs, operation_needs_at, request_needs, needs_of_call, needs_of, is_met, may_pass, can_move}
 use Rattle.moves.proofs.StayLemmas.{Carries, carries_on}
 
 and_true : (a b : Bool) → (a && b) ≡ true → (a ≡ true) × (b ≡ true)
@@ -122,6 +123,18 @@ halves_met_on groups recording other stands rank calls place half carries within
     one_met_on stands (half_need groups recording rank place half m) (half_need groups other rank place half m)
     (half_met_on groups recording other stands rank calls place half m (partner_of groups recording rank place half) refl carries within) h
 
+-- a probe whose need is met sees a send that is reached, which the other recording has too
+probe_met_on : (groups : Groups) (recording other : Lists) (stands : State) (rank calls place : ℕ) (m : Message) (sent : Option (ℕ × ℕ)) → probed_of groups recording rank place ≡ sent → Carries groups recording other stands rank calls → place < calls → is_met stands (option_map_or (λ sent. At sent.0 sent.1) sent (Lacking (world_of groups m.comm m.peer))) ≡ true → is_met stands (probe_need groups other rank place m) ≡ true
+probe_met_on groups recording other stands rank calls place m None e carries within h = absurd (false≢true h)
+probe_met_on groups recording other stands rank calls place m (Some (sender, there)) e carries within h =
+    rw (carries.probed place sender there within e (leb-true there (get_or stands sender 0) h)) h
+
+probes_met_on : (groups : Groups) (recording other : Lists) (stands : State) (rank calls place : ℕ) → Carries groups recording other stands rank calls → place < calls → (message : Option Message) → MetOn stands (option_map_or (λ m. probe_need groups recording rank place m ∷ []) message []) (option_map_or (λ m. probe_need groups other rank place m ∷ []) message [])
+probes_met_on groups recording other stands rank calls place carries within None h = refl
+probes_met_on groups recording other stands rank calls place carries within (Some m) h =
+    one_met_on stands (probe_need groups recording rank place m) (probe_need groups other rank place m)
+    (probe_met_on groups recording other stands rank calls place m (probed_of groups recording rank place) refl carries within) h
+
 -- a member whose need is met has its call of the wave
 member_met_on : (groups : Groups) (recording other : Lists) (stands : State) (rank calls comm wave member : ℕ) (there : Option ℕ) → place_in_wave recording comm wave member ≡ there → Carries groups recording other stands rank calls → is_met stands (option_map_or (At member) there (Lacking member)) ≡ true → is_met stands (member_need other comm wave member) ≡ true
 member_met_on groups recording other stands rank calls comm wave member None e carries h = absurd (false≢true h)
@@ -146,9 +159,11 @@ sends_met_on groups recording other stands rank calls place call carries within 
 operation_met_on : (reading : Reading) (groups : Groups) (recording other : Lists) (stands : State) (rank calls place : ℕ) (call : Call) → Carries groups recording other stands rank calls → place < calls → MetOn stands (operation_needs reading groups recording rank place call) (operation_needs reading groups other rank place call)
 operation_met_on reading groups recording other stands rank calls place call carries within =
     both_met_on stands _ (wave_needs groups recording rank place) _ (wave_needs groups other rank place)
+    (both_met_on stands _ (probe_needs groups recording rank place call) _ (probe_needs groups other rank place call)
     (both_met_on stands _ (half_needs groups recording rank place RecvHalf call) _ (half_needs groups other rank place RecvHalf call)
     (sends_met_on groups recording other stands rank calls place call carries within (sends_freely reading call))
     (halves_met_on groups recording other stands rank calls place RecvHalf carries within (message_of RecvHalf call)))
+    (probes_met_on groups recording other stands rank calls place carries within (probed_message call)))
     (wave_met_on groups recording other stands rank calls place carries within)
 
 operation_there_met_on : (reading : Reading) (groups : Groups) (recording other : Lists) (stands : State) (rank calls place : ℕ) → Carries groups recording other stands rank calls → place < calls → (there : Option Call) → MetOn stands (option_map_or (operation_needs reading groups recording rank place) there []) (option_map_or (operation_needs reading groups other rank place) there [])

@@ -24,7 +24,7 @@ use Rattle.moves.specs.Stands.{calls_in}
 use Rattle.moves.specs.Analysed.{most_touches}
 use Rattle.moves.specs.declared.waves.Waves.{Waves}
 use Rattle.moves.specs.Links.{Entries, count, in_all, held, IsLinked}
-use Rattle.moves.specs.Waiting.{HasJoined, HasArrived, complete_of, met_of, AreWaves, IsNoException, NeedsPartner, NeedsWave, Rests, Waiting, own_list, comm_list, woken, with_rank, with_awaited, awaits, woken_at, woken_partner, woken_comm, WaitsIn, HasLists, IsKept, IsNobody, IsInHand, IsSettled, IsReaching, to_do, paid, cost_of, touches_of}
+use Rattle.moves.specs.Waiting.{HasJoined, HasArrived, complete_of, met_of, AreWaves, IsNoException, NeedsPartner, NeedsWave, Rests, Waiting, own_list, comm_list, woken, with_rank, with_awaited, awaits, woken_at, woken_partner, woken_comm, WaitsFor, WaitsIn, HasLists, IsKept, IsNobody, IsInHand, IsSettled, IsReaching, to_do, paid, cost_of, touches_of}
 use Rattle.moves.proofs.RunLemmas.{get_start, reached_step, reached_ranks, total_moved, total_most}
 use Rattle.moves.proofs.StandLemmas.{reached_within}
 use Rattle.moves.proofs.NeedLemmas.{length_of_calls}
@@ -36,81 +36,8 @@ use Rattle.moves.proofs.LinkLemmas.{none_linked, none_there, held_less, count_in
 use Rattle.moves.proofs.TouchLemmas.{sum_at_most_one, cost_cases, paid_ahead, paid_there, paid_moved, paid_waves, paid_waiters, paid_most}
 use Rattle.moves.proofs.WaveLemmas.{fewer_excepted}
 use Rattle.moves.proofs.WaitLemmas.{partner_stuck, wave_stuck, resting_stuck, open_parts, open_from}
+use Rattle.moves.proofs.WakeLemmas.{most_work, Wakens, load, list_cost, all_woken, all_wakens, waiter_emptied, wave_emptied, three_cost, none_woken}
 use Rattle.moves.proofs.ReachLemmas.{OnlyReaches, IsWoken, awaited_place, partner_waits_on, wave_waits_on, waves_on, rests_on, moved_other, moved_own, moved_on, appended_other, arrived_there, arrived_ahead}
-
--- the greatest count
-abbrev most_work : ℕ
-most_work = 2 ^ 64 - 1
-
--- what waking does to waiting ranks
-record Wakens (old new : Waiting) : Type 0 where
-  pub wakes : Wakes old.lists new.lists
-  pub same_spare : new.spare ≡ old.spare
-  pub same_awaited : new.awaited ≡ old.awaited
-  pub no_less : min old.work most_work ≤ min new.work most_work
-
-wakens_none : (w : Waiting) → Wakens w w
-wakens_none w = record { wakes = wakes_none w.lists; same_spare = refl; same_awaited = refl; no_less = omega arith }
-
-wakens_both : (a b c : Waiting) → Wakens a b → Wakens b c → Wakens a c
-wakens_both a b c h g = record {
-  wakes = wakes_both a.lists b.lists c.lists h.wakes g.wakes;
-  same_spare = g.same_spare ∙ h.same_spare;
-  same_awaited = g.same_awaited ∙ h.same_awaited;
-  no_less = omega (arith, h.no_less, g.no_less);
-}
-
-wakens_list : (w : Waiting) (l : ℕ) → 0 < l → l < length w.lists → Wakens w (woken w l)
-wakens_list w l later within = record { wakes = wakes_list w.lists l later within; same_spare = refl; same_awaited = refl; no_less = omega arith }
-
-awaits_there : (xs : List ℕ) (rank place : ℕ) (there : Option ℕ) → slice_get xs rank ≡ there → option_map_or (λ awaited. awaited == place) there false ≡ true → (rank < length xs) × (get_or xs rank 0 ≡ place)
-awaits_there xs rank place None e h = absurd (false≢true h)
-awaits_there xs rank place (Some awaited) e h = (slice_get_within xs rank awaited e, get_or_from_slice_get xs rank awaited 0 e ∙ eqb-true awaited place h)
-
-awaits_parts : (w : Waiting) (rank place : ℕ) → awaits w rank place ≡ true → (rank < length w.awaited) × (get_or w.awaited rank 0 ≡ place)
-awaits_parts w rank place h = awaits_there w.awaited rank place (slice_get w.awaited rank) refl h
-
-awaits_from : (w : Waiting) (rank : ℕ) → rank < length w.awaited → awaits w rank (get_or w.awaited rank 0) ≡ true
-awaits_from w rank within = rw (slice_get-get_or w.awaited rank 0 within) (eq-eqb (get_or w.awaited rank 0) (get_or w.awaited rank 0) refl)
-
-wakens_at : (w : Waiting) (partner : ℕ × ℕ) → 1 + length w.awaited ≤ length w.lists → Wakens w (woken_at w partner)
-wakens_at w partner room =
-    ⊎_elim
-    (λ (yes : awaits w partner.0 partner.1 ≡ true).
-    let parts = awaits_parts w partner.0 partner.1 yes in
-    rw yes (wakens_list w (own_list partner.0) (omega arith) (omega (arith, parts.0, room))))
-    (λ (no : awaits w partner.0 partner.1 ≡ false). rw no (wakens_none w))
-    (cases_Bool (awaits w partner.0 partner.1))
-
-wakens_partner : (w : Waiting) (partner : Option (ℕ × ℕ)) → 1 + length w.awaited ≤ length w.lists → Wakens w (woken_partner w partner)
-wakens_partner w None room = wakens_none w
-wakens_partner w (Some partner) room = wakens_at w partner room
-
--- the rank that waits for the partner is in its list no more
-emptied_by : (w : Waiting) (rank r : ℕ) (partner : Option (ℕ × ℕ)) → rank < length w.awaited → 1 + length w.awaited ≤ length w.lists → partner ≡ Some (rank, get_or w.awaited rank 0) → count r (list_at (woken_partner w partner).lists (own_list rank)) ≡ 0
-emptied_by w rank r partner within room is = rw is (rw (awaits_from w rank within) (ap (count r) (appended_there w.lists (own_list rank) (omega arith) (omega (arith, within, room)))))
-
-wakens_comm : (w : Waiting) (done : Option ℕ) (comms : ℕ) → ((comm : ℕ) → done ≡ Some comm → comm_list (length w.awaited) comm < length w.lists) → Wakens w (woken_comm w done)
-wakens_comm w None comms within = wakens_none w
-wakens_comm w (Some comm) comms within = wakens_list w (comm_list (length w.awaited) comm) (omega arith) (within comm refl)
-
--- what wakes cost: four for each rank that is woken
-abbrev load : Waiting → ℕ
-load w = w.work + 2 * length (list_at w.lists 0)
-
-list_cost : (w : Waiting) (l : ℕ) → 0 < l → l < length w.lists → load (woken w l) ≤ load w + 4 * length (list_at w.lists l)
-list_cost w l later within =
-    omega (arith, min-le_left (w.work + 2 * length (list_at w.lists l)) most_work, ap (length {A = ℕ × ℕ}) (appended_work w.lists l later within), length-append (list_at w.lists 0) (list_at w.lists l))
-
-partner_cost : (w : Waiting) (partner : Option (ℕ × ℕ)) → 1 + length w.awaited ≤ length w.lists → ((rank : ℕ) → rank < length w.awaited → length (list_at w.lists (own_list rank)) ≤ 1) → load (woken_partner w partner) ≤ load w + 4
-partner_cost w None room short = omega arith
-partner_cost w (Some partner) room short =
-    ⊎_elim
-    (λ (yes : awaits w partner.0 partner.1 ≡ true).
-    let parts = awaits_parts w partner.0 partner.1 yes in
-    rw yes (omega (arith, list_cost w (own_list partner.0) (omega arith) (omega (arith, parts.0, room)), short partner.0 parts.0)))
-    (λ (no : awaits w partner.0 partner.1 ≡ false). rw no (omega arith))
-    (cases_Bool (awaits w partner.0 partner.1))
 
 -- a list in which one rank alone may wait has no more than that rank
 own_short : (ranks : ℕ) (ls : List Entries) (W : ℕ → ℕ → Type 0) (R : ℕ → Type 0) (rank list : ℕ) → IsLinked ranks ls W R → 0 < list → ((other : ℕ) → W other list → other ≡ rank) → length (list_at ls list) ≤ 1
@@ -134,73 +61,11 @@ still_open groups recording s waves new rank comm same h =
       is_joined = open_from groups recording new rank h.start comm (record { wave = is_in.wave; there = is_in.there; least = omega (arith, same, is_in.least); some_member = is_in.some_member });
     }
 
-room_of : (groups : Groups) (recording : Lists) (w : Waiting) → HasLists groups recording w → 1 + length w.awaited ≤ length w.lists
-room_of groups recording w h = omega (arith, h.lists, h.awaited)
-
--- all wakes that the reaching of a call takes
-abbrev pub all_woken : Groups → Lists → ℕ → ℕ → Waiting → Option ℕ → Waiting
-all_woken groups recording rank place w done =
-    woken_comm (woken_partner (woken_partner w (partner_of groups recording rank place SendHalf)) (partner_of groups recording rank place RecvHalf)) done
-
-all_wakens : (groups : Groups) (recording : Lists) (rank place : ℕ) (w : Waiting) (done : Option ℕ) → HasLists groups recording w → ((comm : ℕ) → done ≡ Some comm → comm < length groups) → Wakens w (all_woken groups recording rank place w done)
-all_wakens groups recording rank place w done h known =
-    let sent = partner_of groups recording rank place SendHalf in
-    let received = partner_of groups recording rank place RecvHalf in
-    let first : Wakens w (woken_partner w sent) = wakens_partner w sent (room_of groups recording w h) in
-    let room : 1 + length (woken_partner w sent).awaited ≤ length (woken_partner w sent).lists = omega (arith, room_of groups recording w h, ap (length {A = ℕ}) first.same_awaited, first.wakes.lists) in
-    let second : Wakens (woken_partner w sent) (woken_partner (woken_partner w sent) received) = wakens_partner (woken_partner w sent) received room in
-    let both = wakens_both w (woken_partner w sent) (woken_partner (woken_partner w sent) received) first second in
-    wakens_both w (woken_partner (woken_partner w sent) received) (all_woken groups recording rank place w done) both
-    (wakens_comm (woken_partner (woken_partner w sent) received) done (length groups)
-    (λ comm e. omega (arith, known comm e, h.lists, h.awaited, both.wakes.lists, ap (length {A = ℕ}) both.same_awaited)))
-
--- who waits for the call as a partner is in its list no more
-partner_emptied : (groups : Groups) (recording : Lists) (rank place : ℕ) (w : Waiting) (done : Option ℕ) (other r : ℕ) (half : Half) → HasLists groups recording w → ((comm : ℕ) → done ≡ Some comm → comm < length groups) → other < length recording → partner_of groups recording rank place half ≡ Some (other, get_or w.awaited other 0) → count r (list_at (all_woken groups recording rank place w done).lists (own_list other)) ≡ 0
-partner_emptied groups recording rank place w done other r SendHalf h known is_rank is =
-    let sent = partner_of groups recording rank place SendHalf in
-    let received = partner_of groups recording rank place RecvHalf in
-    let first : Wakens w (woken_partner w sent) = wakens_partner w sent (room_of groups recording w h) in
-    let room : 1 + length (woken_partner w sent).awaited ≤ length (woken_partner w sent).lists = omega (arith, room_of groups recording w h, ap (length {A = ℕ}) first.same_awaited, first.wakes.lists) in
-    let second : Wakens (woken_partner w sent) (woken_partner (woken_partner w sent) received) = wakens_partner (woken_partner w sent) received room in
-    let both = wakens_both w (woken_partner w sent) (woken_partner (woken_partner w sent) received) first second in
-    let last = wakens_comm (woken_partner (woken_partner w sent) received) done (length groups)
-    (λ comm e. omega (arith, known comm e, h.lists, h.awaited, both.wakes.lists, ap (length {A = ℕ}) both.same_awaited)) in
-    let none = emptied_by w other r sent (omega (arith, is_rank, h.awaited)) (room_of groups recording w h) is in
-    omega (arith, none, second.wakes.fewer r (own_list other) (omega arith), last.wakes.fewer r (own_list other) (omega arith))
-partner_emptied groups recording rank place w done other r RecvHalf h known is_rank is =
-    let sent = partner_of groups recording rank place SendHalf in
-    let received = partner_of groups recording rank place RecvHalf in
-    let first : Wakens w (woken_partner w sent) = wakens_partner w sent (room_of groups recording w h) in
-    let room : 1 + length (woken_partner w sent).awaited ≤ length (woken_partner w sent).lists = omega (arith, room_of groups recording w h, ap (length {A = ℕ}) first.same_awaited, first.wakes.lists) in
-    let second : Wakens (woken_partner w sent) (woken_partner (woken_partner w sent) received) = wakens_partner (woken_partner w sent) received room in
-    let both = wakens_both w (woken_partner w sent) (woken_partner (woken_partner w sent) received) first second in
-    let last = wakens_comm (woken_partner (woken_partner w sent) received) done (length groups)
-    (λ comm e. omega (arith, known comm e, h.lists, h.awaited, both.wakes.lists, ap (length {A = ℕ}) both.same_awaited)) in
-    let awaited : received ≡ Some (other, get_or (woken_partner w sent).awaited other 0) = is ∙ ap (λ (xs : List ℕ). Some (other, get_or xs other 0)) (sym first.same_awaited) in
-    let none = emptied_by (woken_partner w sent) other r received (omega (arith, is_rank, h.awaited, ap (length {A = ℕ}) first.same_awaited)) room awaited in
-    omega (arith, none, last.wakes.fewer r (own_list other) (omega arith))
-
--- who waits for the communicator's waves is in its list no more, once one of them is complete
-comm_emptied : (w : Waiting) (comm r : ℕ) → comm_list (length w.awaited) comm < length w.lists → count r (list_at (woken_comm w (Some comm)).lists (comm_list (length w.awaited) comm)) ≡ 0
-comm_emptied w comm r within = ap (count r) (appended_there w.lists (comm_list (length w.awaited) comm) (omega arith) within)
-
-wave_emptied : (groups : Groups) (recording : Lists) (rank place : ℕ) (w : Waiting) (comm r : ℕ) → HasLists groups recording w → comm < length groups → count r (list_at (all_woken groups recording rank place w (Some comm)).lists (comm_list (length recording) comm)) ≡ 0
-wave_emptied groups recording rank place w comm r h known =
-    let sent = partner_of groups recording rank place SendHalf in
-    let received = partner_of groups recording rank place RecvHalf in
-    let first : Wakens w (woken_partner w sent) = wakens_partner w sent (room_of groups recording w h) in
-    let room : 1 + length (woken_partner w sent).awaited ≤ length (woken_partner w sent).lists = omega (arith, room_of groups recording w h, ap (length {A = ℕ}) first.same_awaited, first.wakes.lists) in
-    let second : Wakens (woken_partner w sent) (woken_partner (woken_partner w sent) received) = wakens_partner (woken_partner w sent) received room in
-    let both = wakens_both w (woken_partner w sent) (woken_partner (woken_partner w sent) received) first second in
-    let ranks : length (woken_partner (woken_partner w sent) received).awaited ≡ length recording = ap (length {A = ℕ}) both.same_awaited ∙ h.awaited in
-    let none = comm_emptied (woken_partner (woken_partner w sent) received) comm r (omega (arith, known, h.lists, ranks, both.wakes.lists)) in
-    subst (λ (n : ℕ). count r (list_at (all_woken groups recording rank place w (Some comm)).lists (comm_list n comm)) ≡ 0) ranks none
-
 -- what waiting means while those are still to be woken that wait for a call
 abbrev WaitsOrWoken : Reading → Groups → Lists → State → Waves → List ℕ → ℕ → ℕ → ℕ → ℕ → Type 0
 WaitsOrWoken reading groups recording s waves awaited rank place other list =
     WaitsIn reading groups recording s waves awaited other list
-    ⊎ ((list ≡ own_list other) × (other < length recording) × ((half : Half) × (partner_of groups recording rank place half ≡ Some (other, get_or awaited other 0))))
+    ⊎ ((list ≡ own_list other) × (other < length recording) × (WaitsFor groups recording rank place other (get_or awaited other 0)))
 
 waits_own : (reading : Reading) (groups : Groups) (recording : Lists) (s : State) (waves : Waves) (awaited : List ℕ) (rank place other owner : ℕ) → owner < length recording → WaitsOrWoken reading groups recording s waves awaited rank place other (own_list owner) → other ≡ owner
 waits_own reading groups recording s waves awaited rank place other owner is_rank waits =
@@ -210,7 +75,7 @@ waits_own reading groups recording s waves awaited rank place other owner is_ran
     (λ (own : (own_list owner ≡ own_list other) × (other < length recording) × NeedsPartner reading groups recording s other (get_or awaited other 0)). omega (arith, own.0))
     (λ (wave : (comm : ℕ) × (own_list owner ≡ comm_list (length recording) comm) × NeedsWave groups recording s waves other comm). absurd (omega (arith, wave.1, is_rank)))
     old)
-    (λ (new : (own_list owner ≡ own_list other) × (other < length recording) × ((half : Half) × (partner_of groups recording rank place half ≡ Some (other, get_or awaited other 0)))). omega (arith, new.0))
+    (λ (new : (own_list owner ≡ own_list other) × (other < length recording) × (WaitsFor groups recording rank place other (get_or awaited other 0))). omega (arith, new.0))
     waits
 
 waits_comm : (reading : Reading) (groups : Groups) (recording : Lists) (s : State) (waves : Waves) (awaited : List ℕ) (rank place other comm : ℕ) → WaitsOrWoken reading groups recording s waves awaited rank place other (comm_list (length recording) comm) → NeedsWave groups recording s waves other comm
@@ -223,30 +88,23 @@ waits_comm reading groups recording s waves awaited rank place other comm waits 
     let same : wave.0 ≡ comm = omega (arith, wave.1) in
     subst (λ (c : ℕ). NeedsWave groups recording s waves other c) same wave.2)
     old)
-    (λ (new : (comm_list (length recording) comm ≡ own_list other) × (other < length recording) × ((half : Half) × (partner_of groups recording rank place half ≡ Some (other, get_or awaited other 0)))). absurd (omega (arith, new.0, new.1)))
+    (λ (new : (comm_list (length recording) comm ≡ own_list other) × (other < length recording) × (WaitsFor groups recording rank place other (get_or awaited other 0))). absurd (omega (arith, new.0, new.1)))
     waits
 
--- what the reaching of a place costs beside the wakes of a wave: four for each half, and one for a change of
--- how far its wave is
+-- what the reaching of a place costs beside the wakes of a wave: four for each half, four for a probe, and one for a
+-- change of how far its wave is
 both_cost : (reading : Reading) (groups : Groups) (recording : Lists) (s : State) (waves new : Waves) (rank place : ℕ) (w : Waiting) → IsReaching reading groups recording s waves w rank place → new.changes ≤ waves.changes + 1 → (wave_of recording rank place ≡ None → new.changes ≡ waves.changes) → load (all_woken groups recording rank place w None) + new.changes + 3 ≤ load w + waves.changes + cost_of (slice_get (calls_of recording rank) place)
 both_cost reading groups recording s waves new rank place w h changes no_change =
-    let sent = partner_of groups recording rank place SendHalf in
-    let received = partner_of groups recording rank place RecvHalf in
-    let first : Wakens w (woken_partner w sent) = wakens_partner w sent (room_of groups recording w h.has_lists) in
-    let room : 1 + length (woken_partner w sent).awaited ≤ length (woken_partner w sent).lists = omega (arith, room_of groups recording w h.has_lists, ap (length {A = ℕ}) first.same_awaited, first.wakes.lists) in
-    let now = linked_woken (length recording) w.lists (woken_partner w sent).lists _ _ h.linked first.wakes in
-    let first_cost = partner_cost w sent (room_of groups recording w h.has_lists)
-    (λ owner is_rank. own_short (length recording) w.lists _ _ owner (own_list owner) h.linked (omega arith) (λ other waits. waits_own reading groups recording s waves w.awaited rank place other owner (omega (arith, is_rank, h.has_lists.awaited)) waits)) in
-    let second_cost = partner_cost (woken_partner w sent) received room
-    (λ owner is_rank. own_short (length recording) (woken_partner w sent).lists _ _ owner (own_list owner) now (omega arith) (λ other waits. waits_own reading groups recording s waves w.awaited rank place other owner (omega (arith, is_rank, h.has_lists.awaited, ap (length {A = ℕ}) first.same_awaited)) waits)) in
+    let three = three_cost groups recording rank place w (omega (arith, h.has_lists.lists, h.has_lists.awaited))
+    (λ x wakens owner is_rank.
+    own_short (length recording) x.lists _ _ owner (own_list owner) (linked_woken (length recording) w.lists x.lists _ _ h.linked wakens.wakes) (omega arith)
+    (λ other waits. waits_own reading groups recording s waves w.awaited rank place other owner (omega (arith, is_rank, h.has_lists.awaited, ap (length {A = ℕ}) wakens.same_awaited)) waits)) in
     ⊎_elim
     (λ (none : (cost_of (slice_get (calls_of recording rank) place) ≡ 3) × (slice_get (calls_of recording rank) place ≡ None)).
-    let none_sent : sent ≡ None = rw none.1 refl in
-    let none_received : received ≡ None = rw none.1 refl in
     let none_joined : wave_of recording rank place ≡ None = rw none.1 refl in
-    let same : load (all_woken groups recording rank place w None) ≡ load w = rw (none_sent, none_received) refl in
+    let same : load (all_woken groups recording rank place w None) ≡ load w = ap load (none_woken groups recording rank place w none.1) in
     omega (arith, same, none.0, no_change none_joined))
-    (λ (some : (cost_of (slice_get (calls_of recording rank) place) ≡ 12) × (place < length (calls_of recording rank))). omega (arith, some.0, first_cost, second_cost, changes))
+    (λ (some : (cost_of (slice_get (calls_of recording rank) place) ≡ 16) × (place < length (calls_of recording rank))). omega (arith, some.0, three, changes))
     (cost_cases (calls_of recording rank) place)
 
 -- how far each communicator's waves are never falls
@@ -310,9 +168,9 @@ reach_hand reading groups recording s waves new w rank place done h are others o
             (λ (wave : (comm : ℕ) × (list ≡ comm_list (length recording) comm) × NeedsWave groups recording s waves other comm).
             inr (wave.0, wave.1, by_done other wave.0 list on wave.1 wave.2 done refl))
             old)
-            (λ (new_partner : (list ≡ own_list other) × (other < length recording) × ((half : Half) × (partner_of groups recording rank place half ≡ Some (other, get_or w.awaited other 0)))).
-            let none = partner_emptied groups recording rank place w done other other new_partner.2.0 h.has_lists known new_partner.1 new_partner.2.1 in
-            absurd (omega (arith, on, none, ap (λ (l : ℕ). count other (list_at all.lists l)) new_partner.0)))
+            (λ (new_call : (list ≡ own_list other) × (other < length recording) × (WaitsFor groups recording rank place other (get_or w.awaited other 0))).
+            let none = waiter_emptied groups recording rank place w done other other h.has_lists known new_call.1 new_call.2 in
+            absurd (omega (arith, on, none, ap (λ (l : ℕ). count other (list_at all.lists l)) new_call.0)))
             waits)
             (λ other is_rank none rests. rests);
         are_waves = are;
@@ -473,7 +331,7 @@ hand_moves reading groups recording s t waves w rank place h able few is there =
           (λ (still : NeedsPartner reading groups recording t other (get_or w.awaited other 0)). inl (inl (own.0, own.1, still)))
           (λ (new : IsWoken groups recording (λ someone at_place. (someone ≡ rank) × (at_place ≡ get_or s rank 0 + 1)) other (get_or w.awaited other 0)).
           let at_place : new.place ≡ place = new.is_new.1 ∙ sym next ∙ sym there in
-          inr (own.0, own.1, (new.half, subst (λ (p : ℕ). partner_of groups recording rank p new.half ≡ Some (other, get_or w.awaited other 0)) at_place (subst (λ (k : ℕ). partner_of groups recording k new.place new.half ≡ Some (other, get_or w.awaited other 0)) new.is_new.0 new.is_partner))))
+          inr (own.0, own.1, subst (λ (p : ℕ). WaitsFor groups recording rank p other (get_or w.awaited other 0)) at_place (subst (λ (k : ℕ). WaitsFor groups recording k new.place other (get_or w.awaited other 0)) new.is_new.0 new.waits)))
           (partner_waits_on reading groups recording recording s t _ other (get_or w.awaited other 0) only (same other differs) own.2))
           (λ (wave : (comm : ℕ) × (list ≡ comm_list (length recording) comm) × NeedsWave groups recording s waves other comm).
           inl (inr (wave.0, wave.1, wave_waits_on groups recording recording s t waves other wave.0 only.goes_on (same other differs) wave.2)))
@@ -505,7 +363,7 @@ hand_moves reading groups recording s t waves w rank place h able few is there =
           omega (arith, more, after, cost, h.kept.is_paid);
     }
 
-cost_most : (there : Option Call) → cost_of there ≤ 12
+cost_most : (there : Option Call) → cost_of there ≤ 16
 cost_most None = omega arith
 cost_most (Some call) = omega arith
 
@@ -553,7 +411,7 @@ arrival_reaches reading groups recording s waves w rank place call h is_rank at_
           (λ (still : NeedsPartner reading groups longer s other (get_or w.awaited other 0)). inl (inl (own.0, omega (arith, own.1, same_ranks), still)))
           (λ (new : IsWoken groups longer (λ someone at_place. (someone ≡ rank) × (at_place ≡ length (calls_of recording rank))) other (get_or w.awaited other 0)).
           let at_place : new.place ≡ place = new.is_new.1 ∙ sym at_end ∙ sym there in
-          inr (own.0, omega (arith, own.1, same_ranks), (new.half, subst (λ (p : ℕ). partner_of groups longer rank p new.half ≡ Some (other, get_or w.awaited other 0)) at_place (subst (λ (k : ℕ). partner_of groups longer k new.place new.half ≡ Some (other, get_or w.awaited other 0)) new.is_new.0 new.is_partner))))
+          inr (own.0, omega (arith, own.1, same_ranks), subst (λ (p : ℕ). WaitsFor groups longer rank p other (get_or w.awaited other 0)) at_place (subst (λ (k : ℕ). WaitsFor groups longer k new.place other (get_or w.awaited other 0)) new.is_new.0 new.waits)))
           (partner_waits_on reading groups recording longer s s _ other (get_or w.awaited other 0) only refl own.2))
           (λ (wave : (comm : ℕ) × (list ≡ comm_list (length recording) comm) × NeedsWave groups recording s waves other comm).
           inl (inr (wave.0, wave.1 ∙ ap (λ (n : ℕ). comm_list n wave.0) same_ranks, wave_waits_on groups recording longer s s waves other wave.0 only.goes_on refl wave.2)))
@@ -578,7 +436,7 @@ arrival_reaches reading groups recording s waves w rank place call h is_rank at_
       is_there = there;
       few = few;
       is_paid =
-          let cost : cost_of (slice_get (calls_of longer rank) place) ≤ 12 = cost_most (slice_get (calls_of longer rank) place) in
+          let cost : cost_of (slice_get (calls_of longer rank) place) ≤ 16 = cost_most (slice_get (calls_of longer rank) place) in
           omega (arith, cost, h.kept.is_paid, paid_there recording s waves rank call is_rank at_end);
     }
 
@@ -751,7 +609,7 @@ new_settled reading groups recording s waves w ranks is_empty zeros complete met
       };
     }
 
--- the touches are no more than 18 for each call
+-- the touches are no more than 22 for each call
 pub touches_within : (reading : Reading) (groups : Groups) (recording : Lists) (s : State) (waves : Waves) (w : Waiting) → IsSettled reading groups recording s waves w → touches_of waves w ≤ most_touches recording
 touches_within reading groups recording s waves w h =
     omega (arith, min-le_left (w.work + waves.changes) most_work, h.kept.is_paid, paid_most recording s waves (λ rank. stand_within reading groups recording s rank h.kept.is_reached))

@@ -3,8 +3,10 @@
 -- nothing (section 3.6). A receive is done once its send is reached (section 3.2.4). A collective is done
 -- once every member has reached its call of the wave, rooted ones too: MPI allows a collective not to
 -- synchronise (section 6.1), and the strict reading counts on neither. A call that starts a request needs
--- nothing (section 3.7.2); a wait needs what the calls that it completes need (section 3.7.3). MPI_Finalize
--- is a rank's last call (section 11.2.2): it needs nothing, and no rank moves past it.
+-- nothing (section 3.7.2); a wait needs what the calls that it completes need (section 3.7.3). MPI_Probe needs
+-- the send that the next receive of its envelope would get (section 3.8.1). MPI_Finalize is a rank's last call
+-- (section 11.2.2), and the record of a list that was cut off stands in its place: each needs nothing, and no
+-- rank moves past it.
 use Rattle.moves.specs.declared.reading.Reading.{Reading}
 use Rattle.std.specs.Prelude.{ℕ, Bool, false, true, not, ◌&&◌, ◌||◌, nat_le, Option, Some, None, unwrap_or, is_some, if◌then◌else◌, List, [], ◌∷◌, ◌++◌, map, flat_map, slice_get, slice_index}
 use Rattle.std.specs.List.{list_all}
@@ -20,6 +22,7 @@ use Rattle.pairing.specs.declared.envelope.Message.{Message}
 use Rattle.pairing.specs.Recordings.{Lists, calls_of}
 use Rattle.pairing.specs.Envelopes.{message_of}
 use Rattle.pairing.specs.Partners.{partner_of}
+use Rattle.pairing.specs.Probed.{probed_message, probed_of}
 use Rattle.pairing.specs.Requests.{starts, completes, started_before}
 use Rattle.pairing.specs.Waves.{place_in_wave, wave_of}
 use Rattle.moves.specs.Readings.{is_eager}
@@ -42,6 +45,17 @@ half_need groups recording rank place half m =
 abbrev pub half_needs : Groups → Lists → ℕ → ℕ → Half → Call → List Need
 half_needs groups recording rank place half call =
     option_map_or (λ m. half_need groups recording rank place half m ∷ []) (message_of half call) []
+
+-- what a probe needs for its message: that the send is reached that it sees; where there is none, the source
+-- lacks it
+abbrev pub probe_need : Groups → Lists → ℕ → ℕ → Message → Need
+probe_need groups recording rank place m =
+    option_map_or (λ sent. At sent.0 sent.1) (probed_of groups recording rank place) (Lacking (world_of groups m.comm m.peer))
+
+-- the same of a call; nothing where it probes for no message
+abbrev pub probe_needs : Groups → Lists → ℕ → ℕ → Call → List Need
+probe_needs groups recording rank place call =
+    option_map_or (λ m. probe_need groups recording rank place m ∷ []) (probed_message call) []
 
 -- what a wave needs of a member: that it has reached its call; where there is none, the member lacks it
 abbrev pub member_need : Lists → ℕ → ℕ → ℕ → Need
@@ -75,6 +89,7 @@ abbrev pub operation_needs : Reading → Groups → Lists → ℕ → ℕ → Ca
 operation_needs reading groups recording rank place call =
     (if sends_freely reading call then [] else half_needs groups recording rank place SendHalf call)
     ++ half_needs groups recording rank place RecvHalf call
+    ++ probe_needs groups recording rank place call
     ++ wave_needs groups recording rank place
 
 -- the same of the call at a place; nothing where there is none

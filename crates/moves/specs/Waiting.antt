@@ -1,4 +1,5 @@
--- What a rank waits for that cannot move on: the partner of one of its messages, or a wave.
+-- What a rank waits for that cannot move on: the partner of one of its messages, the send that its probe sees,
+-- or a wave.
 use Rattle.moves.specs.declared.reading.Reading.{Reading}
 use Rattle.std.specs.Prelude.{min, ◌≡◌, ℕ, ◌+◌, ◌-◌, ◌*◌, ◌<◌, ◌≤◌, ◌⊎◌, Bool, true, false, ◌&&◌, nat_le, nat_lt, Option, Some, None, is_some, option_and_then, if◌then◌else◌, List, [], ◌++◌, length, flat_map, slice_get, slice_index, slice_set, ◌==◌}
 use Rattle.std.specs.List.{list_all}
@@ -10,6 +11,8 @@ use Rattle.pairing.specs.declared.envelope.Half.TheVariants.{Send as SendHalf, R
 use Rattle.pairing.specs.Limits.{most_calls}
 use Rattle.pairing.specs.Recordings.{Lists, calls_of, appended as with_call}
 use Rattle.pairing.specs.Partners.{partner_of}
+use Rattle.pairing.specs.Envelopes.{message_of}
+use Rattle.pairing.specs.Probed.{probed_of}
 use Rattle.pairing.specs.Pairs.{completed_of}
 use Rattle.pairing.specs.Requests.{starts, completes}
 use Rattle.pairing.specs.Waves.{place_in_wave, wave_of}
@@ -18,17 +21,18 @@ use Rattle.moves.specs.declared.look.Look.TheVariants.{Over, Passes, Partner, Wa
 use Rattle.moves.specs.declared.need.Need.{Need}
 use Rattle.moves.specs.declared.waves.Waves.{Waves}
 use Rattle.moves.specs.Links.{sum_to, Entries, in_all, held, IsLinked}
-use Rattle.moves.specs.Needs.{half_needs, sends_freely, operation_needs_at, request_needs, needs_of_call, is_met, may_pass, can_move}
+use Rattle.moves.specs.Needs.{half_needs, probe_needs, sends_freely, operation_needs_at, request_needs, needs_of_call, is_met, may_pass, can_move}
 use Rattle.moves.specs.Runs.{State, IsReached, total}
 use Rattle.moves.specs.Stands.{calls_in}
 use Rattle.arenalist.specs.Numbers.{list_at}
 use Rattle.arenalist.specs.Arena.{linked, appended, counted}
 
--- what the messages of the call at a place need: the partners of its halves
+-- what the messages of the call at a place need: the partners of its halves, and the send that it probes for
 abbrev pub message_needs : Reading → Groups → Lists → ℕ → ℕ → Call → List Need
 message_needs reading groups recording rank place call =
     (if sends_freely reading call then [] else half_needs groups recording rank place SendHalf call)
     ++ half_needs groups recording rank place RecvHalf call
+    ++ probe_needs groups recording rank place call
 
 abbrev pub message_needs_at : Reading → Groups → Lists → ℕ → ℕ → List Need
 message_needs_at reading groups recording rank place =
@@ -76,7 +80,7 @@ abbrev pub open_wave : Groups → Lists → Waves → ℕ → ℕ → Option ℕ
 open_wave groups recording waves rank place =
     option_and_then (λ wave. if is_open groups waves wave.0 wave.1 then Some wave.0 else None) (wave_of recording rank place)
 
--- Touches, and what pays for them. A call that is accepted pays 3, one that is reached 9, one that is passed 2,
+-- Touches, and what pays for them. A call that is accepted pays 3, one that is reached 13, one that is passed 2,
 -- and one whose wave is complete 4.
 abbrev pub is_done : Waves → Option (ℕ × ℕ) → ℕ
 is_done waves None = 0
@@ -90,7 +94,7 @@ reached_of recording stands rank = min (length (calls_of recording rank)) (slice
 
 abbrev pub paid_by : Lists → State → Waves → ℕ → ℕ
 paid_by recording stands waves rank =
-    3 * length (calls_of recording rank) + 9 * reached_of recording stands rank + 2 * slice_index stands rank + 4 * done_of recording waves rank
+    3 * length (calls_of recording rank) + 13 * reached_of recording stands rank + 2 * slice_index stands rank + 4 * done_of recording waves rank
 
 abbrev pub paid : Lists → State → Waves → ℕ
 paid recording stands waves = sum_to (length recording) (paid_by recording stands waves)
@@ -98,7 +102,7 @@ paid recording stands waves = sum_to (length recording) (paid_by recording stand
 -- what the reaching of a place spends: less where no call is there
 abbrev pub cost_of : Option Call → ℕ
 cost_of None = 3
-cost_of (Some call) = 12
+cost_of (Some call) = 16
 
 -- what is told of the operation of the call at a place: that its needs are met, or what it waits for
 abbrev pub TellsOperation : Reading → Groups → Lists → State → Waves → ℕ → ℕ → Look → Type 0
@@ -135,7 +139,8 @@ TellsCall reading groups recording stands waves rank place call (Partner start) 
 TellsCall reading groups recording stands waves rank place call (Wave comm) =
     (start : ℕ) × (IsAwaited recording rank place start) × (open_wave groups recording waves rank start ≡ Some comm)
 
--- a message of an operation that the rank's present call waits for has no partner that is reached
+-- a message of an operation that the rank's present call waits for has no partner that is reached, or a probe sees
+-- no send that is reached
 pub record NeedsPartner (reading : Reading) (groups : Groups) (recording : Lists) (stands : State) (rank start : ℕ) : Type 0 where
   pub is_awaited : IsAwaited recording rank (slice_index stands rank) start
   pub is_unmet : list_all (is_met stands) (message_needs_at reading groups recording rank start) ≡ false
@@ -158,7 +163,7 @@ TellsRank reading groups recording stands waves rank (Partner start) = NeedsPart
 TellsRank reading groups recording stands waves rank (Wave comm) = NeedsWave groups recording stands waves rank comm
 
 -- What the waiting ranks are seen as: the lists, how many nodes are spare, how much was done in the lists,
--- and for each rank the place of the operation for whose partner it waits, or waited last.
+-- and for each rank the place of the operation for whose partner it waits, or waited last; at a probe its own.
 pub record Waiting : Type 0 where
   pub lists : List Entries
   pub spare : ℕ
@@ -205,9 +210,38 @@ woken_at w partner = if awaits w partner.0 partner.1 then woken w (own_list part
 abbrev pub woken_partner : Waiting → Option (ℕ × ℕ) → Waiting
 woken_partner w partner = option_map_or (woken_at w) partner w
 
+-- the rank of the world that the call at the place sends its message to
+abbrev pub sent_to : Groups → Lists → ℕ → ℕ → Option ℕ
+sent_to groups recording rank place =
+    option_and_then (λ m. world_rank_of groups m.comm m.peer) (option_and_then (message_of SendHalf) (slice_get (calls_of recording rank) place))
+
+-- the rank's probe at `start` sees the call at the place of the other
+abbrev pub sees : Groups → Lists → ℕ → ℕ → ℕ → ℕ → Bool
+sees groups recording prober start rank place =
+    option_map_or (λ sent. sent.0 == rank && sent.1 == place) (probed_of groups recording prober start) false
+
+-- the rank that waits at a probe which sees the call at the place, with the probe's place; it is the one that the
+-- call sends to
+abbrev pub prober_of : Groups → Lists → List ℕ → ℕ → ℕ → Option (ℕ × ℕ)
+prober_of groups recording awaited rank place =
+    option_and_then
+    (λ prober. option_and_then (λ start. if sees groups recording prober start rank place then Some (prober, start) else None) (slice_get awaited prober))
+    (sent_to groups recording rank place)
+
+-- the waiting ranks once that one is to be looked at
+abbrev pub woken_prober : Groups → Lists → ℕ → ℕ → Waiting → Waiting
+woken_prober groups recording rank place w = woken_partner w (prober_of groups recording w.awaited rank place)
+
 -- and once those are to be looked at that wait for the waves of a communicator, if it is one
 abbrev pub woken_comm : Waiting → Option ℕ → Waiting
 woken_comm w comm = option_map_or (λ comm. woken w (comm_list (length w.awaited) comm)) comm w
+
+-- The other rank waits for the call at the place: as the partner of its operation at `start`, or as the send that
+-- its probe there sees.
+abbrev pub WaitsFor : Groups → Lists → ℕ → ℕ → ℕ → ℕ → Type 0
+WaitsFor groups recording rank place other start =
+    ((half : Half) × (partner_of groups recording rank place half ≡ Some (other, start)))
+    ⊎ (probed_of groups recording other start ≡ Some (rank, place))
 
 -- the rank waits in that list, for a partner or for a wave
 abbrev pub WaitsIn : Reading → Groups → Lists → State → Waves → List ℕ → ℕ → ℕ → Type 0
@@ -257,7 +291,7 @@ pub record IsReaching (reading : Reading) (groups : Groups) (recording : Lists) 
   pub has_lists : HasLists groups recording waiting
   pub linked : IsLinked (length recording) waiting.lists
       (λ other list. WaitsIn reading groups recording stands waves waiting.awaited other list
-      ⊎ ((list ≡ own_list other) × (other < length recording) × ((half : Half) × (partner_of groups recording rank place half ≡ Some (other, slice_index waiting.awaited other)))))
+      ⊎ ((list ≡ own_list other) × (other < length recording) × (WaitsFor groups recording rank place other (slice_index waiting.awaited other))))
       (λ other. Rests recording stands other ⊎ (other ≡ rank))
   pub are_waves : AreWaves groups recording stands waves (λ comm member. (member ≡ rank) × (wave_of recording rank place ≡ Some (comm, complete_of waves comm)))
   pub is_reached : IsReached (can_move reading groups recording) (length recording) stands

@@ -15,9 +15,9 @@ ghost use Rattle.moves.specs.Arrivals.{IsKeptOn};
 ghost use Rattle.moves.specs.Analysed.{most_touches};
 
 use crate::need::stand_of;
+use crate::reading::Reading;
 use crate::settle::arrive;
 use crate::waiters::Waiters;
-use crate::reading::Reading;
 use crate::waves::Waves;
 use mpicall::record::Record;
 use mpigroup::head::Head;

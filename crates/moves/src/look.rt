@@ -7,12 +7,13 @@ ghost use Rattle.std.specs.Option.{option_map_or};
 ghost use Rattle.pairing.specs.Limits.{most_calls};
 ghost use Rattle.pairing.specs.Recordings.{calls_of};
 ghost use Rattle.pairing.specs.Partners.{partner_of};
-ghost use Rattle.moves.specs.Needs.{half_needs, is_met};
+ghost use Rattle.pairing.specs.Probed.{probed_of};
+ghost use Rattle.moves.specs.Needs.{half_needs, probe_needs, is_met};
 ghost use Rattle.moves.specs.Waiting.{message_needs, AreWaves, IsNoException, TellsOperation, TellsRequest, TellsCompleted, TellsCall, TellsRank};
 
 use crate::need::{Need, is_met, stand_of};
-use crate::waves::Waves;
 use crate::reading::{Reading, sends_freely};
+use crate::waves::Waves;
 use pairing::envelope::Half;
 use pairing::pairs::Pairs;
 use pairing::stored::StoredCall;
@@ -24,7 +25,8 @@ pub(crate) enum Look {
     Over,
     /// Each need of its call is met.
     Passes,
-    /// A message of the operation at the place has no partner that is reached.
+    /// A message of the operation at the place has no partner that is reached, or a probe there sees no send that
+    /// is reached.
     Partner { place: u32 },
     /// A wave of the communicator is not complete.
     Wave { comm: u16 },
@@ -65,9 +67,37 @@ fn is_half_met(
     }
 }
 
+/// Whether the probe at the place sees a send, and the send is reached.
+fn is_probed_met(pairs: &Pairs, stands: &[u32], rank: u16, place: u32) -> bool
+    ensures { result ≡ option_map_or (λ sent. nat_le sent.1 (slice_index stands.now sent.0)) (probed_of pairs.now.groups pairs.now.recording rank place) false }
+{
+    match pairs.probed(rank, place) {
+        Some((other, there)) => {
+            let need = Need::At {
+                rank: other,
+                place: there,
+            };
+            is_met(stands, &need)
+        }
+        None => false,
+    }
+}
+
+/// Whether a probe has what it needs: the send that the next receive of its envelope would get. Every other call
+/// has.
+fn is_probe_met(pairs: &Pairs, stands: &[u32], rank: u16, place: u32, call: &StoredCall<'_>) -> bool
+    ensures { result ≡ list_all (is_met stands.now) (probe_needs pairs.now.groups pairs.now.recording rank place call.now) }
+{
+    match call.probed() {
+        Some(_) => is_probed_met(pairs, stands, rank, place),
+        None => true,
+    }
+}
+
 /// Whether each message of the call has what it needs.
 fn are_messages_met(
-    reading: Reading, pairs: &Pairs,
+    reading: Reading,
+    pairs: &Pairs,
     stands: &[u32],
     rank: u16,
     place: u32,
@@ -77,11 +107,13 @@ fn are_messages_met(
 {
     (sends_freely(reading, call) || is_half_met(pairs, stands, rank, place, Half::Send, call))
         && is_half_met(pairs, stands, rank, place, Half::Recv, call)
+        && is_probe_met(pairs, stands, rank, place, call)
 }
 
 /// What is told of the operation of the call at the place.
 fn look_at_operation(
-    reading: Reading, pairs: &Pairs,
+    reading: Reading,
+    pairs: &Pairs,
     stands: &[u32],
     waves: &Waves,
     rank: u16,
@@ -102,7 +134,14 @@ fn look_at_operation(
 }
 
 /// The same of the call that started a request.
-fn look_at_start(reading: Reading, pairs: &Pairs, stands: &[u32], waves: &Waves, rank: u16, start: u32) -> Look
+fn look_at_start(
+    reading: Reading,
+    pairs: &Pairs,
+    stands: &[u32],
+    waves: &Waves,
+    rank: u16,
+    start: u32,
+) -> Look
     requires { AreWaves pairs.now.groups pairs.now.recording stands.now waves.now IsNoException }
     ensures { TellsOperation reading pairs.now.groups pairs.now.recording stands.now waves.now rank start result }
 {
@@ -114,7 +153,8 @@ fn look_at_start(reading: Reading, pairs: &Pairs, stands: &[u32], waves: &Waves,
 
 /// The same of the request with that index among those that the call at the place completes.
 fn look_at_request(
-    reading: Reading, pairs: &Pairs,
+    reading: Reading,
+    pairs: &Pairs,
     stands: &[u32],
     waves: &Waves,
     rank: u16,
@@ -132,7 +172,8 @@ fn look_at_request(
 
 /// What is told of the requests that the call at the place completes.
 fn look_at_requests(
-    reading: Reading, pairs: &Pairs,
+    reading: Reading,
+    pairs: &Pairs,
     stands: &[u32],
     waves: &Waves,
     rank: u16,
@@ -154,7 +195,8 @@ fn look_at_requests(
 
 /// What is told of the call at the place: a call that starts a request needs nothing.
 fn look_at_call(
-    reading: Reading, pairs: &Pairs,
+    reading: Reading,
+    pairs: &Pairs,
     stands: &[u32],
     waves: &Waves,
     rank: u16,
@@ -185,7 +227,13 @@ fn has_call(pairs: &Pairs, rank: u16, place: u32) -> bool
 }
 
 /// What is told of a rank where it stands.
-pub(crate) fn look_at(reading: Reading, pairs: &Pairs, stands: &[u32], waves: &Waves, rank: u16) -> Look
+pub(crate) fn look_at(
+    reading: Reading,
+    pairs: &Pairs,
+    stands: &[u32],
+    waves: &Waves,
+    rank: u16,
+) -> Look
     requires waves { AreWaves pairs.now.groups pairs.now.recording stands.now waves.now IsNoException }
     ensures tells { TellsRank reading pairs.now.groups pairs.now.recording stands.now waves.now rank result }
     ensures room { result ≡ Look.Passes → slice_index stands.now rank < most_calls }
@@ -195,7 +243,9 @@ pub(crate) fn look_at(reading: Reading, pairs: &Pairs, stands: &[u32], waves: &W
         return Look::Over;
     }
     match pairs.call(rank, stand) {
-        Some(call) if !call.ends_list() => look_at_call(reading, pairs, stands, waves, rank, stand, &call),
+        Some(call) if !call.ends_list() => look_at_call(
+            reading, pairs, stands, waves, rank, stand, &call,
+        ),
         _ => Look::Over,
     }
 }

@@ -4,7 +4,7 @@ ghost use Rattle.std.specs.Prelude.{◌≡◌};
 ghost use Rattle.moves.specs.Readings.{is_eager};
 ghost use Rattle.moves.specs.Needs.{bytes_of, sends_freely};
 
-use mpicall::call::{Call, Mode};
+use mpicall::call::Mode;
 use pairing::stored::StoredCall;
 
 /// How a standard send is read that tells its bytes.
@@ -27,21 +27,11 @@ pub fn is_eager(reading: Reading, bytes: Option<u32>) -> bool
 }
 
 /// The bytes that a call sends in standard mode, where they are told.
-fn bytes_of(call: &Call) -> Option<u32>
+fn bytes_of(call: &StoredCall<'_>) -> Option<u32>
     ensures { result ≡ bytes_of call.now }
 {
-    match *call {
-        Call::Send {
-            mode: Mode::Standard,
-            bytes,
-            ..
-        }
-        | Call::Isend {
-            mode: Mode::Standard,
-            bytes,
-            ..
-        }
-        | Call::Sendrecv { bytes, .. } => bytes,
+    match call.mode() {
+        Some(Mode::Standard) | None => call.bytes(),
         _ => None,
     }
 }
@@ -50,6 +40,5 @@ fn bytes_of(call: &Call) -> Option<u32>
 pub fn sends_freely(reading: Reading, call: &StoredCall<'_>) -> bool
     ensures { result ≡ sends_freely reading call.now }
 {
-    matches!(call.mode(), Some(Mode::Buffered))
-        || is_eager(reading, bytes_of(call.record().as_call()))
+    matches!(call.mode(), Some(Mode::Buffered)) || is_eager(reading, bytes_of(call))
 }
