@@ -13,3 +13,5 @@ pub mod ReachLemmas
 pub mod TouchLemmas
 pub mod WakeLemmas
 pub mod SettleLemmas
+pub mod RangeLemmas
+pub mod ReadingLemmas

@@ -1,13 +1,14 @@
--- Where the ranks of a run come to stand by this project's strict reading of MPI, and what that tells of
+-- Where the ranks of a run come to stand by one of this project's readings of MPI, and what that tells of
 -- every run.
 use Rattle.moves.specs.declared.reading.Reading.{Reading}
-use Rattle.std.specs.Prelude.{◌≡◌, ℕ, ◌≤◌, Bool, true, false, Some, List, length, map, slice_get, slice_index}
+use Rattle.std.specs.Prelude.{◌≡◌, ℕ, ◌≤◌, Bool, true, false, nat_lt, Some, List, length, map, slice_get, slice_index}
 use Rattle.std.specs.Option.{option_map_or}
 use Rattle.mpicall.specs.Ending.{ends_list}
 use Rattle.mpicall.specs.declared.call.Call.{Call}
 use Rattle.mpigroup.specs.Groups.{Groups}
 use Rattle.pairing.specs.Recordings.{Lists, calls_of, GoesOn}
 use Rattle.moves.specs.Runs.{State, IsRun, end_of, IsMaximal, IsTheEnd, StandsNoLater, total, lowest_run}
+use Rattle.moves.specs.Readings.{is_no_laxer}
 use Rattle.moves.specs.Needs.{can_move}
 
 -- how many calls the recording has
@@ -69,3 +70,15 @@ NoCallBehindTheEndIsReached =
     (reading : Reading) (groups : Groups) (recording : Lists) (rank place : ℕ) (call : Call) (states : List State) → IsRunOver reading groups recording states →
     slice_get (calls_of recording rank) place ≡ Some call → ends_list call ≡ true →
     slice_index (end_over recording states) rank ≤ place
+
+-- the rank stands earlier in the first state
+abbrev pub stands_earlier : State → State → ℕ → Bool
+stands_earlier s t rank = nat_lt (slice_index s rank) (slice_index t rank)
+
+-- Law: under a reading that is no laxer no rank comes to stand later.
+abbrev pub StricterReadingsStandNoLater : Type 0
+StricterReadingsStandNoLater =
+    (first second : Reading) (groups : Groups) (recording : Lists) (s t : State) → is_no_laxer first second ≡ true →
+    IsTheEnd (can_move first groups recording) (length recording) s →
+    IsTheEnd (can_move second groups recording) (length recording) t →
+    StandsNoLater s t

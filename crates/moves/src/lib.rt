@@ -37,6 +37,7 @@
 
 pub mod analyser;
 pub mod arrival;
+pub mod held_back;
 mod look;
 pub mod need;
 pub mod reading;
