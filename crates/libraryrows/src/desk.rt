@@ -7,7 +7,7 @@ use crate::fields::is_record;
 use crate::groups::{answer_of_head, requests, split};
 use crate::mixes::mixes;
 use crate::pairs::{add, answer_of_pairs, told};
-use crate::readings::reading_in;
+use crate::readings::{reading_in, told_of_readings};
 use crate::runs::{answer_of_run, offer, offer_of_all};
 use crate::texts::{
     add_text, fault_words, records, told_of_fronts, told_of_head, told_of_line, told_of_text,
@@ -186,10 +186,11 @@ impl Desk {
         words: &mut Words<'_>,
     ) -> Result<String, LineFault> {
         match asked {
-            "verdict" | "stuck" | "unmet" | "causes" => {
+            "verdict" | "stuck" | "held" | "unmet" | "causes" => {
                 return answer_of_waits(alloc, &self.run, asked, words);
             }
             "report" => return report(alloc, &self.run, words),
+            "heldback" => return told_of_readings(alloc, &self.head, &self.run, words),
             "findings" => return findings_of(alloc, &self.pairs),
             _ => {}
         }
