@@ -10,6 +10,7 @@ use Rattle.std.proofs.lemmas.Bool.{cases_Bool, false≢true, eqb-true, eq-eqb}
 use Rattle.mpigroup.specs.Groups.{Groups, world_rank_of, group_rank_of}
 use Rattle.pairing.specs.declared.envelope.Envelope.{Envelope}
 use Rattle.pairing.specs.declared.envelope.Half.{Half}
+use Rattle.pairing.specs.declared.envelope.Message.{Message}
 use Rattle.pairing.specs.declared.envelope.Half.TheVariants.{Send as SendHalf, Recv as RecvHalf}
 use Rattle.pairing.specs.Recordings.{Lists, calls_of}
 use Rattle.pairing.specs.Envelopes.{message_of, envelope_by}
@@ -96,6 +97,10 @@ partner_cost w (Some partner) room short =
     (λ (no : awaits w partner.0 partner.1 ≡ false). rw no (omega arith))
     (cases_Bool (awaits w partner.0 partner.1))
 
+-- where a send goes to, by its envelope
+sent_where : (groups : Groups) (m : Message) (own : ℕ) (e : Envelope) → envelope_by SendHalf m own ≡ e → world_rank_of groups m.comm m.peer ≡ world_rank_of groups e.comm e.dest
+sent_where groups m own e h = ap (λ (f : Envelope). world_rank_of groups f.comm f.dest) h
+
 -- who is seen by the probe of a rank, sends to that rank
 rank_sent_to : (groups : Groups) (recording : Lists) (rank place other start : ℕ) → probed_of groups recording other start ≡ Some (rank, place) → sent_to groups recording rank place ≡ Some other
 rank_sent_to groups recording rank place other start h =
@@ -106,8 +111,7 @@ rank_sent_to groups recording rank place other start h =
     let half = (numbered_half groups recording rank place SendHalf parts.0 (number_of groups recording other RecvHalf parts.0 start) from.1).0 in
     let message = and_then_parts (λ m. option_map (envelope_by SendHalf m) (group_rank_of groups m.comm rank)) (message_of SendHalf half.call) parts.0 half.envelope in
     let own = map_parts (envelope_by SendHalf message.0) (group_rank_of groups message.0.comm rank) parts.0 message.2 in
-    let same : world_rank_of groups message.0.comm message.0.peer ≡ world_rank_of groups parts.0.comm parts.0.dest = ap (λ (e : Envelope). world_rank_of groups e.comm e.dest) own.2 in
-    rw (half.stands_there, message.1) (same ∙ receives)
+    rw (half.stands_there, message.1) (sent_where groups message.0 own.0 parts.0 own.2 ∙ receives)
 
 sees_it : (groups : Groups) (recording : Lists) (rank place other start : ℕ) → probed_of groups recording other start ≡ Some (rank, place) → sees groups recording other start rank place ≡ true
 sees_it groups recording rank place other start h = rw h (rw (eq-eqb rank rank refl, eq-eqb place place refl) refl)

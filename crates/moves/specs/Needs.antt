@@ -1,8 +1,8 @@
--- What a call waits for, by the strict reading of this project. A send is done once its receive is reached,
--- also in standard mode, which MPI 4.0 (section 3.4) allows to complete before; a buffered send needs
--- nothing (section 3.6). A receive is done once its send is reached (section 3.2.4). A collective is done
+-- What a call waits for, by a reading of this project. A send is done once its receive is reached, also in
+-- standard mode, which MPI 4.0 (section 3.4) allows to complete before, unless the reading lets it go at once;
+-- a buffered send needs nothing (section 3.6). A receive is done once its send is reached (section 3.2.4). A collective is done
 -- once every member has reached its call of the wave, rooted ones too: MPI allows a collective not to
--- synchronise (section 6.1), and the strict reading counts on neither. A call that starts a request needs
+-- synchronise (section 6.1), and no reading counts on either. A call that starts a request needs
 -- nothing (section 3.7.2); a wait needs what the calls that it completes need (section 3.7.3). MPI_Probe needs
 -- the send that the next receive of its envelope would get (section 3.8.1). MPI_Finalize is a rank's last call
 -- (section 11.2.2), and the record of a list that was cut off stands in its place: each needs nothing, and no

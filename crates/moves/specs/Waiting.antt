@@ -152,7 +152,7 @@ pub record NeedsWave (groups : Groups) (recording : Lists) (stands : State) (wav
   pub is_joined : open_wave groups recording waves rank start ≡ Some comm
 
 -- what is told of a rank where it stands: that it can move on, what it waits for, or that it rests, as it
--- has no call there or its Finalize
+-- has no call there or the one that ends its list
 abbrev pub Rests : Lists → State → ℕ → Type 0
 Rests recording stands rank = may_pass (slice_get (calls_of recording rank) (slice_index stands rank)) ≡ false
 

@@ -27,7 +27,7 @@ use std::alloc::{AllocError, Global};
 use std::marker::Model;
 
 /// The calls of all ranks that were accepted so far, and where the ranks stand. Contracts see the groups of
-/// the run's head, each rank's list of calls, and each rank's stand: the number of its calls that it has
+/// the run's head, the reading, each rank's list of calls, and each rank's stand: the number of its calls that it has
 /// completed. At any time the ranks stand where every maximal run over these calls ends. They see too how
 /// often waiting ranks and waves were touched: what the arena of the waiting ranks counts, and the changes of
 /// how far waves are.
@@ -85,7 +85,8 @@ fn are_closed(pairs: &Pairs) -> bool
 }
 
 impl Analyser {
-    /// No calls yet, for the ranks of the head, each of which stands at 0.
+    /// No calls yet, for the ranks of the head, each of which stands at 0. The sends are read by the reading, at all
+    /// times.
     pub fn new(alloc: Global, head: Head, reading: Reading) -> Result<Analyser, AllocError>
         ensures reading { IfOk result (λ analyser. analyser.reading ≡ reading) }
         ensures groups { IfOk result (λ analyser. analyser.groups ≡ head) }
@@ -156,7 +157,7 @@ impl Analyser {
         work.saturating_add(self.waves.changes)
     }
 
-    /// How sends are read.
+    /// By which reading the sends are read.
     pub fn reading(&self) -> Reading
         ensures { result ≡ self.now.reading }
     {
@@ -191,7 +192,8 @@ impl Analyser {
         self.stands.get(usize::from(rank)).copied()
     }
 
-    /// Whether a rank stands at its Finalize; not where there is no such rank.
+    /// Whether a rank stands at the call that ends its list, its Finalize or the end of a list that was cut off; not
+    /// where there is no such rank.
     pub fn is_ended(&self, rank: u16) -> bool
         ensures { result ≡ is_at_end self.now.recording self.now.stands rank }
     {
@@ -201,7 +203,7 @@ impl Analyser {
         }
     }
 
-    /// Whether the Finalize of each rank was accepted.
+    /// Whether the list of each rank is ended: its Finalize was accepted, or that the list was cut off.
     pub fn is_closed(&self) -> bool
         ensures { (result ≡ true) ↔ IsClosed self.now.recording }
     {

@@ -21,7 +21,7 @@ use pairing::stored::StoredCall;
 /// What a look at a rank tells.
 #[derive(Clone, Copy)]
 pub(crate) enum Look {
-    /// The rank has no call where it stands, or its Finalize.
+    /// The rank has no call where it stands, or the one that ends its list.
     Over,
     /// Each need of its call is met.
     Passes,

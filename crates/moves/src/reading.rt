@@ -1,4 +1,5 @@
-//! How sends are read.
+//! Readings: which sends wait for their receive. MPI lets a send in standard mode complete before its receive is
+//! reached, and lets it wait; which of the two is up to the implementation, and often to the size of the message.
 
 ghost use Rattle.std.specs.Prelude.{◌≡◌};
 ghost use Rattle.moves.specs.Readings.{is_eager};
@@ -7,16 +8,16 @@ ghost use Rattle.moves.specs.Needs.{bytes_of, sends_freely};
 use mpicall::call::Mode;
 use pairing::stored::StoredCall;
 
-/// How a standard send is read that tells its bytes.
+/// Which sends in standard mode wait for their receive. Synchronous sends always do, and buffered ones never.
 #[derive(Clone, Copy, Debug, PartialEq, Eq)]
 pub enum Reading {
-    /// Each waits for its receive.
+    /// Each does.
     Strict,
-    /// A send of at most so many bytes waits for nothing.
+    /// Each does that tells no bytes or more than this; one that tells this many or fewer needs nothing.
     Eager(u32),
 }
 
-/// Whether a message of so many bytes goes before its receive is reached.
+/// Whether a message of so many bytes goes before its receive is reached; one that tells none doesn't.
 pub fn is_eager(reading: Reading, bytes: Option<u32>) -> bool
     ensures { result ≡ is_eager reading bytes }
 {
@@ -36,7 +37,7 @@ fn bytes_of(call: &StoredCall<'_>) -> Option<u32>
     }
 }
 
-/// Whether what the call sends needs nothing.
+/// Whether what the call sends needs nothing: it is buffered, or the reading lets it go at once.
 pub fn sends_freely(reading: Reading, call: &StoredCall<'_>) -> bool
     ensures { result ≡ sends_freely reading call.now }
 {
