@@ -13,7 +13,7 @@ use Rattle.waitgraph.specs.Verdicts.{verdict_of}
 use Rattle.moves.specs.declared.need.Need.{Need}
 use Rattle.moves.specs.declared.need.Need.TheVariants.{At, Lacking}
 use Rattle.waitgraph.specs.declared.verdict.Verdict.{Verdict}
-use Rattle.waitgraph.specs.declared.verdict.Verdict.TheVariants.{Free, Hang}
+use Rattle.waitgraph.specs.declared.verdict.Verdict.TheVariants.{Free, Hang, Unfinished}
 use Rattle.waitgraph.specs.Causes.{CauseView, CycleOf, MissingOf, causes_of}
 use Rattle.waitgraph.specs.Findings.{findings_of}
 use Rattle.reports.specs.FindingTexts.{finding_fields}
@@ -28,8 +28,9 @@ line fields = join_with_byte space fields ++ line_feed ∷ []
 abbrev pub verdict_text : Verdict → List ℕ
 verdict_text Free = codes "free"
 verdict_text Hang = codes "hang"
+verdict_text Unfinished = codes "unfinished"
 
--- `verdict free` or `verdict hang`
+-- `verdict free`, `verdict hang` or `verdict unfinished`
 abbrev pub verdict_line : Verdict → List ℕ
 verdict_line verdict = line (codes "verdict" ∷ verdict_text verdict ∷ [])
 

@@ -27,6 +27,7 @@ fn verdict_text(verdict: Verdict) -> &'static str
     match verdict {
         Verdict::Free => "free",
         Verdict::Hang => "hang",
+        Verdict::Unfinished => "unfinished",
     }
 }
 

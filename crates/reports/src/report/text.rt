@@ -32,6 +32,7 @@ fn push_verdict(page: &mut Page, verdict: Verdict)
     match verdict {
         Verdict::Free => page.push_field(b"free"),
         Verdict::Hang => page.push_field(b"hang"),
+        Verdict::Unfinished => page.push_field(b"unfinished"),
     }
     page.push(b'\n');
 }
