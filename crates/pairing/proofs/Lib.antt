@@ -23,4 +23,5 @@ pub mod HoldingLemmas
 pub mod ActiveLemmas
 pub mod FrontLemmas
 pub mod ProbedLemmas
+pub mod CallCountLemmas
 pub mod ProbingLemmas

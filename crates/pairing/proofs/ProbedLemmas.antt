@@ -92,8 +92,8 @@ probed_sends_stay groups recording longer rank place other there goes_on h =
     let within = slice_get_within (calls_of recording rank) place probe.0 probe.1 in
     let still : slice_get (calls_of longer rank) place ≡ Some probe.0 = rw (goes_on.goes_on rank) (slice_get-front (calls_of recording rank) (goes_on.more rank) place within ∙ probe.1) in
     let same : number_of groups longer rank RecvHalf parts.0 place ≡ number_of groups recording rank RecvHalf parts.0 place =
-        rw (goes_on.goes_on rank, take-append-le place (calls_of recording rank) (goes_on.more rank) (omega (arith, within))) refl in
+    rw (goes_on.goes_on rank, take-append-le place (calls_of recording rank) (goes_on.more rank) (omega (arith, within))) refl in
     let from = numbered_parts groups recording SendHalf parts.0 (number_of groups recording rank RecvHalf parts.0 place) other there parts.2 in
     let later : slice_get (places_of groups longer other SendHalf parts.0) (number_of groups recording rank RecvHalf parts.0 place) ≡ Some there =
-        rw (goes_on.goes_on other) (places-append 0 (has_envelope groups other SendHalf parts.0) (calls_of recording other) (goes_on.more other) (number_of groups recording rank RecvHalf parts.0 place) there from.1) in
+    rw (goes_on.goes_on other) (places-append 0 (has_envelope groups other SendHalf parts.0) (calls_of recording other) (goes_on.more other) (number_of groups recording rank RecvHalf parts.0 place) there from.1) in
     rw (still, probe.2, same, from.0, later) refl

@@ -1,11 +1,11 @@
 -- What one more call changes about the seats of probes.
-use Rattle.std.proofs.Common.{◌≡◌, ◌≢◌, ◌⊎◌, ℕ, zero, suc, ◌+◌, ◌<◌, ◌≤◌, ◌==◌, ◌&&◌, Bool, true, false, if◌then◌else◌, Option, Some, None, is_some, unwrap_or, List, [], ◌∷◌, ◌++◌, length, take, replicate, set, refl, sym, ap, subst, ◌∙◌, ⊎_elim, arith}
+use Rattle.std.proofs.Common.{eqb, not, IfSome, ◌≡◌, ◌≢◌, ◌⊎◌, ℕ, zero, suc, ◌+◌, ◌<◌, ◌≤◌, ◌==◌, ◌&&◌, Bool, true, false, if◌then◌else◌, Option, Some, None, is_some, unwrap_or, List, [], ◌∷◌, ◌++◌, length, take, replicate, set, refl, sym, ap, subst, ◌∙◌, ⊎_elim, arith}
 use mathlib.Core.Logic.{inl, inr}
 use Rattle.std.specs.List.{slice_get}
 use Rattle.std.specs.Option.{option_map, option_map_or, option_and_then}
-use Rattle.std.proofs.lemmas.List.{take-append-le, length-append}
+use Rattle.std.proofs.lemmas.List.{take-append-le, length-append, length-set}
 use Rattle.std.proofs.lemmas.Option.{slice_get_within, slice_get_past, none-some, same_Some}
-use Rattle.std.proofs.lemmas.Bool.{cases_Bool, cases_eq, cases_lt, eqb-true, eq-eqb, false≢true}
+use Rattle.std.proofs.lemmas.Bool.{cases_Bool, cases_eq, cases_lt, eqb-true, eq-eqb, ne_eqb, false≢true}
 use Rattle.std.proofs.lemmas.Grind.{common_steps}
 use Rattle.mpicall.specs.declared.call.Call.{Call}
 use Rattle.mpigroup.specs.Groups.{Groups}
@@ -21,9 +21,11 @@ use Rattle.pairing.proofs.PlacesLemmas.{with_place, places_on, no_calls}
 use Rattle.pairing.proofs.PartnerLemmas.{and_then_parts, own_rank, has_it, same_envelope_refl}
 use Rattle.pairing.proofs.RecordingLemmas.{calls_of-appended, calls_of-appended_other}
 use Rattle.pairing.proofs.MatchedLemmas.{equal_true}
-use Rattle.pairing.specs.Probed.{probed_envelope, probed_envelope_at, probed_of, receive_behind, seen_from}
-use Rattle.pairing.specs.Probing.{is_same_envelope, open_at, seat_for, Seating, seated, IsSeatOf, AreSeated, Sits, Follows, filled}
+use Rattle.pairing.specs.Probed.{probed_envelope, probed_envelope_at, probed_of, receive_behind, seen_from, HasProbe, HasProbesIf}
+use Rattle.pairing.specs.Probing.{is_same_envelope, unfilled_at, seat_for, Seating, seated, IsSeatOf, AreSeated, Sits, Follows, filled, calls_in_all}
+use Rattle.pairing.specs.declared.matches.Numbered.{Numbered}
 use Rattle.pairing.specs.declared.probes.Probes.{Probes}
+use Rattle.pairing.proofs.CallCountLemmas.{one_more_call}
 use Rattle.pairing.proofs.ProbedLemmas.{prober, no_receive, before_most, all_before, the_next_receive_takes_it, else_the_first_pending_is_seen}
 
 get_end : {A : Type 0} (xs : List A) (x : A) → slice_get (xs ++ x ∷ []) (length xs) ≡ Some x
@@ -69,6 +71,7 @@ behind_last groups recording rank call e is_rank fails =
     taken : (xs : List Call) → take (length xs) xs ≡ xs
     taken [] = refl
     taken (x ∷ xs) = ap (λ (ys : List Call). x ∷ ys) (taken xs)
+
     whole : (xs : List Call) → length (places (has_envelope groups rank RecvHalf e) xs) ≤ count_before (has_envelope groups rank RecvHalf e) xs (length xs)
     whole xs = rw (taken xs) (omega arith)
 
@@ -93,6 +96,7 @@ which groups recording rank call r place e is_rank h =
     there x p probes =
         let parts = and_then_parts (probed_envelope groups x) (slice_get (calls_of recording x) p) e probes in
         record { probes = probes; within = slice_get_within (calls_of recording x) p parts.0 parts.1 }
+
     own : r ≡ rank → option_and_then (probed_envelope groups rank) (slice_get (calls_of recording rank ++ call ∷ []) place) ≡ Some e → WasThere groups recording r place e ⊎ IsLast groups recording rank call r place e
     own same probes =
         ⊎_elim
@@ -139,24 +143,62 @@ differ : (f e : Envelope) → (b : Bool) → is_same_envelope f e ≡ b → (f �
 differ f e true h = inl (same_true e f h)
 differ f e false h = inr h
 
+-- probes stay as the recording goes on
+still_probes : (groups : Groups) (recording : Lists) (rank : ℕ) (call : Call) → rank < length recording → HasProbe groups recording → HasProbe groups (appended recording rank call)
+still_probes groups recording rank call is_rank it = record { rank = it.rank; place = it.place; envelope = it.envelope; is_probe = by_rank (cases_eq it.rank rank) }
+  where
+    own : probed_envelope_at groups recording rank it.place ≡ Some it.envelope → probed_envelope_at groups (appended recording rank call) rank it.place ≡ Some it.envelope
+    own h =
+        let parts = and_then_parts (probed_envelope groups rank) (slice_get (calls_of recording rank) it.place) it.envelope h in
+        rw (calls_of-appended recording rank call is_rank, slice_get-front (calls_of recording rank) (call ∷ []) it.place (slice_get_within (calls_of recording rank) it.place parts.0 parts.1)) h
+
+    by_rank : (it.rank ≡ rank) ⊎ (it.rank ≢ rank) → probed_envelope_at groups (appended recording rank call) it.rank it.place ≡ Some it.envelope
+    by_rank (inl same) = subst (λ (r : ℕ). probed_envelope_at groups (appended recording rank call) r it.place ≡ Some it.envelope) (sym same) (own (subst (λ (r : ℕ). probed_envelope_at groups recording r it.place ≡ Some it.envelope) same it.is_probe))
+    by_rank (inr differs) = rw (calls_of-appended_other recording rank it.rank call differs) it.is_probe
+
+-- a probe that is put in is one of the recording
+last_probes : (groups : Groups) (recording : Lists) (rank : ℕ) (call : Call) (e : Envelope) → rank < length recording → probed_envelope groups rank call ≡ Some e → HasProbe groups (appended recording rank call)
+last_probes groups recording rank call e is_rank is_probe = record {
+  rank = rank;
+  place = length (calls_of recording rank);
+  envelope = e;
+  is_probe = rw (calls_of-appended recording rank call is_rank, get_end (calls_of recording rank) call) is_probe;
+}
+
+-- one seat more at most
+one_seat : (o : Option ℕ) (seats new : List (Option ℕ)) → new ≡ (if is_some o then seats else seats ++ None ∷ []) → length new ≤ length seats + 1
+one_seat (Some s) seats new is = rw is (omega arith)
+one_seat None seats new is = rw is (omega (arith, length-append seats (None ∷ [])))
+
 pub sits_more : (groups : Groups) (recording : Lists) (seating : Seating) (old new : Probes) (rank : ℕ) (call : Call) (e : Envelope) → rank < length recording → probed_envelope groups rank call ≡ Some e → Sits old new e → AreSeated groups recording seating old →
     AreSeated groups (appended recording rank call) (seated seating rank (length (calls_of recording rank)) (Some (seat_for old e))) new
-sits_more groups recording seating old new rank call e is_rank is_probe sits are = record { seat = seat; empty = empty; once = once }
+sits_more groups recording seating old new rank call e is_rank is_probe sits are = record {
+  seat = seat;
+  empty = empty;
+  once = once;
+  few = omega (arith, are.few, one_more_call recording rank call is_rank, one_seat (unfilled_at old e) old.seats.items new.seats.items sits.seats);
+  some = λ there. last_probes groups recording rank call e is_rank is_probe;
+}
   where
     grows : (s : ℕ) (v : Option ℕ) → slice_get old.seats.items s ≡ Some v → slice_get new.seats.items s ≡ Some v
-    grows s v h = grown (open_at old e) old.seats.items new.seats.items sits.seats s v h
+    grows s v h = grown (unfilled_at old e) old.seats.items new.seats.items sits.seats s v h
+
     lacks : (f : Envelope) → has_envelope groups rank RecvHalf f call ≡ false
     lacks f = rw (no_receive groups rank call e is_probe) refl
+
     sits_there : slice_get new.seats.items (seat_for old e) ≡ Some None
-    sits_there = sat (open_at old e) old.seats.items new.seats.items sits.seats (λ s h. are.empty e s h)
-    opens : open_at new e ≡ Some (seat_for old e)
-    opens = sits.opens e ∙ ap (λ b. if b then Some (seat_for old e) else open_at old e) (same_refl e)
-    stays_open : (f : Envelope) (s : ℕ) → open_at old f ≡ Some s → open_at new f ≡ Some s
+    sits_there = sat (unfilled_at old e) old.seats.items new.seats.items sits.seats (λ s h. are.empty e s h)
+
+    opens : unfilled_at new e ≡ Some (seat_for old e)
+    opens = sits.unfilled e ∙ ap (λ b. if b then Some (seat_for old e) else unfilled_at old e) (same_refl e)
+
+    stays_open : (f : Envelope) (s : ℕ) → unfilled_at old f ≡ Some s → unfilled_at new f ≡ Some s
     stays_open f s h =
         ⊎_elim
-        (λ (same : f ≡ e). subst (λ (g : Envelope). open_at old g ≡ Some s → open_at new g ≡ Some s) (sym same) (λ own. opens ∙ ap (λ (o : Option ℕ). Some (unwrap_or o (length old.seats.items))) own) h)
-        (λ (differs : is_same_envelope f e ≡ false). sits.opens f ∙ ap (λ b. if b then Some (seat_for old e) else open_at old f) differs ∙ h)
+        (λ (same : f ≡ e). subst (λ (g : Envelope). unfilled_at old g ≡ Some s → unfilled_at new g ≡ Some s) (sym same) (λ own. opens ∙ ap (λ (o : Option ℕ). Some (unwrap_or o (length old.seats.items))) own) h)
+        (λ (differs : is_same_envelope f e ≡ false). sits.unfilled f ∙ ap (λ b. if b then Some (seat_for old e) else unfilled_at old f) differs ∙ h)
         (differ f e (is_same_envelope f e) refl)
+
     was : (r place : ℕ) (f : Envelope) → WasThere groups recording r place f → IsSeatOf groups (appended recording rank call) (seated seating rank (length (calls_of recording rank)) (Some (seat_for old e))) new r place f
     was r place f there =
         let it = are.seat r place f there.probes in
@@ -167,6 +209,7 @@ sits_more groups recording seating old new rank call e is_rank is_probe sits are
           has = grows it.seat (receive_behind groups recording r place f) it.has ∙ ap (λ (o : Option ℕ). Some o) (sym behind);
           waits = λ none. stays_open f it.seat (it.waits (sym behind ∙ none));
         }
+
     last : (r place : ℕ) (f : Envelope) → IsLast groups recording rank call r place f → IsSeatOf groups (appended recording rank call) (seated seating rank (length (calls_of recording rank)) (Some (seat_for old e))) new r place f
     last r place f it =
         let same : e ≡ f = same_Some e f (sym is_probe ∙ it.probes) in
@@ -180,32 +223,37 @@ sits_more groups recording seating old new rank call e is_rank is_probe sits are
           has = sits_there ∙ ap (λ (o : Option ℕ). Some o) (sym none);
           waits = λ h. opens;
         })))
+
     seat : (r place : ℕ) (f : Envelope) → probed_envelope_at groups (appended recording rank call) r place ≡ Some f → IsSeatOf groups (appended recording rank call) (seated seating rank (length (calls_of recording rank)) (Some (seat_for old e))) new r place f
     seat r place f h = ⊎_elim (was r place f) (last r place f) (which groups recording rank call r place f is_rank h)
-    open_was : (f : Envelope) (s : ℕ) → is_same_envelope f e ≡ false → open_at new f ≡ Some s → open_at old f ≡ Some s
-    open_was f s differs h = sym (ap (λ b. if b then Some (seat_for old e) else open_at old f) differs) ∙ sym (sits.opens f) ∙ h
-    empty : (f : Envelope) (s : ℕ) → open_at new f ≡ Some s → slice_get new.seats.items s ≡ Some None
+
+    open_was : (f : Envelope) (s : ℕ) → is_same_envelope f e ≡ false → unfilled_at new f ≡ Some s → unfilled_at old f ≡ Some s
+    open_was f s differs h = sym (ap (λ b. if b then Some (seat_for old e) else unfilled_at old f) differs) ∙ sym (sits.unfilled f) ∙ h
+
+    empty : (f : Envelope) (s : ℕ) → unfilled_at new f ≡ Some s → slice_get new.seats.items s ≡ Some None
     empty f s h =
         ⊎_elim
-        (λ (same : f ≡ e). subst (λ (x : ℕ). slice_get new.seats.items x ≡ Some None) (same_Some (seat_for old e) s (sym opens ∙ ap (open_at new) (sym same) ∙ h)) sits_there)
+        (λ (same : f ≡ e). subst (λ (x : ℕ). slice_get new.seats.items x ≡ Some None) (same_Some (seat_for old e) s (sym opens ∙ ap (unfilled_at new) (sym same) ∙ h)) sits_there)
         (λ (differs : is_same_envelope f e ≡ false). grows s None (are.empty f s (open_was f s differs h)))
         (differ f e (is_same_envelope f e) refl)
-    against : (g : Envelope) (s : ℕ) → seat_for old e ≡ s → open_at old g ≡ Some s → e ≡ g
+
+    against : (g : Envelope) (s : ℕ) → seat_for old e ≡ s → unfilled_at old g ≡ Some s → e ≡ g
     against g s at h =
-        alone (open_at old e) old.seats.items e g
+        alone (unfilled_at old e) old.seats.items e g
         (λ own is same. are.once e g s (is ∙ ap (λ (x : ℕ). Some x) (sym same ∙ at)) h)
         (subst (λ (x : ℕ). slice_get old.seats.items x ≡ Some None) (sym at) (are.empty g s h))
-    once : (f g : Envelope) (s : ℕ) → open_at new f ≡ Some s → open_at new g ≡ Some s → f ≡ g
+
+    once : (f g : Envelope) (s : ℕ) → unfilled_at new f ≡ Some s → unfilled_at new g ≡ Some s → f ≡ g
     once f g s h h' =
         ⊎_elim
         (λ (same : f ≡ e).
         ⊎_elim
         (λ (too : g ≡ e). same ∙ sym too)
-        (λ (differs : is_same_envelope g e ≡ false). same ∙ against g s (same_Some (seat_for old e) s (sym opens ∙ ap (open_at new) (sym same) ∙ h)) (open_was g s differs h'))
+        (λ (differs : is_same_envelope g e ≡ false). same ∙ against g s (same_Some (seat_for old e) s (sym opens ∙ ap (unfilled_at new) (sym same) ∙ h)) (open_was g s differs h'))
         (differ g e (is_same_envelope g e) refl))
         (λ (differs : is_same_envelope f e ≡ false).
         ⊎_elim
-        (λ (too : g ≡ e). sym (against f s (same_Some (seat_for old e) s (sym opens ∙ ap (open_at new) (sym too) ∙ h')) (open_was f s differs h)) ∙ sym too)
+        (λ (too : g ≡ e). sym (against f s (same_Some (seat_for old e) s (sym opens ∙ ap (unfilled_at new) (sym too) ∙ h')) (open_was f s differs h)) ∙ sym too)
         (λ (neither : is_same_envelope g e ≡ false). are.once f g s (open_was f s differs h) (open_was g s neither h'))
         (differ g e (is_same_envelope g e) refl))
         (differ f e (is_same_envelope f e) refl)
@@ -215,9 +263,15 @@ was_there : (groups : Groups) (recording : Lists) (rank : ℕ) (call : Call) (r 
 was_there groups recording rank call r place f is_rank none h =
     ⊎_elim (λ (there : WasThere groups recording r place f). there) (λ (it : IsLast groups recording rank call r place f). absurd (none-some f (sym none ∙ it.probes))) (which groups recording rank call r place f is_rank h)
 
-pub neither_more : (groups : Groups) (recording : Lists) (seating : Seating) (old : Probes) (rank : ℕ) (call : Call) → rank < length recording → probed_envelope groups rank call ≡ None → envelope_of groups rank RecvHalf call ≡ None → AreSeated groups recording seating old →
+neither_more : (groups : Groups) (recording : Lists) (seating : Seating) (old : Probes) (rank : ℕ) (call : Call) → rank < length recording → probed_envelope groups rank call ≡ None → envelope_of groups rank RecvHalf call ≡ None → AreSeated groups recording seating old →
     AreSeated groups (appended recording rank call) (seated seating rank (length (calls_of recording rank)) None) old
-neither_more groups recording seating old rank call is_rank no_probe no_recv are = record { seat = seat; empty = are.empty; once = are.once }
+neither_more groups recording seating old rank call is_rank no_probe no_recv are = record {
+  seat = seat;
+  empty = are.empty;
+  once = are.once;
+  few = omega (arith, are.few, one_more_call recording rank call is_rank);
+  some = λ there. still_probes groups recording rank call is_rank (are.some there);
+}
   where
     seat : (r place : ℕ) (f : Envelope) → probed_envelope_at groups (appended recording rank call) r place ≡ Some f → IsSeatOf groups (appended recording rank call) (seated seating rank (length (calls_of recording rank)) None) old r place f
     seat r place f h =
@@ -240,26 +294,45 @@ filled_own : (o : Option ℕ) (seats : List (Option ℕ)) (place s : ℕ) → o 
 filled_own None seats place s is h = absurd (none-some s is)
 filled_own (Some t) seats place s is h = rw (same_Some t s is) (set_same seats s (Some place) None h)
 
-pub follows_more : (groups : Groups) (recording : Lists) (seating : Seating) (old new : Probes) (rank : ℕ) (call : Call) (e : Envelope) → rank < length recording → probed_envelope groups rank call ≡ None → envelope_of groups rank RecvHalf call ≡ Some e → Follows old new e (length (calls_of recording rank)) → AreSeated groups recording seating old →
+filled_length : (o : Option ℕ) (seats : List (Option ℕ)) (place : ℕ) → length (filled seats o place) ≡ length seats
+filled_length None seats place = refl
+filled_length (Some t) seats place = length-set seats t (Some place)
+
+follows_more : (groups : Groups) (recording : Lists) (seating : Seating) (old new : Probes) (rank : ℕ) (call : Call) (e : Envelope) → rank < length recording → probed_envelope groups rank call ≡ None → envelope_of groups rank RecvHalf call ≡ Some e → Follows old new e (length (calls_of recording rank)) → AreSeated groups recording seating old →
     AreSeated groups (appended recording rank call) (seated seating rank (length (calls_of recording rank)) None) new
-follows_more groups recording seating old new rank call e is_rank no_probe receives follows are = record { seat = seat; empty = empty; once = once }
+follows_more groups recording seating old new rank call e is_rank no_probe receives follows are = record {
+  seat = seat;
+  empty = empty;
+  once = once;
+  few = omega (arith, are.few, one_more_call recording rank call is_rank, as_many);
+  some = λ there. still_probes groups recording rank call is_rank (are.some (omega (arith, there, as_many)));
+}
   where
+    as_many : length new.seats.items ≡ length old.seats.items
+    as_many = ap (λ (seats : List (Option ℕ)). length seats) follows.seats ∙ filled_length (unfilled_at old e) old.seats.items (length (calls_of recording rank))
+
     unless : Envelope → Bool → Option ℕ
-    unless f b = if b then None else open_at old f
-    closes : (f : Envelope) (s : ℕ) → open_at new f ≡ Some s → (is_same_envelope f e ≡ false) × (open_at old f ≡ Some s)
+    unless f b = if b then None else unfilled_at old f
+
+    closes : (f : Envelope) (s : ℕ) → unfilled_at new f ≡ Some s → (is_same_envelope f e ≡ false) × (unfilled_at old f ≡ Some s)
     closes f s h =
         ⊎_elim
-        (λ (same : f ≡ e). absurd (none-some s (sym (ap (unless f) (ap (λ (g : Envelope). is_same_envelope g e) same ∙ same_refl e)) ∙ sym (follows.opens f) ∙ h)))
-        (λ (differs : is_same_envelope f e ≡ false). (differs, sym (ap (unless f) differs) ∙ sym (follows.opens f) ∙ h))
+        (λ (same : f ≡ e). absurd (none-some s (sym (ap (unless f) (ap (λ (g : Envelope). is_same_envelope g e) same ∙ same_refl e)) ∙ sym (follows.unfilled f) ∙ h)))
+        (λ (differs : is_same_envelope f e ≡ false). (differs, sym (ap (unless f) differs) ∙ sym (follows.unfilled f) ∙ h))
         (differ f e (is_same_envelope f e) refl)
-    not_own : (f : Envelope) (s : ℕ) → is_same_envelope f e ≡ false → open_at old f ≡ Some s → open_at old e ≡ Some s → ⊥
+
+    not_own : (f : Envelope) (s : ℕ) → is_same_envelope f e ≡ false → unfilled_at old f ≡ Some s → unfilled_at old e ≡ Some s → ⊥
     not_own f s differs h own = false≢true (sym differs ∙ ap (λ (g : Envelope). is_same_envelope g e) (are.once f e s h own) ∙ same_refl e)
-    at_other : (s : ℕ) → (open_at old e ≡ Some s → ⊥) → slice_get new.seats.items s ≡ slice_get old.seats.items s
-    at_other s differs = rw follows.seats (filled_other (open_at old e) old.seats.items (length (calls_of recording rank)) s differs)
-    empty : (f : Envelope) (s : ℕ) → open_at new f ≡ Some s → slice_get new.seats.items s ≡ Some None
+
+    at_other : (s : ℕ) → (unfilled_at old e ≡ Some s → ⊥) → slice_get new.seats.items s ≡ slice_get old.seats.items s
+    at_other s differs = rw follows.seats (filled_other (unfilled_at old e) old.seats.items (length (calls_of recording rank)) s differs)
+
+    empty : (f : Envelope) (s : ℕ) → unfilled_at new f ≡ Some s → slice_get new.seats.items s ≡ Some None
     empty f s h = let was = closes f s h in at_other s (not_own f s was.0 was.1) ∙ are.empty f s was.1
-    once : (f g : Envelope) (s : ℕ) → open_at new f ≡ Some s → open_at new g ≡ Some s → f ≡ g
+
+    once : (f g : Envelope) (s : ℕ) → unfilled_at new f ≡ Some s → unfilled_at new g ≡ Some s → f ≡ g
     once f g s h h' = are.once f g s (closes f s h).1 (closes g s h').1
+
     differs_in : (f : Envelope) → is_same_envelope f e ≡ false → has_envelope groups rank RecvHalf f call ≡ false
     differs_in f differs =
         ⊎_elim
@@ -268,10 +341,13 @@ follows_more groups recording seating old new rank call e is_rank no_probe recei
         absurd (false≢true (sym differs ∙ ap (λ (g : Envelope). is_same_envelope g e) (sym same) ∙ same_refl e)))
         (λ (no : has_envelope groups rank RecvHalf f call ≡ false). no)
         (cases_Bool (has_envelope groups rank RecvHalf f call))
+
     has_own : has_envelope groups rank RecvHalf e call ≡ true
     has_own = rw receives (same_envelope_refl e)
+
     beside : (r place : ℕ) (f : Envelope) → WasThere groups recording r place f → seated seating rank (length (calls_of recording rank)) None r place ≡ seating r place
     beside r place f there = beside_other seating rank (length (calls_of recording rank)) None r place (λ same here. absurd (omega (arith, there.within, here, ap (λ (x : ℕ). length (calls_of recording x)) same)))
+
     -- a probe of another envelope
     other : (r place : ℕ) (f : Envelope) → WasThere groups recording r place f → is_same_envelope f e ≡ false → IsSeatOf groups (appended recording rank call) (seated seating rank (length (calls_of recording rank)) None) new r place f
     other r place f there differs =
@@ -281,42 +357,46 @@ follows_more groups recording seating old new rank call e is_rank no_probe recei
           seat = it.seat;
           stands_there = beside r place f there ∙ it.stands_there;
           has = at_other it.seat (keeps it) ∙ it.has ∙ ap (λ (o : Option ℕ). Some o) (sym behind);
-          waits = λ none. follows.opens f ∙ ap (λ b. if b then None else open_at old f) differs ∙ it.waits (sym behind ∙ none);
+          waits = λ none. follows.unfilled f ∙ ap (λ b. if b then None else unfilled_at old f) differs ∙ it.waits (sym behind ∙ none);
         }
       where
-        keeps : (it : IsSeatOf groups recording seating old r place f) → open_at old e ≡ Some it.seat → ⊥
+        keeps : (it : IsSeatOf groups recording seating old r place f) → unfilled_at old e ≡ Some it.seat → ⊥
         keeps it own = by_behind (receive_behind groups recording r place f) refl
           where
             by_behind : (o : Option ℕ) → receive_behind groups recording r place f ≡ o → ⊥
             by_behind None is = not_own f it.seat differs (it.waits is) own
             by_behind (Some there) is = absurd (none-some there (same_Some None (Some there) (sym (are.empty e it.seat own) ∙ it.has ∙ ap (λ (o : Option ℕ). Some o) is)))
+
     -- a probe of the same
     own_one : (place : ℕ) → WasThere groups recording rank place e → IsSeatOf groups (appended recording rank call) (seated seating rank (length (calls_of recording rank)) None) new rank place e
     own_one place there = by_behind (receive_behind groups recording rank place e) refl
       where
         it : IsSeatOf groups recording seating old rank place e
         it = are.seat rank place e there.probes
+
         more : receive_behind groups (appended recording rank call) rank place e ≡ slice_get (places_of groups recording rank RecvHalf e ++ length (calls_of recording rank) ∷ []) (number_of groups recording rank RecvHalf e place)
         more = behind_more groups recording rank call place e is_rank (omega (arith, there.within)) has_own
+
         by_behind : (o : Option ℕ) → receive_behind groups recording rank place e ≡ o → IsSeatOf groups (appended recording rank call) (seated seating rank (length (calls_of recording rank)) None) new rank place e
         by_behind None is =
             let now : receive_behind groups (appended recording rank call) rank place e ≡ Some (length (calls_of recording rank)) =
-                more ∙ ap (slice_get (places_of groups recording rank RecvHalf e ++ length (calls_of recording rank) ∷ [])) (all_before groups recording rank place e is) ∙ get_end (places_of groups recording rank RecvHalf e) (length (calls_of recording rank)) in
+            more ∙ ap (slice_get (places_of groups recording rank RecvHalf e ++ length (calls_of recording rank) ∷ [])) (all_before groups recording rank place e is) ∙ get_end (places_of groups recording rank RecvHalf e) (length (calls_of recording rank)) in
             record {
               seat = it.seat;
               stands_there = beside rank place e there ∙ it.stands_there;
-              has = rw follows.seats (filled_own (open_at old e) old.seats.items (length (calls_of recording rank)) it.seat (it.waits is) (it.has ∙ ap (λ (o : Option ℕ). Some o) is)) ∙ ap (λ (o : Option ℕ). Some o) (sym now);
+              has = rw follows.seats (filled_own (unfilled_at old e) old.seats.items (length (calls_of recording rank)) it.seat (it.waits is) (it.has ∙ ap (λ (o : Option ℕ). Some o) is)) ∙ ap (λ (o : Option ℕ). Some o) (sym now);
               waits = λ none. absurd (none-some (length (calls_of recording rank)) (sym none ∙ now));
             }
         by_behind (Some found) is =
             let now : receive_behind groups (appended recording rank call) rank place e ≡ Some found =
-                more ∙ slice_get-front (places_of groups recording rank RecvHalf e) (length (calls_of recording rank) ∷ []) (number_of groups recording rank RecvHalf e place) (slice_get_within (places_of groups recording rank RecvHalf e) (number_of groups recording rank RecvHalf e place) found is) ∙ is in
+            more ∙ slice_get-front (places_of groups recording rank RecvHalf e) (length (calls_of recording rank) ∷ []) (number_of groups recording rank RecvHalf e place) (slice_get_within (places_of groups recording rank RecvHalf e) (number_of groups recording rank RecvHalf e place) found is) ∙ is in
             record {
               seat = it.seat;
               stands_there = beside rank place e there ∙ it.stands_there;
               has = at_other it.seat (λ own. absurd (none-some found (same_Some None (Some found) (sym (are.empty e it.seat own) ∙ it.has ∙ ap (λ (o : Option ℕ). Some o) is)))) ∙ it.has ∙ ap (λ (o : Option ℕ). Some o) (is ∙ sym now);
               waits = λ none. absurd (none-some found (sym none ∙ now));
             }
+
     seat : (r place : ℕ) (f : Envelope) → probed_envelope_at groups (appended recording rank call) r place ≡ Some f → IsSeatOf groups (appended recording rank call) (seated seating rank (length (calls_of recording rank)) None) new r place f
     seat r place f h =
         let there = was_there groups recording rank call r place f is_rank no_probe h in
@@ -330,21 +410,34 @@ follows_more groups recording seating old new rank call e is_rank no_probe recei
         (λ (differs : is_same_envelope f e ≡ false). other r place f there differs)
         (differ f e (is_same_envelope f e) refl)
 
-pub none_seated : (groups : Groups) (ranks : ℕ) (probes : Probes) → ((e : Envelope) → open_at probes e ≡ None) → AreSeated groups (replicate ranks []) (λ r p. None) probes
-none_seated groups ranks probes none = record {
+-- the half of a call that receives, if there is one
+pub receives_more : (groups : Groups) (recording : Lists) (seating : Seating) (old new : Probes) (rank : ℕ) (call : Call) (half : Option Numbered) → rank < length recording → probed_envelope groups rank call ≡ None → option_map (λ (own : Numbered). own.envelope) half ≡ envelope_of groups rank RecvHalf call →
+    (half ≡ None → new ≡ old) → IfSome half (λ (own : Numbered). Follows old new own.envelope (length (calls_of recording rank))) → AreSeated groups recording seating old →
+    AreSeated groups (appended recording rank call) (seated seating rank (length (calls_of recording rank)) None) new
+receives_more groups recording seating old new rank call None is_rank no_probe received none some are =
+    subst (AreSeated groups (appended recording rank call) (seated seating rank (length (calls_of recording rank)) None)) (sym (none refl)) (neither_more groups recording seating old rank call is_rank no_probe (sym received) are)
+receives_more groups recording seating old new rank call (Some own) is_rank no_probe received none some are =
+    follows_more groups recording seating old new rank call own.envelope is_rank no_probe (sym received) some are
+
+pub none_seated : (groups : Groups) (ranks : ℕ) (probes : Probes) → ((e : Envelope) → unfilled_at probes e ≡ None) → length probes.seats.items ≡ 0 → AreSeated groups (replicate ranks []) (λ r p. None) probes
+none_seated groups ranks probes none no_seats = record {
   seat = λ r place e h. absurd (none-some e (rw (no_calls ranks r) at h));
   empty = λ e s h. absurd (none-some s (sym (none e) ∙ h));
   once = λ e f s h h'. absurd (none-some s (sym (none e) ∙ h));
+  few = omega (arith, no_seats);
+  some = λ there. absurd (omega (arith, no_seats, there));
 }
 
 -- room alone changes nothing
-pub seats_stay : (groups : Groups) (recording : Lists) (seating : Seating) (old new : Probes) → new.seats.items ≡ old.seats.items → ((e : Envelope) → open_at new e ≡ open_at old e) → AreSeated groups recording seating old → AreSeated groups recording seating new
+pub seats_stay : (groups : Groups) (recording : Lists) (seating : Seating) (old new : Probes) → new.seats.items ≡ old.seats.items → ((e : Envelope) → unfilled_at new e ≡ unfilled_at old e) → AreSeated groups recording seating old → AreSeated groups recording seating new
 seats_stay groups recording seating old new seats opens are = record {
   seat = λ r place e h.
       let it = are.seat r place e h in
       record { seat = it.seat; stands_there = it.stands_there; has = rw seats it.has; waits = λ none. opens e ∙ it.waits none };
   empty = λ e s h. rw seats (are.empty e s (sym (opens e) ∙ h));
   once = λ e f s h h'. are.once e f s (sym (opens e) ∙ h) (sym (opens f) ∙ h');
+  few = rw seats are.few;
+  some = λ there. are.some (rw seats at there);
 }
 
 -- beside each probe may stand more than is said
@@ -355,6 +448,8 @@ reseated groups recording f g probes more are = record {
       record { seat = it.seat; stands_there = more r place it.seat it.stands_there; has = it.has; waits = it.waits };
   empty = are.empty;
   once = are.once;
+  few = are.few;
+  some = are.some;
 }
 
 -- a call that is no probe has no seat
@@ -385,3 +480,21 @@ seen_by groups recording seating probes rank place seat e are is_probe stands =
 
 pub has_seat : (groups : Groups) (recording : Lists) (seating : Seating) (probes : Probes) (rank place : ℕ) (e : Envelope) → AreSeated groups recording seating probes → probed_envelope_at groups recording rank place ≡ Some e → seating rank place ≡ None → ⊥
 has_seat groups recording seating probes rank place e are is_probe none = none-some (are.seat rank place e is_probe).seat (sym none ∙ (are.seat rank place e is_probe).stands_there)
+
+-- there are seats just where there are probes
+pub has_probes_if : (groups : Groups) (recording : Lists) (seating : Seating) (probes : Probes) (result : Bool) → result ≡ not (eqb (length probes.seats.items) 0) → AreSeated groups recording seating probes → HasProbesIf result groups recording
+has_probes_if groups recording seating probes true is are = are.some (positive (length probes.seats.items) is)
+  where
+    positive : (n : ℕ) → true ≡ not (eqb n 0) → 0 < n
+    positive zero h = absurd (false≢true (sym h))
+    positive (suc n) h = omega arith
+has_probes_if groups recording seating probes false is are = λ rank place. by_envelope rank place (probed_envelope_at groups recording rank place) refl
+  where
+    none : (n : ℕ) → false ≡ not (eqb n 0) → n ≡ 0
+    none n h = ⊎_elim (λ (is_none : n ≡ 0). is_none) (λ (differs : n ≢ 0). absurd (false≢true (h ∙ ap not (ne_eqb n 0 differs)))) (cases_eq n 0)
+
+    by_envelope : (rank place : ℕ) (o : Option Envelope) → probed_envelope_at groups recording rank place ≡ o → probed_of groups recording rank place ≡ None
+    by_envelope rank place None h = rw h refl
+    by_envelope rank place (Some e) h =
+        let it = are.seat rank place e h in
+        absurd (omega (arith, none (length probes.seats.items) is, slice_get_within probes.seats.items it.seat (receive_behind groups recording rank place e) it.has))

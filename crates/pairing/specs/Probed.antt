@@ -1,5 +1,5 @@
 -- Probes (MPI 4.0, section 3.8): a probe waits for the message that the next receive of its envelope would take.
-use Rattle.std.specs.Prelude.{◌≡◌, ℕ, Option, Some, None, option_map, option_and_then, slice_get}
+use Rattle.std.specs.Prelude.{◌≡◌, ℕ, Bool, true, false, Option, Some, None, option_map, option_and_then, slice_get}
 use Rattle.mpicall.specs.declared.call.Peer.TheVariants.{Rank}
 use Rattle.mpicall.specs.declared.call.Call.{Call}
 use Rattle.mpicall.specs.declared.call.Call.TheVariants.{Probe}
@@ -31,6 +31,22 @@ probed_by groups recording rank place e = numbered groups recording SendHalf e (
 
 abbrev pub probed_of : Groups → Lists → ℕ → ℕ → Option (ℕ × ℕ)
 probed_of groups recording rank place = option_and_then (probed_by groups recording rank place) (probed_envelope_at groups recording rank place)
+
+-- some call of a rank is a probe
+pub record HasProbe (groups : Groups) (recording : Lists) : Type 0 where
+  pub rank : ℕ
+  pub place : ℕ
+  pub envelope : Envelope
+  pub is_probe : probed_envelope_at groups recording rank place ≡ Some envelope
+
+-- no call sees a send as a probe does
+abbrev pub NoneIsProbed : Groups → Lists → Type 0
+NoneIsProbed groups recording = (rank place : ℕ) → probed_of groups recording rank place ≡ None
+
+-- an answer whether there are probes
+abbrev pub HasProbesIf : Bool → Groups → Lists → Type 0
+HasProbesIf true groups recording = HasProbe groups recording
+HasProbesIf false groups recording = NoneIsProbed groups recording
 
 -- the place of the receive of the envelope that stands next behind the rank's place, or at it
 abbrev pub receive_behind : Groups → Lists → ℕ → ℕ → Envelope → Option ℕ

@@ -1,4 +1,4 @@
--- The probes of a recording with their seats.
+-- The probes of a recording with their seats: the seat of a probe is looked up by its rank and place.
 use Rattle.std.specs.Prelude.{◌≡◌, ◌<◌, ℕ, Bool, Option, Some, IsSome}
 use Rattle.indexmap.specs.IndexMap.{get, spare}
 use Rattle.mpicall.specs.declared.call.Call.{Call}
@@ -20,7 +20,10 @@ seat_in probing rank place = get is_same_spot probing.seats (record { rank = ran
 abbrev pub IsProbing : Groups → Lists → Probing → Type 0
 IsProbing groups recording probing = AreSeated groups recording (seat_in probing) probing.probes
 
--- the call can be put in without memory
-pub record HasRoomToProbe (probing : Probing) (call : Call) : Type 0 where
-  pub sits : HasRoomToSit probing.probes call
-  pub spot : IsSome (probed_message call) → 0 < spare probing.seats
+-- a further probe can be put in without memory
+abbrev pub HasRoomForProbe : Probing → Type 0
+HasRoomForProbe probing = HasRoomToSit probing.probes × (0 < spare probing.seats)
+
+-- and so can the call, which may be a probe
+abbrev pub HasRoomToProbe : Probing → Call → Type 0
+HasRoomToProbe probing call = IsSome (probed_message call) → HasRoomForProbe probing

@@ -142,9 +142,7 @@ pub(crate) fn peers_exist(head: &Head, call: &Call) -> bool
         Call::Send { comm, dest, .. } | Call::Isend { comm, dest, .. } => is_peer(head, comm, dest),
         Call::Recv { comm, source, .. }
         | Call::Irecv { comm, source, .. }
-        | Call::Probe { comm, source, .. } => {
-            is_peer(head, comm, source)
-        }
+        | Call::Probe { comm, source, .. } => is_peer(head, comm, source),
         Call::Sendrecv {
             comm,
             dest,

@@ -6,7 +6,8 @@ ghost use Rattle.mpicall.specs.Ending.{ends_list};
 ghost use Rattle.pairing.specs.Envelopes.{message_of};
 ghost use Rattle.pairing.specs.Requests.{starts};
 ghost use Rattle.pairing.specs.Waves.{joins};
-ghost use Rattle.pairing.specs.Pairs.{kind_of, mode_of};
+ghost use Rattle.pairing.specs.Pairs.{bytes_told, kind_of, mode_of};
+ghost use Rattle.pairing.specs.Probed.{probed_message};
 ghost use Rattle.pairing.specs.Packed.{request_of, unpack};
 ghost use Rattle.pairing.specs.declared.packed.Entry.{Entry};
 
@@ -111,10 +112,16 @@ impl Packed {
     {
         match *self {
             Packed::Send {
-                comm, dest, tag, ..
+                comm,
+                dest,
+                tag,
+                ..
             }
             | Packed::Isend {
-                comm, dest, tag, ..
+                comm,
+                dest,
+                tag,
+                ..
             }
             | Packed::Sendrecv {
                 comm,
@@ -136,7 +143,10 @@ impl Packed {
         match *self {
             Packed::Recv { comm, source, tag }
             | Packed::Irecv {
-                comm, source, tag, ..
+                comm,
+                source,
+                tag,
+                ..
             }
             | Packed::Sendrecv {
                 comm,
@@ -163,12 +173,39 @@ impl Packed {
         }
     }
 
+    /// The message that the call probes for. None where it is no probe, and where its source is
+    /// MPI_PROC_NULL.
+    pub(crate) fn probed(&self) -> Option<Message>
+        ensures { (entries : List Entry) (starts : List ℕ) → result ≡ probed_message (unpack entries starts self.now) }
+    {
+        match *self {
+            Packed::Probe { comm, source, tag } => match source.peer() {
+                Peer::Rank(peer) => Some(Message { comm, peer, tag }),
+                Peer::Null => None,
+            },
+            _ => None,
+        }
+    }
+
     /// The mode of a call that sends, blocking or not; None for every other call, MPI_Sendrecv too.
     pub(crate) fn mode(&self) -> Option<Mode>
         ensures { (entries : List Entry) (starts : List ℕ) → result ≡ mode_of (unpack entries starts self.now) }
     {
         match *self {
             Packed::Send { mode, .. } | Packed::Isend { mode, .. } => Some(mode),
+            _ => None,
+        }
+    }
+
+    /// How many bytes a call that sends tells of its message; None where it tells none, and for every other
+    /// call.
+    pub(crate) fn bytes(&self) -> Option<u32>
+        ensures { (entries : List Entry) (starts : List ℕ) → result ≡ bytes_told (unpack entries starts self.now) }
+    {
+        match *self {
+            Packed::Send { bytes, .. }
+            | Packed::Isend { bytes, .. }
+            | Packed::Sendrecv { bytes, .. } => bytes.bytes(),
             _ => None,
         }
     }

@@ -53,21 +53,96 @@ pub(crate) fn pack(call: &Call, first: u32, starts: &[u32]) -> Packed
     ensures end { end_of result ≤ first + length (listed_starts call.now starts.now) }
 {
     match *call {
-        Call::Send { mode, comm, dest, tag, bytes } => Packed::Send { mode, comm, dest: PackedPeer::of(dest), tag, bytes: PackedBytes::of(bytes) },
-        Call::Recv { comm, source, tag } => Packed::Recv { comm, source: PackedPeer::of(source), tag },
-        Call::Isend { req, mode, comm, dest, tag, bytes } => Packed::Isend { mode, comm, dest: PackedPeer::of(dest), req, tag, bytes: PackedBytes::of(bytes) },
-        Call::Irecv { req, comm, source, tag } => Packed::Irecv { req, comm, source: PackedPeer::of(source), tag },
-        Call::Sendrecv { comm, dest, send_tag, source, recv_tag, bytes } => Packed::Sendrecv { comm, dest: PackedPeer::of(dest), source: PackedPeer::of(source), send_tag, recv_tag, bytes: PackedBytes::of(bytes) },
+        Call::Send {
+            mode,
+            comm,
+            dest,
+            tag,
+            bytes,
+        } => Packed::Send {
+            mode,
+            comm,
+            dest: PackedPeer::of(dest),
+            tag,
+            bytes: PackedBytes::of(bytes),
+        },
+        Call::Recv { comm, source, tag } => Packed::Recv {
+            comm,
+            source: PackedPeer::of(source),
+            tag,
+        },
+        Call::Isend {
+            req,
+            mode,
+            comm,
+            dest,
+            tag,
+            bytes,
+        } => Packed::Isend {
+            mode,
+            comm,
+            dest: PackedPeer::of(dest),
+            req,
+            tag,
+            bytes: PackedBytes::of(bytes),
+        },
+        Call::Irecv {
+            req,
+            comm,
+            source,
+            tag,
+        } => Packed::Irecv {
+            req,
+            comm,
+            source: PackedPeer::of(source),
+            tag,
+        },
+        Call::Sendrecv {
+            comm,
+            dest,
+            send_tag,
+            source,
+            recv_tag,
+            bytes,
+        } => Packed::Sendrecv {
+            comm,
+            dest: PackedPeer::of(dest),
+            source: PackedPeer::of(source),
+            send_tag,
+            recv_tag,
+            bytes: PackedBytes::of(bytes),
+        },
         Call::Coll { comm, kind } => Packed::Coll { comm, kind },
         Call::Icoll { req, comm, kind } => Packed::Icoll { req, comm, kind },
         Call::Dup { comm, new } => Packed::Dup { comm, new },
-        Call::Split { comm, colour, key, new } => Packed::Split { comm, colour, key, new },
-        Call::Probe { comm, source, tag } => Packed::Probe { comm, source: PackedPeer::of(source), tag },
+        Call::Split {
+            comm,
+            colour,
+            key,
+            new,
+        } => Packed::Split {
+            comm,
+            colour,
+            key,
+            new,
+        },
+        Call::Probe { comm, source, tag } => Packed::Probe {
+            comm,
+            source: PackedPeer::of(source),
+            tag,
+        },
         Call::Finalize => Packed::Finalize,
         Call::Open => Packed::Open,
         Call::Wait { .. } => Packed::Wait { start: starts[0] },
-        Call::Waitall { ref reqs } => Packed::Waitall { first, count: count(reqs) },
-        Call::Waitany { chosen, ref reqs } => Packed::Waitany { chosen, first, count: count(reqs) },
+        Call::Waitall { ref reqs } => Packed::Waitall {
+            first,
+            count: count(reqs),
+        },
+        Call::Waitany { chosen, ref reqs } => Packed::Waitany {
+            chosen,
+            first,
+            count: count(reqs),
+        },
     }
 }
 
@@ -127,20 +202,99 @@ pub(crate) fn unpack(packed: &Packed, entries: &[Entry], starts: &[u32]) -> Call
     ensures { result ≡ unpack entries.now starts.now packed.now }
 {
     match *packed {
-        Packed::Send { mode, comm, dest, tag, bytes } => Call::Send { mode, comm, dest: dest.peer(), tag, bytes: bytes.bytes() },
-        Packed::Recv { comm, source, tag } => Call::Recv { comm, source: source.peer(), tag },
-        Packed::Isend { mode, comm, dest, req, tag, bytes } => Call::Isend { req, mode, comm, dest: dest.peer(), tag, bytes: bytes.bytes() },
-        Packed::Irecv { req, comm, source, tag } => Call::Irecv { req, comm, source: source.peer(), tag },
-        Packed::Sendrecv { comm, dest, source, send_tag, recv_tag, bytes } => Call::Sendrecv { comm, dest: dest.peer(), send_tag, source: source.peer(), recv_tag, bytes: bytes.bytes() },
+        Packed::Send {
+            mode,
+            comm,
+            dest,
+            tag,
+            bytes,
+        } => Call::Send {
+            mode,
+            comm,
+            dest: dest.peer(),
+            tag,
+            bytes: bytes.bytes(),
+        },
+        Packed::Recv { comm, source, tag } => Call::Recv {
+            comm,
+            source: source.peer(),
+            tag,
+        },
+        Packed::Isend {
+            mode,
+            comm,
+            dest,
+            req,
+            tag,
+            bytes,
+        } => Call::Isend {
+            req,
+            mode,
+            comm,
+            dest: dest.peer(),
+            tag,
+            bytes: bytes.bytes(),
+        },
+        Packed::Irecv {
+            req,
+            comm,
+            source,
+            tag,
+        } => Call::Irecv {
+            req,
+            comm,
+            source: source.peer(),
+            tag,
+        },
+        Packed::Sendrecv {
+            comm,
+            dest,
+            source,
+            send_tag,
+            recv_tag,
+            bytes,
+        } => Call::Sendrecv {
+            comm,
+            dest: dest.peer(),
+            send_tag,
+            source: source.peer(),
+            recv_tag,
+            bytes: bytes.bytes(),
+        },
         Packed::Coll { comm, kind } => Call::Coll { comm, kind },
         Packed::Icoll { req, comm, kind } => Call::Icoll { req, comm, kind },
         Packed::Dup { comm, new } => Call::Dup { comm, new },
-        Packed::Split { comm, colour, key, new } => Call::Split { comm, colour, key, new },
-        Packed::Probe { comm, source, tag } => Call::Probe { comm, source: source.peer(), tag },
+        Packed::Split {
+            comm,
+            colour,
+            key,
+            new,
+        } => Call::Split {
+            comm,
+            colour,
+            key,
+            new,
+        },
+        Packed::Probe { comm, source, tag } => Call::Probe {
+            comm,
+            source: source.peer(),
+            tag,
+        },
         Packed::Finalize => Call::Finalize,
         Packed::Open => Call::Open,
-        Packed::Wait { start } => Call::Wait { req: req_at(entries, start) },
-        Packed::Waitall { first, count } => Call::Waitall { reqs: reqs_at(entries, part(starts, first, count)) },
-        Packed::Waitany { chosen, first, count } => Call::Waitany { chosen, reqs: reqs_at(entries, part(starts, first, count)) },
+        Packed::Wait { start } => Call::Wait {
+            req: req_at(entries, start),
+        },
+        Packed::Waitall { first, count } => Call::Waitall {
+            reqs: reqs_at(entries, part(starts, first, count)),
+        },
+        Packed::Waitany {
+            chosen,
+            first,
+            count,
+        } => Call::Waitany {
+            chosen,
+            reqs: reqs_at(entries, part(starts, first, count)),
+        },
     }
 }

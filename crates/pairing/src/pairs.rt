@@ -5,7 +5,7 @@ ghost use Rattle.mpigroup.specs.Groups.{ranks_of};
 ghost use Rattle.pairing.specs.Limits.{most_calls};
 ghost use Rattle.pairing.specs.Recordings.{Lists, calls_of, appended, is_ended, has_end};
 ghost use Rattle.pairing.specs.Partners.{partner_of};
-ghost use Rattle.pairing.specs.Probed.{probed_of, seen_from};
+ghost use Rattle.pairing.specs.Probed.{probed_of, seen_from, HasProbesIf};
 ghost use Rattle.pairing.specs.Seated.{IsProbing};
 ghost use Rattle.pairing.specs.Requests.{started_of};
 ghost use Rattle.pairing.specs.Waves.{wave_of, member_of};
@@ -19,12 +19,12 @@ ghost use Rattle.pairing.specs.declared.added.PairFault.TheVariants.{Refused};
 
 use crate::added::{Added, Joined, PairFault};
 use crate::envelope::{Envelope, Half, rank_of_half};
-use crate::probes::probed_envelope;
 use crate::fault::CallFault;
 use crate::first_fault::first_fault;
 use crate::matches::Halves;
 use crate::meeting::meet_halves;
 use crate::notes::Notes;
+use crate::probes::received_by;
 use crate::probing::Probing;
 use crate::request::waits_for;
 use crate::stored::StoredCall;
@@ -235,7 +235,7 @@ fn probed_of(
     ensures { result ≡ probed_of head.now (recording_of notes.now.lists) rank place }
 {
     let note = notes.get(rank, place)?;
-    let envelope = probed_envelope(head, rank, &note.record())?;
+    let envelope = received_by(head, rank, note.probed()?)?;
     let seat = probing.seat(rank, place)?;
     seen_from(head, notes, tables, rank, probing.followed(seat), &envelope)
 }
@@ -324,6 +324,8 @@ impl Pairs {
         ensures fault { IfErr result (TellsFault (fault_of self.old.groups rank (calls_of self.old.recording rank) call.now)) }
         ensures err { OnErr result (self.new ≡ self.old) }
     {
+        // The ranks are few, so the calls are, and each probe's seat has a number of 32 bits.
+        let _ranks = self.head.ranks();
         if let Some(fault) = next_fault(&self.head, &self.notes, &self.tables, rank, call) {
             return Err(PairFault::Refused(fault));
         }
@@ -341,7 +343,7 @@ impl Pairs {
                     call,
                     &halves,
                 );
-                self.probing.put(&self.head, rank, place, call);
+                self.probing.put(&self.head, rank, place, call, &halves);
                 Ok(())
             }
             Err(_) => Err(PairFault::Memory),
@@ -412,6 +414,14 @@ impl Pairs {
         ensures { result ≡ partner_of self.now.groups self.now.recording rank place half }
     {
         partner_of(&self.head, &self.notes, rank, place, half)
+    }
+
+    /// Whether there is a probe among the calls, whose source is not MPI_PROC_NULL. Where this answers false,
+    /// `probed` answers None everywhere.
+    pub fn has_probes(&self) -> bool
+        ensures { HasProbesIf result self.now.groups self.now.recording }
+    {
+        self.probing.has_probes()
     }
 
     /// The rank and place of the send that the probe at `place` sees; None where no probe stands there, and

@@ -1,15 +1,21 @@
 //! Seats of probes.
+//!
+//! A probe (MPI 4.0, section 3.8) sees the send that the next receive of its envelope behind it takes. So what
+//! is kept of a probe is where that receive stands, once it was called; before that the probe sees the first
+//! send that has no receive. Probes of one envelope between two of its receives see the same, and share a
+//! seat, which the next receive fills. No send is ever noted here.
 
-ghost use Rattle.std.specs.Prelude.{◌≡◌, ◌<◌, ◌^◌, ◌++◌, ◌∷◌, ℕ, [], length, replicate, Option, None, Some, OnOk, slice_get, slice_set, option_map, option_and_then, is_some, vec_len, vec_capacity};
-ghost use Rattle.std.specs.Option.{option_map_or};
-ghost use Rattle.indexmap.specs.IndexMap.{spare};
-ghost use Rattle.mpigroup.specs.Groups.{Groups};
-ghost use Rattle.pairing.specs.Recordings.{Lists, calls_of, appended};
-ghost use Rattle.pairing.specs.Probed.{probed_message, probed_envelope};
-ghost use Rattle.pairing.specs.Probing.{open_at, seat_for, Seating, seated, AreSeated, HasRoomToSit, Sits, Follows};
+ghost use Rattle.std.specs.Prelude.{◌≡◌, ◌<◌, ◌^◌, ℕ, [], length, replicate, Option, None, Some, OnOk, IfSome, slice_get, slice_set, option_map, option_and_then, is_some};
+ghost use Rattle.mpigroup.specs.Groups.{Groups, group_rank_of};
+ghost use Rattle.pairing.specs.declared.envelope.Half.TheVariants.{Recv as RecvHalf};
+ghost use Rattle.pairing.specs.Envelopes.{envelope_by};
+ghost use Rattle.pairing.specs.Recordings.{Lists};
+ghost use Rattle.pairing.specs.Probed.{probed_message, probed_envelope, HasProbesIf};
+ghost use Rattle.pairing.specs.Probing.{seat_for, Seating, AreSeated, HasRoomToSit, Sits, Follows};
 
+use crate::envelope::{Envelope, Half, Message, envelope_by};
+use crate::matches::Numbered;
 use indexmap::IndexMap;
-use crate::envelope::{Envelope, Half, Message, envelope_of};
 use mpicall::call::{Call, Peer};
 use mpicall::record::Record;
 use mpigroup::head::Head;
@@ -36,24 +42,27 @@ pub(crate) fn is_probe(call: &Record) -> bool
     probed_message(call.as_call()).is_some()
 }
 
-/// Its envelope.
+/// The envelope of a message that the rank receives, by what its call says of it. None where the rank is not
+/// in the communicator's group.
+pub(crate) fn received_by(head: &Head, rank: u16, message: Message) -> Option<Envelope>
+    ensures { result ≡ option_map (envelope_by RecvHalf message) (group_rank_of head.now message.comm rank) }
+{
+    let own = head.group_rank(message.comm, rank)?;
+    Some(envelope_by(Half::Recv, message, own))
+}
+
+/// The envelope of the message that the rank's call probes for.
 pub(crate) fn probed_envelope(head: &Head, rank: u16, call: &Record) -> Option<Envelope>
     ensures { result ≡ probed_envelope head.now rank call.now }
 {
     let message = probed_message(call.as_call())?;
-    let own = head.group_rank(message.comm, rank)?;
-    Some(Envelope {
-        comm: message.comm,
-        source: message.peer,
-        dest: own,
-        tag: message.tag,
-    })
+    received_by(head, rank, message)
 }
 
-/// The seats of probes.
+/// The seats of probes: there are no more of them than calls.
 #[derive(Drop)]
 pub(crate) struct Probes {
-    // The place of the receive behind each seat's probes, once it came.
+    // For each seat the place of the next receive behind its probes, once it was called.
     seats: Vec<Option<u32>>,
     // The seat of each envelope that was probed since its last receive.
     unfilled: IndexMap<Envelope, u32>,
@@ -70,63 +79,39 @@ impl Probes {
         }
     }
 
-    fn reserve_seat(&mut self) -> Result<(), AllocError>
-        ensures kept { (groups : Groups) (recording : Lists) (seating : Seating) → AreSeated groups recording seating self.old → AreSeated groups recording seating self.new }
-        ensures ok { OnOk result ((0 < spare self.new.unfilled) × (vec_len self.new.seats < vec_capacity self.new.seats) × (vec_len self.new.seats < 2 ^ 32)) }
+    /// Whether some probe has a seat.
+    pub(crate) fn has_probes(&self) -> bool
+        ensures { (groups : Groups) (recording : Lists) (seating : Seating) → AreSeated groups recording seating self.now → HasProbesIf result groups recording }
     {
-        if self.seats.len() > u32::MAX as usize {
-            return Err(AllocError);
-        }
+        !self.seats.is_empty()
+    }
+
+    /// Makes room for a further probe. The seats stay as they are.
+    pub(crate) fn reserve(&mut self) -> Result<(), AllocError>
+        ensures kept { (groups : Groups) (recording : Lists) (seating : Seating) → AreSeated groups recording seating self.old → AreSeated groups recording seating self.new }
+        ensures ok { OnOk result (HasRoomToSit self.new) }
+    {
         self.seats.reserve(1)?;
         self.unfilled.reserve(1)
     }
 
-    /// Makes room for what the call probes for, if it is a probe.
-    pub(crate) fn reserve(&mut self, call: &Record) -> Result<(), AllocError>
-        ensures kept { (groups : Groups) (recording : Lists) (seating : Seating) → AreSeated groups recording seating self.old → AreSeated groups recording seating self.new }
-        ensures ok { OnOk result (HasRoomToSit self.new call.now) }
+    /// A further probe of the envelope sits down, on the seat that is answered. It takes no memory.
+    pub(crate) fn sit(&mut self, envelope: Envelope) -> u32
+        requires room { HasRoomToSit self.old }
+        requires few { length self.old.seats.items < 2 ^ 32 }
+        ensures seat { result ≡ seat_for self.old envelope }
+        ensures sits { Sits self.old self.new envelope }
     {
-        match probed_message(call.as_call()) {
-            Some(_) => self.reserve_seat(),
-            None => Ok(()),
+        if let Some(seat) = self.unfilled.get(&envelope).copied() {
+            return seat;
         }
+        let seat = self.seats.len() as u32;
+        self.seats.push_reserved(None);
+        self.unfilled.insert(envelope, seat).unwrap();
+        seat
     }
 
-    /// The seat of the envelope's next probe.
-    fn seat_for(&self, envelope: &Envelope) -> u32
-        requires { vec_len self.now.seats < 2 ^ 32 }
-        ensures { result ≡ seat_for self.now envelope.now }
-    {
-        match self.unfilled.get(envelope) {
-            Some(seat) => *seat,
-            None => self.seats.len() as u32,
-        }
-    }
-
-    /// The seat of the rank's next call, if it is a probe.
-    pub(crate) fn seat_of(&self, head: &Head, rank: u16, call: &Record) -> Option<u32>
-        requires { HasRoomToSit self.now call.now }
-        ensures { result ≡ option_map (seat_for self.now) (probed_envelope head.now rank call.now) }
-    {
-        match probed_envelope(head, rank, call) {
-            Some(envelope) => Some(self.seat_for(&envelope)),
-            None => None,
-        }
-    }
-
-    fn sit(&mut self, envelope: Envelope)
-        requires unfilled { 0 < spare self.old.unfilled }
-        requires room { vec_len self.old.seats < vec_capacity self.old.seats }
-        requires few { vec_len self.old.seats < 2 ^ 32 }
-        ensures { Sits self.old self.new envelope }
-    {
-        if self.unfilled.get(&envelope).is_none() {
-            let seat = self.seats.len() as u32;
-            self.seats.push_reserved(None);
-            self.unfilled.insert(envelope, seat).unwrap();
-        }
-    }
-
+    /// Notes at the seat where the next receive stands.
     fn fill(&mut self, seat: u32, place: u32)
         ensures seats { self.new.seats.items ≡ slice_set self.old.seats.items seat (Some place) }
         ensures unfilled { self.new.unfilled ≡ self.old.unfilled }
@@ -136,6 +121,7 @@ impl Probes {
         }
     }
 
+    /// The envelope's next receive stands at the place: it fills the seat of the probes since the last one.
     fn follow(&mut self, envelope: Envelope, place: u32)
         ensures { Follows self.old self.new envelope place }
     {
@@ -144,23 +130,20 @@ impl Probes {
         }
     }
 
-    /// Puts in the rank's next call, at its place.
-    pub(crate) fn put(&mut self, head: &Head, rank: u16, place: u32, call: &Record)
-        requires { HasRoomToSit self.old call.now }
-        ensures { (recording : Lists) (seating : Seating) → AreSeated head.now recording seating self.old → rank < length recording →
-            place ≡ length (calls_of recording rank) →
-            AreSeated head.now (appended recording rank call.now) (seated seating rank place (option_map (seat_for self.old) (probed_envelope head.now rank call.now))) self.new }
+    /// The same for the half of a call that may receive nothing.
+    pub(crate) fn receive(&mut self, half: &Option<Numbered>, place: u32)
+        ensures none { half.now ≡ None → self.new ≡ self.old }
+        ensures some { IfSome half.now (λ own. Follows self.old self.new own.envelope place) }
     {
-        match probed_envelope(head, rank, call) {
-            Some(envelope) => self.sit(envelope),
-            None => match envelope_of(head, rank, Half::Recv, call) {
-                Some(envelope) => self.follow(envelope, place),
-                None => {}
-            },
+        if self.unfilled.is_empty() {
+            return;
+        }
+        if let Some(own) = half {
+            self.follow(own.envelope, place);
         }
     }
 
-    /// The place of the receive behind the probes of a seat.
+    /// The place of the next receive behind the probes of a seat; None where it was not called yet.
     pub(crate) fn followed(&self, seat: u32) -> Option<u32>
         ensures { result ≡ option_and_then (λ (o : Option ℕ). o) (slice_get self.now.seats.items seat) }
     {

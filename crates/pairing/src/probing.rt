@@ -1,13 +1,18 @@
-//! Which probes there are, and where the receives stand that come behind them.
+//! The probes of a recording, each with its seat: a table beside those of `tables`, of which the notes, the
+//! packed calls and the lists of pending halves know nothing. All room is made before a call is put in.
 
-ghost use Rattle.std.specs.Prelude.{◌≡◌, ◌<◌, ℕ, [], Some, None, Option, length, replicate, option_map, option_and_then, slice_get, OnOk};
-ghost use Rattle.indexmap.specs.IndexMap.{spare};
+ghost use Rattle.std.specs.Prelude.{◌≡◌, ◌<◌, ◌^◌, ℕ, [], Some, Option, length, replicate, option_map, option_and_then, slice_get, OnOk};
 ghost use Rattle.mpigroup.specs.Groups.{Groups};
+ghost use Rattle.pairing.specs.declared.envelope.Half.TheVariants.{Recv as RecvHalf};
+ghost use Rattle.pairing.specs.Envelopes.{envelope_of};
 ghost use Rattle.pairing.specs.Recordings.{Lists, calls_of, appended};
-ghost use Rattle.pairing.specs.Probing.{seated};
-ghost use Rattle.pairing.specs.Seated.{seat_in, IsProbing, HasRoomToProbe};
+ghost use Rattle.pairing.specs.Probed.{HasProbesIf};
+ghost use Rattle.pairing.specs.Probing.{seat_for, seated, Sits};
+ghost use Rattle.pairing.specs.Seated.{seat_in, IsProbing, HasRoomForProbe, HasRoomToProbe};
 
-use crate::probes::{Probes, is_probe};
+use crate::envelope::Envelope;
+use crate::matches::Halves;
+use crate::probes::{Probes, is_probe, probed_envelope};
 use indexmap::IndexMap;
 use mpicall::record::Record;
 use mpigroup::head::Head;
@@ -45,6 +50,13 @@ impl Probing {
         self.seats.get(&Spot { rank, place }).copied()
     }
 
+    /// Whether there are probes.
+    pub(crate) fn has_probes(&self) -> bool
+        ensures { (groups : Groups) (recording : Lists) → IsProbing groups recording self.now → HasProbesIf result groups recording }
+    {
+        self.probes.has_probes()
+    }
+
     /// The place of the receive behind the probes of a seat.
     pub(crate) fn followed(&self, seat: u32) -> Option<u32>
         ensures { result ≡ option_and_then (λ (o : Option ℕ). o) (slice_get self.now.probes.seats.items seat) }
@@ -52,12 +64,13 @@ impl Probing {
         self.probes.followed(seat)
     }
 
-    fn reserve_spot(&mut self, call: &Record) -> Result<(), AllocError>
+    /// Makes room for a further probe. The table says the same after it.
+    fn reserve_seat(&mut self) -> Result<(), AllocError>
         ensures kept { (groups : Groups) (recording : Lists) → IsProbing groups recording self.old → IsProbing groups recording self.new }
-        ensures ok { OnOk result (HasRoomToProbe self.new call.now) }
+        ensures ok { OnOk result (HasRoomForProbe self.new) }
     {
         self.seats.reserve(1)?;
-        self.probes.reserve(call)
+        self.probes.reserve()
     }
 
     /// Makes room for the call, if it is a probe. The table says the same after it.
@@ -66,32 +79,34 @@ impl Probing {
         ensures ok { OnOk result (HasRoomToProbe self.new call.now) }
     {
         if is_probe(call) {
-            self.reserve_spot(call)
+            self.reserve_seat()
         } else {
             Ok(())
         }
     }
 
-    /// Notes the seat of a probe.
-    fn note(&mut self, rank: u16, place: u32, seat: u32, call: &Record)
-        requires { 0 < spare self.old.seats }
-        ensures probes { self.new.probes ≡ self.old.probes }
-        ensures seats { (r p : ℕ) → seat_in self.new r p ≡ seated (seat_in self.old) rank place (Some seat) r p }
+    /// Puts in the probe at a place.
+    fn probe(&mut self, rank: u16, place: u32, envelope: Envelope)
+        requires room { HasRoomForProbe self.old }
+        requires few { length self.old.probes.seats.items < 2 ^ 32 }
+        ensures probes { Sits self.old.probes self.new.probes envelope }
+        ensures seats { (r p : ℕ) → seat_in self.new r p ≡ seated (seat_in self.old) rank place (Some (seat_for self.old.probes envelope)) r p }
     {
-        let _call = call;
+        let seat = self.probes.sit(envelope);
         self.seats.insert(Spot { rank, place }, seat).unwrap();
     }
 
-    /// Puts in the rank's next call, at its place. It takes no memory.
-    pub(crate) fn put(&mut self, head: &Head, rank: u16, place: u32, call: &Record)
-        requires { HasRoomToProbe self.old call.now }
+    /// Puts in the rank's next call, at its place, with the halves that it has. It takes no memory.
+    pub(crate) fn put(&mut self, head: &Head, rank: u16, place: u32, call: &Record, halves: &Halves)
+        requires room { HasRoomToProbe self.old call.now }
+        requires few { length self.old.probes.seats.items < 2 ^ 32 }
+        requires received { option_map (λ half. half.envelope) halves.now.recv ≡ envelope_of head.now rank RecvHalf call.now }
         ensures { (recording : Lists) → IsProbing head.now recording self.old → rank < length recording →
             place ≡ length (calls_of recording rank) → IsProbing head.now (appended recording rank call.now) self.new }
     {
-        let seat = self.probes.seat_of(head, rank, call);
-        self.probes.put(head, rank, place, call);
-        if let Some(seat) = seat {
-            self.note(rank, place, seat, call);
+        match probed_envelope(head, rank, call) {
+            Some(envelope) => self.probe(rank, place, envelope),
+            None => self.probes.receive(&halves.recv, place),
         }
     }
 }
