@@ -1,11 +1,11 @@
 //! Calls of all ranks, added one by one, with what each means for the others.
 
-ghost use Rattle.std.specs.Prelude.{◌≡◌, ◌<◌, ◌≤◌, ℕ, [], length, replicate, slice_get, option_map, None, Err, IfOk, IfErr, IfNone, IfSome, OnOk, OnErr, true};
+ghost use Rattle.std.specs.Prelude.{◌≡◌, ◌<◌, ◌≤◌, ℕ, [], length, replicate, slice_get, option_map, None, Err, IfOk, IfErr, IfNone, IfSome, OnOk, OnErr, false, true};
 ghost use Rattle.mpigroup.specs.Groups.{ranks_of};
 ghost use Rattle.pairing.specs.Limits.{most_calls};
 ghost use Rattle.pairing.specs.Recordings.{Lists, calls_of, appended, is_ended, has_end};
 ghost use Rattle.pairing.specs.Partners.{partner_of};
-ghost use Rattle.pairing.specs.Probed.{probed_of, seen_from, HasProbesIf};
+ghost use Rattle.pairing.specs.Probed.{probed_of, seen_from, NoneIsProbed};
 ghost use Rattle.pairing.specs.Seated.{IsProbing};
 ghost use Rattle.pairing.specs.Requests.{started_of};
 ghost use Rattle.pairing.specs.Waves.{wave_of, member_of};
@@ -419,7 +419,7 @@ impl Pairs {
     /// Whether there is a probe among the calls, whose source is not MPI_PROC_NULL. Where this answers false,
     /// `probed` answers None everywhere.
     pub fn has_probes(&self) -> bool
-        ensures { HasProbesIf result self.now.groups self.now.recording }
+        ensures { result ≡ false → NoneIsProbed self.now.groups self.now.recording }
     {
         self.probing.has_probes()
     }

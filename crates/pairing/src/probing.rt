@@ -1,12 +1,12 @@
 //! The probes of a recording, each with its seat: a table beside those of `tables`, of which the notes, the
 //! packed calls and the lists of pending halves know nothing. All room is made before a call is put in.
 
-ghost use Rattle.std.specs.Prelude.{◌≡◌, ◌<◌, ◌^◌, ℕ, [], Some, Option, length, replicate, option_map, option_and_then, slice_get, OnOk};
+ghost use Rattle.std.specs.Prelude.{◌≡◌, ◌<◌, ◌^◌, ℕ, true, false, [], Some, Option, length, replicate, option_map, option_and_then, slice_get, OnOk};
 ghost use Rattle.mpigroup.specs.Groups.{Groups};
 ghost use Rattle.pairing.specs.declared.envelope.Half.TheVariants.{Recv as RecvHalf};
 ghost use Rattle.pairing.specs.Envelopes.{envelope_of};
 ghost use Rattle.pairing.specs.Recordings.{Lists, calls_of, appended};
-ghost use Rattle.pairing.specs.Probed.{HasProbesIf};
+ghost use Rattle.pairing.specs.Probed.{HasProbe, NoneIsProbed};
 ghost use Rattle.pairing.specs.Probing.{seat_for, seated, Sits};
 ghost use Rattle.pairing.specs.Seated.{seat_in, IsProbing, HasRoomForProbe, HasRoomToProbe};
 
@@ -52,7 +52,8 @@ impl Probing {
 
     /// Whether there are probes.
     pub(crate) fn has_probes(&self) -> bool
-        ensures { (groups : Groups) (recording : Lists) → IsProbing groups recording self.now → HasProbesIf result groups recording }
+        ensures none { (groups : Groups) (recording : Lists) → IsProbing groups recording self.now → result ≡ false → NoneIsProbed groups recording }
+        ensures some { (groups : Groups) (recording : Lists) → IsProbing groups recording self.now → result ≡ true → HasProbe groups recording }
     {
         self.probes.has_probes()
     }
