@@ -101,8 +101,8 @@ pub fits : (reading : Reading) (groups : Groups) (recording : Lists) → IsClose
 fits reading groups recording closed = record {
   for_stuck = λ rank index peer place there.
       let among : Among (At peer place) (unmet_of reading groups recording rank) =
-          in_among (At peer place) (unmet_of reading groups recording rank)
-          (index, ap (λ (needs : List Need). slice_get needs index) (sym (waits_are reading groups recording (stands_of reading groups recording) rank)) ∙ there) in
+      in_among (At peer place) (unmet_of reading groups recording rank)
+      (index, ap (λ (needs : List Need). slice_get needs index) (sym (waits_are reading groups recording (stands_of reading groups recording) rank)) ∙ there) in
       let awaited = awaited_stands reading groups recording closed rank peer place among in
       stands_stuck reading groups recording peer awaited.is_rank awaited.stands;
   left_open = opened_stands reading groups recording closed;

@@ -7,7 +7,7 @@ ghost use Rattle.mpigroup.specs.Groups.{group_of};
 ghost use Rattle.pairing.specs.Recordings.{calls_of};
 ghost use Rattle.pairing.specs.Requests.{completes};
 ghost use Rattle.pairing.specs.Pairs.{completed_of};
-ghost use Rattle.moves.specs.Needs.{world_of, half_need, half_needs, member_need, wave_needs, operation_needs, operation_needs_at, request_needs, needs_of_call, needs_of};
+ghost use Rattle.moves.specs.Needs.{world_of, half_need, half_needs, probe_need, probe_needs, member_need, wave_needs, operation_needs, operation_needs_at, request_needs, needs_of_call, needs_of};
 ghost use Rattle.waitgraph.specs.Stuck.{comes_before, with_need, with_needs, is_unmet, unmet_at, UnmetNeedsAreToldInOrder, StuckRanksWaitForStuckRanks};
 
 use moves::need::{Need, is_met};
@@ -157,6 +157,40 @@ fn add_half_needs(
     }
 }
 
+/// What a probe needs for its message.
+fn probe_need(pairs: &Pairs, rank: u16, place: u32, message: &Message) -> Need
+    ensures { result ≡ probe_need pairs.now.groups pairs.now.recording rank place message.now }
+{
+    match pairs.probed(rank, place) {
+        Some((other, there)) => Need::At {
+            rank: other,
+            place: there,
+        },
+        None => Need::Lacking {
+            rank: world_of(pairs.head(), message.comm, message.peer),
+        },
+    }
+}
+
+fn add_probe_needs(
+    unmet: &mut Unmet,
+    pairs: &Pairs,
+    stands: &[u32],
+    rank: u16,
+    place: u32,
+    call: &StoredCall<'_>,
+) -> Result<(), AllocError>
+    ensures { OnOk result (unmet.new ≡ with_needs unmet.old (filter (is_unmet stands.now) (probe_needs pairs.now.groups pairs.now.recording rank place call.now))) }
+{
+    match call.probed() {
+        Some(message) => {
+            let need = probe_need(pairs, rank, place, &message);
+            add_unmet(unmet, stands, need)
+        }
+        None => Ok(()),
+    }
+}
+
 /// What a wave needs of a member, by its rank in the group and its rank of the world.
 fn member_need(pairs: &Pairs, comm: u16, wave: u32, g: u16, member: u16) -> Need
     requires { slice_get (group_of pairs.now.groups comm) g ≡ Some member }
@@ -228,6 +262,7 @@ fn add_operation_needs(
         add_half_needs(unmet, pairs, stands, rank, place, Half::Send, call)?;
     }
     add_half_needs(unmet, pairs, stands, rank, place, Half::Recv, call)?;
+    add_probe_needs(unmet, pairs, stands, rank, place, call)?;
     add_wave_needs(unmet, pairs, stands, rank, place)
 }
 

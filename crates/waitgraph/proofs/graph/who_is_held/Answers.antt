@@ -8,8 +8,12 @@ use Rattle.waitgraph.proofs.graph.who_is_held.Goals as goal
 
 pub causes_in-requires : goal.causes_in-requires
 causes_in-requires c =
-    omega (arith, c.requires.few, ap (λ (walks : Walks). length walks) (c.deref-6.ensures.value ∙ c.in_ok-walks.ensures)
-    ∙ length-map-range_with_len (onward_of (set_of c.deref-4.result.now) c.args.standings.now c.args.waits.now) 0 (length c.args.standings.now))
+    omega (
+      arith,
+      c.requires.few,
+      ap (λ (walks : Walks). length walks) (c.deref-6.ensures.value ∙ c.in_ok-walks.ensures)
+          ∙ length-map-range_with_len (onward_of (set_of c.deref-4.result.now) c.args.standings.now c.args.waits.now) 0 (length c.args.standings.now),
+    )
 
 pub returns-clause-causes : goal.returns-clause-causes
 returns-clause-causes c =
