@@ -125,7 +125,7 @@ lists_are left groups sources lists traces one all tells =
     same_lists lists traces (omega arith) (λ k trace at. (each_accepted left groups sources lists traces one all tells k trace at).0)
 
 pub verdict_over : {I : Type 0} (left : I → Option (List ℕ)) (reading : Reading) (groups : Groups) (sources : List (Source I)) (lists : Lists) (verdict : Verdict) (traces : List Trace) → length sources ≡ ranks_of groups → AcceptsAll groups (told_by left sources) lists → verdict ≡ verdict_of reading groups lists → ((verdict ≡ Hang) ↔ SomeRankIsStuck reading groups lists) → Tells left sources traces → IsVerdictOver reading groups traces verdict
-verdict_over left groups sources lists verdict traces one all value hang tells =
+verdict_over left reading groups sources lists verdict traces one all value hang tells =
     let each = each_accepted left groups sources lists traces one all tells in
     let same : lists ≡ lists_of traces = lists_are left groups sources lists traces one all tells in
     let both = cannot_end reading groups lists in
@@ -136,8 +136,8 @@ verdict_over left groups sources lists verdict traces one all value hang tells =
     }
 
 -- the report of the recording is that of the run
-pub report_over : {I : Type 0} (left : I → Option (List ℕ)) (reading : Reading) (groups : Groups) (sources : List (Source I)) (lists : Lists) (format : Format) (verdict : Verdict) → length sources ≡ ranks_of groups → AcceptsAll groups (told_by left sources) lists → verdict ≡ verdict_of reading groups lists → IsReportOver left sources groups format verdict (report_of format groups lists)
-report_over left groups sources lists format verdict one all value = record {
+pub report_over : {I : Type 0} (left : I → Option (List ℕ)) (reading : Reading) (groups : Groups) (sources : List (Source I)) (lists : Lists) (format : Format) (verdict : Verdict) → length sources ≡ ranks_of groups → AcceptsAll groups (told_by left sources) lists → verdict ≡ verdict_of reading groups lists → IsReportOver left sources reading groups format verdict (report_of format reading groups lists)
+report_over left reading groups sources lists format verdict one all value = record {
   recording = lists;
   accepted = all;
   of_traces = λ traces tells. lists_are left groups sources lists traces one all tells;
@@ -172,31 +172,37 @@ refused_over left groups sources (Refused refusal) traces one refuses tells =
     }
 
 -- the answer of a report is that of the run
-pub run_verdict : {I : Type 0} (left : I → Option (List ℕ)) (groups told : Groups) (sources : List (Source I)) (lists : Lists) (answer : Result Verdict RunFault) → length sources ≡ ranks_of groups → told ≡ groups → AcceptsAll groups (told_by left sources) lists → IfOk answer (λ verdict. verdict ≡ verdict_of told lists) → IfOk answer (λ verdict. (verdict ≡ Hang) ↔ SomeRankIsStuck told lists) → IfOk answer (λ verdict. (traces : List Trace) → Tells left sources traces → IsVerdictOver reading groups traces verdict)
-run_verdict left groups told sources lists (Err fault) one same all value hang = tt
-run_verdict left groups told sources lists (Ok verdict) one same all value hang = λ traces tells.
-    verdict_over left groups sources lists verdict traces one all (value ∙ ap (λ (gs : Groups). verdict_of gs lists) same)
-    (subst (λ (gs : Groups). (verdict ≡ Hang) ↔ SomeRankIsStuck gs lists) same hang) tells
+pub run_verdict : {I : Type 0} (left : I → Option (List ℕ)) (reading known : Reading) (groups told : Groups) (sources : List (Source I)) (lists : Lists) (answer : Result Verdict RunFault) → length sources ≡ ranks_of groups → known ≡ reading → told ≡ groups → AcceptsAll groups (told_by left sources) lists → IfOk answer (λ verdict. verdict ≡ verdict_of known told lists) → IfOk answer (λ verdict. (verdict ≡ Hang) ↔ SomeRankIsStuck known told lists) → IfOk answer (λ verdict. (traces : List Trace) → Tells left sources traces → IsVerdictOver reading groups traces verdict)
+run_verdict left reading known groups told sources lists (Err fault) one alike same all value hang = tt
+run_verdict left reading known groups told sources lists (Ok verdict) one alike same all value hang = λ traces tells.
+    let both : (verdict ≡ verdict_of reading groups lists) × ((verdict ≡ Hang) ↔ SomeRankIsStuck reading groups lists) =
+    subst (λ (gs : Groups). (verdict ≡ verdict_of reading gs lists) × ((verdict ≡ Hang) ↔ SomeRankIsStuck reading gs lists)) same
+    (subst (λ (r : Reading). (verdict ≡ verdict_of r told lists) × ((verdict ≡ Hang) ↔ SomeRankIsStuck r told lists)) alike (value, hang)) in
+    verdict_over left reading groups sources lists verdict traces one all both.0 both.1 tells
 
-pub run_written : {I O : Type 0} (left : I → Option (List ℕ)) (written : O → Option (List ℕ)) (failures : O → ℕ) (groups told : Groups) (sources : List (Source I)) (lists : Lists) (format : Format) (old new : O) (answer : Result Verdict RunFault) → length sources ≡ ranks_of groups → told ≡ groups → AcceptsAll groups (told_by left sources) lists → IfOk answer (λ verdict. verdict ≡ verdict_of told lists) → OnOk answer (Appends (written old) (written new) (report_of format told lists)) → IfOk answer (WritesReport left written failures sources groups format old new)
-run_written left written failures groups told sources lists format old new (Err fault) one same all value report = tt
-run_written left written failures groups told sources lists format old new (Ok verdict) one same all value report = (
-  report_of format groups lists,
-  report_over left groups sources lists format verdict one all (value ∙ ap (λ (gs : Groups). verdict_of gs lists) same),
-  subst (λ (gs : Groups). Appends (written old) (written new) (report_of format gs lists)) same report,
-)
+pub run_written : {I O : Type 0} (left : I → Option (List ℕ)) (written : O → Option (List ℕ)) (failures : O → ℕ) (reading known : Reading) (groups told : Groups) (sources : List (Source I)) (lists : Lists) (format : Format) (old new : O) (answer : Result Verdict RunFault) → length sources ≡ ranks_of groups → known ≡ reading → told ≡ groups → AcceptsAll groups (told_by left sources) lists → IfOk answer (λ verdict. verdict ≡ verdict_of known told lists) → OnOk answer (Appends (written old) (written new) (report_of format known told lists)) → IfOk answer (WritesReport left written failures sources reading groups format old new)
+run_written left written failures reading known groups told sources lists format old new (Err fault) one alike same all value report = tt
+run_written left written failures reading known groups told sources lists format old new (Ok verdict) one alike same all value report =
+    let both : (verdict ≡ verdict_of reading groups lists) × Appends (written old) (written new) (report_of format reading groups lists) =
+    subst (λ (gs : Groups). (verdict ≡ verdict_of reading gs lists) × Appends (written old) (written new) (report_of format reading gs lists)) same
+    (subst (λ (r : Reading). (verdict ≡ verdict_of r told lists) × Appends (written old) (written new) (report_of format r told lists)) alike (value, report)) in (
+      report_of format reading groups lists,
+      report_over left reading groups sources lists format verdict one all both.0,
+      both.1,
+    )
 
-pub run_output : {I O : Type 0} (left : I → Option (List ℕ)) (written : O → Option (List ℕ)) (failures : O → ℕ) (groups told : Groups) (sources : List (Source I)) (lists : Lists) (format : Format) (old new : O) (answer : Result Verdict RunFault) → length sources ≡ ranks_of groups → told ≡ groups → AcceptsAll groups (told_by left sources) lists → IfErr answer (LeavesReport written failures old new (report_of format told lists)) → IfErr answer (LeavesOutput left written failures sources groups format old new)
-run_output left written failures groups told sources lists format old new (Ok verdict) one same all leaves = tt
-run_output left written failures groups told sources lists format old new (Err Memory) one same all leaves = leaves
-run_output left written failures groups told sources lists format old new (Err (Unproved rank)) one same all leaves = absurd leaves
-run_output left written failures groups told sources lists format old new (Err (Refused refusal)) one same all leaves = absurd leaves
-run_output left written failures groups told sources lists format old new (Err Write) one same all leaves = (
+pub run_output : {I O : Type 0} (left : I → Option (List ℕ)) (written : O → Option (List ℕ)) (failures : O → ℕ) (reading known : Reading) (groups told : Groups) (sources : List (Source I)) (lists : Lists) (format : Format) (old new : O) (answer : Result Verdict RunFault) → length sources ≡ ranks_of groups → known ≡ reading → told ≡ groups → AcceptsAll groups (told_by left sources) lists → IfErr answer (LeavesReport written failures old new (report_of format known told lists)) → IfErr answer (LeavesOutput left written failures sources reading groups format old new)
+run_output left written failures reading known groups told sources lists format old new (Ok verdict) one alike same all leaves = tt
+run_output left written failures reading known groups told sources lists format old new (Err Memory) one alike same all leaves = leaves
+run_output left written failures reading known groups told sources lists format old new (Err (Unproved rank)) one alike same all leaves = absurd leaves
+run_output left written failures reading known groups told sources lists format old new (Err (Refused refusal)) one alike same all leaves = absurd leaves
+run_output left written failures reading known groups told sources lists format old new (Err Write) one alike same all leaves = (
   (
     verdict_of reading groups lists,
-    report_of format groups lists,
-    report_over left groups sources lists format (verdict_of reading groups lists) one all refl,
-    subst (λ (gs : Groups). AppendsBeginning (written old) (written new) (report_of format gs lists)) same leaves.0,
+    report_of format reading groups lists,
+    report_over left reading groups sources lists format (verdict_of reading groups lists) one all refl,
+    subst (λ (gs : Groups). AppendsBeginning (written old) (written new) (report_of format reading gs lists)) same
+        (subst (λ (r : Reading). AppendsBeginning (written old) (written new) (report_of format r told lists)) alike leaves.0),
   ),
   leaves.1,
 )
@@ -233,10 +239,10 @@ pub close_refuses : {I : Type 0} (left : I → Option (List ℕ)) (may_stop : �
 close_refuses left may_stop groups sources fault told is one refuses traces tells =
     rw is (refused_over left groups sources (of_close fault) traces one (feeds_refuse left may_stop groups sources fault one refuses) tells)
 
-close_leaves : {I O : Type 0} (left : I → Option (List ℕ)) (written : O → Option (List ℕ)) (failures : O → ℕ) (groups : Groups) (sources : List (Source I)) (format : Format) (out : O) (fault : CloseFault) → LeavesOutput left written failures sources groups format out out (of_close fault)
-close_leaves left written failures groups sources format out close.Memory = refl
-close_leaves left written failures groups sources format out (close.Unproved rank) = refl
-close_leaves left written failures groups sources format out (close.Refused refusal) = refl
+close_leaves : {I O : Type 0} (left : I → Option (List ℕ)) (written : O → Option (List ℕ)) (failures : O → ℕ) (reading : Reading) (groups : Groups) (sources : List (Source I)) (format : Format) (out : O) (fault : CloseFault) → LeavesOutput left written failures sources reading groups format out out (of_close fault)
+close_leaves left written failures reading groups sources format out close.Memory = refl
+close_leaves left written failures reading groups sources format out (close.Unproved rank) = refl
+close_leaves left written failures reading groups sources format out (close.Refused refusal) = refl
 
-pub close_output : {I O : Type 0} (left : I → Option (List ℕ)) (written : O → Option (List ℕ)) (failures : O → ℕ) (groups : Groups) (sources : List (Source I)) (format : Format) (out : O) (fault : CloseFault) (told : RunFault) → told ≡ of_close fault → LeavesOutput left written failures sources groups format out out told
-close_output left written failures groups sources format out fault told is = rw is (close_leaves left written failures groups sources format out fault)
+pub close_output : {I O : Type 0} (left : I → Option (List ℕ)) (written : O → Option (List ℕ)) (failures : O → ℕ) (reading : Reading) (groups : Groups) (sources : List (Source I)) (format : Format) (out : O) (fault : CloseFault) (told : RunFault) → told ≡ of_close fault → LeavesOutput left written failures sources reading groups format out out told
+close_output left written failures reading groups sources format out fault told is = rw is (close_leaves left written failures reading groups sources format out fault)

@@ -23,19 +23,19 @@ pub record IsReportOver {I : Type 0} (left : I → Option (List ℕ)) (sources :
   pub recording : Lists
   pub accepted : AcceptsAll groups (told_by left sources) recording
   pub of_traces : (traces : List Trace) → Tells left sources traces → recording ≡ lists_of traces
-  pub report_is : report ≡ report_of format groups recording
+  pub report_is : report ≡ report_of format reading groups recording
   pub verdict_is : verdict ≡ verdict_of reading groups recording
 
--- what a run leaves on its output, by its sources, its head and the format of its report
-module _ {I O : Type 0} (left : I → Option (List ℕ)) (written : O → Option (List ℕ)) (failures : O → ℕ) (sources : List (Source I)) (groups : Groups) (format : Format) (old new : O) where
+-- what a run leaves on its output, by its sources, its reading, its head and the format of its report
+module _ {I O : Type 0} (left : I → Option (List ℕ)) (written : O → Option (List ℕ)) (failures : O → ℕ) (sources : List (Source I)) (reading : Reading) (groups : Groups) (format : Format) (old new : O) where
   -- the report stands behind what was there
   abbrev pub WritesReport : Verdict → Type 0
-  WritesReport verdict = (report : List ℕ) × IsReportOver left sources groups format verdict report × Appends (written old) (written new) report
+  WritesReport verdict = (report : List ℕ) × IsReportOver left sources reading groups format verdict report × Appends (written old) (written new) report
 
   -- a beginning of the report stands behind what was there, and one more write failed
   abbrev pub FailsToReport : Type 0
   FailsToReport =
-      ((verdict : Verdict) × (report : List ℕ) × IsReportOver left sources groups format verdict report × AppendsBeginning (written old) (written new) report)
+      ((verdict : Verdict) × (report : List ℕ) × IsReportOver left sources reading groups format verdict report × AppendsBeginning (written old) (written new) report)
       × (failures new ≡ one_more (failures old))
 
   -- but for a write that failed, the output is as it was
