@@ -61,11 +61,11 @@ ShowsTheLast collector = IsShown collector.publisher
 
 -- the stands of now: where the ranks stand over what is kept
 abbrev pub stands_now : Collector → Stands
-stands_now collector = record { places = places_of (stands_of (kept collector).groups (kept collector).recording) }
+stands_now collector = record { places = places_of (stands_of (kept collector).reading (kept collector).groups (kept collector).recording) }
 
 -- each publication is a state that some run over what is kept passes
 abbrev pub PublishesRuns : Collector → Type 0
-PublishesRuns collector = ArePassed (kept collector).groups (kept collector).recording (published collector)
+PublishesRuns collector = ArePassed (kept collector).reading (kept collector).groups (kept collector).recording (published collector)
 
 -- nothing was received, and no more is kept
 pub record TakesNothing (old new : Collector) : Type 0 where
