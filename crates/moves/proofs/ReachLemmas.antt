@@ -16,7 +16,7 @@ use Rattle.pairing.specs.declared.envelope.Message.{Message}
 use Rattle.pairing.specs.Recordings.{Lists, calls_of, appended, GoesOn}
 use Rattle.pairing.specs.Envelopes.{message_of, other_half, has_envelope}
 use Rattle.pairing.specs.Partners.{number_of, partner_of}
-use Rattle.pairing.specs.Probed.{probed_message, probed_envelope, probed_envelope_at, probed_by, probed_of}
+use Rattle.pairing.specs.Probed.{probed_message, probed_envelope_at, probed_by, probed_of}
 use Rattle.pairing.specs.Pairs.{completed_of}
 use Rattle.pairing.specs.Waves.{does_join, wave_of}
 use Rattle.pairing.proofs.PartnerLemmas.{and_then_parts, numbered_parts, partner_parts, partner_from, partners_are_mutual}

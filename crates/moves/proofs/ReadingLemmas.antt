@@ -1,16 +1,15 @@
 -- A reading that is no laxer holds ranks back.
-use Rattle.std.proofs.Common.{◌≡◌, ℕ, ◌≤◌, Bool, true, false, ◌&&◌, ◌||◌, nat_le, Option, Some, None, is_some, if◌then◌else◌, List, [], ◌∷◌, ◌++◌, flat_map, length, get_or, refl, sym, ap, subst, ◌∙◌, ⊎_elim, arith}
+use Rattle.std.proofs.Common.{◌≡◌, ℕ, Bool, true, false, ◌&&◌, ◌||◌, Option, Some, None, is_some, if◌then◌else◌, List, [], ◌∷◌, ◌++◌, flat_map, length, get_or, refl, sym, ◌∙◌, arith}
 use Rattle.std.specs.List.{slice_get, list_all}
 use Rattle.std.specs.Option.{option_map_or}
 use Rattle.std.proofs.lemmas.List.Folds.{list_all-append}
-use Rattle.std.proofs.lemmas.Bool.{cases_Bool, false≢true, leb-true, le-leb}
+use Rattle.std.proofs.lemmas.Bool.{false≢true, leb-true, le-leb}
 use Rattle.mpicall.specs.declared.call.Call.{Call}
 use Rattle.mpigroup.specs.Groups.{Groups}
 use Rattle.pairing.specs.declared.envelope.Half.TheVariants.{Send as SendHalf, Recv as RecvHalf}
 use Rattle.pairing.specs.Recordings.{Lists, calls_of}
 use Rattle.pairing.specs.Requests.{starts, completes, started_before}
 use Rattle.moves.specs.declared.need.Need.{Need}
-use Rattle.moves.specs.declared.need.Need.TheVariants.{At, Lacking}
 use Rattle.moves.specs.Runs.{State, Rule, Steps, start, IsReached}
 use Rattle.moves.specs.Readings.{is_eager, is_no_laxer}
 use Rattle.moves.specs.Needs.{half_needs, probe_needs, wave_needs, is_buffered, bytes_of, sends_freely, operation_needs, operation_needs_at, request_needs, needs_of_call, needs_of, is_met, may_pass, can_move}
