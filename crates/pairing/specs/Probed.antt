@@ -1,4 +1,6 @@
--- Probes (MPI 4.0, section 3.8): a probe waits for the message that the next receive of its envelope would take.
+-- Probes (MPI 4.0, section 3.8): MPI_Probe returns once there is a message that a receive with its source, tag
+-- and communicator would take at that point, and takes nothing itself. So a probe sees the send that the next
+-- receive of its envelope gets. It is no receive: a message has halves of sends and receives alone.
 use Rattle.std.specs.Prelude.{◌≡◌, ℕ, Bool, true, false, Option, Some, None, option_map, option_and_then, slice_get}
 use Rattle.mpicall.specs.declared.call.Peer.TheVariants.{Rank}
 use Rattle.mpicall.specs.declared.call.Call.{Call}
@@ -12,7 +14,8 @@ use Rattle.pairing.specs.Envelopes.{envelope_by, rank_of_half}
 use Rattle.pairing.specs.Partners.{number_of, numbered, places_of, partner_of}
 use Rattle.pairing.specs.Matched.{pending_of}
 
--- the message that a probe looks for; none where its source is MPI_PROC_NULL
+-- the message that a call probes for; none where it is no probe, and where its source is MPI_PROC_NULL, which
+-- returns at once
 abbrev pub probed_message : Call → Option Message
 probed_message (Probe comm (Rank source) tag) = Some (record { comm = comm; peer = source; tag = tag })
 probed_message _ = None
@@ -22,17 +25,21 @@ abbrev pub probed_envelope : Groups → ℕ → Call → Option Envelope
 probed_envelope groups rank call =
     option_and_then (λ m. option_map (envelope_by RecvHalf m) (group_rank_of groups m.comm rank)) (probed_message call)
 
+-- the same of the rank's call at a place
 abbrev pub probed_envelope_at : Groups → Lists → ℕ → ℕ → Option Envelope
 probed_envelope_at groups recording rank place = option_and_then (probed_envelope groups rank) (slice_get (calls_of recording rank) place)
 
--- the send of the envelope with the number of the receives before the place: the one that the next receive takes
+-- the rank and place of the send of the envelope whose number is that of its receives before the place: the one
+-- that the next receive takes
 abbrev pub probed_by : Groups → Lists → ℕ → ℕ → Envelope → Option (ℕ × ℕ)
 probed_by groups recording rank place e = numbered groups recording SendHalf e (number_of groups recording rank RecvHalf e place)
 
+-- the rank and place of the send that the probe at a place sees; none where no probe stands there, and where there
+-- is no such send yet
 abbrev pub probed_of : Groups → Lists → ℕ → ℕ → Option (ℕ × ℕ)
 probed_of groups recording rank place = option_and_then (probed_by groups recording rank place) (probed_envelope_at groups recording rank place)
 
--- some call of a rank is a probe
+-- some rank's call is a probe for a message
 pub record HasProbe (groups : Groups) (recording : Lists) : Type 0 where
   pub rank : ℕ
   pub place : ℕ
@@ -43,7 +50,7 @@ pub record HasProbe (groups : Groups) (recording : Lists) : Type 0 where
 abbrev pub NoneIsProbed : Groups → Lists → Type 0
 NoneIsProbed groups recording = (rank place : ℕ) → probed_of groups recording rank place ≡ None
 
--- an answer whether there are probes
+-- an answer whether there are probes; where there are none, no call sees a send
 abbrev pub HasProbesIf : Bool → Groups → Lists → Type 0
 HasProbesIf true groups recording = HasProbe groups recording
 HasProbesIf false groups recording = NoneIsProbed groups recording

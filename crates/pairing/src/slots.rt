@@ -1,4 +1,5 @@
-//! A peer in 2 bytes, and the bytes of a message in 4.
+//! A peer in 2 bytes, and the bytes of a message in 4, so that a packed call stays small. Contracts see the peer
+//! and the bytes themselves.
 
 ghost use Rattle.std.specs.Prelude.{◌≡◌, ◌<◌, IfSome};
 ghost use Rattle.pairing.specs.Slots.{no_rank, no_bytes, FitsPeer};
@@ -6,7 +7,7 @@ ghost use Rattle.pairing.specs.Slots.{no_rank, no_bytes, FitsPeer};
 use mpicall::call::Peer;
 use std::marker::Model;
 
-/// A peer in 2 bytes.
+/// A peer in 2 bytes: a rank of a group, or MPI_PROC_NULL.
 #[derive(Clone, Copy)]
 pub(crate) struct PackedPeer {
     rank: u16,
@@ -49,7 +50,7 @@ impl PackedPeer {
     }
 }
 
-/// The bytes of a message, or none, in 4 bytes.
+/// The bytes of a message, where they are told, in 4 bytes.
 #[derive(Clone, Copy)]
 pub(crate) struct PackedBytes {
     count: u32,
