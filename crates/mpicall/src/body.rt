@@ -9,8 +9,8 @@ use crate::fields::Fields;
 use crate::limits::{GREATEST_REQUEST, MOST_REQUESTS};
 use crate::number::read_number;
 use crate::reading::{
-    next_number, next_request, read_blocking, read_dup, read_probe, read_sendrecv, read_split, read_started,
-    read_wait,
+    next_number, next_request, read_blocking, read_dup, read_probe, read_sendrecv, read_split,
+    read_started, read_wait,
 };
 use crate::reqs::Reqs;
 use crate::word::{Word, word_of};

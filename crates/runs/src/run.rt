@@ -160,7 +160,9 @@ where
 {
     match by {
         ReadBy::Threads { stack_size } => {
-            outcome_in_threads(alloc, head, reading, sources, capacity, gate, rt, stack_size)
+            outcome_in_threads(
+                alloc, head, reading, sources, capacity, gate, rt, stack_size,
+            )
         }
         ReadBy::Turns => outcome_in_turns(alloc, head, reading, sources, gate, rt),
     }
