@@ -1,4 +1,4 @@
--- The trace of a text that ends without a fault has its `finalize` as its last record.
+-- The trace of a text that ends without a fault has its end record as its last.
 use Rattle.std.proofs.Common.{◌≡◌, ℕ, suc, ◌-◌, Bool, true, false, cond, List, [], ◌∷◌, length, Result, Ok, Err, refl, arith}
 use Rattle.mpicall.specs.Ending.{ends_list}
 use Rattle.mpicall.specs.Reading.{record_of_line}

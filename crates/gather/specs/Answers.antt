@@ -21,9 +21,9 @@ abbrev pub fault_of_end : List Call → End → Option (ℕ × RankFault)
 fault_of_end calls Sealed = if is_ended calls then None else Some (length calls, OfSource NoFinalize)
 fault_of_end calls (Torn fault) = Some (length calls, OfSource fault)
 
--- Law: a text whose trace ends without a fault has its `finalize` as its last record.
-abbrev pub ASealedTextHasItsFinalize : Type 0
-ASealedTextHasItsFinalize = (text : List ℕ) → (trace_of text).end ≡ Sealed → is_ended (trace_of text).records ≡ true
+-- Law: a text whose trace ends without a fault has its end record as its last.
+abbrev pub ASealedTextHasItsEndRecord : Type 0
+ASealedTextHasItsEndRecord = (text : List ℕ) → (trace_of text).end ≡ Sealed → is_ended (trace_of text).records ≡ true
 
 -- the fault of a call at a place, or else what comes behind it
 abbrev pub or_behind : ℕ → Option CallFault → Option (ℕ × RankFault) → Option (ℕ × RankFault)
@@ -59,7 +59,7 @@ refusal_of groups traces = refusal_from groups 0 traces
 abbrev pub lists_of : List Trace → Lists
 lists_of traces = map (λ trace. trace.records) traces
 
--- some rank comes to its Finalize in no run over the recording
+-- some rank comes to its end record in no run over the recording
 pub record SomeRankCannotEnd (reading : Reading) (groups : Groups) (recording : Lists) : Type 0 where
   pub rank : ℕ
   pub is_rank : rank < length recording

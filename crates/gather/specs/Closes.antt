@@ -11,7 +11,8 @@ use Rattle.gather.specs.declared.outcome.CloseFault.{CloseFault}
 use Rattle.gather.specs.declared.outcome.CloseFault.TheVariants.{Memory, Unproved, Refused}
 use Rattle.gather.specs.declared.outcome.Outcome.{Outcome}
 
--- no rank has a fault over the traces, and the outcome is that of their records, which are closed
+-- no rank has a fault over the traces, and the outcome is that of their records: each rank's once, in order, and none
+-- behind its end record, which is its last
 pub record IsOutcomeOver (reading : Reading) (groups : Groups) (traces : List Trace) (outcome : Outcome) : Type 0 where
   pub no_refusal : refusal_of groups traces ≡ None
   pub same_reading : outcome.analyser.reading ≡ reading

@@ -229,7 +229,8 @@ impl Collector {
 
     /// Takes all that was sent, by the receipts of the ranks' feeds, and answers what comes of it. `Memory`
     /// comes first, where memory was wanted; then `Unproved`, for the lowest rank without a receipt; then
-    /// `Refused`, for the lowest rank that has a fault.
+    /// `Refused`, for the lowest rank that has a fault. An outcome has each rank's calls once, in their order, and
+    /// none behind the rank's end record.
     pub fn close(self, receipts: Vec<Option<Receipt>>) -> Result<Outcome, CloseFault>
         requires { AreReceiptsOf (rings self) receipts.items }
         ensures answer { Closes (kept self).reading (kept self).groups receipts.items result }

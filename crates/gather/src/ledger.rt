@@ -176,7 +176,8 @@ impl Ledger {
     }
 
     /// What comes of the run once all of its records were taken. `Memory` comes first, where memory was wanted;
-    /// then `Refused`, for the lowest rank that has a fault.
+    /// then `Refused`, for the lowest rank that has a fault. An outcome has each rank's calls once, in their order,
+    /// and none behind the rank's end record.
     pub fn conclude(self, alloc: Global) -> Result<Outcome, CloseFault>
         requires { self.wanted ≡ false → refusal_kept self ≡ None → IsLawful self.groups self.recording → IsClosed self.recording }
         ensures { Concludes self result }
