@@ -1,9 +1,10 @@
 //! The report of a run over the sources of its ranks, which are read at once.
 
-ghost use Rattle.std.specs.Prelude.{◌≡◌, ◌↔◌, ◌<◌, ◌≤◌, ℕ, [], List, length, map, vec_len, vec_capacity, IfOk, IfErr, OnOk};
+ghost use Rattle.std.specs.Prelude.{◌≡◌, ◌↔◌, ◌<◌, ◌≤◌, ℕ, false, [], List, length, map, vec_len, vec_capacity, IfOk, IfErr, OnOk};
 ghost use Rattle.mpicall.specs.Trace.{Trace as TraceValue};
 ghost use Rattle.mpigroup.specs.Groups.{ranks_of};
-ghost use Rattle.waitgraph.specs.Verdicts.{verdict_of, SomeRankIsStuck};
+ghost use Rattle.waitgraph.specs.Held.{is_some_left_open};
+ghost use Rattle.waitgraph.specs.Verdicts.{verdict_of, SomeRankIsHeld, SomeRankIsStuck};
 ghost use Rattle.std.specs.Io.KnownBytes.{Appends};
 ghost use Rattle.reports.specs.Reports.{report_of};
 ghost use Rattle.runs.specs.Told.{AreFresh, Tells, IsVerdictOver, RefusesOver};
@@ -187,7 +188,8 @@ fn report<O: Output>(
     out: &mut O,
 ) -> Result<Verdict, RunFault>
     ensures value { IfOk result (λ verdict. verdict ≡ verdict_of outcome.now.analyser.reading outcome.now.analyser.groups outcome.now.analyser.recording) }
-    ensures hang { IfOk result (λ verdict. (verdict ≡ Verdict.Hang) ↔ SomeRankIsStuck outcome.now.analyser.reading outcome.now.analyser.groups outcome.now.analyser.recording) }
+    ensures hang { IfOk result (λ verdict. (verdict ≡ Verdict.Hang) ↔ SomeRankIsHeld outcome.now.analyser.reading outcome.now.analyser.groups outcome.now.analyser.recording) }
+    ensures closed { IfOk result (λ verdict. is_some_left_open outcome.now.analyser.recording ≡ false → (verdict ≡ Verdict.Hang) ↔ SomeRankIsStuck outcome.now.analyser.reading outcome.now.analyser.groups outcome.now.analyser.recording) }
     ensures written { OnOk result (Appends (O.written out.old) (O.written out.new) (report_of format outcome.now.analyser.reading outcome.now.analyser.groups outcome.now.analyser.recording)) }
     ensures no_write_failed { OnOk result (O.failures out.new ≡ O.failures out.old) }
     ensures fault { IfErr result (LeavesReport O.written O.failures out.old out.new (report_of format outcome.now.analyser.reading outcome.now.analyser.groups outcome.now.analyser.recording)) }
@@ -200,9 +202,9 @@ fn report<O: Output>(
 }
 
 /// Reads the sources of all ranks at once, in the way that is asked for and each to its end, and writes the report
-/// of the run: whether some rank can't reach its Finalize, whatever way the run goes, who waits for whom and
-/// why, and what else is wrong. The first fault of the lowest rank that has one is told instead, and then
-/// nothing is written.
+/// of the run by the given reading: whether some rank can't reach its Finalize, whatever way the run goes, who waits
+/// for whom and why, and what else is wrong. Where some list was left open it is whether some rank is held. The
+/// first fault of the lowest rank that has one is told instead, and then nothing is written.
 ///
 /// There is one source a rank, in rank order; none of them may have been asked before. At most `capacity`
 /// records of a rank that a thread reads wait to be judged. Before each record is read the gate is asked. All
