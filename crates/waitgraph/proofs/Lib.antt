@@ -20,3 +20,5 @@ pub mod WalkingLemmas
 pub mod AlikeLemmas
 pub mod PlainLemmas
 pub mod VerdictLemmas
+pub mod OntoLemmas
+pub mod StaysLemmas

@@ -126,7 +126,7 @@ needs_before reading groups recording rank is_rank present =
     not_all : (groups : Groups) (recording : Lists) (rank : ℕ) (call : Call) (all : Bool) → slice_get (calls_of recording rank) (slice_index (stands_of reading groups recording) rank) ≡ Some call → ends_list call ≡ false → (may_pass (slice_get (calls_of recording rank) (slice_index (stands_of reading groups recording) rank)) && all) ≡ false → all ≡ false
     not_all groups recording rank call all present not_finalize h = rw (present, not_finalize) at h
 
-calls_past : (recording : Lists) (rank place : ℕ) → place < length (calls_of recording rank) → rank < length recording
+pub calls_past : (recording : Lists) (rank place : ℕ) → place < length (calls_of recording rank) → rank < length recording
 calls_past recording rank place within =
     ⊎_elim
     (λ (is_rank : rank < length recording). is_rank)

@@ -35,12 +35,12 @@ use Rattle.waitgraph.proofs.WalkLaws.{IsWaiting, GoesOn, waiting_is_rank, next_i
 use Rattle.waitgraph.proofs.ListedLemmas.{each_is_an_end, none_twice}
 
 -- a table over the ranks, asked for one of them
-in_table : {X : Type 0} (f : ℕ → X) (n rank : ℕ) (d : X) → rank < n → slice_get (map f (range_with_len 0 n)) rank ≡ Some (f rank)
+pub in_table : {X : Type 0} (f : ℕ → X) (n rank : ℕ) (d : X) → rank < n → slice_get (map f (range_with_len 0 n)) rank ≡ Some (f rank)
 in_table f n rank d within =
     slice_get-get_or (map f (range_with_len 0 n)) rank d (omega (arith, length-map-range_with_len f 0 n, within))
     ∙ ap (λ x. Some x) (get_or-map-range_with_len f 0 n rank rank d within (omega arith))
 
-past_table : {X : Type 0} (f : ℕ → X) (n rank : ℕ) → n ≤ rank → slice_get (map f (range_with_len 0 n)) rank ≡ None
+pub past_table : {X : Type 0} (f : ℕ → X) (n rank : ℕ) → n ≤ rank → slice_get (map f (range_with_len 0 n)) rank ≡ None
 past_table f n rank past = slice_get_past (map f (range_with_len 0 n)) rank (omega (arith, length-map-range_with_len f 0 n, past))
 
 -- where a rank of the recording stands

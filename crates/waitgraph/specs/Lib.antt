@@ -10,3 +10,4 @@ pub mod Comparisons
 pub mod Causes
 pub mod Graphs
 pub mod Verdicts
+pub mod Stays

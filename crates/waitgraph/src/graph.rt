@@ -8,6 +8,7 @@ ghost use Rattle.waitgraph.specs.Stuck.{is_stuck_at, stuck_at, stuck_of, unmet_o
 ghost use Rattle.waitgraph.specs.Causes.{view_of, walks_in, walks_at, causes_in, causes_of};
 ghost use Rattle.waitgraph.specs.Held.{held_at, held_of, is_some_left_open, opened_of};
 ghost use Rattle.waitgraph.specs.Loose.{are_held};
+ghost use Rattle.waitgraph.specs.Stays.{StayPut};
 ghost use Rattle.waitgraph.specs.Waits.{waits_at, needs_in};
 ghost use Rattle.waitgraph.specs.Findings.{findings_of};
 ghost use Rattle.waitgraph.specs.Verdicts.{verdict_by};
@@ -185,6 +186,7 @@ impl Graph {
         requires { IsClosed analyser.now.recording }
         ensures stuck { IfOk result (λ graph. graph.stuck ≡ stuck_of analyser.now.reading analyser.now.groups analyser.now.recording) }
         ensures held { IfOk result (λ graph. graph.held ≡ held_of analyser.now.reading analyser.now.groups analyser.now.recording) }
+        ensures stays { IfOk result (λ graph. StayPut analyser.now.reading analyser.now.groups analyser.now.recording graph.held) }
         ensures left_open { IfOk result (λ graph. graph.left_open ≡ is_some_left_open analyser.now.recording) }
         ensures unmet { IfOk result (λ graph. (rank : ℕ) → needs_in graph.waits rank ≡ unmet_of analyser.now.reading analyser.now.groups analyser.now.recording rank) }
         ensures causes { IfOk result (λ graph. graph.causes ≡ causes_of analyser.now.reading analyser.now.groups analyser.now.recording) }

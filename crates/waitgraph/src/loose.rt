@@ -4,6 +4,7 @@ ghost use Rattle.std.specs.Prelude.{◌≡◌, ◌<◌, ℕ, true, false, length
 ghost use Rattle.std.specs.List.{filter, list_all, range_with_len};
 ghost use Rattle.waitgraph.specs.Waits.{needs_in};
 ghost use Rattle.waitgraph.specs.Causes.{walks_in};
+ghost use Rattle.waitgraph.specs.Stays.{HeldRanksStay};
 ghost use Rattle.waitgraph.specs.Loose.{set_of, standing_of, is_on, loosens, are_loose, are_held, goes_on, onward, onward_by, onward_of, Sweeps, HeldRanksGoOn, TheLooseAreTheLeast};
 
 use crate::onward::Onward;
@@ -256,6 +257,12 @@ pub(crate) fn walks_in(
 /// The loose ranks are the least set that has each rank which it makes loose.
 pub fn the_loose_are_the_least()
     ensures { TheLooseAreTheLeast }
+{}
+
+/// Each held rank stands where it does, whatever calls stand in the place of the opens. It has no premise: what comes
+/// there need not be a lawful list.
+pub fn held_ranks_stay()
+    ensures { HeldRanksStay }
 {}
 
 /// The walk from a held rank goes on to a held rank, or ends at a call that is lacking for good.

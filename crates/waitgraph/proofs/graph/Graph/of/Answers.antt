@@ -1,5 +1,6 @@
 use Rattle.moves.specs.declared.reading.Reading.{Reading}
-use Rattle.std.proofs.Common.{ℕ, List, ap, ◌∙◌}
+use Rattle.std.proofs.Common.{ℕ, List, sym, ap, ◌∙◌}
+use Rattle.std.specs.List.{slice_get}
 use Rattle.mpigroup.specs.Groups.{Groups}
 use Rattle.pairing.specs.Recordings.{Lists}
 use Rattle.moves.specs.declared.need.Need.{Need}
@@ -7,6 +8,7 @@ use Rattle.moves.specs.Stands.{stands_of}
 use Rattle.waitgraph.specs.Causes.{causes_in, walks_at}
 use Rattle.waitgraph.specs.Held.{held_at, is_some_left_open}
 use Rattle.waitgraph.specs.Waits.{waits_at, needs_in}
+use Rattle.waitgraph.proofs.StaysLemmas.{held_ranks_stay}
 use Rattle.waitgraph.proofs.UnmetLemmas.{waits_are}
 use Rattle.waitgraph.proofs.graph.Graph.of.Goals as goal
 
@@ -33,6 +35,11 @@ returns-clause-held c =
     ∙ ap (λ (g : Groups). held_at reading g c.pairs.result.now.recording c.deref.result.now) c.pairs.ensures.groups
     ∙ ap (λ (r : Lists). held_at reading groups r c.deref.result.now) c.pairs.ensures.recording
     ∙ ap (λ (s : List ℕ). held_at reading groups recording s) (c.deref.ensures.value ∙ c.in_ok-stands.ensures)
+
+pub returns-clause-stays : goal.returns-clause-stays
+returns-clause-stays c later stands index rank there =
+    held_ranks_stay c.args.analyser.now.reading c.args.analyser.now.groups c.args.analyser.now.recording later stands index rank
+    (ap (λ (ranks : List ℕ). slice_get ranks index) (sym (returns-clause-held c)) ∙ there)
 
 pub returns-clause-left_open : goal.returns-clause-left_open
 returns-clause-left_open c = c.in_ok-graph.ensures.left_open ∙ ap is_some_left_open c.pairs.ensures.recording
