@@ -101,8 +101,10 @@ half_on groups first second p q rank calls place half call m onto same within pr
   where
     there : slice_get (calls_of second rank) place ≡ Some call
     there = same.call place within ∙ present
+
     lacks : half_need groups first rank place half m ≡ Lacking (world_of groups m.comm m.peer) → q (half_need groups second rank place half m) ≡ true
     lacks is = absurd (false≢true (sym (onto.none (world_of groups m.comm m.peer)) ∙ ap p (sym is) ∙ h))
+
     by_rank : (e : Envelope) → envelope_of groups rank half call ≡ Some e → (o : Option ℕ) → rank_of_half groups (other_half half) e ≡ o → q (half_need groups second rank place half m) ≡ true
     by_rank e has None none = lacks (half_nobody groups first rank place half call m e present has none)
     by_rank e has (Some k) is =
@@ -110,6 +112,7 @@ half_on groups first second p q rank calls place half call m onto same within pr
         let old = half_is groups first rank place half call m e k (number_of groups first rank half e place) present sends has is refl in
         let new = half_is groups second rank place half call m e k (number_of groups first rank half e place) there sends has is counts in
         ap q new ∙ onto.nth (has_envelope groups k (other_half half) e) k (number_of groups first rank half e place) (fails_last groups k (other_half half) e) (ap p (sym old) ∙ h)
+
     by_envelope : (o : Option Envelope) → envelope_of groups rank half call ≡ o → q (half_need groups second rank place half m) ≡ true
     by_envelope None none = lacks (half_none groups first rank place half call m present none)
     by_envelope (Some e) has = by_rank e has (rank_of_half groups (other_half half) e) refl
@@ -147,8 +150,10 @@ probe_on groups first second p q rank calls place call m onto same within presen
   where
     there : slice_get (calls_of second rank) place ≡ Some call
     there = same.call place within ∙ present
+
     lacks : probe_need groups first rank place m ≡ Lacking (world_of groups m.comm m.peer) → q (probe_need groups second rank place m) ≡ true
     lacks is = absurd (false≢true (sym (onto.none (world_of groups m.comm m.peer)) ∙ ap p (sym is) ∙ h))
+
     by_rank : (e : Envelope) → probed_envelope groups rank call ≡ Some e → (o : Option ℕ) → rank_of_half groups SendHalf e ≡ o → q (probe_need groups second rank place m) ≡ true
     by_rank e has None none = lacks (probe_nobody groups first rank place call m e present has none)
     by_rank e has (Some k) is =
@@ -156,6 +161,7 @@ probe_on groups first second p q rank calls place call m onto same within presen
         let old = probe_is groups first rank place call m e k (number_of groups first rank RecvHalf e place) present probes has is refl in
         let new = probe_is groups second rank place call m e k (number_of groups first rank RecvHalf e place) there probes has is counts in
         ap q new ∙ onto.nth (has_envelope groups k SendHalf e) k (number_of groups first rank RecvHalf e place) (fails_last groups k SendHalf e) (ap p (sym old) ∙ h)
+
     by_envelope : (o : Option Envelope) → probed_envelope groups rank call ≡ o → q (probe_need groups second rank place m) ≡ true
     by_envelope None none = lacks (probe_none groups first rank place call m present none)
     by_envelope (Some e) has = by_rank e has (rank_of_half groups SendHalf e) refl

@@ -161,10 +161,12 @@ onto_back reading groups recording later h set closed t bound = record { nth = n
   where
     s : State
     s = stands_of reading groups recording
+
     -- the need is on a rank of the set whose list was left open
     on_set : (k : ℕ) → opened_of recording k ≡ true → set k ≡ true → (o : Option ℕ) → met_or_on (stands_of reading groups recording) (opened_of recording) set (option_map_or (At k) o (Lacking k)) ≡ true
     on_set k is_open in_set None = rw (is_open, in_set) refl
     on_set k is_open in_set (Some p) = or_right (is_met (stands_of reading groups recording) (At k p)) (set k) in_set
+
     by_later : (test : Call → Bool) (k number : ℕ) (o : Option ℕ) → slice_get (places test (calls_of later k)) number ≡ o → is_met t (option_map_or (At k) o (Lacking k)) ≡ true → met_or_on (stands_of reading groups recording) (opened_of recording) set (nth_need recording test k number) ≡ true
     by_later test k number None is met = absurd (false≢true met)
     by_later test k number (Some there) is met =
@@ -186,6 +188,7 @@ onto_back reading groups recording later h set closed t bound = record { nth = n
         (as_opened recording later h k))))
         (cases_Bool (set k)))
         (back recording later h test k number there is)
+
     nth : (test : Call → Bool) (k number : ℕ) → test Open ≡ false → is_met t (nth_need later test k number) ≡ true → met_or_on (stands_of reading groups recording) (opened_of recording) set (nth_need recording test k number) ≡ true
     nth test k number fails met = by_later test k number (slice_get (places test (calls_of later k)) number) refl met
 
@@ -305,10 +308,13 @@ loose_closed reading groups recording = record { at_open = at_open'; stuck = stu
   where
     s : State
     s = stands_of reading groups recording
+
     set : Set
     set = are_loose (opened_of recording) (standings_at recording (stands_of reading groups recording)) (waits_of reading groups recording)
+
     closed : (rank : ℕ) → loosens (opened_of recording) (standings_at recording (stands_of reading groups recording)) (waits_of reading groups recording) (are_loose (opened_of recording) (standings_at recording (stands_of reading groups recording)) (waits_of reading groups recording)) rank ≡ true → are_loose (opened_of recording) (standings_at recording (stands_of reading groups recording)) (waits_of reading groups recording) rank ≡ true
     closed = (the_loose_are_the_least (opened_of recording) (standings_at recording (stands_of reading groups recording)) (waits_of reading groups recording)).0
+
     at_open' : (k : ℕ) → opened_of recording k ≡ true → get_or (stands_of reading groups recording) k 0 ≡ length (calls_of recording k) - 1 → are_loose (opened_of recording) (standings_at recording (stands_of reading groups recording)) (waits_of reading groups recording) k ≡ true
     at_open' k opened stands =
         ⊎_elim
@@ -320,6 +326,7 @@ loose_closed reading groups recording = record { at_open = at_open'; stuck = stu
         closed k (rw there refl))
         (λ (past : length recording ≤ k). absurd (false≢true (sym (past_open recording k past) ∙ opened)))
         (cases_lt k (length recording))
+
     stuck' : (k : ℕ) (call : Call) → slice_get (calls_of recording k) (get_or (stands_of reading groups recording) k 0) ≡ Some call → ends_list call ≡ false → list_all (met_or_on (stands_of reading groups recording) (opened_of recording) (are_loose (opened_of recording) (standings_at recording (stands_of reading groups recording)) (waits_of reading groups recording))) (needs_of_call reading groups recording k (get_or (stands_of reading groups recording) k 0) call) ≡ true → are_loose (opened_of recording) (standings_at recording (stands_of reading groups recording)) (waits_of reading groups recording) k ≡ true
     stuck' k call present no_end each =
         let within = calls_past recording k (get_or (stands_of reading groups recording) k 0) (slice_get_within (calls_of recording k) (get_or (stands_of reading groups recording) k 0) call present) in
@@ -368,14 +375,17 @@ parted recording later h = record {
   where
     before' : Lists
     before' = map (calls_before_open recording) (range_with_len 0 (length recording))
+
     count : length (map (calls_before_open recording) (range_with_len 0 (length recording))) ≡ length recording
     count = length-map-range_with_len (calls_before_open recording) 0 (length recording)
+
     opened_all : (rank : ℕ) → opened_of recording rank ≡ is_left_open recording rank
     opened_all rank =
         ⊎_elim
         (λ (within : rank < length recording). opened_is recording rank within)
         (λ (past : length recording ≤ rank). past_open recording rank past ∙ sym (rw (slice_get_past recording rank past) refl))
         (cases_lt rank (length recording))
+
     before_is : (rank : ℕ) → calls_of (map (calls_before_open recording) (range_with_len 0 (length recording))) rank ≡ calls_before_open recording rank
     before_is rank =
         ⊎_elim
@@ -384,6 +394,7 @@ parted recording later h = record {
         ap (λ (o : Option (List Call)). unwrap_or o []) (past_table (calls_before_open recording) (length recording) rank past)
         ∙ sym (rw (slice_get_past recording rank past) refl))
         (cases_lt rank (length recording))
+
     to_open' : (rank : ℕ) → calls_of recording rank ≡ calls_of (map (calls_before_open recording) (range_with_len 0 (length recording))) rank ++ (if opened_of recording rank then Open ∷ [] else [])
     to_open' rank =
         ⊎_elim
