@@ -33,7 +33,7 @@ pub enum CloseFault {
 pub struct Outcome {
     analyser: Analyser,
     graph: Graph,
-    ghost closed: { IsClosed analyser.recording },
+    ghost closed: { ∥ IsClosed analyser.recording ∥₁ },
     ghost waits: { IsGraphOf analyser.reading analyser.groups analyser.recording graph },
 }
 
