@@ -1,6 +1,6 @@
 -- What the ranks' answers say of a run over the traces that their sources tell.
 use Rattle.moves.specs.declared.reading.Reading.{Reading}
-use Rattle.std.proofs.Common.{◌≡◌, ◌↔◌, ℕ, ◌+◌, ◌<◌, false, List, [], ◌∷◌, length, map, sym, ap, ◌∙◌, refl, arith, zero, suc, Option, Some, None, IfSome, slice_get, subst, option_and_then, Result, Ok, Err, IfOk, IfErr, OnOk}
+use Rattle.std.proofs.Common.{◌≡◌, ◌↔◌, ℕ, ◌+◌, ◌<◌, List, [], ◌∷◌, length, map, sym, ap, ◌∙◌, refl, arith, zero, suc, Option, Some, None, IfSome, slice_get, subst, option_and_then, Result, Ok, Err, IfOk, IfErr, OnOk}
 use Rattle.std.specs.Io.KnownBytes.{Appends}
 use Rattle.mpicall.specs.Device.{AppendsBeginning}
 use Rattle.mpicall.specs.Trace.{Trace}
@@ -8,13 +8,13 @@ use Rattle.mpicall.specs.Source.{coming}
 use Rattle.mpicall.specs.declared.call.Call.{Call}
 use Rattle.mpicall.specs.declared.source.Source.{Source}
 use Rattle.mpigroup.specs.Groups.{Groups, ranks_of}
-use Rattle.pairing.specs.Recordings.{Lists, calls_of}
+use Rattle.pairing.specs.Recordings.{Lists, calls_of, IsClosed}
 use Rattle.std.proofs.lemmas.Bool.{not-true, not_from_false}
 use Rattle.moves.specs.Stands.{lowest_run_over, stands_of, is_at_end}
-use Rattle.waitgraph.specs.Held.{is_some_left_open}
 use Rattle.waitgraph.specs.Verdicts.{verdict_of, SomeRankIsHeld, SomeRankIsStuck}
 use Rattle.waitgraph.specs.declared.verdict.Verdict.{Verdict}
 use Rattle.waitgraph.specs.declared.verdict.Verdict.TheVariants.{Hang}
+use Rattle.waitgraph.proofs.VerdictLemmas.{hang_tells_of_a_held_rank, hang_tells_of_a_stuck_rank}
 use Rattle.moves.proofs.StandLemmas.{no_run_brings_a_stuck_rank_to_its_end, every_maximal_run_ends_at_the_stands}
 use Rattle.gather.specs.Answers.{fault_of_rank, refusal_or, refusal_from, lists_of, SomeRankCannotEnd}
 use Rattle.runs.specs.Told.{Tells, IsVerdictOver, RefusesOver}
@@ -125,24 +125,21 @@ lists_are left groups sources lists traces one all tells =
     let ranks = all.one_a_rank in
     same_lists lists traces (omega arith) (λ k trace at. (each_accepted left groups sources lists traces one all tells k trace at).0)
 
--- what is said of the verdict over some lists
-record TellsHang (reading : Reading) (groups : Groups) (lists : Lists) (verdict : Verdict) : Type 0 where
-  pub value : verdict ≡ verdict_of reading groups lists
-  pub hang : (verdict ≡ Hang) ↔ SomeRankIsHeld reading groups lists
-  pub closed : is_some_left_open lists ≡ false → (verdict ≡ Hang) ↔ SomeRankIsStuck reading groups lists
-
-verdict_over : {I : Type 0} (left : I → Option (List ℕ)) (reading : Reading) (groups : Groups) (sources : List (Source I)) (lists : Lists) (verdict : Verdict) (traces : List Trace) → length sources ≡ ranks_of groups → AcceptsAll groups (told_by left sources) lists → TellsHang reading groups lists verdict → Tells left sources traces → IsVerdictOver reading groups traces verdict
-verdict_over left reading groups sources lists verdict traces one all tells_hang tells =
+verdict_over : {I : Type 0} (left : I → Option (List ℕ)) (reading : Reading) (groups : Groups) (sources : List (Source I)) (lists : Lists) (verdict : Verdict) (traces : List Trace) → length sources ≡ ranks_of groups → AcceptsAll groups (told_by left sources) lists → verdict ≡ verdict_of reading groups lists → Tells left sources traces → IsVerdictOver reading groups traces verdict
+verdict_over left reading groups sources lists verdict traces one all value tells =
     let each = each_accepted left groups sources lists traces one all tells in
     let same : lists ≡ lists_of traces = lists_are left groups sources lists traces one all tells in
-    let both = cannot_end reading groups (lists_of traces) in
-    let of_traces = subst (λ (ls : Lists). TellsHang reading groups ls verdict) same tells_hang in
+    let of_traces : verdict ≡ verdict_of reading groups (lists_of traces) = value ∙ ap (verdict_of reading groups) same in
+    let cannot = cannot_end reading groups (lists_of traces) in
+    let stuck = hang_tells_of_a_stuck_rank reading groups (lists_of traces) (subst IsClosed same all.closed) in
     record {
       no_refusal = none_from groups 0 traces (λ k trace at. let e : k ≡ 0 + k = omega arith in subst (λ (n : ℕ). fault_of_rank groups n trace ≡ None) e (each k trace at).1);
-      value = of_traces.value;
+      value = of_traces;
       stands = (every_maximal_run_ends_at_the_stands reading groups (lists_of traces)).1;
-      hang = of_traces.hang;
-      closed = λ none. (λ is. both.0 ((of_traces.closed none).0 is), λ cannot. (of_traces.closed none).1 (both.1 cannot));
+      hang = subst (λ (v : Verdict). (v ≡ Hang) ↔ SomeRankIsHeld reading groups (lists_of traces)) (sym of_traces) (hang_tells_of_a_held_rank reading groups (lists_of traces));
+      closed = λ none.
+          subst (λ (v : Verdict). (v ≡ Hang) ↔ SomeRankCannotEnd reading groups (lists_of traces)) (sym of_traces)
+          (λ is. cannot.0 ((stuck none).0 is), λ in_no_run. (stuck none).1 (cannot.1 in_no_run));
     }
 
 -- the report of the recording is that of the run
@@ -182,12 +179,12 @@ refused_over left groups sources (Refused refusal) traces one refuses tells =
     }
 
 -- the answer of a report is that of the run
-pub run_verdict : {I : Type 0} (left : I → Option (List ℕ)) (reading known : Reading) (groups told : Groups) (sources : List (Source I)) (lists : Lists) (answer : Result Verdict RunFault) → length sources ≡ ranks_of groups → known ≡ reading → told ≡ groups → AcceptsAll groups (told_by left sources) lists → IfOk answer (λ verdict. verdict ≡ verdict_of known told lists) → IfOk answer (λ verdict. (verdict ≡ Hang) ↔ SomeRankIsHeld known told lists) → IfOk answer (λ verdict. is_some_left_open lists ≡ false → (verdict ≡ Hang) ↔ SomeRankIsStuck known told lists) → IfOk answer (λ verdict. (traces : List Trace) → Tells left sources traces → IsVerdictOver reading groups traces verdict)
-run_verdict left reading known groups told sources lists (Err fault) one alike same all value hang closed = tt
-run_verdict left reading known groups told sources lists (Ok verdict) one alike same all value hang closed = λ traces tells.
-    let known_tells : TellsHang known told lists verdict = record { value = value; hang = hang; closed = closed } in
-    let tells_hang = subst (λ (gs : Groups). TellsHang reading gs lists verdict) same (subst (λ (r : Reading). TellsHang r told lists verdict) alike known_tells) in
-    verdict_over left reading groups sources lists verdict traces one all tells_hang tells
+pub run_verdict : {I : Type 0} (left : I → Option (List ℕ)) (reading known : Reading) (groups told : Groups) (sources : List (Source I)) (lists : Lists) (answer : Result Verdict RunFault) → length sources ≡ ranks_of groups → known ≡ reading → told ≡ groups → AcceptsAll groups (told_by left sources) lists → IfOk answer (λ verdict. verdict ≡ verdict_of known told lists) → IfOk answer (λ verdict. (traces : List Trace) → Tells left sources traces → IsVerdictOver reading groups traces verdict)
+run_verdict left reading known groups told sources lists (Err fault) one alike same all value = tt
+run_verdict left reading known groups told sources lists (Ok verdict) one alike same all value = λ traces tells.
+    let of_run : verdict ≡ verdict_of reading groups lists =
+    subst (λ (gs : Groups). verdict ≡ verdict_of reading gs lists) same (subst (λ (r : Reading). verdict ≡ verdict_of r told lists) alike value) in
+    verdict_over left reading groups sources lists verdict traces one all of_run tells
 
 pub run_written : {I O : Type 0} (left : I → Option (List ℕ)) (written : O → Option (List ℕ)) (failures : O → ℕ) (reading known : Reading) (groups told : Groups) (sources : List (Source I)) (lists : Lists) (format : Format) (old new : O) (answer : Result Verdict RunFault) → length sources ≡ ranks_of groups → known ≡ reading → told ≡ groups → AcceptsAll groups (told_by left sources) lists → IfOk answer (λ verdict. verdict ≡ verdict_of known told lists) → OnOk answer (Appends (written old) (written new) (report_of format known told lists)) → IfOk answer (WritesReport left written failures sources reading groups format old new)
 run_written left written failures reading known groups told sources lists format old new (Err fault) one alike same all value report = tt

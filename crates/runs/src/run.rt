@@ -1,10 +1,9 @@
 //! The report of a run over the sources of its ranks, which are read at once.
 
-ghost use Rattle.std.specs.Prelude.{◌≡◌, ◌↔◌, ◌<◌, ◌≤◌, ℕ, false, [], List, length, map, vec_len, vec_capacity, IfOk, IfErr, OnOk};
+ghost use Rattle.std.specs.Prelude.{◌≡◌, ◌<◌, ◌≤◌, ℕ, [], List, length, map, vec_len, vec_capacity, IfOk, IfErr, OnOk};
 ghost use Rattle.mpicall.specs.Trace.{Trace as TraceValue};
 ghost use Rattle.mpigroup.specs.Groups.{ranks_of};
-ghost use Rattle.waitgraph.specs.Held.{is_some_left_open};
-ghost use Rattle.waitgraph.specs.Verdicts.{verdict_of, SomeRankIsHeld, SomeRankIsStuck};
+ghost use Rattle.waitgraph.specs.Verdicts.{verdict_of};
 ghost use Rattle.std.specs.Io.KnownBytes.{Appends};
 ghost use Rattle.reports.specs.Reports.{report_of};
 ghost use Rattle.runs.specs.Told.{AreFresh, Tells, IsVerdictOver, RefusesOver};
@@ -188,8 +187,6 @@ fn report<O: Output>(
     out: &mut O,
 ) -> Result<Verdict, RunFault>
     ensures value { IfOk result (λ verdict. verdict ≡ verdict_of outcome.now.analyser.reading outcome.now.analyser.groups outcome.now.analyser.recording) }
-    ensures hang { IfOk result (λ verdict. (verdict ≡ Verdict.Hang) ↔ SomeRankIsHeld outcome.now.analyser.reading outcome.now.analyser.groups outcome.now.analyser.recording) }
-    ensures closed { IfOk result (λ verdict. is_some_left_open outcome.now.analyser.recording ≡ false → (verdict ≡ Verdict.Hang) ↔ SomeRankIsStuck outcome.now.analyser.reading outcome.now.analyser.groups outcome.now.analyser.recording) }
     ensures written { OnOk result (Appends (O.written out.old) (O.written out.new) (report_of format outcome.now.analyser.reading outcome.now.analyser.groups outcome.now.analyser.recording)) }
     ensures no_write_failed { OnOk result (O.failures out.new ≡ O.failures out.old) }
     ensures fault { IfErr result (LeavesReport O.written O.failures out.old out.new (report_of format outcome.now.analyser.reading outcome.now.analyser.groups outcome.now.analyser.recording)) }

@@ -7,7 +7,7 @@ use Rattle.runs.proofs.run.run_by.Goals as goal
 pub returns-in-Ok-clause-verdict : goal.returns-in-Ok-clause-verdict
 returns-in-Ok-clause-verdict g c =
     run_verdict g.I.Input.left c.args.reading _ c.args.head _ c.args.sources.items _ c.report.result c.requires.one_a_rank c.in-Ok.ensures.ok.over.same_reading c.in-Ok.ensures.ok.over.same_groups
-    (accepts_all g.I.Input.left (g.G.Gate.may_stop c.args.gate.now) c.args.sources.items c.args.reading c.args.head c.in-Ok.outcome c.requires.one_a_rank c.in-Ok.ensures.ok) c.report.ensures.value c.report.ensures.hang c.report.ensures.closed
+    (accepts_all g.I.Input.left (g.G.Gate.may_stop c.args.gate.now) c.args.sources.items c.args.reading c.args.head c.in-Ok.outcome c.requires.one_a_rank c.in-Ok.ensures.ok) c.report.ensures.value
 
 pub returns-in-Ok-clause-refused : goal.returns-in-Ok-clause-refused
 returns-in-Ok-clause-refused g c =
