@@ -228,11 +228,10 @@ fn onward_of(
     requires { (r : ℕ) → set_of loose.now r ≡ are_loose (set_of opened.now) standings.now waits.now r }
     ensures { result ≡ onward_of (set_of opened.now) standings.now waits.now rank }
 {
-    if is_held(opened, standings, waits, loose, rank) {
-        onward_by(opened, standings, waits, loose, needs_in(waits, rank))
-    } else {
-        None
+    if !is_held(opened, standings, waits, loose, rank) {
+        return None;
     }
+    onward_by(opened, standings, waits, loose, needs_in(waits, rank))
 }
 
 /// How the walk goes on from each rank.
