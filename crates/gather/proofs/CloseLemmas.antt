@@ -250,3 +250,10 @@ of_outcome kept analyser (Ok outcome) calm none closed reading groups recording 
     closed = closed;
   },
 )
+
+-- want of memory comes first
+pub memory_first : (kept : Kept) (answer : Result Outcome CloseFault) → kept.wanted ≡ true → Concludes kept answer → answer ≡ Err Memory
+memory_first kept (Err Memory) wanted is = refl
+memory_first kept (Err (Unproved rank)) wanted is = absurd is
+memory_first kept (Err (Refused refusal)) wanted is = absurd (false≢true (sym is.0 ∙ wanted))
+memory_first kept (Ok outcome) wanted is = absurd (false≢true (sym is.0 ∙ wanted))

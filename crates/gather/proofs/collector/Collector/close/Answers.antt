@@ -1,7 +1,7 @@
 -- The answer is that of what is kept once all feeds were drained, by a receipt for each.
 use Rattle.std.proofs.Common.{◌≡◌, false, sym, ap, subst, ◌∙◌}
 use Rattle.gather.specs.Collected.{Kept}
-use Rattle.gather.proofs.CloseLemmas.{AreDrained, drained, recording_closed, concluded}
+use Rattle.gather.proofs.CloseLemmas.{AreDrained, drained, recording_closed, concluded, memory_first}
 use Rattle.gather.proofs.collector.Collector.close.Goals as goal
 
 pub conclude-requires : goal.conclude-requires
@@ -25,3 +25,7 @@ returns-in-None-clause-answer c =
     (ap (λ (kept : Kept). kept.reading) is ∙ all.reading)
     (ap (λ (kept : Kept). kept.groups) is ∙ all.groups)
     c.conclude.ensures
+
+pub returns-in-None-clause-wanting : goal.returns-in-None-clause-wanting
+returns-in-None-clause-wanting c wanted =
+    memory_first c.into_ledger-ledger.result c.conclude.result (ap (λ (kept : Kept). kept.wanted) c.into_ledger-ledger.ensures ∙ c.finish_all-missing.ensures.wanted wanted) c.conclude.ensures
