@@ -1,4 +1,4 @@
--- Ranks that do not come to their Finalize, and what each still waits for where it stands.
+-- Ranks that do not come to the end of their lists, and what each still waits for where it stands.
 use Rattle.moves.specs.declared.reading.Reading.{Reading}
 use Rattle.std.specs.Prelude.{◌≡◌, ℕ, ◌<◌, Bool, true, false, not, ◌&&◌, ◌||◌, ◌==◌, nat_lt, Some, List, [], ◌∷◌, ◌++◌, length, slice_get, slice_index}
 use Rattle.std.specs.List.{filter, list_all, range_with_len}
@@ -10,7 +10,7 @@ use Rattle.moves.specs.Stands.{stands_of, is_at_end}
 use Rattle.moves.specs.declared.need.Need.{Need}
 use Rattle.moves.specs.declared.need.Need.TheVariants.{At, Lacking}
 
--- a rank is stuck in a state if its present call is not its Finalize
+-- a rank is stuck in a state if its present call is not the one that ends its list
 abbrev pub is_stuck_at : Lists → State → ℕ → Bool
 is_stuck_at recording stands rank = not (is_at_end recording stands rank)
 

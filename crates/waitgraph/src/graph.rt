@@ -204,8 +204,8 @@ impl Graph {
         self.stuck.as_slice()
     }
 
-    /// The ranks that stay where they stand whatever calls stand in the place of an open, rising. Where no list was
-    /// left open they are the stuck ranks.
+    /// The held ranks, rising: each stays where it stands whatever calls stand in the place of an open. Where no list
+    /// was left open they are the stuck ranks.
     pub fn held(&self) -> &[u16]
         ensures { result.now ≡ self.now.held }
     {
