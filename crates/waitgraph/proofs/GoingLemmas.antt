@@ -1,7 +1,6 @@
 -- How the walk goes on from a held rank.
-use Rattle.std.proofs.Common.{◌≡◌, ◌≢◌, ◌⊎◌, ℕ, zero, suc, ◌+◌, ◌<◌, ◌≤◌, Bool, true, false, not, ◌&&◌, ◌||◌, find, if◌then◌else◌, Option, Some, None, unwrap_or, List, [], ◌∷◌, length, take, get_or, refl, sym, ap, subst, ◌∙◌, ⊎_elim, arith}
+use Rattle.std.proofs.Common.{◌≡◌, ℕ, zero, suc, ◌<◌, ◌≤◌, Bool, true, false, not, find, Some, None, List, [], ◌∷◌, length, take, get_or, refl, sym, ap, subst, ◌∙◌, ⊎_elim}
 use Rattle.std.specs.List.{slice_get, list_all}
-use Rattle.std.specs.Option.{option_map}
 use Rattle.std.proofs.lemmas.List.{take_all}
 use Rattle.std.proofs.lemmas.Option.{none-some, same_Some, slice_get-get_or}
 use Rattle.std.proofs.lemmas.Bool.{cases_Bool, false≢true}
@@ -9,12 +8,11 @@ use Rattle.moves.specs.declared.need.Need.{Need}
 use Rattle.moves.specs.declared.need.Need.TheVariants.{At, Lacking}
 use Rattle.waitgraph.specs.Least.{Set}
 use Rattle.waitgraph.specs.Waits.{Waits, needs_in}
-use Rattle.waitgraph.specs.Loose.{standing_of, is_on, loosens_at, loosens, are_loose, is_held_at, are_held, goes_on, onward, onward_by, onward_of, FitTogether, GoesOnOrEnds, HeldRanksGoOn}
+use Rattle.waitgraph.specs.Loose.{standing_of, is_on, are_loose, is_held_at, are_held, goes_on, onward, onward_by, FitTogether, GoesOnOrEnds, HeldRanksGoOn}
 use Rattle.waitgraph.specs.declared.standing.Standing.{Standing}
 use Rattle.waitgraph.specs.declared.standing.Standing.TheVariants.{AtFinalize, AtOpen, Stuck}
 use Rattle.waitgraph.specs.declared.onward.Onward.{Onward}
-use Rattle.waitgraph.specs.declared.onward.Onward.TheVariants.{To, Lacks}
-use Rattle.waitgraph.proofs.SweepLemmas.{and_true, and_both, the_loose_are_the_least}
+use Rattle.waitgraph.proofs.SweepLemmas.{and_true, the_loose_are_the_least}
 
 -- a need of the list
 record Stands (needs : List Need) (test : Need → Bool) (passes : Bool) : Type 0 where

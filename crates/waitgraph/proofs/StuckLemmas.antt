@@ -1,14 +1,12 @@
 -- Stuck ranks of a closed recording: each waits, and for a rank that is stuck.
 use Rattle.moves.specs.declared.reading.Reading.{Reading}
 use Rattle.moves.specs.declared.reading.Reading.TheVariants.{Strict, Eager}
-use Rattle.std.proofs.Common.{◌≡◌, ◌≢◌, ℕ, zero, suc, ◌+◌, ◌<◌, ◌≤◌, Bool, true, false, ◌&&◌, Option, Some, None, List, [], ◌∷◌, ◌++◌, length, map, get_or, refl, sym, ap, subst, ◌∙◌, ⊎_elim, arith, length-append}
-use Rattle.std.specs.Prelude.{nat_lt, option_map, option_and_then, unwrap_or, slice_index}
+use Rattle.std.proofs.Common.{◌≡◌, ◌≢◌, ℕ, zero, suc, ◌+◌, ◌<◌, ◌≤◌, Bool, true, false, ◌&&◌, Option, Some, List, [], ◌∷◌, ◌++◌, length, get_or, refl, sym, ap, ◌∙◌, ⊎_elim, arith, length-append}
+use Rattle.std.specs.Prelude.{nat_lt, slice_index}
 use Rattle.std.specs.List.{slice_get, list_all, list_any}
 use Rattle.std.specs.Option.{option_map_or}
-use Rattle.std.proofs.lemmas.List.{length-map}
-use Rattle.std.proofs.lemmas.List.FromFn.{length-map-range_with_len}
-use Rattle.std.proofs.lemmas.Option.{slice_get-map, none-some, same_Some, slice_get_past, slice_get-get_or}
-use Rattle.std.proofs.lemmas.Bool.{cases_lt, cases_eq, cases_Bool, false≢true, or_parts, ltb-true, leb-false, not_from_false, not-true, not-false}
+use Rattle.std.proofs.lemmas.Option.{none-some, same_Some, slice_get_past, slice_get-get_or}
+use Rattle.std.proofs.lemmas.Bool.{cases_lt, cases_eq, false≢true, or_parts, ltb-true, leb-false, not-true, not-false}
 use Rattle.mpicall.specs.Ending.{ends_list}
 use Rattle.mpicall.specs.declared.call.Call.{Call}
 use Rattle.mpicall.specs.declared.call.Call.TheVariants.{Finalize, Open}
@@ -16,13 +14,13 @@ use Rattle.mpigroup.specs.Groups.{Groups}
 use Rattle.pairing.specs.Recordings.{Lists, calls_of, IsClosedList, IsClosed}
 use Rattle.pairing.proofs.PlaceLemmas.{slice_get-front}
 use Rattle.moves.specs.declared.need.Need.{Need}
-use Rattle.moves.specs.declared.need.Need.TheVariants.{At, Lacking}
+use Rattle.moves.specs.declared.need.Need.TheVariants.{At}
 use Rattle.moves.specs.Needs.{needs_of, is_met, may_pass, can_move}
 use Rattle.moves.specs.Stands.{stands_of, is_at_end, lowest_run_over}
 use Rattle.moves.proofs.RunLemmas.{reached_ranks}
 use Rattle.moves.proofs.StandLemmas.{EndsThere, end_there, every_maximal_run_ends_at_the_stands, no_call_behind_the_end_is_reached}
 use Rattle.waitgraph.specs.Stuck.{is_stuck, unmet_at, unmet_of, StuckRanksWaitForStuckRanks}
-use Rattle.waitgraph.proofs.AmongLemmas.{Among, among_in, in_among, among_all, one_fails}
+use Rattle.waitgraph.proofs.AmongLemmas.{Among, in_among, among_all, one_fails}
 use Rattle.waitgraph.proofs.UnmetLemmas.{unmet_from, unmet_all}
 use Rattle.waitgraph.proofs.CalledLemmas.{is_call, needs_called}
 

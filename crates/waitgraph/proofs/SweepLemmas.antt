@@ -1,12 +1,12 @@
 -- Sweeps find the least set.
-use Rattle.std.proofs.Common.{◌≡◌, ◌≢◌, ℕ, zero, suc, ◌+◌, ◌<◌, ◌≤◌, Bool, true, false, ◌&&◌, Option, Some, None, unwrap_or, List, [], ◌∷◌, length, get_or, set, ◌-◌, replicate, refl, sym, ap, subst, ◌∙◌, ⊎_elim, arith, get_or-set_same, get_or-set_other}
-use Rattle.std.specs.List.{slice_get, list_all}
+use Rattle.std.proofs.Common.{◌≡◌, ◌≢◌, ℕ, zero, suc, ◌+◌, ◌<◌, ◌≤◌, Bool, true, false, ◌&&◌, Option, unwrap_or, List, [], ◌∷◌, length, set, ◌-◌, replicate, refl, sym, ap, subst, ◌∙◌, ⊎_elim, arith, get_or-set_same, get_or-set_other}
+use Rattle.std.specs.List.{list_all}
 use Rattle.std.proofs.lemmas.Option.{slice_get_past}
-use Rattle.std.proofs.lemmas.List.{length-set, length-replicate}
+use Rattle.std.proofs.lemmas.List.{length-set}
 use Rattle.std.proofs.lemmas.Bool.{cases_Bool, cases_eq, cases_lt, false≢true}
 use Rattle.moves.specs.declared.need.Need.{Need}
 use Rattle.moves.specs.declared.need.Need.TheVariants.{At, Lacking}
-use Rattle.waitgraph.specs.Least.{Set, SetRule, after, IsWithin, IsRising, MakesBelow, IsClosedUnder}
+use Rattle.waitgraph.specs.Least.{Set, SetRule, IsWithin, IsRising, MakesBelow, IsClosedUnder}
 use Rattle.waitgraph.specs.Waits.{Waits, needs_in}
 use Rattle.waitgraph.specs.Loose.{set_of, standing_of, is_on, loosens_at, loosens, are_loose, size, Sweeps, TheLooseAreTheLeast}
 use Rattle.waitgraph.specs.declared.standing.Standing.{Standing}

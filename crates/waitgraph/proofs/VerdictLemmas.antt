@@ -1,6 +1,6 @@
 -- What the verdict says of the ranks.
 use Rattle.moves.specs.declared.reading.Reading.{Reading}
-use Rattle.std.proofs.Common.{inl, ◌≡◌, ℕ, zero, suc, ◌-◌, ◌<◌, ◌≤◌, ◌≢◌, ◌↔◌, Bool, true, false, not, ◌&&◌, Option, Some, None, unwrap_or, List, [], ◌∷◌, length, refl, sym, ap, ◌∙◌, ⊎_elim, arith}
+use Rattle.std.proofs.Common.{inl, ◌≡◌, ℕ, zero, suc, ◌-◌, ◌<◌, ◌≤◌, ◌≢◌, Bool, true, false, not, Option, Some, None, List, [], ◌∷◌, length, refl, sym, ap, ◌∙◌, ⊎_elim, arith}
 use Rattle.std.specs.Prelude.{slice_index}
 use Rattle.std.specs.Option.{option_map_or}
 use Rattle.std.specs.List.{slice_get, list_all, list_any, range_with_len}
@@ -14,13 +14,12 @@ use Rattle.pairing.specs.Recordings.{Lists, calls_of, IsClosed}
 use Rattle.moves.specs.Stands.{stands_of}
 use Rattle.moves.specs.declared.need.Need.{Need}
 use Rattle.moves.specs.declared.need.Need.TheVariants.{At, Lacking}
-use Rattle.waitgraph.specs.Stuck.{is_stuck, unmet_of}
 use Rattle.waitgraph.specs.Waits.{Waits, needs_in, waits_of}
 use Rattle.waitgraph.specs.Least.{Set, after}
 use Rattle.waitgraph.specs.Loose.{set_of, standing_of, is_on, loosens_at, loosens, are_loose, is_held_at}
 use Rattle.waitgraph.specs.Held.{leaves_open, is_left_open, left_open_in, standing_by, opened_of, is_some_left_open, standings_at, is_held, held_of}
-use Rattle.waitgraph.specs.Verdicts.{verdict_by, verdict_of, SomeRankIsStuck, SomeRankIsHeld, HangTellsOfAHeldRank, WithoutOpenTheStuckAreHeld, HangTellsOfAStuckRank}
-use Rattle.waitgraph.specs.declared.verdict.Verdict.TheVariants.{Free, Hang, Unfinished}
+use Rattle.waitgraph.specs.Verdicts.{verdict_by, HangTellsOfAHeldRank, WithoutOpenTheStuckAreHeld, HangTellsOfAStuckRank}
+use Rattle.waitgraph.specs.declared.verdict.Verdict.TheVariants.{Hang}
 use Rattle.waitgraph.specs.declared.standing.Standing.{Standing}
 use Rattle.waitgraph.specs.declared.standing.Standing.TheVariants.{AtFinalize, AtOpen, Stuck}
 use Rattle.waitgraph.proofs.AmongLemmas.{Among, among_range, range_among, kept_among, among_kept}

@@ -1,8 +1,8 @@
 -- How the walk goes on over a closed recording.
 use Rattle.moves.specs.declared.reading.Reading.{Reading}
-use Rattle.std.proofs.Common.{inl, inr, ◌≡◌, ◌≢◌, ◌⊎◌, ℕ, zero, suc, ◌+◌, ◌-◌, ◌<◌, ◌≤◌, Bool, true, false, not, ◌&&◌, if◌then◌else◌, Option, Some, None, unwrap_or, List, [], ◌∷◌, length, map, get_or, refl, sym, ap, subst, ◌∙◌, ⊎_elim, arith}
+use Rattle.std.proofs.Common.{inl, inr, ◌≡◌, ◌≢◌, ◌⊎◌, ℕ, ◌-◌, ◌<◌, ◌≤◌, Bool, true, false, if◌then◌else◌, Option, Some, None, unwrap_or, List, length, map, refl, sym, ap, subst, ◌∙◌, ⊎_elim, arith}
 use Rattle.std.specs.Prelude.{option_and_then, slice_index}
-use Rattle.std.specs.List.{slice_get, list_all, range_with_len}
+use Rattle.std.specs.List.{slice_get, range_with_len}
 use Rattle.std.specs.Option.{option_map_or}
 use Rattle.std.proofs.lemmas.List.{get_or_past}
 use Rattle.std.proofs.lemmas.List.FromFn.{length-map-range_with_len, get_or-map-range_with_len}
@@ -16,13 +16,13 @@ use Rattle.pairing.specs.Recordings.{Lists, calls_of, IsClosed}
 use Rattle.moves.specs.Runs.{State}
 use Rattle.moves.specs.Stands.{stands_of}
 use Rattle.moves.specs.declared.need.Need.{Need}
-use Rattle.moves.specs.declared.need.Need.TheVariants.{At, Lacking}
+use Rattle.moves.specs.declared.need.Need.TheVariants.{At}
 use Rattle.waitgraph.specs.Stuck.{unmet_of}
 use Rattle.waitgraph.specs.Waits.{Waits, needs_in, waits_of}
-use Rattle.waitgraph.specs.Held.{leaves_open, is_left_open, left_open_in, opened_of, standing_by, standing_at, standings_at, is_held}
-use Rattle.waitgraph.specs.Loose.{set_of, standing_of, are_held, onward_by, onward_of, FitTogether, GoesOnOrEnds}
+use Rattle.waitgraph.specs.Held.{leaves_open, is_left_open, opened_of, standing_by, standing_at, standings_at, is_held}
+use Rattle.waitgraph.specs.Loose.{standing_of, are_held, onward_by, onward_of, FitTogether, GoesOnOrEnds}
 use Rattle.waitgraph.specs.Least.{Set}
-use Rattle.waitgraph.specs.Causes.{Walks, onward_in, to_of, next_in, walks_in, walks_of, causes_of, WalksEndInTheCauses}
+use Rattle.waitgraph.specs.Causes.{onward_in, to_of, walks_of, causes_of, WalksEndInTheCauses}
 use Rattle.waitgraph.specs.declared.onward.Onward.{Onward}
 use Rattle.waitgraph.specs.declared.onward.Onward.TheVariants.{To, Lacks}
 use Rattle.waitgraph.specs.declared.standing.Standing.{Standing}
@@ -30,7 +30,7 @@ use Rattle.waitgraph.specs.declared.standing.Standing.TheVariants.{AtFinalize, A
 use Rattle.waitgraph.proofs.AmongLemmas.{Among, among_in, in_among}
 use Rattle.waitgraph.proofs.UnmetLemmas.{waits_are}
 use Rattle.waitgraph.proofs.GoingLemmas.{held_ranks_go_on}
-use Rattle.waitgraph.proofs.StuckLemmas.{EndsAt, ends_at, StandsBefore, stands_before, not_past, awaited_stands}
+use Rattle.waitgraph.proofs.StuckLemmas.{ends_at, StandsBefore, stands_before, not_past, awaited_stands}
 use Rattle.waitgraph.proofs.WalkLaws.{IsWaiting, GoesOn, waiting_is_rank, next_is_waiting, walk_ends}
 use Rattle.waitgraph.proofs.ListedLemmas.{each_is_an_end, none_twice}
 

@@ -1,9 +1,7 @@
-use Rattle.std.proofs.Common.{Bool, Option, List, length, map, ap, ◌∙◌, arith}
-use Rattle.std.specs.List.{range_with_len}
+use Rattle.std.proofs.Common.{Bool, List, length, ap, ◌∙◌, arith}
 use Rattle.std.proofs.lemmas.List.FromFn.{length-map-range_with_len}
 use Rattle.waitgraph.specs.Causes.{Walks, walks_in, causes_in}
 use Rattle.waitgraph.specs.Loose.{set_of, onward_of}
-use Rattle.waitgraph.specs.declared.onward.Onward.{Onward}
 use Rattle.waitgraph.proofs.graph.who_is_held.Goals as goal
 
 pub causes_in-requires : goal.causes_in-requires

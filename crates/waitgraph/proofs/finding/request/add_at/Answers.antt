@@ -1,4 +1,4 @@
-use Rattle.std.proofs.Common.{inl, inr, ◌⊎◌, ◌≡◌, Some, Bool, true, false, not, ◌&&◌, refl, sym, ap, ◌∙◌, append-nil}
+use Rattle.std.proofs.Common.{inl, inr, ◌⊎◌, ◌≡◌, Some, Bool, true, false, not, ◌&&◌, refl, sym, ◌∙◌, append-nil}
 use Rattle.std.specs.Option.{option_and_then}
 use Rattle.pairing.specs.Requests.{starts}
 use Rattle.waitgraph.specs.Places.{call_at}
