@@ -85,9 +85,9 @@ fn an_open_ends_a_feed_as_a_finalize_does(rt: HostRuntime) -> Result<(), Fail> {
     assert!(rt; !feed.is_done());
     assert!(rt; feed.try_put(open) == Ok(()));
     assert!(rt; feed.is_done());
-    for behind in [send, open, record(&rt, b"finalize\n")] {
-        assert!(rt; feed.try_put(behind) == Err(PutFault::Closed(behind)));
-    }
+    assert!(rt; feed.try_put(open) == Err(PutFault::Closed(open)));
+    assert!(rt; feed.put(send, &rt) == Err(PutFault::Closed(send)));
+    assert!(rt; feed.is_done());
     let receipt = feed.seal().expect(&rt, "a receipt");
     assert!(rt; taker.meet(receipt) == Met { count: 3 });
     assert!(rt; taker.try_take() == Took::Record(send));
