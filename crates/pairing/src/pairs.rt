@@ -5,7 +5,7 @@ ghost use Rattle.mpigroup.specs.Groups.{ranks_of};
 ghost use Rattle.pairing.specs.Limits.{most_calls};
 ghost use Rattle.pairing.specs.Recordings.{Lists, calls_of, appended, is_ended, has_end};
 ghost use Rattle.pairing.specs.Partners.{partner_of};
-ghost use Rattle.pairing.specs.Probed.{probed_of, seen_from, NoneIsProbed};
+ghost use Rattle.pairing.specs.Probed.{probed_of, seen_from, HasProbe, NoneIsProbed};
 ghost use Rattle.pairing.specs.Seated.{IsProbing};
 ghost use Rattle.pairing.specs.Requests.{started_of};
 ghost use Rattle.pairing.specs.Waves.{wave_of, member_of};
@@ -419,7 +419,8 @@ impl Pairs {
     /// Whether there is a probe among the calls, whose source is not MPI_PROC_NULL. Where this answers false,
     /// `probed` answers None everywhere.
     pub fn has_probes(&self) -> bool
-        ensures { result ≡ false → NoneIsProbed self.now.groups self.now.recording }
+        ensures none { result ≡ false → NoneIsProbed self.now.groups self.now.recording }
+        ensures some { result ≡ true → HasProbe self.now.groups self.now.recording }
     {
         self.probing.has_probes()
     }
