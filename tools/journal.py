@@ -2,7 +2,7 @@
 
 A journal has one line a call, written when the call began: its word, its fields, and `@N` for the place in
 the program from which it was made. A line that begins with `=` says what the call before it told when it
-came back. record/record.c writes them.
+came back. The recorder in record/ writes them.
 """
 
 import re

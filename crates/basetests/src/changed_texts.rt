@@ -13,10 +13,11 @@ use std::test::Fail;
 /// How many texts are changed.
 const ROUNDS: u32 = 10_000;
 
-const GOOD: [&[u8]; 3] = [
+const GOOD: [&[u8]; 4] = [
     b"split 0 4 9 1\nsend 1 0 6\nfinalize\n",
     b"irecv 7 0 1 0\nissend 8 0 63 2147483647\nwaitany 1 7 8\nwaitall 7 8\nwait 7\nfinalize\n",
     b"sendrecv 0 null 5 1 6\nbarrier 255\nibcast 9 3 1\ndup 0 1\nsplit 0 undefined -3 none\nfinalize\n",
+    b"sendrecv 0 1 5 0 6 2147483647\nisend 4 0 1 7 0\nprobe 0 null 7\nopen\n",
 ];
 
 /// Numbers without a rule.
@@ -116,7 +117,7 @@ fn a_changed_text_is_told_alike_by_all_inputs(rt: HostRuntime) -> Result<(), Fai
     let mut chance = Chance(2024);
     let mut kinds = 0;
     for _ in 0..ROUNDS {
-        let text = changed(rt.alloc(), GOOD[chance.below(3)], &mut chance)?;
+        let text = changed(rt.alloc(), GOOD[chance.below(4)], &mut chance)?;
         let told = lint(&mut Source::new(MemoryInput::new(&text)), &rt);
         is_told(&rt, &text, told);
         kinds |= kind_of(told);

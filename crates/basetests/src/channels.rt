@@ -44,6 +44,20 @@ fn a_receipt_tells_what_is_left(rt: HostRuntime) -> Result<(), Fail> {
 }
 
 #[test]
+fn an_open_ends_a_feed_as_a_finalize_does(rt: HostRuntime) -> Result<(), Fail> {
+    let finalize = record(&rt, b"finalize\n");
+    let open = record(&rt, b"open\n");
+    let (mut feed, mut taker) = Feed::open(rt.alloc(), 0, 2)?;
+    assert!(rt; feed.try_put(open, &rt) == Ok(()));
+    assert!(rt; feed.is_done());
+    assert!(rt; feed.try_put(finalize, &rt) == Err(PutFault::Closed(finalize)));
+    assert!(rt; feed.seal(&rt).is_ok());
+    assert!(rt; taker.try_take(&rt) == Took::Record(open));
+    assert!(rt; taker.try_take(&rt) == Took::Sealed);
+    Ok(())
+}
+
+#[test]
 fn a_torn_feed_and_ends_that_are_dropped(rt: HostRuntime) -> Result<(), Fail> {
     let fault = SourceFault::ReadFailed;
     let send = record(&rt, b"send 0 0 0\n");

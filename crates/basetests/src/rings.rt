@@ -77,6 +77,26 @@ fn a_receipt_tells_what_is_left(rt: HostRuntime) -> Result<(), Fail> {
 }
 
 #[test]
+fn an_open_ends_a_feed_as_a_finalize_does(rt: HostRuntime) -> Result<(), Fail> {
+    let send = record(&rt, b"send 0 0 0 8\n");
+    let open = record(&rt, b"open\n");
+    let (mut feed, mut taker) = Feed::open(rt.alloc(), 0, 3)?;
+    assert!(rt; feed.try_put(send) == Ok(()));
+    assert!(rt; !feed.is_done());
+    assert!(rt; feed.try_put(open) == Ok(()));
+    assert!(rt; feed.is_done());
+    assert!(rt; feed.try_put(open) == Err(PutFault::Closed(open)));
+    assert!(rt; feed.put(send, &rt) == Err(PutFault::Closed(send)));
+    assert!(rt; feed.is_done());
+    let receipt = feed.seal().expect(&rt, "a receipt");
+    assert!(rt; taker.meet(receipt) == Met { count: 3 });
+    assert!(rt; taker.try_take() == Took::Record(send));
+    assert!(rt; taker.try_take() == Took::Record(open));
+    assert!(rt; taker.try_take() == Took::Sealed);
+    Ok(())
+}
+
+#[test]
 fn a_torn_feed_and_ends_that_are_dropped(rt: HostRuntime) -> Result<(), Fail> {
     let fault = SourceFault::ReadFailed;
     let (feed, mut taker) = Feed::open(rt.alloc(), 0, 1)?;

@@ -22,6 +22,7 @@ pub(crate) fn calls() -> [Call; 3] {
             comm: 0,
             dest,
             tag: 5,
+            bytes: None,
         },
         Call::Recv {
             comm: 255,
@@ -72,13 +73,17 @@ fn a_failed_read_comes_behind_the_whole_lines(rt: HostRuntime) {
         let unmet = FailsAt::new(MemoryInput::in_pieces(TRACE, most), reads);
         assert!(rt; lint(&mut Source::new(unmet), &rt) == Ok(3));
     }
-    let held = FailsAt::new(MemoryInput::new(b"finalize\nx"), 1);
-    gives(
-        &rt,
-        &mut Source::new(held),
-        &[Call::Finalize],
-        Err(SourceFault::TextAfterFinalize),
-    );
+}
+
+/// Behind the end record a source asks its input only while it holds no byte.
+#[test]
+fn a_held_byte_behind_the_end_asks_for_no_read(rt: HostRuntime) {
+    let rows: [(&[u8], Call); 2] = [(b"finalize\nx", Call::Finalize), (b"open\nx", Call::Open)];
+    for (text, last) in rows {
+        let held = FailsAt::new(MemoryInput::new(text), 1);
+        let end = Err(SourceFault::TextAfterFinalize);
+        gives(&rt, &mut Source::new(held), &[last], end);
+    }
 }
 
 #[test]

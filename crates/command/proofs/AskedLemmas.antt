@@ -13,32 +13,40 @@ use Rattle.clap.specs.Values.{kind_of}
 use Rattle.clap.specs.declared.error.Error.{Error}
 use Rattle.clap.specs.declared.error.kind.ErrorKind.TheVariants.{OutOfMemory}
 use Rattle.reports.specs.declared.report.Format.{Format}
+use Rattle.moves.specs.declared.reading.Reading.{Reading}
 use Rattle.command.specs.declared.words.Words.{Words}
 use Rattle.command.specs.declared.words.Words.TheVariants.{Check, Lint, Said, NoMemory}
 use Rattle.command.specs.Asked.{Answers, CheckRun, Names, Says, SaysError, Task, program, run_of, task_in, task_of}
 
 pub said_where_none : (task : Option Task) (text : Text) (said : Words) → task ≡ None → Says text true said → Names task said
-said_where_none task text (Check head files format capacity) none says = absurd says
+said_where_none task text (Check head files reading format capacity) none says = absurd says
 said_where_none task text (Lint file) none says = absurd says
 said_where_none task text (Said told is_told) none says = (none, says.1)
 said_where_none task text NoMemory none says = tt
 
-pub run_of_some : (head : Text) (files : List (Bor Text)) (format : Format) (capacity : ℕ) → 0 < length files →
-    run_of (Some head) (Some (map (λ file. file.now) files)) format (Some capacity) ≡ Some (CheckRun head (map (λ file. file.now) files) format capacity)
-run_of_some head [] format capacity some = absurd (omega arith)
-run_of_some head (file ∷ files) format capacity some = refl
+pub run_of_some : (head : Text) (files : List (Bor Text)) (reading : Reading) (format : Format) (capacity : ℕ) → 0 < length files →
+    run_of (Some head) (Some (map (λ file. file.now) files)) (Some reading) format (Some capacity) ≡ Some (CheckRun head (map (λ file. file.now) files) reading format capacity)
+run_of_some head [] reading format capacity some = absurd (omega arith)
+run_of_some head (file ∷ files) reading format capacity some = refl
 
-pub run_of_none : (head : Option Text) (format : Format) (capacity : Option ℕ) → run_of head None format capacity ≡ None
-run_of_none None format capacity = refl
-run_of_none (Some head) format capacity = refl
+pub run_of_none : (head : Option Text) (reading : Option Reading) (format : Format) (capacity : Option ℕ) → run_of head None reading format capacity ≡ None
+run_of_none None reading format capacity = refl
+run_of_none (Some head) reading format capacity = refl
 
-pub run_of_no_number : (head : Option Text) (files : Option (List Text)) (format : Format) → run_of head files format None ≡ None
-run_of_no_number None files format = refl
-run_of_no_number (Some head) None format = refl
-run_of_no_number (Some head) (Some []) format = refl
-run_of_no_number (Some head) (Some (file ∷ files)) format = refl
+pub run_of_no_reading : (head : Option Text) (files : Option (List Text)) (format : Format) (capacity : Option ℕ) → run_of head files None format capacity ≡ None
+run_of_no_reading None files format capacity = refl
+run_of_no_reading (Some head) None format capacity = refl
+run_of_no_reading (Some head) (Some []) format capacity = refl
+run_of_no_reading (Some head) (Some (file ∷ files)) format capacity = refl
 
-pub ruleset asked_steps = (said_where_none, run_of_some, run_of_none, run_of_no_number)
+pub run_of_no_number : (head : Option Text) (files : Option (List Text)) (reading : Option Reading) (format : Format) → run_of head files reading format None ≡ None
+run_of_no_number None files reading format = refl
+run_of_no_number (Some head) None reading format = refl
+run_of_no_number (Some head) (Some []) reading format = refl
+run_of_no_number (Some head) (Some (file ∷ files)) None format = refl
+run_of_no_number (Some head) (Some (file ∷ files)) (Some reading) format = refl
+
+pub ruleset asked_steps = (said_where_none, run_of_some, run_of_none, run_of_no_reading, run_of_no_number)
 
 -- a command without a global argument, to which one is added that isn't global either, has none
 pub no_global_added : (old : Command) (argument : Arg) (new : Command) → AddsArg old argument new → (out-Command old).has_globals ≡ false → argument.global ≡ false → (out-Command new).has_globals ≡ false
@@ -54,14 +62,14 @@ program_is_free = refl
 
 pub answers_named : (words : List Text) (found : Option (Text × List Row)) (asked : Words) → found ≡ subcommand_of program words → fault_of program words ≡ [] → Names (option_and_then (λ rows. task_of rows.0 rows.1) found) asked → Answers words asked
 unfolding task_in
-answers_named words found (Check head files format capacity) is taken names = (taken, sym (ap (option_and_then (λ (rows : Text × List Row). task_of rows.0 rows.1)) is) ∙ names)
+answers_named words found (Check head files reading format capacity) is taken names = (taken, sym (ap (option_and_then (λ (rows : Text × List Row). task_of rows.0 rows.1)) is) ∙ names)
 answers_named words found (Lint file) is taken names = (taken, sym (ap (option_and_then (λ (rows : Text × List Row). task_of rows.0 rows.1)) is) ∙ names)
 answers_named words found (Said text false) is taken names = let e : false ≡ true = names.1 in cc
 answers_named words found (Said text true) is taken names = inr (taken, sym (ap (option_and_then (λ (rows : Text × List Row). task_of rows.0 rows.1)) is) ∙ names.0)
 answers_named words found NoMemory is taken names = tt
 
 pub answers_error : (words : List Text) (error : Error) (asked : Words) → HasKind (fault_of program words) error → SaysError (kind_of error) asked → (kind_of error ≡ OutOfMemory → asked ≡ NoMemory) → Answers words asked
-answers_error words error (Check head files format capacity) has says memory = absurd says
+answers_error words error (Check head files reading format capacity) has says memory = absurd says
 answers_error words error (Lint file) has says memory = absurd says
 answers_error words error (Said text false) has says memory = elim has [
   | inl out ↦ let e : Said text false ≡ NoMemory = memory out in cc

@@ -1,4 +1,5 @@
 -- How the answers over a check's sources follow for the texts of its files.
+use Rattle.moves.specs.declared.reading.Reading.{Reading}
 use Rattle.std.proofs.Common.{◌≡◌, ◌<◌, ℕ, length, Option, Some, None, List, [], ◌∷◌, map, option_map, ap, ◌∙◌, sym, refl, subst, arith, Result, Ok, Err, IfSome, take, Bool, true, false, if◌then◌else◌}
 use Rattle.std.proofs.lemmas.List.{length-map}
 use Rattle.mpicall.specs.Trace.{Trace, trace_of}
@@ -47,9 +48,9 @@ head_of_told None text groups of_told is = cc
 head_of_told (Some other) text groups of_told is = subst (λ (known : Option Text). IsHeadOf known groups) is of_told
 
 -- the report over sources that tell the traces of the files' texts is that of the texts
-pub report_says : {I : Type 0} (left : I → Option Text) (sources : List (Source I)) (groups : Groups) (format : Format) (verdict : Verdict) (report : Text) (head : Option Text) (files : List (Option Text)) →
-    IsHeadOf head groups → ((texts : List Text) → files ≡ map Some texts → Tells left sources (map trace_of texts)) → IsReportOver left sources groups format verdict report → IsReportOf format head files verdict report
-report_says left sources groups format verdict report head files of_head tells over = record {
+pub report_says : {I : Type 0} (left : I → Option Text) (sources : List (Source I)) (reading : Reading) (groups : Groups) (format : Format) (verdict : Verdict) (report : Text) (head : Option Text) (files : List (Option Text)) →
+    IsHeadOf head groups → ((texts : List Text) → files ≡ map Some texts → Tells left sources (map trace_of texts)) → IsReportOver left sources reading groups format verdict report → IsReportOf reading format head files verdict report
+report_says left sources reading groups format verdict report head files of_head tells over = record {
   groups = groups;
   recording = over.recording;
   one_a_rank = over.accepted.one_a_rank;

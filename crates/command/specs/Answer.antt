@@ -3,6 +3,7 @@
 use Rattle.std.specs.Prelude.{◌≡◌, ◌⊎◌, ℕ, Option, Result, Ok, Err, List, ⊤}
 use Rattle.clap.specs.Walk.{Text}
 use Rattle.reports.specs.declared.report.Format.{Format}
+use Rattle.moves.specs.declared.reading.Reading.{Reading}
 use Rattle.command.specs.Ends.{EndsBy, EndsCheck, EndsLint}
 use Rattle.command.specs.Faults.{status_of}
 use Rattle.command.specs.Outputs.{Writes, WritesSome, FailsToWrite}
@@ -46,11 +47,11 @@ module _ {O : Type 0} (written : O → Option (List ℕ)) (failures : O → ℕ)
 
   -- standard output is as the end of a check wants it, with the status that it tells; or with that of the
   -- complaint, and with that of a fault, which want of memory for the complaint's text gives
-  abbrev pub CheckEnds : (Text → Option Text) → O → O → Option Text → List (Option Text) → Format → Result Status Complaint → Type 0
-  CheckEnds told old new head files format (Ok ended) = IsOfOutput ended × EndsCheck written failures told old new head files format ended
-  CheckEnds told old new head files format (Err (complaint.Usage said)) = ⊥
-  CheckEnds told old new head files format (Err (complaint.Fault fault)) =
-      IsOfError (status_of fault) × EndsCheck written failures told old new head files format (status_of fault) × EndsCheck written failures told old new head files format status.Fault
+  abbrev pub CheckEnds : (Text → Option Text) → O → O → Option Text → List (Option Text) → Reading → Format → Result Status Complaint → Type 0
+  CheckEnds told old new head files reading format (Ok ended) = IsOfOutput ended × EndsCheck written failures told old new head files reading format ended
+  CheckEnds told old new head files reading format (Err (complaint.Usage said)) = ⊥
+  CheckEnds told old new head files reading format (Err (complaint.Fault fault)) =
+      IsOfError (status_of fault) × EndsCheck written failures told old new head files reading format (status_of fault) × EndsCheck written failures told old new head files reading format status.Fault
 
   -- the same of a lint
   abbrev pub LintEnds : (Text → Option Text) → O → O → Option Text → Result Status Complaint → Type 0

@@ -12,7 +12,9 @@ use Rattle.clap.specs.declared.error.kind.ErrorKind.{ErrorKind}
 use Rattle.clap.specs.declared.error.kind.ErrorKind.TheVariants.{DisplayHelp, DisplayVersion}
 use Rattle.reports.specs.declared.report.Format.{Format}
 use Rattle.reports.specs.declared.report.Format.TheVariants as format
+use Rattle.moves.specs.declared.reading.Reading.{Reading}
 use Rattle.command.specs.Capacities.{capacity_in, capacity_parser}
+use Rattle.command.specs.Limits.{limit_parser, reading_in}
 use Rattle.command.specs.declared.words.Words.{Words}
 use Rattle.command.specs.declared.words.Words.TheVariants.{Check, Lint, Said, NoMemory}
 
@@ -42,6 +44,14 @@ capacity_rule = record (new_rule (codes "capacity")) {
   parser = Some capacity_parser;
 }
 
+-- an option with a number of bytes, which has no value where it isn't given
+abbrev pub eager_rule : Rule
+eager_rule = record (new_rule (codes "eager")) {
+  long = Some (codes "eager");
+  value_names = 1;
+  parser = Some limit_parser;
+}
+
 -- one trace
 abbrev pub trace_rule : Rule
 trace_rule = record (new_rule (codes "FILE")) { required = true }
@@ -52,7 +62,7 @@ versioned name = record (new_app name) { top = record (new_shape name) { has_ver
 
 -- the commands `check` and `lint`
 abbrev pub check : App
-check = with_rule (with_rule (with_rule (with_rule (versioned (codes "check")) head_rule) traces_rule) json_rule) capacity_rule
+check = with_rule (with_rule (with_rule (with_rule (with_rule (versioned (codes "check")) head_rule) traces_rule) json_rule) capacity_rule) eager_rule
 
 abbrev pub lint : App
 lint = with_rule (versioned (codes "lint")) trace_rule
@@ -68,16 +78,16 @@ program = with_subcommand (with_subcommand (record (new_app (codes "mpiwait")) {
   };
 }) check.top) lint.top
 
--- what a command line can ask the program to do: to check a run, of a head and its traces, one a rank, to
--- report it in a format, and to let so many records of a rank wait; to read one trace alone
+-- what a command line can ask the program to do: to check a run, of a head and its traces, one a rank, by a
+-- reading, to report it in a format, and to let so many records of a rank wait; to read one trace alone
 pub data Task : Type 0 where
-  CheckRun : Text → List Text → Format → ℕ → Task
+  CheckRun : Text → List Text → Reading → Format → ℕ → Task
   LintTrace : Text → Task
 
--- a run to check, if there are a head, a trace and a number of records
-abbrev pub run_of : Option Text → Option (List Text) → Format → Option ℕ → Option Task
-run_of (Some head) (Some (trace ∷ traces)) format (Some capacity) = Some (CheckRun head (trace ∷ traces) format capacity)
-run_of _ _ format _ = None
+-- a run to check, if there are a head, a trace, a reading and a number of records
+abbrev pub run_of : Option Text → Option (List Text) → Option Reading → Format → Option ℕ → Option Task
+run_of (Some head) (Some (trace ∷ traces)) (Some reading) format (Some capacity) = Some (CheckRun head (trace ∷ traces) reading format capacity)
+run_of _ _ _ format _ = None
 
 -- JSON where the flag is noted as given, and else text
 abbrev pub format_of : Option Text → Format
@@ -90,7 +100,7 @@ capacity_of number = option_and_then capacity_in number
 -- the task that clap finds in what follows `check`, and in what follows `lint`
 abbrev pub check_of : List Row → Option Task
 check_of rows =
-    run_of (first_of (codes "HEAD") rows) (all_of (codes "FILE") rows) (format_of (first_of (codes "json") rows)) (capacity_of (first_of (codes "capacity") rows))
+    run_of (first_of (codes "HEAD") rows) (all_of (codes "FILE") rows) (reading_in (first_of (codes "eager") rows)) (format_of (first_of (codes "json") rows)) (capacity_of (first_of (codes "capacity") rows))
 
 abbrev pub lint_of : List Row → Option Task
 lint_of rows = option_map LintTrace (first_of (codes "FILE") rows)
@@ -127,7 +137,7 @@ AreWrong words =
 
 -- the answer has the task, says that there is none, or has no memory
 abbrev pub Names : Option Task → Words → Type 0
-Names task (Check head files format capacity) = task ≡ Some (CheckRun head.now (map (λ file. file.now) files.items) format capacity)
+Names task (Check head files reading format capacity) = task ≡ Some (CheckRun head.now (map (λ file. file.now) files.items) reading format capacity)
 Names task (Lint file) = task ≡ Some (LintTrace file.now)
 Names task (Said text is_error) = (task ≡ None) × (is_error ≡ true)
 Names task NoMemory = Unit {0}
@@ -139,21 +149,21 @@ SaysRightly words false = AsksForText words
 
 -- the answer has the task for which the words ask, or a text where they ask for none
 abbrev pub Answers : List Text → Words → Type 0
-Answers words (Check head files format capacity) = Asks words (CheckRun head.now (map (λ file. file.now) files.items) format capacity)
+Answers words (Check head files reading format capacity) = Asks words (CheckRun head.now (map (λ file. file.now) files.items) reading format capacity)
 Answers words (Lint file) = Asks words (LintTrace file.now)
 Answers words (Said text is_error) = SaysRightly words is_error
 Answers words NoMemory = Unit {0}
 
 -- the text is said, or there is no memory for it
 abbrev pub Says : Text → Bool → Words → Type 0
-Says text is_error (Check head files format capacity) = ⊥
+Says text is_error (Check head files reading format capacity) = ⊥
 Says text is_error (Lint file) = ⊥
 Says text is_error (Said said is_said) = (string_bytes said ≡ text) × (is_said ≡ is_error)
 Says text is_error NoMemory = Unit {0}
 
 -- a text is said of an error of this kind, or there is no memory for it
 abbrev pub SaysError : ErrorKind → Words → Type 0
-SaysError kind (Check head files format capacity) = ⊥
+SaysError kind (Check head files reading format capacity) = ⊥
 SaysError kind (Lint file) = ⊥
 SaysError kind (Said text is_error) = is_text kind ≡ not is_error
 SaysError kind NoMemory = Unit {0}

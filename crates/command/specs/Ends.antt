@@ -8,17 +8,18 @@ use Rattle.command.specs.Outputs.{Writes, WritesSome, WritesNone, FailsToWrite, 
 use Rattle.command.specs.Lints.{IsCountOf}
 use Rattle.command.specs.Texts.{IsVerdictOfTexts, WritesReport}
 use Rattle.reports.specs.declared.report.Format.{Format}
+use Rattle.moves.specs.declared.reading.Reading.{Reading}
 use Rattle.command.specs.declared.status.Status.{Status}
-use Rattle.command.specs.declared.status.Status.TheVariants.{Free, Hang, Refused, Usage, Fault}
+use Rattle.command.specs.declared.status.Status.TheVariants.{Free, Hang, Refused, Usage, Fault, Unfinished}
 use Rattle.command.specs.declared.words.Words.{Words}
 use Rattle.command.specs.declared.words.Words.TheVariants.{Check, Lint, Said, NoMemory}
 
--- the verdict is that of the texts of the files, where all of these are told
-abbrev pub IsVerdictWhereTold : Option Text → List (Option Text) → Verdict → Type 0
-IsVerdictWhereTold head files verdict =
-    (text : Text) (texts : List Text) → head ≡ Some text → files ≡ map Some texts → IsVerdictOfTexts text texts verdict
+-- the verdict is that of the texts of the files by the reading, where all of these are told
+abbrev pub IsVerdictWhereTold : Reading → Option Text → List (Option Text) → Verdict → Type 0
+IsVerdictWhereTold reading head files verdict =
+    (text : Text) (texts : List Text) → head ≡ Some text → files ≡ map Some texts → IsVerdictOfTexts reading text texts verdict
 
--- standard output by the status alone: a text for 0 to 2, nothing for 3, and nothing but for a failed write
+-- standard output by the status alone: a text for 0 to 2 and 5, nothing for 3, and nothing but for a failed write
 -- for 4
 module _ {O : Type 0} (written : O → Option (List ℕ)) (failures : O → ℕ) where
   abbrev pub EndsOutput : O → O → Status → Type 0
@@ -30,17 +31,18 @@ module _ {O : Type 0} (written : O → Option (List ℕ)) (failures : O → ℕ)
 module _ {O : Type 0} (written : O → Option (List ℕ)) (failures : O → ℕ) (told : Text → Option Text) (old new : O) where
   -- the report of a run, in its format, stands behind what was there, no write failed, and the report and the
   -- verdict are those of the files' texts
-  abbrev pub Reports : Option Text → List (Option Text) → Format → Verdict → Type 0
-  Reports head files format verdict =
-      WritesReport written old new format head files verdict × (failures new ≡ failures old) × IsVerdictWhereTold head files verdict
+  abbrev pub Reports : Option Text → List (Option Text) → Reading → Format → Verdict → Type 0
+  Reports head files reading format verdict =
+      WritesReport written old new reading format head files verdict × (failures new ≡ failures old) × IsVerdictWhereTold reading head files verdict
 
   -- a run was to be checked: its report stands there; or a refusal; or nothing, but for a failed write
-  abbrev pub EndsCheck : Option Text → List (Option Text) → Format → Status → Type 0
-  EndsCheck head files format Free = Reports head files format verdict.Free
-  EndsCheck head files format Hang = Reports head files format verdict.Hang
-  EndsCheck head files format Refused = WritesSome written failures old new
-  EndsCheck head files format Usage = new ≡ old
-  EndsCheck head files format Fault = WritesNone written failures old new
+  abbrev pub EndsCheck : Option Text → List (Option Text) → Reading → Format → Status → Type 0
+  EndsCheck head files reading format Free = Reports head files reading format verdict.Free
+  EndsCheck head files reading format Hang = Reports head files reading format verdict.Hang
+  EndsCheck head files reading format Unfinished = Reports head files reading format verdict.Unfinished
+  EndsCheck head files reading format Refused = WritesSome written failures old new
+  EndsCheck head files reading format Usage = new ≡ old
+  EndsCheck head files reading format Fault = WritesNone written failures old new
 
   -- a trace was to be read alone: the number of its calls stands there, by its text where that is told; or
   -- a refusal; or nothing, but for a failed write
@@ -62,7 +64,7 @@ module _ {O : Type 0} (written : O → Option (List ℕ)) (failures : O → ℕ)
 
   -- the end of the program, by what its words ask for
   abbrev pub EndsBy : Words → Status → Type 0
-  EndsBy (Check head files format capacity) status = EndsCheck (told head.now) (map (λ file. told file.now) files.items) format status
+  EndsBy (Check head files reading format capacity) status = EndsCheck (told head.now) (map (λ file. told file.now) files.items) reading format status
   EndsBy (Lint file) status = EndsLint (told file.now) status
   EndsBy (Said text false) status = EndsText (string_bytes text) status
   EndsBy (Said text true) status = EndsAs Usage status

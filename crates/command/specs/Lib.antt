@@ -1,4 +1,5 @@
 pub mod Capacities
+pub mod Limits
 pub mod Asked
 pub mod Front
 pub mod Statuses

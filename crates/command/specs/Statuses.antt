@@ -3,7 +3,7 @@ use Rattle.std.specs.Prelude.{ℕ}
 use Rattle.waitgraph.specs.declared.verdict.Verdict.{Verdict}
 use Rattle.waitgraph.specs.declared.verdict.Verdict.TheVariants as verdict
 use Rattle.command.specs.declared.status.Status.{Status}
-use Rattle.command.specs.declared.status.Status.TheVariants.{Free, Hang, Refused, Usage, Fault}
+use Rattle.command.specs.declared.status.Status.TheVariants.{Free, Hang, Refused, Usage, Fault, Unfinished}
 
 abbrev pub code_of : Status → ℕ
 code_of Free = 0
@@ -11,7 +11,9 @@ code_of Hang = 1
 code_of Refused = 2
 code_of Usage = 3
 code_of Fault = 4
+code_of Unfinished = 5
 
 abbrev pub status_of : Verdict → Status
 status_of verdict.Free = Free
 status_of verdict.Hang = Hang
+status_of verdict.Unfinished = Unfinished

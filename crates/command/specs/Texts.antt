@@ -7,6 +7,7 @@ use Rattle.mpigroup.specs.Groups.{Groups, ranks_of}
 use Rattle.mpigroup.specs.HeadText.{read_head}
 use Rattle.waitgraph.specs.declared.verdict.Verdict.{Verdict}
 use Rattle.waitgraph.specs.Verdicts.{verdict_of}
+use Rattle.moves.specs.declared.reading.Reading.{Reading}
 use Rattle.pairing.specs.Recordings.{Lists, IsClosed}
 use Rattle.reports.specs.Reports.{report_of}
 use Rattle.reports.specs.declared.report.Format.{Format}
@@ -36,32 +37,33 @@ IsFaultOfOpening (Open path) = ⊤
 IsFaultOfOpening Memory = ⊤
 IsFaultOfOpening fault = ⊥
 
--- the text of the head gives groups, and the verdict is that of the traces which the other texts hold
-pub record IsVerdictOfTexts (head : List ℕ) (texts : List (List ℕ)) (verdict : Verdict) : Type 0 where
+-- the text of the head gives groups, and the verdict is that of the traces which the other texts hold, by the
+-- reading
+pub record IsVerdictOfTexts (reading : Reading) (head : List ℕ) (texts : List (List ℕ)) (verdict : Verdict) : Type 0 where
   pub groups : Groups
   pub is_head : read_head head ≡ Ok groups
-  pub of_traces : IsVerdictOver groups (map trace_of texts) verdict
+  pub of_traces : IsVerdictOver reading groups (map trace_of texts) verdict
 
 -- the text of the head gives the groups, and the recording is that of the traces which the other texts hold
 pub record IsRunOfTexts (head : List ℕ) (texts : List (List ℕ)) (groups : Groups) (recording : Lists) : Type 0 where
   pub is_head : read_head head ≡ Ok groups
   pub is_recording : recording ≡ lists_of (map trace_of texts)
 
--- the report of a run, and the verdict that it says: they are those of groups and a closed recording of their
--- ranks, and where the texts of the head and the files are told, these are of the texts
-pub record IsReportOf (format : Format) (head : Option (List ℕ)) (files : List (Option (List ℕ))) (verdict : Verdict) (report : List ℕ) : Type 0 where
+-- the report of a run, and the verdict that it says: by the reading they are those of groups and a closed recording
+-- of their ranks, and where the texts of the head and the files are told, these are of the texts
+pub record IsReportOf (reading : Reading) (format : Format) (head : Option (List ℕ)) (files : List (Option (List ℕ))) (verdict : Verdict) (report : List ℕ) : Type 0 where
   pub groups : Groups
   pub recording : Lists
   pub one_a_rank : length recording ≡ ranks_of groups
   pub closed : IsClosed recording
   pub of_texts : (text : List ℕ) (texts : List (List ℕ)) → head ≡ Some text → files ≡ map Some texts → IsRunOfTexts text texts groups recording
-  pub report_is : report ≡ report_of format groups recording
-  pub verdict_is : verdict ≡ verdict_of groups recording
+  pub report_is : report ≡ report_of format reading groups recording
+  pub verdict_is : verdict ≡ verdict_of reading groups recording
 
 -- the report stands behind what was there
-abbrev pub WritesReport : {O : Type 0} → (O → Option (List ℕ)) → O → O → Format → Option (List ℕ) → List (Option (List ℕ)) → Verdict → Type 0
-WritesReport written old new format head files verdict =
-    (report : List ℕ) × IsReportOf format head files verdict report × Appends (written old) (written new) report
+abbrev pub WritesReport : {O : Type 0} → (O → Option (List ℕ)) → O → O → Reading → Format → Option (List ℕ) → List (Option (List ℕ)) → Verdict → Type 0
+WritesReport written old new reading format head files verdict =
+    (report : List ℕ) × IsReportOf reading format head files verdict report × Appends (written old) (written new) report
 
 -- the text of the head gives groups, and the number of the texts is another than that of their ranks
 pub record IsWrongCount (head : List ℕ) (texts : List (List ℕ)) (ranks files : ℕ) : Type 0 where

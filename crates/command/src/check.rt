@@ -14,6 +14,7 @@ use crate::capacity::Capacity;
 use crate::fault::Fault;
 use crate::opener::Opener;
 use gather::gate::OpenGate;
+use moves::reading::Reading;
 use mpicall::device::{DeviceFault, Input, Output};
 use mpicall::source::Source;
 use mpigroup::fault::ReadFault;
@@ -102,13 +103,14 @@ fn read_by<P: Opener>(opener: &P, paths: &[&str]) -> ReadBy {
     ReadBy::Turns
 }
 
-/// Checks the run of a head and its traces, and writes its report in the format. The traces are opened in
+/// Checks the run of a head and its traces by the reading, and writes its report in the format. The traces are opened in
 /// rank order, once their number is known to be that of the ranks, and then read at once; of each so many
 /// records may wait to be judged.
 pub fn check<'a, P: Opener, O: Output, R: Threads + Wait + Sync>(
     alloc: Global,
     head: &'a str,
     files: &[&'a str],
+    reading: Reading,
     format: Format,
     capacity: Capacity,
     opener: &P,
@@ -119,13 +121,13 @@ pub fn check<'a, P: Opener, O: Output, R: Threads + Wait + Sync>(
     ensures verdict { IfOk result (λ verdict. (text : List ℕ) (texts : List (List ℕ)) →
         P.told opener.now head.now ≡ Some text →
         map (λ file. P.told opener.now file.now) files.now ≡ map Some texts →
-        IsVerdictOfTexts text texts verdict) }
+        IsVerdictOfTexts reading text texts verdict) }
     ensures fault { IfErr result (λ fault. (text : List ℕ) (texts : List (List ℕ)) →
         P.told opener.now head.now ≡ Some text →
         map (λ file. P.told opener.now file.now) files.now ≡ map Some texts →
         IsFaultOfTexts text texts fault) }
 
-    ensures written { IfOk result (WritesReport O.written out.old out.new format (P.told opener.now head.now) (map (λ file. P.told opener.now file.now) files.now)) }
+    ensures written { IfOk result (WritesReport O.written out.old out.new reading format (P.told opener.now head.now) (map (λ file. P.told opener.now file.now) files.now)) }
     ensures no_write_failed { OnOk result (O.failures out.new ≡ O.failures out.old) }
     ensures output { IfErr result (LeavesOutput O.written O.failures out.old out.new) }
 
@@ -143,7 +145,7 @@ pub fn check<'a, P: Opener, O: Output, R: Threads + Wait + Sync>(
     let records = capacity.records();
     let by = read_by(opener, files);
     match run_by(
-        alloc, head, sources, records, &OpenGate, format, out, rt, by,
+        alloc, head, reading, sources, records, &OpenGate, format, out, rt, by,
     ) {
         Ok(verdict) => Ok(verdict),
         Err(fault) => Err(Fault::from(fault)),

@@ -14,6 +14,7 @@ pub mod capacity;
 mod check;
 pub mod fault;
 pub mod given;
+pub mod limit;
 mod lint;
 pub mod opener;
 pub mod program;

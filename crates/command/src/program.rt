@@ -12,6 +12,7 @@ use crate::lint::lint_file;
 use crate::opener::Opener;
 use crate::status::Status;
 use crate::words::{Words, parse};
+use moves::reading::Reading;
 use mpicall::device::{Output, write_all};
 use reports::report::Format;
 use std::alloc::Global;
@@ -33,6 +34,7 @@ fn status_of(verdict: Verdict) -> Status
     match verdict {
         Verdict::Free => Status::Free,
         Verdict::Hang => Status::Hang,
+        Verdict::Unfinished => Status::Unfinished,
     }
 }
 
@@ -68,15 +70,18 @@ fn answer_check<'a, P: Opener, O: Output, R: Threads + Wait + Sync>(
     alloc: Global,
     head: &'a str,
     files: &[&'a str],
+    reading: Reading,
     format: Format,
     capacity: Capacity,
     opener: &P,
     rt: &R,
     out: &mut O,
 ) -> Result<Status, Complaint<'a>>
-    ensures { CheckEnds O.written O.failures (P.told opener.now) out.old out.new (P.told opener.now head.now) (map (λ file. P.told opener.now file.now) files.now) format result }
+    ensures { CheckEnds O.written O.failures (P.told opener.now) out.old out.new (P.told opener.now head.now) (map (λ file. P.told opener.now file.now) files.now) reading format result }
 {
-    match check(alloc, head, files, format, capacity, opener, rt, out) {
+    match check(
+        alloc, head, files, reading, format, capacity, opener, rt, out,
+    ) {
         Ok(verdict) => Ok(status_of(verdict)),
         Err(fault) => refuse(alloc, fault, out),
     }
@@ -112,9 +117,12 @@ fn answer<'a, P: Opener, O: Output, R: Threads + Wait + Sync>(
         Words::Check {
             head,
             files,
+            reading,
             format,
             capacity,
-        } => answer_check(alloc, head, &files, format, capacity, opener, rt, out),
+        } => answer_check(
+            alloc, head, &files, reading, format, capacity, opener, rt, out,
+        ),
         Words::Lint { file } => answer_lint(alloc, file, opener, rt, out),
         Words::Said {
             text,

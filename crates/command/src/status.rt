@@ -16,6 +16,8 @@ pub enum Status {
     Usage = 3,
     /// A file, the memory or the output failed.
     Fault = 4,
+    /// No rank is held, and some trace was left open.
+    Unfinished = 5,
 }
 
 impl Status {

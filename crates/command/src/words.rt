@@ -7,23 +7,27 @@ ghost use Rattle.clap.specs.Values.{kind_of};
 ghost use Rattle.clap.specs.Walk.{rows_of, rule_of};
 ghost use Rattle.clap.specs.declared.builder.command.Command.TheViews.{out-Command as fields_of};
 ghost use Rattle.clap.specs.declared.error.kind.ErrorKind.TheVariants.{OutOfMemory};
-ghost use Rattle.command.specs.Asked.{Answers, LintTrace, Names, Says, SaysError, capacity_of, capacity_rule, check, check_of, format_of, head_rule, is_text, json_rule, lint, lint_of, program, run_of, task_of, trace_rule, traces_rule};
+ghost use Rattle.command.specs.Asked.{Answers, LintTrace, Names, Says, SaysError, capacity_of, capacity_rule, check, check_of, eager_rule, format_of, head_rule, is_text, json_rule, lint, lint_of, program, run_of, task_of, trace_rule, traces_rule};
 
 use crate::capacity::{Capacity, LEAST, MOST};
+use crate::limit::read_reading;
 use clap::builder::ValueParser;
 use clap::error::ErrorKind;
 use clap::{Arg, ArgAction, ArgMatches, Command, Error};
+use moves::reading::Reading;
+use mpicall::limits::GREATEST_BYTES;
 use reports::report::Format;
 use std::alloc::{AllocError, Global};
 
 /// What the words ask for.
 #[derive(Debug, Drop)]
 pub enum Words<'a> {
-    /// To check a run, by the path of its head and those of its traces, at least one, in rank order, to report
-    /// it in a format, and to let so many records of a rank wait to be judged.
+    /// To check a run, by the path of its head and those of its traces, at least one, in rank order, and by a
+    /// reading, to report it in a format, and to let so many records of a rank wait to be judged.
     Check {
         head: &'a str,
         files: Vec<&'a str>,
+        reading: Reading,
         format: Format,
         capacity: Capacity,
     },
@@ -52,8 +56,9 @@ const CHECK_LONG_ABOUT: &str = "\
 Reads the head of a run and its traces, and says whether the run can hang.
 
 Lines of the report:
-  verdict free|hang
+  verdict free|hang|unfinished
       hang: some rank can't come to its end, whatever way the run goes
+      unfinished: no rank is known to hang, but some trace ends with `open`: its rank was cut off
   rank R at I CALL waits rank K (call J|none)
       rank R is stuck at its call I until rank K comes to its call J; none: rank K has no such call
   cycle R ..
@@ -78,10 +83,14 @@ Exit status:
   1  hang
   2  refused: the head or a trace isn't in its format, or a call can't be as recorded
   3  usage: the words, or the number of files
-  4  fault: a file, the memory or the output";
+  4  fault: a file, the memory or the output
+  5  unfinished: no rank is known to hang, but some trace ends with `open`";
 
 const USAGE: &str =
-    "usage: mpiwait check [--json] [--capacity N] HEAD FILE.. or mpiwait lint FILE\n";
+    "usage: mpiwait check [--json] [--capacity N] [--eager N] HEAD FILE.. or mpiwait lint FILE\n";
+
+const LIMIT_USAGE: &str =
+    "usage: --eager takes a number from 0 to 2147483647, with no sign and no zero before it\n";
 
 /// What clap is told of the head.
 fn head_argument<'a>(alloc: Global) -> Arg<'a>
@@ -128,6 +137,18 @@ fn capacity_argument<'a>(alloc: Global) -> Arg<'a>
         .help("How many records of a rank may be read ahead of the checking, 1 to 1024")
 }
 
+/// What clap is told of the eager limit.
+fn eager_argument<'a>(alloc: Global) -> Arg<'a>
+    ensures rule { rule_of result ≡ eager_rule }
+    ensures local { result.global ≡ false }
+{
+    Arg::new(alloc, "eager")
+        .long("eager")
+        .value_name("N")
+        .value_parser(ValueParser::unsigned(0, u64::from(GREATEST_BYTES)))
+        .help("Takes standard sends that tell at most N bytes as buffered, 0 to 2147483647")
+}
+
 /// What clap is told of one trace.
 fn trace_argument<'a>(alloc: Global) -> Arg<'a>
     ensures rule { rule_of result ≡ trace_rule }
@@ -151,7 +172,8 @@ fn check_command<'a>(alloc: Global) -> Result<Command<'a>, AllocError>
         .arg(head_argument(alloc))?
         .arg(traces_argument(alloc))?
         .arg(json_argument(alloc))?
-        .arg(capacity_argument(alloc))
+        .arg(capacity_argument(alloc))?
+        .arg(eager_argument(alloc))
 }
 
 /// What clap is told of `lint`.
@@ -224,10 +246,11 @@ fn run_named<'a>(
     alloc: Global,
     head: Option<&'a str>,
     files: Option<&[&'a str]>,
+    reading: Option<Reading>,
     format: Format,
     capacity: Option<Capacity>,
 ) -> Words<'a>
-    ensures { Names (run_of (option_map (λ path. path.now) head.entry) (option_map (λ paths. map (λ path. path.now) paths.now) files.entry) format capacity) result }
+    ensures { Names (run_of (option_map (λ path. path.now) head.entry) (option_map (λ paths. map (λ path. path.now) paths.now) files.entry) reading format capacity) result }
 {
     let Some(head) = head else {
         return say(alloc, USAGE, true);
@@ -238,6 +261,9 @@ fn run_named<'a>(
     if files.is_empty() {
         return say(alloc, USAGE, true);
     }
+    let Some(reading) = reading else {
+        return say(alloc, LIMIT_USAGE, true);
+    };
     let Some(capacity) = capacity else {
         return say(alloc, USAGE, true);
     };
@@ -245,6 +271,7 @@ fn run_named<'a>(
         Ok(files) => Words::Check {
             head,
             files,
+            reading,
             format,
             capacity,
         },
@@ -277,6 +304,7 @@ fn check_of<'a>(alloc: Global, matches: &ArgMatches<'a>) -> Words<'a>
         alloc,
         matches.get_str("HEAD"),
         matches.get_strs("FILE"),
+        read_reading(matches.get_str("eager")),
         format_of(matches.get_str("json")),
         capacity_of(matches.get_str("capacity")),
     )

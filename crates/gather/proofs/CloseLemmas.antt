@@ -1,4 +1,5 @@
 -- What is kept of ranks whose feeds were all drained: the answer over the traces that their receipts hold.
+use Rattle.moves.specs.declared.reading.Reading.{Reading}
 use Rattle.std.proofs.Common.{◌≡◌, ℕ, zero, suc, ◌+◌, ◌-◌, ◌<◌, true, false, Option, Some, None, Result, Ok, Err, IfOk, IfErr, List, [], ◌∷◌, ◌++◌, length, refl, sym, ap, subst, ◌∙◌, arith, append_assoc, append-nil, slice_get}
 use Rattle.std.proofs.lemmas.List.{length-append, length-map}
 use Rattle.std.proofs.lemmas.Option.{none-some}
@@ -212,38 +213,47 @@ drained first now receipts missing are names calm lowest none all = record {
   all = all;
 }
 
-outcome_told : (groups : Groups) (takers : List Taker) (kept : Kept) (receipts : List (Option Receipt)) (outcome : Outcome) → AreDrained takers kept receipts → kept.groups ≡ groups → IsOutcomeOfKept kept outcome → IsOutcomeOver groups (traces_held receipts) outcome
-outcome_told groups takers kept receipts outcome are same of_kept =
+outcome_told : (reading : Reading) (groups : Groups) (takers : List Taker) (kept : Kept) (receipts : List (Option Receipt)) (outcome : Outcome) → AreDrained takers kept receipts → kept.reading ≡ reading → kept.groups ≡ groups → IsOutcomeOfKept kept outcome → IsOutcomeOver reading groups (traces_held receipts) outcome
+outcome_told reading groups takers kept receipts outcome are alike same of_kept =
     let recording = recording_told takers kept receipts are of_kept.no_refusal in record {
       no_refusal = ap (λ (gs : Groups). refusal_of gs (traces_held receipts)) (sym same) ∙ sym (refusal_told takers kept receipts are) ∙ of_kept.no_refusal;
+      same_reading = of_kept.same_reading ∙ alike;
       same_groups = of_kept.same_groups ∙ same;
       recording = of_kept.recording ∙ recording;
       closed = subst IsClosed recording of_kept.closed;
     }
 
 -- what is concluded of what is kept is the answer over the receipts
-pub concluded : (groups : Groups) (takers : List Taker) (kept : Kept) (receipts : List (Option Receipt)) (answer : Result Outcome CloseFault) → (kept.wanted ≡ false → AreDrained takers kept receipts) → kept.groups ≡ groups → Concludes kept answer → Closes groups receipts answer
-concluded groups takers kept receipts (Err Memory) drained same is = tt
-concluded groups takers kept receipts (Err (Unproved rank)) drained same is = absurd is
-concluded groups takers kept receipts (Err (Refused refusal)) drained same is =
+pub concluded : (reading : Reading) (groups : Groups) (takers : List Taker) (kept : Kept) (receipts : List (Option Receipt)) (answer : Result Outcome CloseFault) → (kept.wanted ≡ false → AreDrained takers kept receipts) → kept.reading ≡ reading → kept.groups ≡ groups → Concludes kept answer → Closes reading groups receipts answer
+concluded reading groups takers kept receipts (Err Memory) drained alike same is = tt
+concluded reading groups takers kept receipts (Err (Unproved rank)) drained alike same is = absurd is
+concluded reading groups takers kept receipts (Err (Refused refusal)) drained alike same is =
     let are = drained is.0 in (
       are.present,
       ap (λ (gs : Groups). refusal_of gs (traces_held receipts)) (sym same) ∙ sym (refusal_told takers kept receipts are) ∙ is.1,
     )
-concluded groups takers kept receipts (Ok outcome) drained same is =
-    let are = drained is.0 in (are.present, outcome_told groups takers kept receipts outcome are same is.1)
+concluded reading groups takers kept receipts (Ok outcome) drained alike same is =
+    let are = drained is.0 in (are.present, outcome_told reading groups takers kept receipts outcome are alike same is.1)
 
 -- where nothing is wrong with what is kept, the outcome of its records is concluded
-pub of_outcome : (kept : Kept) (analyser : Analysed) (answer : Result Outcome CloseFault) → kept.wanted ≡ false → refusal_kept kept ≡ None → IsClosed kept.recording → analyser.groups ≡ kept.groups → analyser.recording ≡ kept.recording → IfOk answer (λ outcome. outcome.analyser ≡ analyser) → IfErr answer (λ fault. fault ≡ Memory) → Concludes kept answer
-of_outcome kept analyser (Err Memory) calm none closed groups recording ok fault = tt
-of_outcome kept analyser (Err (Unproved rank)) calm none closed groups recording ok fault = cc
-of_outcome kept analyser (Err (Refused refusal)) calm none closed groups recording ok fault = cc
-of_outcome kept analyser (Ok outcome) calm none closed groups recording ok fault = (
+pub of_outcome : (kept : Kept) (analyser : Analysed) (answer : Result Outcome CloseFault) → kept.wanted ≡ false → refusal_kept kept ≡ None → IsClosed kept.recording → analyser.reading ≡ kept.reading → analyser.groups ≡ kept.groups → analyser.recording ≡ kept.recording → IfOk answer (λ outcome. outcome.analyser ≡ analyser) → IfErr answer (λ fault. fault ≡ Memory) → Concludes kept answer
+of_outcome kept analyser (Err Memory) calm none closed reading groups recording ok fault = tt
+of_outcome kept analyser (Err (Unproved rank)) calm none closed reading groups recording ok fault = cc
+of_outcome kept analyser (Err (Refused refusal)) calm none closed reading groups recording ok fault = cc
+of_outcome kept analyser (Ok outcome) calm none closed reading groups recording ok fault = (
   calm,
   record {
     no_refusal = none;
+    same_reading = ap (λ (a : Analysed). a.reading) ok ∙ reading;
     same_groups = ap (λ (a : Analysed). a.groups) ok ∙ groups;
     recording = ap (λ (a : Analysed). a.recording) ok ∙ recording;
     closed = closed;
   },
 )
+
+-- want of memory comes first
+pub memory_first : (kept : Kept) (answer : Result Outcome CloseFault) → kept.wanted ≡ true → Concludes kept answer → answer ≡ Err Memory
+memory_first kept (Err Memory) wanted is = refl
+memory_first kept (Err (Unproved rank)) wanted is = absurd is
+memory_first kept (Err (Refused refusal)) wanted is = absurd (false≢true (sym is.0 ∙ wanted))
+memory_first kept (Ok outcome) wanted is = absurd (false≢true (sym is.0 ∙ wanted))

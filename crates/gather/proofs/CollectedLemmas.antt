@@ -161,10 +161,11 @@ closed_has_fault (Some fault) wanted e unwanted = (fault, refl)
 -- what is kept of the other ranks
 
 pub nothing_new : (rank : ℕ) (before after : Kept) → after ≡ before → Leaves rank before after
-nothing_new rank before after same = rw same (record { groups = refl; ranks = refl; places = refl; unwanted = λ e. e; calls = λ other differs. refl; faults = λ other differs. refl })
+nothing_new rank before after same = rw same (record { reading = refl; groups = refl; ranks = refl; places = refl; unwanted = λ e. e; calls = λ other differs. refl; faults = λ other differs. refl })
 
 one_record : (rank : ℕ) (before after : Kept) (call : Call) → after ≡ with_record before rank call → Leaves rank before after
 one_record rank before after call is = rw is (record {
+  reading = refl;
   groups = refl;
   ranks = length-set before.recording rank (calls_of before.recording rank ++ call ∷ []);
   places = refl;
@@ -185,6 +186,7 @@ fault_there faults rank fault within =
 
 one_fault : (rank : ℕ) (before after : Kept) (fault : RankFault) → after ≡ with_fault before rank fault → Leaves rank before after
 one_fault rank before after fault is = rw is (record {
+  reading = refl;
   groups = refl;
   ranks = refl;
   places = length-set before.faults rank (Some (length (calls_of before.recording rank), fault));
@@ -195,6 +197,7 @@ one_fault rank before after fault is = rw is (record {
 
 memory_wanted : (rank : ℕ) (before after : Kept) → after ≡ wanting before → Leaves rank before after
 memory_wanted rank before after is = rw is (record {
+  reading = refl;
   groups = refl;
   ranks = refl;
   places = refl;

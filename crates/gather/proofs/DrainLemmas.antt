@@ -106,17 +106,19 @@ step_receives : (rank : ℕ) (old new : Collector) (answer : Stepped) → Steps 
 step_receives rank old new answer steps =
     let leaves = enters_leaves rank (kept old) (kept new) steps.found answer steps.enters in record {
       names = steps.takes.names;
+      reading = leaves.reading;
       groups = leaves.groups;
       wanted = stays_wanted (kept old).wanted (kept new).wanted leaves.unwanted;
       others = λ other differs. items_stay received_by old.takers.items new.takers.items other (steps.takes.others other differs);
     }
 
 pub none_received : (rank : ℕ) (collector : Collector) → ReceivesFrom rank collector collector
-none_received rank collector = record { names = refl; groups = refl; wanted = λ e. e; others = λ other differs. refl }
+none_received rank collector = record { names = refl; reading = refl; groups = refl; wanted = λ e. e; others = λ other differs. refl }
 
 then_receives : (rank : ℕ) (first now next : Collector) → ReceivesFrom rank first now → ReceivesFrom rank now next → ReceivesFrom rank first next
 then_receives rank first now next a b = record {
   names = b.names ∙ a.names;
+  reading = b.reading ∙ a.reading;
   groups = b.groups ∙ a.groups;
   wanted = λ e. b.wanted (a.wanted e);
   others = λ other differs. b.others other differs ∙ a.others other differs;

@@ -7,12 +7,12 @@ use Rattle.mpicall.specs.Device.{count_if, one_more}
 use Rattle.mpicall.specs.Ending.{ends_list}
 use Rattle.mpicall.specs.Lines.{lines_of}
 use Rattle.mpicall.specs.Reading.{record_of_line}
-use Rattle.mpicall.specs.Trace.{Trace, End, put_first, ends_here, trace_of, trace_of_lines, trace_with, end_after_finalize}
+use Rattle.mpicall.specs.Trace.{Trace, End, put_first, ends_here, trace_of, trace_of_lines, trace_with, end_with_behind}
 use Rattle.mpicall.specs.Trace as Trace
 use Rattle.mpicall.specs.Source.{Gives, IsOwnFault, coming, count_after, trace_at}
 use Rattle.mpicall.specs.declared.source.Source.{Source}
 use Rattle.mpicall.specs.declared.source.Stage.{Stage}
-use Rattle.mpicall.specs.declared.source.Stage.TheVariants.{Reading, Finalized, Done, Failed}
+use Rattle.mpicall.specs.declared.source.Stage.TheVariants.{Reading, Ended, Done, Failed}
 use Rattle.mpicall.specs.declared.call.Call.{Call}
 use Rattle.mpicall.specs.declared.fault.LineFault.{LineFault}
 use Rattle.mpicall.specs.declared.fault.SourceFault.{SourceFault}
@@ -39,7 +39,7 @@ closed_first true call last others is closed = (λ _. refl, tt)
 closed_first false call last others is closed = (λ ends. absurd (false≢true (sym is ∙ ends)), closed)
 
 closed_with : (reading : Result Call LineFault) (behind : List (List ℕ)) (others : Trace) → IsClosed others.records → IsClosed (trace_with reading behind others).records
-closed_with (Ok call) behind others closed = closed_first (ends_list call) call (end_after_finalize behind) others refl closed
+closed_with (Ok call) behind others closed = closed_first (ends_list call) call (end_with_behind behind) others refl closed
 closed_with (Err fault) behind others closed = tt
 
 closed_lines : (lines : List (List ℕ)) → IsClosed (trace_of_lines lines).records
@@ -53,8 +53,8 @@ closed_text bytes = closed_lines (lines_of bytes)
 closed_at : (stage : Stage) (bytes : Option (List ℕ)) → IfSome (trace_at stage bytes) (λ trace. IsClosed trace.records)
 closed_at Reading None = tt
 closed_at Reading (Some bytes) = closed_text bytes
-closed_at Finalized None = tt
-closed_at Finalized (Some bytes) = tt
+closed_at Ended None = tt
+closed_at Ended (Some bytes) = tt
 closed_at Done bytes = tt
 closed_at (Failed fault) bytes = tt
 
@@ -70,11 +70,11 @@ mark_behind call records (Trace.Torn fault) is = refl
 mark_behind call [] Trace.Sealed is = cc
 mark_behind call (next ∷ records) Trace.Sealed is = is
 
-mark_last : (call : Call) (behind : List (List ℕ)) → ends_list call ≡ true → mark_of (call ∷ []) (end_after_finalize behind) ≡ ending_of (end_after_finalize behind)
+mark_last : (call : Call) (behind : List (List ℕ)) → ends_list call ≡ true → mark_of (call ∷ []) (end_with_behind behind) ≡ ending_of (end_with_behind behind)
 mark_last call [] ends = ap end_behind ends
 mark_last call (line ∷ behind) ends = refl
 
-mark_first : (ends : Bool) (call : Call) (behind : List (List ℕ)) (others : Trace) → ends_list call ≡ ends → mark_of others.records others.end ≡ ending_of others.end → let rest = cond ends (ends_here (end_after_finalize behind)) others in mark_of (call ∷ rest.records) rest.end ≡ ending_of rest.end
+mark_first : (ends : Bool) (call : Call) (behind : List (List ℕ)) (others : Trace) → ends_list call ≡ ends → mark_of others.records others.end ≡ ending_of others.end → let rest = cond ends (ends_here (end_with_behind behind)) others in mark_of (call ∷ rest.records) rest.end ≡ ending_of rest.end
 mark_first true call behind others ends is = mark_last call behind ends
 mark_first false call behind others ends is = mark_behind call others.records others.end is
 

@@ -52,18 +52,20 @@ receipt_of_ring (n ∷ ns) (r ∷ rs) (suc rank) receipt are at = receipt_of_rin
 -- all was received of the ranks so far that have a receipt, and the first without one is known
 pub record Finishes (first now : Collector) (receipts : List (Option Receipt)) (ranks : ℕ) (missing : Option ℕ) : Type 0 where
   pub names : rings now ≡ rings first
+  pub reading : (kept now).reading ≡ (kept first).reading
   pub groups : (kept now).groups ≡ (kept first).groups
   pub wanted : (kept first).wanted ≡ true → (kept now).wanted ≡ true
   pub lowest : option_or missing (missing_from ranks (drop ranks receipts)) ≡ first_missing receipts
   pub all : (rank : ℕ) (receipt : Receipt) → rank < ranks → slice_get receipts rank ≡ Some (Some receipt) → AreAllOf receipt (received_from now rank)
 
 pub none_finished : (collector : Collector) (receipts : List (Option Receipt)) → Finishes collector collector receipts 0 None
-none_finished collector receipts = record { names = refl; groups = refl; wanted = λ e. e; lowest = refl; all = λ rank receipt below at. absurd (omega (arith, below)) }
+none_finished collector receipts = record { names = refl; reading = refl; groups = refl; wanted = λ e. e; lowest = refl; all = λ rank receipt below at. absurd (omega (arith, below)) }
 
 pub with_receipt : (first now next : Collector) (receipts rest : List (Option Receipt)) (ranks : ℕ) (missing : Option ℕ) (receipt : Receipt) → Finishes first now receipts ranks missing → drop ranks receipts ≡ Some receipt ∷ rest → ReceivesFrom ranks now next → AreAllOf receipt (received_from next ranks) → Finishes first next receipts (ranks + 1) missing
 with_receipt first now next receipts rest ranks missing receipt so front only own =
     let behind = rest_at receipts rest ranks (Some receipt) front in record {
       names = only.names ∙ so.names;
+      reading = only.reading ∙ so.reading;
       groups = only.groups ∙ so.groups;
       wanted = λ e. only.wanted (so.wanted e);
       lowest = ap (λ (rs : List (Option Receipt)). option_or missing (missing_from (ranks + 1) rs)) (sym behind)
@@ -87,6 +89,7 @@ missing_here (Some earlier) rank behind = refl
 pub without_receipt : (first now : Collector) (receipts rest : List (Option Receipt)) (ranks : ℕ) (missing : Option ℕ) → Finishes first now receipts ranks missing → drop ranks receipts ≡ None ∷ rest → Finishes first now receipts (ranks + 1) (option_or missing (Some ranks))
 without_receipt first now receipts rest ranks missing so front = record {
   names = so.names;
+  reading = so.reading;
   groups = so.groups;
   wanted = so.wanted;
   lowest = missing_here missing ranks _ ∙ ap (λ (rs : List (Option Receipt)). option_or missing (missing_from ranks rs)) (sym front) ∙ so.lowest;

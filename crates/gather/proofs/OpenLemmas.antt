@@ -1,4 +1,5 @@
 -- A session at its opening: one feed more is opened, and nothing was received.
+use Rattle.moves.specs.declared.reading.Reading.{Reading}
 use Rattle.std.proofs.Common.{◌≡◌, ℕ, zero, suc, ◌+◌, None, List, [], ◌∷◌, ◌++◌, length, map, replicate, All, refl, sym, ap, ◌∙◌, arith}
 use Rattle.std.specs.List.{range_with_len}
 use Rattle.std.proofs.lemmas.List.{map-append, length-map, length-replicate}
@@ -50,14 +51,14 @@ no_fault_kept (suc ranks) (suc rank) = no_fault_kept ranks rank
 at_first : (groups : Groups) (rank : ℕ) → IsKeptOf groups rank [] [] None
 at_first groups rank = record { first = refl; before = refl }
 
-pub kept_at_first : (groups : Groups) (rank : ℕ) → IsKeptIn rank [] (nothing_kept groups)
-kept_at_first groups rank = rw (none_of_any (ranks_of groups) rank, no_fault_kept (ranks_of groups) rank) (at_first groups rank)
+pub kept_at_first : (reading : Reading) (groups : Groups) (rank : ℕ) → IsKeptIn rank [] (nothing_kept reading groups)
+kept_at_first reading groups rank = rw (none_of_any (ranks_of groups) rank, no_fault_kept (ranks_of groups) rank) (at_first groups rank)
 
-pub places_at_first : (groups : Groups) → length (nothing_kept groups).faults ≡ length (nothing_kept groups).recording
-places_at_first groups = length-replicate (ranks_of groups) None ∙ sym (length-replicate (ranks_of groups) [])
+pub places_at_first : (reading : Reading) (groups : Groups) → length (nothing_kept reading groups).faults ≡ length (nothing_kept reading groups).recording
+places_at_first reading groups = length-replicate (ranks_of groups) None ∙ sym (length-replicate (ranks_of groups) [])
 
-pub opened : (groups : Groups) (feeds : List Feed) (takers : List Taker) (kept : Kept) (ranks : ℕ) → map taker_ring takers ≡ map feed_ring feeds → map rank_of feeds ≡ range_with_len 0 ranks → ranks ≡ ranks_of groups → All (λ taker. received_by taker ≡ []) takers → kept ≡ nothing_kept groups → Collects takers kept
-opened groups feeds takers kept ranks names numbers count none is =
+pub opened : (reading : Reading) (groups : Groups) (feeds : List Feed) (takers : List Taker) (kept : Kept) (ranks : ℕ) → map taker_ring takers ≡ map feed_ring feeds → map rank_of feeds ≡ range_with_len 0 ranks → ranks ≡ ranks_of groups → All (λ taker. received_by taker ≡ []) takers → kept ≡ nothing_kept reading groups → Collects takers kept
+opened reading groups feeds takers kept ranks names numbers count none is =
     let as_feeds : length takers ≡ length feeds = sym (length-map takers taker_ring) ∙ ap length names ∙ length-map feeds feed_ring in
     let as_ranks : length feeds ≡ ranks = sym (length-map feeds rank_of) ∙ ap length numbers ∙ length-range_with_len 0 ranks in
     let number = as_feeds ∙ as_ranks ∙ count in

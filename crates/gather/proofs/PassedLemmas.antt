@@ -18,26 +18,26 @@ use Rattle.gather.specs.declared.ledger.Stepped.{Stepped}
 use Rattle.gather.specs.declared.ledger.Stepped.TheVariants.{Refused, Discarded, Empty, Ended}
 use Rattle.watches.proofs.PassedLemmas.{passed_on}
 
-nothing_passed_on : (before after : Kept) (list : List Stands) → after ≡ before → ArePassed before.groups before.recording list → ArePassed after.groups after.recording list
+nothing_passed_on : (before after : Kept) (list : List Stands) → after ≡ before → ArePassed before.reading before.groups before.recording list → ArePassed after.reading after.groups after.recording list
 nothing_passed_on before after list same are = rw same are
 
-record_passed_on : (rank : ℕ) (call : Call) (before after : Kept) (answer : Stepped) (list : List Stands) → rank < length before.recording → EntersRecord rank call before answer after → ArePassed before.groups before.recording list → ArePassed after.groups after.recording list
+record_passed_on : (rank : ℕ) (call : Call) (before after : Kept) (answer : Stepped) (list : List Stands) → rank < length before.recording → EntersRecord rank call before answer after → ArePassed before.reading before.groups before.recording list → ArePassed after.reading after.groups after.recording list
 record_passed_on rank call before after Stepped.Took list within so are =
-    rw so.2 (passed_on before.groups before.recording (appended before.recording rank call) list (goes_on_by before.recording rank call within) are)
+    rw so.2 (passed_on before.reading before.groups before.recording (appended before.recording rank call) list (goes_on_by before.recording rank call within) are)
 record_passed_on rank call before after Refused list within so are = rw so.1.2 are
 record_passed_on rank call before after Discarded list within so are =
     ⊎_elim (λ (same : (is_open before rank ≡ false) × (after ≡ before)). rw same.1 are) (λ (wants : (is_open before rank ≡ true) × (fault_behind_kept before rank call ≡ None) × (after ≡ wanting before)). rw wants.2 are) so
 record_passed_on rank call before after Empty list within so are = absurd so
 record_passed_on rank call before after Ended list within so are = absurd so
 
-torn_passed_on : (rank : ℕ) (fault : RankFault) (before after : Kept) (list : List Stands) → after ≡ torn before rank fault → ArePassed before.groups before.recording list → ArePassed after.groups after.recording list
+torn_passed_on : (rank : ℕ) (fault : RankFault) (before after : Kept) (list : List Stands) → after ≡ torn before rank fault → ArePassed before.reading before.groups before.recording list → ArePassed after.reading after.groups after.recording list
 torn_passed_on rank fault before after list is are =
     ⊎_elim
     (λ (o : is_open before rank ≡ true). let now : after ≡ with_fault before rank fault = is ∙ rw o refl in rw now are)
     (λ (s : is_open before rank ≡ false). let now : after ≡ before = is ∙ rw s refl in rw now are)
     (cases_Bool (is_open before rank))
 
-pub step_passed : (rank : ℕ) (found : Took) (answer : Stepped) (before after : Kept) (list : List Stands) → rank < length before.recording → Enters rank found before answer after → ArePassed before.groups before.recording list → ArePassed after.groups after.recording list
+pub step_passed : (rank : ℕ) (found : Took) (answer : Stepped) (before after : Kept) (list : List Stands) → rank < length before.recording → Enters rank found before answer after → ArePassed before.reading before.groups before.recording list → ArePassed after.reading after.groups after.recording list
 step_passed rank (Took.Record call) answer before after list within so are = record_passed_on rank call before after answer list within so are
 step_passed rank Took.Empty answer before after list within so are = rw so.1 are
 step_passed rank Took.Sealed answer before after list within so are = rw so.1 are

@@ -1,8 +1,8 @@
--- The trace of a text that ends without a fault has its `finalize` as its last record.
+-- The trace of a text that ends without a fault has its end record as its last.
 use Rattle.std.proofs.Common.{◌≡◌, ℕ, suc, ◌-◌, Bool, true, false, cond, List, [], ◌∷◌, length, Result, Ok, Err, refl, arith}
 use Rattle.mpicall.specs.Ending.{ends_list}
 use Rattle.mpicall.specs.Reading.{record_of_line}
-use Rattle.mpicall.specs.Trace.{Trace, Sealed, end_after_finalize, ends_here, trace_of_lines, trace_with}
+use Rattle.mpicall.specs.Trace.{Trace, Sealed, end_with_behind, ends_here, trace_of_lines, trace_with}
 use Rattle.mpicall.specs.declared.call.Call.{Call}
 use Rattle.mpicall.specs.declared.fault.LineFault.{LineFault}
 use Rattle.pairing.specs.Recordings.{is_ended}
@@ -15,7 +15,7 @@ one_before call (next ∷ calls) ended =
 
 -- the list ends with the record, or goes on behind it
 with_record : (call : Call) (behind : List (List ℕ)) (trace : Trace) (is_last : Bool) → ends_list call ≡ is_last → (trace.end ≡ Sealed → is_ended trace.records ≡ true) →
-    (cond is_last (ends_here (end_after_finalize behind)) trace).end ≡ Sealed → is_ended (call ∷ (cond is_last (ends_here (end_after_finalize behind)) trace).records) ≡ true
+    (cond is_last (ends_here (end_with_behind behind)) trace).end ≡ Sealed → is_ended (call ∷ (cond is_last (ends_here (end_with_behind behind)) trace).records) ≡ true
 with_record call behind trace true is goes_on sealed = is
 with_record call behind trace false is goes_on sealed = one_before call trace.records (goes_on sealed)
 

@@ -1,5 +1,6 @@
 -- The answer of a run over the sources of its ranks: the refusal of the lowest rank that has a fault, or
 -- the recording of all their records with its verdict.
+use Rattle.moves.specs.declared.reading.Reading.{Reading}
 use Rattle.std.specs.Prelude.{◌≡◌, ℕ, ◌+◌, ◌<◌, true, false, if◌then◌else◌, Option, Some, None, List, [], ◌∷◌, ◌++◌, length, map}
 use Rattle.mpicall.specs.Trace.{Trace, End, Sealed, Torn, trace_of}
 use Rattle.mpicall.specs.declared.call.Call.{Call}
@@ -20,9 +21,9 @@ abbrev pub fault_of_end : List Call → End → Option (ℕ × RankFault)
 fault_of_end calls Sealed = if is_ended calls then None else Some (length calls, OfSource NoFinalize)
 fault_of_end calls (Torn fault) = Some (length calls, OfSource fault)
 
--- Law: a text whose trace ends without a fault has its `finalize` as its last record.
-abbrev pub ASealedTextHasItsFinalize : Type 0
-ASealedTextHasItsFinalize = (text : List ℕ) → (trace_of text).end ≡ Sealed → is_ended (trace_of text).records ≡ true
+-- Law: a text whose trace ends without a fault has its end record as its last.
+abbrev pub ASealedTextHasItsEndRecord : Type 0
+ASealedTextHasItsEndRecord = (text : List ℕ) → (trace_of text).end ≡ Sealed → is_ended (trace_of text).records ≡ true
 
 -- the fault of a call at a place, or else what comes behind it
 abbrev pub or_behind : ℕ → Option CallFault → Option (ℕ × RankFault) → Option (ℕ × RankFault)
@@ -58,8 +59,8 @@ refusal_of groups traces = refusal_from groups 0 traces
 abbrev pub lists_of : List Trace → Lists
 lists_of traces = map (λ trace. trace.records) traces
 
--- some rank comes to its Finalize in no run over the recording
-pub record SomeRankCannotEnd (groups : Groups) (recording : Lists) : Type 0 where
+-- some rank comes to its end record in no run over the recording
+pub record SomeRankCannotEnd (reading : Reading) (groups : Groups) (recording : Lists) : Type 0 where
   pub rank : ℕ
   pub is_rank : rank < length recording
-  pub in_no_run : (states : List State) → IsRunOver groups recording states → is_at_end recording (end_over recording states) rank ≡ false
+  pub in_no_run : (states : List State) → IsRunOver reading groups recording states → is_at_end recording (end_over recording states) rank ≡ false

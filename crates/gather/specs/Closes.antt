@@ -1,4 +1,5 @@
 -- What the close of a session answers, by what the receipts hold.
+use Rattle.moves.specs.declared.reading.Reading.{Reading}
 use Rattle.std.specs.Prelude.{◌≡◌, ⊤, Some, None, Option, Result, Ok, Err, List}
 use Rattle.mpicall.specs.Trace.{Trace}
 use Rattle.mpigroup.specs.Groups.{Groups}
@@ -10,17 +11,19 @@ use Rattle.gather.specs.declared.outcome.CloseFault.{CloseFault}
 use Rattle.gather.specs.declared.outcome.CloseFault.TheVariants.{Memory, Unproved, Refused}
 use Rattle.gather.specs.declared.outcome.Outcome.{Outcome}
 
--- no rank has a fault over the traces, and the outcome is that of their records, which are closed
-pub record IsOutcomeOver (groups : Groups) (traces : List Trace) (outcome : Outcome) : Type 0 where
+-- no rank has a fault over the traces, and the outcome is that of their records: each rank's once, in order, and none
+-- behind its end record, which is its last
+pub record IsOutcomeOver (reading : Reading) (groups : Groups) (traces : List Trace) (outcome : Outcome) : Type 0 where
   pub no_refusal : refusal_of groups traces ≡ None
+  pub same_reading : outcome.analyser.reading ≡ reading
   pub same_groups : outcome.analyser.groups ≡ groups
   pub recording : outcome.analyser.recording ≡ lists_of traces
   pub closed : IsClosed (lists_of traces)
 
 -- Unproved tells the lowest rank without a receipt. With a receipt for each, the answer is the refusal of the
 -- lowest rank that has a fault over the traces that the receipts hold, or else the outcome of their records.
-abbrev pub Closes : Groups → List (Option Receipt) → Result Outcome CloseFault → Type 0
-Closes groups receipts (Err Memory) = ⊤
-Closes groups receipts (Err (Unproved rank)) = first_missing receipts ≡ Some rank
-Closes groups receipts (Err (Refused refusal)) = (first_missing receipts ≡ None) × (refusal_of groups (traces_held receipts) ≡ Some refusal)
-Closes groups receipts (Ok outcome) = (first_missing receipts ≡ None) × IsOutcomeOver groups (traces_held receipts) outcome
+abbrev pub Closes : Reading → Groups → List (Option Receipt) → Result Outcome CloseFault → Type 0
+Closes reading groups receipts (Err Memory) = ⊤
+Closes reading groups receipts (Err (Unproved rank)) = first_missing receipts ≡ Some rank
+Closes reading groups receipts (Err (Refused refusal)) = (first_missing receipts ≡ None) × (refusal_of groups (traces_held receipts) ≡ Some refusal)
+Closes reading groups receipts (Ok outcome) = (first_missing receipts ≡ None) × IsOutcomeOver reading groups (traces_held receipts) outcome

@@ -1,5 +1,6 @@
 -- What a collector keeps of the ranks' records, which come from their feeds in any order: for each rank the
 -- records before its first fault, and that fault.
+use Rattle.moves.specs.declared.reading.Reading.{Reading}
 use Rattle.std.specs.Prelude.{◌≡◌, ◌≢◌, ◌⊎◌, ℕ, ◌+◌, Bool, true, false, not, ◌&&◌, is_none, unwrap_or, if◌then◌else◌, Option, Some, None, List, [], ◌∷◌, ◌++◌, length, take, replicate, slice_get, slice_set}
 use Rattle.mpicall.specs.declared.call.Call.{Call}
 use Rattle.mpigroup.specs.Groups.{Groups, ranks_of}
@@ -51,14 +52,15 @@ pub record IsKeptOf (groups : Groups) (rank : ℕ) (items : List Item) (calls : 
 
 -- what is kept of all ranks: each rank's records, its first fault, and whether memory was wanted
 pub record Kept : Type 0 where
+  pub reading : Reading
   pub groups : Groups
   pub recording : Lists
   pub faults : List (Option PlacedFault)
   pub wanted : Bool
 
 -- nothing is kept so far
-abbrev pub nothing_kept : Groups → Kept
-nothing_kept groups = record { groups = groups; recording = replicate (ranks_of groups) []; faults = replicate (ranks_of groups) None; wanted = false }
+abbrev pub nothing_kept : Reading → Groups → Kept
+nothing_kept reading groups = record { reading = reading; groups = groups; recording = replicate (ranks_of groups) []; faults = replicate (ranks_of groups) None; wanted = false }
 
 -- the fault that is kept of a rank, if one is
 abbrev pub fault_at : List (Option PlacedFault) → ℕ → Option PlacedFault
@@ -79,11 +81,12 @@ is_open kept rank = is_none (fault_at kept.faults rank) && not kept.wanted
 
 -- the same with one more record of the rank
 abbrev pub with_record : Kept → ℕ → Call → Kept
-with_record kept rank call = record { groups = kept.groups; recording = appended kept.recording rank call; faults = kept.faults; wanted = kept.wanted }
+with_record kept rank call = record { reading = kept.reading; groups = kept.groups; recording = appended kept.recording rank call; faults = kept.faults; wanted = kept.wanted }
 
 -- the same with a fault of the rank behind its records
 abbrev pub with_fault : Kept → ℕ → RankFault → Kept
 with_fault kept rank fault = record {
+  reading = kept.reading;
   groups = kept.groups;
   recording = kept.recording;
   faults = slice_set kept.faults rank (Some (length (calls_of kept.recording rank), fault));
@@ -92,7 +95,7 @@ with_fault kept rank fault = record {
 
 -- the same once memory is wanted
 abbrev pub wanting : Kept → Kept
-wanting kept = record { groups = kept.groups; recording = kept.recording; faults = kept.faults; wanted = true }
+wanting kept = record { reading = kept.reading; groups = kept.groups; recording = kept.recording; faults = kept.faults; wanted = true }
 
 -- the first fault of a record behind the rank's records so far
 abbrev pub fault_behind_kept : Kept → ℕ → Call → Option CallFault
@@ -136,6 +139,7 @@ IsKeptIn rank items kept = IsKeptOf kept.groups rank items (calls_of kept.record
 
 -- the other ranks' calls and faults are as before, and memory that was wanted is wanted still
 pub record Leaves (rank : ℕ) (before after : Kept) : Type 0 where
+  pub reading : after.reading ≡ before.reading
   pub groups : after.groups ≡ before.groups
   pub ranks : length after.recording ≡ length before.recording
   pub places : length after.faults ≡ length before.faults

@@ -38,6 +38,7 @@ pub record Steps (rank : ℕ) (old : Collector) (answer : Stepped) (new : Collec
 -- from one rank's feed alone more was received, and memory that was wanted is wanted still
 pub record ReceivesFrom (rank : ℕ) (old new : Collector) : Type 0 where
   pub names : rings new ≡ rings old
+  pub reading : (kept new).reading ≡ (kept old).reading
   pub groups : (kept new).groups ≡ (kept old).groups
   pub wanted : (kept old).wanted ≡ true → (kept new).wanted ≡ true
   pub others : (other : ℕ) → other ≢ rank → received_from new other ≡ received_from old other
@@ -60,11 +61,11 @@ ShowsTheLast collector = IsShown collector.publisher
 
 -- the stands of now: where the ranks stand over what is kept
 abbrev pub stands_now : Collector → Stands
-stands_now collector = record { places = places_of (stands_of (kept collector).groups (kept collector).recording) }
+stands_now collector = record { places = places_of (stands_of (kept collector).reading (kept collector).groups (kept collector).recording) }
 
 -- each publication is a state that some run over what is kept passes
 abbrev pub PublishesRuns : Collector → Type 0
-PublishesRuns collector = ArePassed (kept collector).groups (kept collector).recording (published collector)
+PublishesRuns collector = ArePassed (kept collector).reading (kept collector).groups (kept collector).recording (published collector)
 
 -- nothing was received, and no more is kept
 pub record TakesNothing (old new : Collector) : Type 0 where

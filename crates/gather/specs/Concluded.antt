@@ -6,9 +6,11 @@ use Rattle.gather.specs.declared.outcome.CloseFault.{CloseFault}
 use Rattle.gather.specs.declared.outcome.CloseFault.TheVariants.{Memory, Unproved, Refused}
 use Rattle.gather.specs.declared.outcome.Outcome.{Outcome}
 
--- no fault of a rank is kept, and the outcome is that of the records, which are closed
+-- no fault of a rank is kept, and the outcome is that of the records: each rank's once, in order, and none behind its
+-- end record, which is its last
 pub record IsOutcomeOfKept (kept : Kept) (outcome : Outcome) : Type 0 where
   pub no_refusal : refusal_kept kept ≡ None
+  pub same_reading : outcome.analyser.reading ≡ kept.reading
   pub same_groups : outcome.analyser.groups ≡ kept.groups
   pub recording : outcome.analyser.recording ≡ kept.recording
   pub closed : IsClosed kept.recording

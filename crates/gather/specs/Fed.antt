@@ -28,7 +28,7 @@ abbrev pub ended_here : List Item → List Item
 ended_here items = items ++ Mark (end_behind (end_the_list items)) ∷ []
 
 -- the end mark behind all the records of a trace. For a text's it tells the text's end; what is left of a source
--- that gave its `finalize` before has no `finalize`, and the mark NoFinalize
+-- that gave its end record before has none, and the mark NoFinalize
 abbrev pub mark_of : List Call → End → Ending
 mark_of records Trace.Sealed = end_behind (end_the_list (map Entry records))
 mark_of records (Trace.Torn fault) = Torn fault

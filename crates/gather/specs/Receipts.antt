@@ -12,7 +12,7 @@ use Rattle.rankfeed.specs.declared.ring.Receipt.{Receipt}
 use Rattle.rankfeed.specs.declared.ring.Taker.{Taker}
 use Rattle.gather.specs.Takers.{received_in, left_in}
 
--- the end of a trace by the end mark of its items; items without one stop before their Finalize
+-- the end of a trace by the end mark of its items; items without one stop before their end record
 abbrev pub end_by : Option Ending → End
 end_by (Some Sealed) = Trace.Sealed
 end_by (Some (Torn fault)) = Trace.Torn fault

@@ -28,7 +28,7 @@ pub struct Collector {
     ledger: Ledger,
     publisher: Publisher,
     ghost collects: { Collects takers.items ledger },
-    ghost passed: { ArePassed ledger.groups ledger.recording (published_by publisher) },
+    ghost passed: { ArePassed ledger.reading ledger.groups ledger.recording (published_by publisher) },
 }
 
 impl Drop for Collector {
@@ -100,7 +100,7 @@ impl Collector {
         publisher: Publisher,
     ) -> Collector
         requires collects { Collects takers.items ledger }
-        requires passed { ArePassed ledger.groups ledger.recording (published_by publisher) }
+        requires passed { ArePassed ledger.reading ledger.groups ledger.recording (published_by publisher) }
         ensures rings { rings result ≡ map taker_ring takers.items }
         ensures received { received_from result ≡ received_in takers.items }
         ensures kept { kept result ≡ ledger }
@@ -195,6 +195,7 @@ impl Collector {
         requires { AreReceiptsOf (rings self.old) receipts.items }
         ensures names { rings self.new ≡ rings self.old }
         ensures missing { result ≡ first_missing receipts.items }
+        ensures reading { (kept self.new).reading ≡ (kept self.old).reading }
         ensures groups { (kept self.new).groups ≡ (kept self.old).groups }
         ensures wanted { (kept self.old).wanted ≡ true → (kept self.new).wanted ≡ true }
         ensures all { AllReceived receipts.items (received_from self.new) }
@@ -228,10 +229,11 @@ impl Collector {
 
     /// Takes all that was sent, by the receipts of the ranks' feeds, and answers what comes of it. `Memory`
     /// comes first, where memory was wanted; then `Unproved`, for the lowest rank without a receipt; then
-    /// `Refused`, for the lowest rank that has a fault.
+    /// `Refused`, for the lowest rank that has a fault. An outcome has each rank's calls once, in their order, and
+    /// none behind the rank's end record.
     pub fn close(self, receipts: Vec<Option<Receipt>>) -> Result<Outcome, CloseFault>
         requires { AreReceiptsOf (rings self) receipts.items }
-        ensures answer { Closes (kept self).groups receipts.items result }
+        ensures answer { Closes (kept self).reading (kept self).groups receipts.items result }
         ensures wanting { (kept self).wanted ≡ true → result ≡ Err Memory }
     {
         let mut collector = self;

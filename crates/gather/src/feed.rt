@@ -10,7 +10,7 @@ ghost use Rattle.rankfeed.specs.declared.item.Item.{Item};
 ghost use Rattle.rankfeed.specs.declared.item.Item.TheVariants.{Mark};
 ghost use Rattle.rankfeed.specs.Rings.{feed_ring, sent_by, receipt_ring, sent_whole};
 ghost use Rattle.mpicall.specs.Trace.{trace_of};
-ghost use Rattle.gather.specs.Answers.{ASealedTextHasItsFinalize};
+ghost use Rattle.gather.specs.Answers.{ASealedTextHasItsEndRecord};
 ghost use Rattle.gather.specs.Fed.{IsFed, CountsReads, end_behind, is_failed_read, mark_of, ending_of};
 ghost use Rattle.gather.specs.Reads.{IsReading, IsNext};
 
@@ -114,8 +114,8 @@ pub fn each_text_has_its_own_mark()
     ensures { (bytes : List ℕ) → mark_of (trace_of bytes).records (trace_of bytes).end ≡ ending_of (trace_of bytes).end }
 {}
 
-/// A text whose trace ends without a fault has its `finalize` as its last record. So a source that ends well
-/// is refused for want of it only where others took that record before.
-pub fn a_sealed_text_has_its_finalize()
-    ensures { ASealedTextHasItsFinalize }
+/// A text whose trace ends without a fault has its end record, `finalize` or `open`, as its last. So a source that
+/// ends well is refused for want of it only where others took that record before.
+pub fn a_sealed_text_has_its_end_record()
+    ensures { ASealedTextHasItsEndRecord }
 {}

@@ -10,6 +10,7 @@ ghost use Rattle.gather.specs.Concluded.{Concludes};
 use crate::fault::{RankFault, Refusal};
 use crate::outcome::{CloseFault, Outcome};
 use moves::analyser::{Analyser, OfferFault};
+use moves::reading::Reading;
 use mpicall::fault::SourceFault;
 use mpicall::record::Record;
 use mpigroup::head::Head;
@@ -55,18 +56,18 @@ impl Model for Ledger {
 
     ghost Value = { Kept };
 
-    ghost view = { λ l. record { groups = l.analyser.groups; recording = l.analyser.recording; faults = l.faults.items; wanted = l.wanted } };
+    ghost view = { λ l. record { reading = l.analyser.reading; groups = l.analyser.groups; recording = l.analyser.recording; faults = l.faults.items; wanted = l.wanted } };
 
     ghost invariant = { λ l. length l.faults.items ≡ length l.analyser.recording };
 }
 
 impl Ledger {
     /// Nothing is kept so far.
-    pub fn new(alloc: Global, head: Head) -> Result<Ledger, AllocError>
-        ensures { IfOk result (λ ledger. ledger ≡ nothing_kept head) }
+    pub fn new(alloc: Global, head: Head, reading: Reading) -> Result<Ledger, AllocError>
+        ensures { IfOk result (λ ledger. ledger ≡ nothing_kept reading head) }
     {
         let faults = vec![in alloc; None; usize::from(head.ranks())]?;
-        let analyser = Analyser::new(alloc, head)?;
+        let analyser = Analyser::new(alloc, head, reading)?;
         Ok(Ledger {
             analyser,
             faults,
@@ -153,6 +154,7 @@ impl Ledger {
 
     /// The analyser of the records that were accepted so far.
     pub(crate) fn analyser(&self) -> &Analyser
+        ensures reading { result.now.reading ≡ self.now.reading }
         ensures groups { result.now.groups ≡ self.now.groups }
         ensures recording { result.now.recording ≡ self.now.recording }
     {
@@ -174,7 +176,8 @@ impl Ledger {
     }
 
     /// What comes of the run once all of its records were taken. `Memory` comes first, where memory was wanted;
-    /// then `Refused`, for the lowest rank that has a fault.
+    /// then `Refused`, for the lowest rank that has a fault. An outcome has each rank's calls once, in their order,
+    /// and none behind the rank's end record.
     pub fn conclude(self, alloc: Global) -> Result<Outcome, CloseFault>
         requires { self.wanted ≡ false → refusal_kept self ≡ None → IsLawful self.groups self.recording → IsClosed self.recording }
         ensures { Concludes self result }
@@ -187,6 +190,7 @@ impl Ledger {
 
     /// The analyser of the records that were accepted.
     pub fn into_analyser(self) -> Analyser
+        ensures reading { result.reading ≡ self.reading }
         ensures groups { result.groups ≡ self.groups }
         ensures recording { result.recording ≡ self.recording }
     {

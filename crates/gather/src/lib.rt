@@ -6,7 +6,9 @@
 //! - `collector::Collector::step` takes one item of a rank's feed. Unless memory was wanted, the analyser has
 //!   of each rank the records received before its first fault, and that fault is kept.
 //! - `Collector::close` takes what is left, by a receipt for each rank, and answers what the traces that the
-//!   receipts hold give, whatever steps came before.
+//!   receipts hold give, whatever steps came before: each rank's calls once, in order, none behind its end record.
+//! - `outcome::Outcome::verdict` is `Hang` exactly if some rank is held; where no list was left open, exactly if
+//!   some rank is stuck.
 //! - `Collector::publish` publishes where the ranks stand over what is kept so far, and `watch::Watch` reads it: its
 //!   answers never wait and never fall, and each is a stand that some run over what is kept passes.
 //! - `feed::feed` puts the records of one source on a rank's feed and ends it.

@@ -1,8 +1,9 @@
 //! What comes of a run whose records were all received, or why nothing does.
 
-ghost use Rattle.std.specs.Prelude.{◌≡◌, ◌↔◌, IfOk, IfErr};
+ghost use Rattle.std.specs.Prelude.{◌≡◌, ◌↔◌, false, IfOk, IfErr};
 ghost use Rattle.pairing.specs.Recordings.{IsClosed};
-ghost use Rattle.waitgraph.specs.Verdicts.{verdict_of, SomeRankIsStuck};
+ghost use Rattle.waitgraph.specs.Held.{is_some_left_open};
+ghost use Rattle.waitgraph.specs.Verdicts.{verdict_of, SomeRankIsHeld, SomeRankIsStuck};
 ghost use Rattle.waitgraph.specs.declared.verdict.Verdict.TheVariants.{Hang};
 ghost use Rattle.waitgraph.specs.Graphs.{IsGraphOf};
 ghost use Rattle.gather.specs.declared.outcome.CloseFault.TheVariants.{Memory};
@@ -27,11 +28,13 @@ pub enum CloseFault {
     Refused(Refusal),
 }
 
-/// What is said of a run whose calls were all accepted.
+/// What is said of a run whose calls were all accepted. Each rank's last call is its end record, and none comes
+/// behind that.
 pub struct Outcome {
     analyser: Analyser,
     graph: Graph,
-    ghost waits: { IsGraphOf analyser.groups analyser.recording graph },
+    ghost closed: { ∥ IsClosed analyser.recording ∥₁ },
+    ghost waits: { IsGraphOf analyser.reading analyser.groups analyser.recording graph },
 }
 
 impl Drop for Outcome {
@@ -56,10 +59,12 @@ impl Outcome {
         }
     }
 
-    /// Whether the run can hang.
+    /// Whether the run can hang: exactly if some rank is held. Where no list was left open, that is so exactly if
+    /// some rank is stuck.
     pub fn verdict(&self) -> Verdict
-        ensures value { result ≡ verdict_of self.now.analyser.groups self.now.analyser.recording }
-        ensures hang { (result ≡ Hang) ↔ SomeRankIsStuck self.now.analyser.groups self.now.analyser.recording }
+        ensures value { result ≡ verdict_of self.now.analyser.reading self.now.analyser.groups self.now.analyser.recording }
+        ensures hang { (result ≡ Hang) ↔ SomeRankIsHeld self.now.analyser.reading self.now.analyser.groups self.now.analyser.recording }
+        ensures closed { is_some_left_open self.now.analyser.recording ≡ false → (result ≡ Hang) ↔ SomeRankIsStuck self.now.analyser.reading self.now.analyser.groups self.now.analyser.recording }
     {
         self.graph.verdict()
     }
@@ -73,7 +78,7 @@ impl Outcome {
 
     /// Who waits for whom, and why.
     pub fn graph(&self) -> &Graph
-        ensures { IsGraphOf self.now.analyser.groups self.now.analyser.recording result.now }
+        ensures { IsGraphOf self.now.analyser.reading self.now.analyser.groups self.now.analyser.recording result.now }
     {
         &self.graph
     }

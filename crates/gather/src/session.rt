@@ -9,6 +9,7 @@ ghost use Rattle.gather.specs.Takers.{rank_of, IsFreshFeed};
 
 use crate::collector::Collector;
 use crate::ledger::Ledger;
+use moves::reading::Reading;
 use mpigroup::head::Head;
 use rankfeed::{Feed, Taker};
 use std::alloc::{AllocError, Global};
@@ -59,6 +60,7 @@ impl Session {
     pub fn open(
         alloc: Global,
         head: Head,
+        reading: Reading,
         capacity: u16,
         watches: u16,
         wait: &impl Wait,
@@ -69,7 +71,7 @@ impl Session {
         ensures ranks { IfOk result (λ ends. map rank_of ends.0.items ≡ range_with_len 0 (ranks_of head)) }
         ensures feeds { IfOk result (λ ends. All (IsFreshFeed capacity) ends.0.items) }
         ensures received { IfOk result (λ ends. (rank : ℕ) → received_from ends.1 rank ≡ []) }
-        ensures kept { IfOk result (λ ends. kept ends.1 ≡ nothing_kept head) }
+        ensures kept { IfOk result (λ ends. kept ends.1 ≡ nothing_kept reading head) }
         ensures published { IfOk result (λ ends. published ends.1 ≡ at_start ∷ []) }
         ensures passed { IfOk result (λ ends. PublishesRuns ends.1) }
         ensures watches { IfOk result (λ ends. vec_len ends.2 ≡ watches) }
@@ -81,7 +83,7 @@ impl Session {
             return Err(OpenFault::Memory);
         };
         let (publisher, all) = Publisher::open(alloc, ranks, watches, wait)?;
-        match Ledger::new(alloc, head) {
+        match Ledger::new(alloc, head, reading) {
             Ok(ledger) => Ok((feeds, Collector::of(alloc, takers, ledger, publisher), all)),
             Err(_) => Err(OpenFault::Memory),
         }

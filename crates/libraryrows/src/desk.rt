@@ -1,10 +1,13 @@
 //! What a row holds while its questions are asked.
 
+use crate::answer::yes_or_no;
 use crate::chains::Chains;
 use crate::fault::LineFault;
+use crate::fields::is_record;
 use crate::groups::{answer_of_head, requests, split};
 use crate::mixes::mixes;
 use crate::pairs::{add, answer_of_pairs, told};
+use crate::readings::{reading_in, told_of_readings};
 use crate::runs::{answer_of_run, offer, offer_of_all};
 use crate::texts::{
     add_text, fault_words, records, told_of_fronts, told_of_head, told_of_line, told_of_text,
@@ -13,6 +16,7 @@ use crate::texts::{
 use crate::waits::{answer_of_waits, findings_of, report};
 use crate::words::Words;
 use moves::analyser::Analyser;
+use moves::reading::Reading;
 use mpigroup::head::Head;
 use pairing::pairs::Pairs;
 use std::alloc::Global;
@@ -39,9 +43,9 @@ impl Drop for Desk {
     }
 }
 
-/// The analyser and the pairs of a head, without calls.
-fn fresh(alloc: Global, head: &[u8]) -> Result<(Analyser, Pairs), LineFault> {
-    let run = Analyser::new(alloc, Head::read(alloc, head)?)?;
+/// The analyser, by a reading, and the pairs of a head, without calls.
+fn fresh(alloc: Global, head: &[u8], reading: Reading) -> Result<(Analyser, Pairs), LineFault> {
+    let run = Analyser::new(alloc, Head::read(alloc, head)?, reading)?;
     let pairs = Pairs::new(alloc, Head::read(alloc, head)?)?;
     Ok((run, pairs))
 }
@@ -57,7 +61,7 @@ impl Desk {
     /// One rank, and nothing else.
     pub fn new(alloc: Global) -> Result<Desk, LineFault> {
         let head = b"ranks 1\n".to_vec(alloc)?;
-        let (run, pairs) = fresh(alloc, &head)?;
+        let (run, pairs) = fresh(alloc, &head, Reading::Strict)?;
         Ok(Desk {
             head,
             run,
@@ -74,7 +78,12 @@ impl Desk {
             self.head.extend_from_slice(line.as_bytes())?;
             self.head.push(b'\n')?;
         }
-        let (run, pairs) = fresh(alloc, &self.head)?;
+        self.read_by(alloc, Reading::Strict)
+    }
+
+    /// Begins the run anew, by a reading.
+    fn read_by(&mut self, alloc: Global, reading: Reading) -> Result<(), LineFault> {
+        let (run, pairs) = fresh(alloc, &self.head, reading)?;
         self.run = run;
         self.pairs = pairs;
         Ok(())
@@ -92,6 +101,11 @@ impl Desk {
         let mut words = Words(line);
         match words.word() {
             "head" => self.begin_run(alloc, words.0)?,
+            "reading" => {
+                let reading = reading_in(&mut words)?;
+                words.end()?;
+                self.read_by(alloc, reading)?;
+            }
             "text" => {
                 self.text.clear();
                 add_text(alloc, &mut self.text, 1, words.0)?;
@@ -136,7 +150,7 @@ impl Desk {
             "line" => told_of_text(alloc, words.0)?,
             "values" => values(alloc, words.0)?,
             "split" => split(alloc, words.0)?,
-            "mixes" => mixes(alloc, &self.head, self.run.head().ranks(), words.0)?,
+            "mixes" => mixes(alloc, &self.head, &self.run, words.0)?,
             _ => return Ok(None),
         };
         Ok(Some(answer))
@@ -158,6 +172,7 @@ impl Desk {
             "gives" => records(alloc, &self.text, words)?,
             "fault" => fault_words(alloc, words)?,
             "requests" => requests(alloc, words)?,
+            "sized" => yes_or_no(alloc, is_record(words)?)?,
             _ => return Ok(None),
         };
         Ok(Some(answer))
@@ -171,10 +186,11 @@ impl Desk {
         words: &mut Words<'_>,
     ) -> Result<String, LineFault> {
         match asked {
-            "verdict" | "stuck" | "unmet" | "causes" => {
+            "verdict" | "stuck" | "held" | "unmet" | "causes" => {
                 return answer_of_waits(alloc, &self.run, asked, words);
             }
             "report" => return report(alloc, &self.run, words),
+            "heldback" => return told_of_readings(alloc, &self.head, &self.run, words),
             "findings" => return findings_of(alloc, &self.pairs),
             _ => {}
         }

@@ -2,7 +2,9 @@
 
 use crate::answer::add_number;
 use crate::fault::LineFault;
+use crate::words::Words;
 use mpicall::call::{Call, Kind, Mode, Peer};
+use mpicall::record::Record;
 use std::alloc::Global;
 
 fn mode_text(mode: Mode) -> &'static str {
@@ -63,6 +65,14 @@ fn split_text(
     Ok((colour, new))
 }
 
+/// The bytes of a message, where they are told.
+fn bytes_text(alloc: Global, bytes: Option<u32>) -> Result<String, LineFault> {
+    match bytes {
+        Some(count) => Ok(format!(in alloc; ", bytes {count}")?),
+        None => Ok(String::new(alloc)),
+    }
+}
+
 /// The values of a send.
 fn send_text(
     alloc: Global,
@@ -70,9 +80,14 @@ fn send_text(
     comm: u16,
     dest: Peer,
     tag: u32,
+    bytes: Option<u32>,
 ) -> Result<String, LineFault> {
-    let (mode, dest) = (mode_text(mode), peer_text(alloc, dest)?);
-    Ok(format!(in alloc; "{mode}, comm {comm}, dest {dest}, tag {tag}")?)
+    let (mode, dest, bytes) = (
+        mode_text(mode),
+        peer_text(alloc, dest)?,
+        bytes_text(alloc, bytes)?,
+    );
+    Ok(format!(in alloc; "{mode}, comm {comm}, dest {dest}, tag {tag}{bytes}")?)
 }
 
 /// The values of a receive.
@@ -89,8 +104,9 @@ fn message_text(alloc: Global, call: &Call) -> Result<String, LineFault> {
             comm,
             dest,
             tag,
+            bytes,
         } => {
-            let send = send_text(alloc, mode, comm, dest, tag)?;
+            let send = send_text(alloc, mode, comm, dest, tag, bytes)?;
             Ok(format!(in alloc; "Send {send}")?)
         }
         Call::Isend {
@@ -99,8 +115,9 @@ fn message_text(alloc: Global, call: &Call) -> Result<String, LineFault> {
             comm,
             dest,
             tag,
+            bytes,
         } => {
-            let send = send_text(alloc, mode, comm, dest, tag)?;
+            let send = send_text(alloc, mode, comm, dest, tag, bytes)?;
             Ok(format!(in alloc; "Isend req {req}, {send}")?)
         }
         _ => receive_text(alloc, call),
@@ -123,16 +140,22 @@ fn receive_text(alloc: Global, call: &Call) -> Result<String, LineFault> {
             let recv = recv_text(alloc, comm, source, tag)?;
             Ok(format!(in alloc; "Irecv req {req}, {recv}")?)
         }
+        Call::Probe { comm, source, tag } => {
+            let recv = recv_text(alloc, comm, source, tag)?;
+            Ok(format!(in alloc; "Probe {recv}")?)
+        }
         Call::Sendrecv {
             comm,
             dest,
             send_tag,
             source,
             recv_tag,
+            bytes,
         } => {
             let (dest, source) = (peer_text(alloc, dest)?, peer_text(alloc, source)?);
+            let bytes = bytes_text(alloc, bytes)?;
             Ok(format!(in alloc;
-                "Sendrecv comm {comm}, dest {dest}, tag {send_tag}, source {source}, tag {recv_tag}"
+                "Sendrecv comm {comm}, dest {dest}, tag {send_tag}, source {source}, tag {recv_tag}{bytes}"
             )?)
         }
         _ => Err(LineFault::Unread),
@@ -170,7 +193,69 @@ pub fn fields_text(alloc: Global, call: &Call) -> Result<String, LineFault> {
             format!(in alloc; "Split comm {comm}, colour {colour}, key {key}, new {new}")?
         }
         Call::Finalize => "Finalize".to_string(alloc)?,
+        Call::Open => "Open".to_string(alloc)?,
         _ => message_text(alloc, call)?,
     };
     Ok(text)
+}
+
+/// A send of so many bytes to rank 0, by the word of its line; none has a word of another kind.
+fn sized_send(word: &str, bytes: Option<u32>) -> Option<Call> {
+    let (comm, dest, tag, req) = (0, Peer::Rank(0), 0, 0);
+    let mode = match word {
+        "send" | "isend" => Mode::Standard,
+        "ssend" | "issend" => Mode::Synchronous,
+        "bsend" | "ibsend" => Mode::Buffered,
+        _ => return None,
+    };
+    if word.starts_with('i') {
+        Some(Call::Isend {
+            req,
+            mode,
+            comm,
+            dest,
+            tag,
+            bytes,
+        })
+    } else {
+        Some(Call::Send {
+            mode,
+            comm,
+            dest,
+            tag,
+            bytes,
+        })
+    }
+}
+
+/// An exchange with rank 0, which sends so many bytes.
+fn sized_exchange(bytes: Option<u32>) -> Call {
+    Call::Sendrecv {
+        comm: 0,
+        dest: Peer::Rank(0),
+        send_tag: 0,
+        source: Peer::Rank(0),
+        recv_tag: 0,
+        bytes,
+    }
+}
+
+/// The bytes that a word tells, or none.
+fn bytes_in(word: &str) -> Result<Option<u32>, LineFault> {
+    match (word, word.parse::<u32>()) {
+        ("none", _) => Ok(None),
+        (_, Ok(count)) => Ok(Some(count)),
+        (_, Err(_)) => Err(LineFault::Unread),
+    }
+}
+
+/// Whether there is a record of a send of so many bytes.
+pub fn is_record(words: &mut Words<'_>) -> Result<bool, LineFault> {
+    let word = words.word();
+    let bytes = bytes_in(words.word())?;
+    if word == "sendrecv" {
+        return Ok(Record::new(sized_exchange(bytes)).is_some());
+    }
+    let call = sized_send(word, bytes).ok_or(LineFault::Unread)?;
+    Ok(Record::new(call).is_some())
 }

@@ -16,17 +16,22 @@
 //!   and then `finalize`); `add CALLS`, `adds N CALLS`
 //! - `told RANK LINE -> send RANK PLACE, recv RANK PLACE, wave COMM WAVE full` adds a call: its partners and its
 //!   wave, as far as there are such, or `none`
+//! - `reading strict`, `reading eager N` begins the run anew, with the same head, under that reading; `head` begins
+//!   it under the strict one; `heldback READING READING -> RANK RANK ..`: the ranks that stand earlier by the first,
+//!   which is to be no laxer than the second, over the calls that were offered
 //! - of the analyser: `stands -> N N ..`, `closed -> yes|no`, `ended RANK -> yes|no`,
 //!   `accepted RANK -> N`, `record RANK PLACE -> LINE`, `joins RANK PLACE -> COMM WAVE`, `touches LEAST MOST ->
 //!   within`; `mixes CALLS -> N mixes, N N ..`: in how many orders the ranks' lists may come, and where the ranks
 //!   stand after them, which is told once if it is alike after all
 //! - of the pairs: `added RANK -> N`, `over RANK -> yes|no`, `call RANK PLACE -> LINE`, `partner RANK PLACE
 //!   send|recv -> RANK PLACE`, `wave RANK PLACE -> COMM WAVE`, `member COMM WAVE MEMBER -> PLACE`, `started RANK
-//!   PLACE REQ -> PLACE`, `completed RANK PLACE INDEX -> PLACE`, `work -> N`, each `none` where there is none;
+//!   PLACE REQ -> PLACE`, `completed RANK PLACE INDEX -> PLACE`, `probed RANK PLACE -> RANK PLACE`, `work -> N`,
+//!   each `none` where there is none;
 //!   `findings -> kind COMM WAVE MEMBER WORD WORD, root COMM WAVE MEMBER ROOT ROOT, unreceived RANK PLACE, request
 //!   RANK PLACE REQ, group RANK PLACE`, or `none`
-//! - of the analyser's wait graph: `verdict -> free|hang`, `stuck -> RANK RANK ..`, `unmet RANK -> RANK PLACE, RANK none` (or `none`),
-//!   `causes -> cycle RANK RANK .., missing RANK PEER`, `report text|json -> TEXT`
+//! - of the analyser's wait graph: `verdict -> free|hang|unfinished`, `stuck -> RANK RANK ..`, `held -> RANK RANK ..`,
+//!   `unmet RANK -> RANK PLACE, RANK none`, `causes -> cycle RANK RANK .., missing RANK PEER`, each `none` where there
+//!   is none; `report text|json -> TEXT`
 //! - of the head: `ranks -> N`, `comms -> N`, `size COMM -> N`, `grouprank COMM RANK -> N`, `worldrank COMM MEMBER
 //!   -> RANK`, the last three `none` where there is none
 //!
@@ -36,6 +41,7 @@
 //! - `line TEXT` reads the TEXT and a line feed as a line of a trace, `asline` the text: its fault, or `ok` where it
 //!   is written as it was read
 //! - `values LINE -> Send standard, comm N, dest rank N, tag N` and alike: the call of a line, value by value
+//! - `sized WORD BYTES -> yes|no`: whether there is a record of such a send, or `sendrecv`, of so many bytes, or `none`
 //! - `ashead -> ranks N, comms N`, or `line N CODE WORDS`
 //! - `astrace -> N calls`, or `call N CODE WORDS`; `fronts N M` the same of the first N to M bytes; `gives N -> LINE
 //!   / end / end`: what a source gives when it is asked N times. Each is asked of inputs that give 1, 2, 7, 1000 or
@@ -60,6 +66,7 @@ mod fields;
 mod groups;
 mod mixes;
 mod pairs;
+mod readings;
 mod runs;
 mod texts;
 mod waits;

@@ -5,6 +5,7 @@ use crate::calls::calls_in;
 use crate::fault::LineFault;
 use crate::runs::stands;
 use moves::analyser::Analyser;
+use moves::reading::Reading;
 use mpicall::record::Record;
 use mpigroup::head::Head;
 use std::alloc::{AllocError, Global};
@@ -57,10 +58,11 @@ fn offer_next(run: &mut Analyser, calls: &[(u16, Record)], rank: u16) -> Result<
 fn stands_of_mix(
     alloc: Global,
     head: &[u8],
+    reading: Reading,
     calls: &[(u16, Record)],
     mix: &[u16],
 ) -> Result<String, LineFault> {
-    let mut run = Analyser::new(alloc, Head::read(alloc, head)?)?;
+    let mut run = Analyser::new(alloc, Head::read(alloc, head)?, reading)?;
     for rank in mix {
         offer_next(&mut run, calls, *rank)?;
     }
@@ -80,13 +82,13 @@ fn mixes_of(
     Ok(mixes)
 }
 
-/// How many mixes the calls of a text have, and where the ranks stand after each: all that differ.
-pub fn mixes(alloc: Global, head: &[u8], ranks: u16, text: &str) -> Result<String, LineFault> {
+/// How many mixes the calls of a text have, and where the ranks of a run stand after each: all that differ.
+pub fn mixes(alloc: Global, head: &[u8], run: &Analyser, text: &str) -> Result<String, LineFault> {
     let calls = calls_in(alloc, text)?;
-    let mixes = mixes_of(alloc, &calls, ranks)?;
+    let mixes = mixes_of(alloc, &calls, run.head().ranks())?;
     let mut alike = Alike::new(alloc);
     for mix in &mixes {
-        alike.add(stands_of_mix(alloc, head, &calls, mix)?)?;
+        alike.add(stands_of_mix(alloc, head, run.reading(), &calls, mix)?)?;
     }
     let stands = alike.into_text();
     Ok(format!(in alloc; "{} mixes, {stands}", mixes.len())?)

@@ -136,6 +136,7 @@ pub fn answer_of_pairs(
             number_or_none(alloc, place.map(u64::from))?
         }
         "completed" => number_or_none(alloc, completed(pairs, words)?.map(u64::from))?,
+        "probed" => pair_or_none(alloc, pairs.probed(words.rank()?, words.number()?))?,
         "work" => number_or_none(alloc, Some(pairs.work()))?,
         "added" => number_or_none(alloc, pairs.accepted(words.rank()?).map(u64::from))?,
         "over" => yes_or_no(alloc, pairs.is_ended(words.rank()?))?,

@@ -63,6 +63,7 @@ fn verdict_text(alloc: Global, verdict: Verdict) -> Result<String, LineFault> {
     let word = match verdict {
         Verdict::Free => "free",
         Verdict::Hang => "hang",
+        Verdict::Unfinished => "unfinished",
     };
     Ok(word.to_string(alloc)?)
 }
@@ -75,9 +76,10 @@ fn answer_of_graph(
 ) -> Result<String, LineFault> {
     match asked {
         "verdict" => verdict_text(alloc, graph.verdict()),
-        "stuck" => ranks_text(alloc, graph.stuck()),
+        "stuck" => or_none(alloc, ranks_text(alloc, graph.stuck())?),
+        "held" => or_none(alloc, ranks_text(alloc, graph.held())?),
         "unmet" => needs_text(alloc, graph.unmet(words.rank()?)),
-        _ => causes_text(alloc, graph.causes()),
+        _ => or_none(alloc, causes_text(alloc, graph.causes())?),
     }
 }
 

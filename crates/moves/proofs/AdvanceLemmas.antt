@@ -1,4 +1,5 @@
 -- A rank that moves on, and states from which none can.
+use Rattle.moves.specs.declared.reading.Reading.{Reading}
 use Rattle.std.proofs.Common.{◌≡◌, ℕ, ◌+◌, ◌<◌, ◌≢◌, length, get_or, sym, ⊎_elim, arith, get_or-set_same, get_or-set_other}
 use Rattle.std.proofs.lemmas.List.{length-set}
 use Rattle.std.proofs.lemmas.Bool.{cases_eq}
@@ -19,6 +20,6 @@ moved_later s rank is_rank = record {
       (cases_eq k rank);
 }
 
-pub stuck_end : (groups : Groups) (recording : Lists) (s : State) → IsReached (can_move groups recording) (length recording) s → IsStuck (can_move groups recording) s → IsTheEnd (can_move groups recording) (length recording) s
-stuck_end groups recording s reached stuck =
-    any_end_is_the_end (can_move groups recording) (length recording) s (can_move_is_persistent groups recording) reached stuck
+pub stuck_end : (reading : Reading) (groups : Groups) (recording : Lists) (s : State) → IsReached (can_move reading groups recording) (length recording) s → IsStuck (can_move reading groups recording) s → IsTheEnd (can_move reading groups recording) (length recording) s
+stuck_end reading groups recording s reached stuck =
+    any_end_is_the_end (can_move reading groups recording) (length recording) s (can_move_is_persistent reading groups recording) reached stuck

@@ -1,4 +1,5 @@
 -- What an analyser's stands and lists are at the start, after a call, and at any time.
+use Rattle.moves.specs.declared.reading.Reading.{Reading}
 use Rattle.std.proofs.Common.{◌≡◌, ◌≢◌, ◌↔◌, ℕ, zero, suc, ◌+◌, ◌-◌, ◌<◌, ◌≤◌, Bool, true, false, cond, eqb, Some, None, List, [], ◌∷◌, ◌++◌, length, replicate, refl, sym, ap, subst, ◌∙◌, ⊎_elim, arith, append-nil}
 use Rattle.std.specs.List.{slice_get, list_all, range_with_len}
 use Rattle.std.proofs.lemmas.List.{length-set, length-replicate, length-append}
@@ -38,28 +39,28 @@ all_pass p a (suc n) r h from to =
     (cases_Bool (p a))
 
 -- where there is no call, no rank can move
-nothing_moves : (groups : Groups) (ranks : ℕ) (s : State) → IsStuck (can_move groups (replicate ranks [])) s
-nothing_moves groups ranks s rank is_rank =
+nothing_moves : (reading : Reading) (groups : Groups) (ranks : ℕ) (s : State) → IsStuck (can_move reading groups (replicate ranks [])) s
+nothing_moves reading groups ranks s rank is_rank =
     ⊎_elim
-    (λ (able : can_move groups (replicate ranks []) s rank ≡ true).
-    let pass = can_pass groups (replicate ranks []) s rank able in
+    (λ (able : can_move reading groups (replicate ranks []) s rank ≡ true).
+    let pass = can_pass reading groups (replicate ranks []) s rank able in
     absurd (none-some pass.call (rw (no_calls ranks rank) at pass.is_present)))
-    (λ (unable : can_move groups (replicate ranks []) s rank ≡ false). unable)
-    (cases_Bool (can_move groups (replicate ranks []) s rank))
+    (λ (unable : can_move reading groups (replicate ranks []) s rank ≡ false). unable)
+    (cases_Bool (can_move reading groups (replicate ranks []) s rank))
 
 -- at the start each rank stands where it must
-pub start_end : (groups : Groups) (ranks : ℕ) → IsTheEnd (can_move groups (replicate ranks [])) ranks (start ranks)
-start_end groups ranks =
+pub start_end : (reading : Reading) (groups : Groups) (ranks : ℕ) → IsTheEnd (can_move reading groups (replicate ranks [])) ranks (start ranks)
+start_end reading groups ranks =
     let lists : length {A = List Call} (replicate ranks []) ≡ ranks = length-replicate ranks [] in
-    subst (λ (n : ℕ). IsTheEnd (can_move groups (replicate ranks [])) n (start ranks)) lists
-    (stuck_end groups (replicate ranks []) (start ranks)
-    (subst (λ (n : ℕ). IsReached (can_move groups (replicate ranks [])) n (start ranks)) (sym lists) (reached_start (can_move groups (replicate ranks [])) ranks))
-    (nothing_moves groups ranks (start ranks)))
+    subst (λ (n : ℕ). IsTheEnd (can_move reading groups (replicate ranks [])) n (start ranks)) lists
+    (stuck_end reading groups (replicate ranks []) (start ranks)
+    (subst (λ (n : ℕ). IsReached (can_move reading groups (replicate ranks [])) n (start ranks)) (sym lists) (reached_start (can_move reading groups (replicate ranks [])) ranks))
+    (nothing_moves reading groups ranks (start ranks)))
 
 -- the end of every maximal run are the stands
-pub end_stands : (groups : Groups) (recording : Lists) (s : State) → IsTheEnd (can_move groups recording) (length recording) s → s ≡ stands_of groups recording
-end_stands groups recording s end =
-    sym (end.of_all (lowest_run_over groups recording) (every_maximal_run_ends_at_the_stands groups recording).0)
+pub end_stands : (reading : Reading) (groups : Groups) (recording : Lists) (s : State) → IsTheEnd (can_move reading groups recording) (length recording) s → s ≡ stands_of reading groups recording
+end_stands reading groups recording s end =
+    sym (end.of_all (lowest_run_over reading groups recording) (every_maximal_run_ends_at_the_stands reading groups recording).0)
 
 -- a recording goes on by a call
 more_calls : ℕ → Call → ℕ → List Call
@@ -81,9 +82,9 @@ goes_on_by recording rank call is_rank = record {
 }
 
 -- what the ranks have reached, they have reached with one more call
-pub still_reached : (groups : Groups) (recording : Lists) (rank : ℕ) (call : Call) (s : State) → rank < length recording → IsTheEnd (can_move groups recording) (length recording) s → IsReached (can_move groups (appended recording rank call)) (length (appended recording rank call)) s
-still_reached groups recording rank call s is_rank end =
-    reached_on groups recording (appended recording rank call) s (goes_on_by recording rank call is_rank) end.is_reached
+pub still_reached : (reading : Reading) (groups : Groups) (recording : Lists) (rank : ℕ) (call : Call) (s : State) → rank < length recording → IsTheEnd (can_move reading groups recording) (length recording) s → IsReached (can_move reading groups (appended recording rank call)) (length (appended recording rank call)) s
+still_reached reading groups recording rank call s is_rank end =
+    reached_on reading groups recording (appended recording rank call) s (goes_on_by recording rank call is_rank) end.is_reached
 
 -- one arrival more
 kept_from_more : (groups : Groups) (recording : Lists) (arrivals : List Arrival) (arrival : Arrival) → kept_from groups recording (arrivals ++ arrival ∷ []) ≡ kept_one groups (kept_from groups recording arrivals) arrival
@@ -103,7 +104,7 @@ refused_kept groups old new rank call (Refused fault) told other same = kept_on 
 refused_kept groups old new rank call Memory told other same = absurd (other refl)
 
 pub mixes_stand_alike : MixesStandAlike
-mixes_stand_alike groups a b same = ap (stands_of groups) (mixes_are_kept_alike groups a b same)
+mixes_stand_alike reading groups a b same = ap (stands_of reading groups) (mixes_are_kept_alike groups a b same)
 
 -- numbers of a range that all pass
 all_from : (p : ℕ → Bool) (a n : ℕ) → ((r : ℕ) → a ≤ r → r < a + n → p r ≡ true) → list_all p (range_with_len a n) ≡ true

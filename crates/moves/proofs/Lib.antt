@@ -11,4 +11,7 @@ pub mod WaveLemmas
 pub mod WaitLemmas
 pub mod ReachLemmas
 pub mod TouchLemmas
+pub mod WakeLemmas
 pub mod SettleLemmas
+pub mod RangeLemmas
+pub mod ReadingLemmas

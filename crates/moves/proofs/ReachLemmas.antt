@@ -1,5 +1,6 @@
 -- Who still waits once one more call is reached, or once a call has arrived that its rank has not come to.
-use Rattle.std.proofs.Common.{◌≡◌, ℕ, ◌+◌, ◌<◌, ◌≤◌, ◌≢◌, Bool, true, false, Option, Some, None, List, [], ◌∷◌, length, get_or, refl, sym, ap, subst, ◌∙◌, ⊎_elim, inl, inr, arith, append-nil, get_or-set_same, get_or-set_other}
+use Rattle.moves.specs.declared.reading.Reading.{Reading}
+use Rattle.std.proofs.Common.{◌≡◌, ℕ, ◌+◌, ◌<◌, ◌≤◌, ◌≢◌, Bool, true, false, Option, Some, None, List, [], ◌∷◌, ◌++◌, length, get_or, refl, sym, ap, subst, ◌∙◌, ⊎_elim, inl, inr, arith, append-nil, get_or-set_same, get_or-set_other}
 use Rattle.std.specs.Prelude.{◌⊎◌, if◌then◌else◌}
 use Rattle.std.specs.List.{slice_get, list_all}
 use Rattle.std.specs.Option.{option_map_or}
@@ -15,9 +16,10 @@ use Rattle.pairing.specs.declared.envelope.Message.{Message}
 use Rattle.pairing.specs.Recordings.{Lists, calls_of, appended, GoesOn}
 use Rattle.pairing.specs.Envelopes.{message_of, other_half, has_envelope}
 use Rattle.pairing.specs.Partners.{number_of, partner_of}
+use Rattle.pairing.specs.Probed.{probed_message, probed_envelope_at, probed_by, probed_of}
 use Rattle.pairing.specs.Pairs.{completed_of}
 use Rattle.pairing.specs.Waves.{does_join, wave_of}
-use Rattle.pairing.proofs.PartnerLemmas.{partner_parts, partner_from, partners_are_mutual}
+use Rattle.pairing.proofs.PartnerLemmas.{and_then_parts, numbered_parts, partner_parts, partner_from, partners_are_mutual}
 use Rattle.pairing.proofs.RecordingLemmas.{calls_of-appended, calls_of-appended_other}
 use Rattle.pairing.proofs.RequestLemmas.{place_within}
 use Rattle.pairing.proofs.WaveLemmas.{waves_stay, no_other_call_is_in_a_wave}
@@ -25,8 +27,8 @@ use Rattle.moves.specs.Runs.{State, moved, StandsNoLater}
 use Rattle.moves.specs.declared.need.Need.{Need}
 use Rattle.moves.specs.declared.need.Need.TheVariants.{At, Lacking}
 use Rattle.moves.specs.declared.waves.Waves.{Waves}
-use Rattle.moves.specs.Needs.{world_of, half_need, half_needs, is_buffered, is_met}
-use Rattle.moves.specs.Waiting.{message_needs, message_needs_at, IsAwaited, HasJoined, complete_of, AreWaves, IsNoException, NeedsPartner, NeedsWave, Rests}
+use Rattle.moves.specs.Needs.{world_of, half_need, half_needs, probe_need, probe_needs, sends_freely, is_met}
+use Rattle.moves.specs.Waiting.{message_needs, message_needs_at, WaitsFor, IsAwaited, HasJoined, complete_of, AreWaves, IsNoException, NeedsPartner, NeedsWave, Rests}
 use Rattle.moves.proofs.RunLemmas.{below_same}
 use Rattle.moves.proofs.StayLemmas.{first_calls_stay, call_stays, wave_stays, start_stays, start_is_a_call, place_before}
 use Rattle.moves.proofs.AnalyserLemmas.{goes_on_by}
@@ -38,13 +40,12 @@ pub record OnlyReaches (recording longer : Lists) (s t : State) (IsNew : ℕ →
   pub no_lower : StandsNoLater s t
   pub only : (rank place : ℕ) → place < length (calls_of longer rank) → place ≤ get_or t rank 0 → ((place < length (calls_of recording rank)) × (place ≤ get_or s rank 0)) ⊎ IsNew rank place
 
--- a new call is the partner of the call of the rank
+-- the call of the rank waits for a new call
 pub record IsWoken (groups : Groups) (longer : Lists) (IsNew : ℕ → ℕ → Type 0) (rank start : ℕ) : Type 0 where
   pub other : ℕ
   pub place : ℕ
-  pub half : Half
   pub is_new : IsNew other place
-  pub is_partner : partner_of groups longer other place half ≡ Some (rank, start)
+  pub waits : WaitsFor groups longer other place rank start
 
 -- a partner over the longer recording whose call the recording has is the partner there
 partner_was_a_call : (groups : Groups) (recording longer : Lists) (rank place : ℕ) (half : Half) (partner there : ℕ) → GoesOn recording longer → place < length (calls_of recording rank) → there < length (calls_of recording partner) → partner_of groups longer rank place half ≡ Some (partner, there) → partner_of groups recording rank place half ≡ Some (partner, there)
@@ -73,7 +74,7 @@ half_was_met groups recording longer s t N rank place half m (Some (partner, the
     (λ (old : (there < length (calls_of recording partner)) × (there ≤ get_or s partner 0)).
     let was = partner_was_a_call groups recording longer rank place half partner there only.goes_on within old.0 e in
     inl (rw was (le-leb there (get_or s partner 0) old.1)))
-    (λ (new : N partner there). inr (record { other = partner; place = there; half = other_half half; is_new = new; is_partner = partners_are_mutual groups longer rank place half partner there e }))
+    (λ (new : N partner there). inr (record { other = partner; place = there; is_new = new; waits = inl (other_half half, partners_are_mutual groups longer rank place half partner there e) }))
     (only.only partner there (partner_is_a_call groups longer rank place half partner there e) (leb-true there (get_or t partner 0) met))
 
 halves_were_met : (groups : Groups) (recording longer : Lists) (s t : State) (N : ℕ → ℕ → Type 0) (rank place : ℕ) (half : Half) → OnlyReaches recording longer s t N → place < length (calls_of recording rank) → (message : Option Message) → list_all (is_met t) (option_map_or (λ m. half_need groups longer rank place half m ∷ []) message []) ≡ true → (list_all (is_met s) (option_map_or (λ m. half_need groups recording rank place half m ∷ []) message []) ≡ true) ⊎ IsWoken groups longer N rank place
@@ -88,36 +89,80 @@ sends_were_met : (groups : Groups) (recording longer : Lists) (s t : State) (N :
 sends_were_met groups recording longer s t N rank place call only within true met = inl refl
 sends_were_met groups recording longer s t N rank place call only within false met = halves_were_met groups recording longer s t N rank place SendHalf only within (message_of SendHalf call) met
 
-messages_were_met : (groups : Groups) (recording longer : Lists) (s t : State) (N : ℕ → ℕ → Type 0) (rank place : ℕ) (call : Call) → OnlyReaches recording longer s t N → place < length (calls_of recording rank) → list_all (is_met t) (message_needs groups longer rank place call) ≡ true → (list_all (is_met s) (message_needs groups recording rank place call) ≡ true) ⊎ IsWoken groups longer N rank place
-messages_were_met groups recording longer s t N rank place call only within met =
-    let sends : Lists → List Need = λ r. if is_buffered call then [] else half_needs groups r rank place SendHalf call in
+-- a send that a probe sees over the longer recording, and that the recording has, it sees there
+seen_was_a_call : (groups : Groups) (recording longer : Lists) (rank place sender there : ℕ) → GoesOn recording longer → place < length (calls_of recording rank) → there < length (calls_of recording sender) → probed_of groups longer rank place ≡ Some (sender, there) → probed_of groups recording rank place ≡ Some (sender, there)
+seen_was_a_call groups recording longer rank place sender there goes_on within is_call h =
+    let parts = and_then_parts (probed_by groups longer rank place) (probed_envelope_at groups longer rank place) (sender, there) h in
+    let still : probed_envelope_at groups recording rank place ≡ Some parts.0 = rw (← call_stays recording longer rank place goes_on within) parts.1 in
+    let from = numbered_parts groups longer SendHalf parts.0 (number_of groups longer rank RecvHalf parts.0 place) sender there parts.2 in
+    let number : number_of groups longer rank RecvHalf parts.0 place ≡ number_of groups recording rank RecvHalf parts.0 place = rw (first_calls_stay recording longer rank place goes_on (omega (arith, within))) refl in
+    let was = place_before (has_envelope groups sender SendHalf parts.0) (calls_of recording sender) (goes_on.more sender) (number_of groups longer rank RecvHalf parts.0 place) there (rw (goes_on.goes_on sender) at from.1) is_call in
+    rw (still, from.0, rw number at was) refl
+
+seen_is_a_call : (groups : Groups) (recording : Lists) (rank place sender there : ℕ) → probed_of groups recording rank place ≡ Some (sender, there) → there < length (calls_of recording sender)
+seen_is_a_call groups recording rank place sender there h =
+    let parts = and_then_parts (probed_by groups recording rank place) (probed_envelope_at groups recording rank place) (sender, there) h in
+    let from = numbered_parts groups recording SendHalf parts.0 (number_of groups recording rank RecvHalf parts.0 place) sender there parts.2 in
+    place_within (has_envelope groups sender SendHalf parts.0) (calls_of recording sender) (number_of groups recording rank RecvHalf parts.0 place) there from.1
+
+-- a probe whose need is met had what it needs, or it sees a new call
+probe_was_met : (groups : Groups) (recording longer : Lists) (s t : State) (N : ℕ → ℕ → Type 0) (rank place : ℕ) (m : Message) (sent : Option (ℕ × ℕ)) → OnlyReaches recording longer s t N → place < length (calls_of recording rank) → probed_of groups longer rank place ≡ sent → is_met t (option_map_or (λ sent. At sent.0 sent.1) sent (Lacking (world_of groups m.comm m.peer))) ≡ true → (is_met s (probe_need groups recording rank place m) ≡ true) ⊎ IsWoken groups longer N rank place
+probe_was_met groups recording longer s t N rank place m None only within e met = absurd (false≢true met)
+probe_was_met groups recording longer s t N rank place m (Some (sender, there)) only within e met =
+    ⊎_elim
+    (λ (old : (there < length (calls_of recording sender)) × (there ≤ get_or s sender 0)).
+    let was = seen_was_a_call groups recording longer rank place sender there only.goes_on within old.0 e in
+    inl (rw was (le-leb there (get_or s sender 0) old.1)))
+    (λ (new : N sender there). inr (record { other = sender; place = there; is_new = new; waits = inr e }))
+    (only.only sender there (seen_is_a_call groups longer rank place sender there e) (leb-true there (get_or t sender 0) met))
+
+probes_were_met : (groups : Groups) (recording longer : Lists) (s t : State) (N : ℕ → ℕ → Type 0) (rank place : ℕ) → OnlyReaches recording longer s t N → place < length (calls_of recording rank) → (message : Option Message) → list_all (is_met t) (option_map_or (λ m. probe_need groups longer rank place m ∷ []) message []) ≡ true → (list_all (is_met s) (option_map_or (λ m. probe_need groups recording rank place m ∷ []) message []) ≡ true) ⊎ IsWoken groups longer N rank place
+probes_were_met groups recording longer s t N rank place only within None met = inl refl
+probes_were_met groups recording longer s t N rank place only within (Some m) met =
+    ⊎_elim
+    (λ (was : is_met s (probe_need groups recording rank place m) ≡ true). inl (and_both (is_met s (probe_need groups recording rank place m)) true was refl))
+    (λ (woken : IsWoken groups longer N rank place). inr woken)
+    (probe_was_met groups recording longer s t N rank place m (probed_of groups longer rank place) only within refl (and_true (is_met t (probe_need groups longer rank place m)) true met).0)
+
+-- needs in a row that are met were met, or a new call is waited for
+both_were_met : (W : Type 0) (s t : State) (first later_first more later_more : List Need) → (list_all (is_met t) later_first ≡ true → (list_all (is_met s) first ≡ true) ⊎ W) → (list_all (is_met t) later_more ≡ true → (list_all (is_met s) more ≡ true) ⊎ W) → list_all (is_met t) (later_first ++ later_more) ≡ true → (list_all (is_met s) (first ++ more) ≡ true) ⊎ W
+both_were_met W s t first later_first more later_more first_was more_was met =
+    let both = and_true (list_all (is_met t) later_first) (list_all (is_met t) later_more) (sym (list_all-append (is_met t) later_first later_more) ∙ met) in
+    ⊎_elim
+    (λ (one : list_all (is_met s) first ≡ true).
+    ⊎_elim
+    (λ (other : list_all (is_met s) more ≡ true). inl (list_all-append (is_met s) first more ∙ and_both (list_all (is_met s) first) (list_all (is_met s) more) one other))
+    (λ (woken : W). inr woken)
+    (more_was both.1))
+    (λ (woken : W). inr woken)
+    (first_was both.0)
+
+messages_were_met : (reading : Reading) (groups : Groups) (recording longer : Lists) (s t : State) (N : ℕ → ℕ → Type 0) (rank place : ℕ) (call : Call) → OnlyReaches recording longer s t N → place < length (calls_of recording rank) → list_all (is_met t) (message_needs reading groups longer rank place call) ≡ true → (list_all (is_met s) (message_needs reading groups recording rank place call) ≡ true) ⊎ IsWoken groups longer N rank place
+messages_were_met reading groups recording longer s t N rank place call only within met =
+    let sends : Lists → List Need = λ r. if sends_freely reading call then [] else half_needs groups r rank place SendHalf call in
     let receives : Lists → List Need = λ r. half_needs groups r rank place RecvHalf call in
-    let both = and_true (list_all (is_met t) (sends longer)) (list_all (is_met t) (receives longer)) (sym (list_all-append (is_met t) (sends longer) (receives longer)) ∙ met) in
-    ⊎_elim
-    (λ (sent : list_all (is_met s) (sends recording) ≡ true).
-    ⊎_elim
-    (λ (received : list_all (is_met s) (receives recording) ≡ true).
-    inl (list_all-append (is_met s) (sends recording) (receives recording) ∙ and_both (list_all (is_met s) (sends recording)) (list_all (is_met s) (receives recording)) sent received))
-    (λ (woken : IsWoken groups longer N rank place). inr woken)
-    (halves_were_met groups recording longer s t N rank place RecvHalf only within (message_of RecvHalf call) both.1))
-    (λ (woken : IsWoken groups longer N rank place). inr woken)
-    (sends_were_met groups recording longer s t N rank place call only within (is_buffered call) both.0)
+    both_were_met (IsWoken groups longer N rank place) s t (sends recording ++ receives recording) (sends longer ++ receives longer) (probe_needs groups recording rank place call) (probe_needs groups longer rank place call)
+    (both_were_met (IsWoken groups longer N rank place) s t (sends recording) (sends longer) (receives recording) (receives longer)
+    (sends_were_met groups recording longer s t N rank place call only within (sends_freely reading call))
+    (halves_were_met groups recording longer s t N rank place RecvHalf only within (message_of RecvHalf call)))
+    (probes_were_met groups recording longer s t N rank place only within (probed_message call))
+    met
 
-messages_there : (groups : Groups) (recording longer : Lists) (s t : State) (N : ℕ → ℕ → Type 0) (rank place : ℕ) → OnlyReaches recording longer s t N → place < length (calls_of recording rank) → (there : Option Call) → list_all (is_met t) (option_map_or (message_needs groups longer rank place) there []) ≡ true → (list_all (is_met s) (option_map_or (message_needs groups recording rank place) there []) ≡ true) ⊎ IsWoken groups longer N rank place
-messages_there groups recording longer s t N rank place only within None met = inl refl
-messages_there groups recording longer s t N rank place only within (Some call) met = messages_were_met groups recording longer s t N rank place call only within met
+messages_there : (reading : Reading) (groups : Groups) (recording longer : Lists) (s t : State) (N : ℕ → ℕ → Type 0) (rank place : ℕ) → OnlyReaches recording longer s t N → place < length (calls_of recording rank) → (there : Option Call) → list_all (is_met t) (option_map_or (message_needs reading groups longer rank place) there []) ≡ true → (list_all (is_met s) (option_map_or (message_needs reading groups recording rank place) there []) ≡ true) ⊎ IsWoken groups longer N rank place
+messages_there reading groups recording longer s t N rank place only within None met = inl refl
+messages_there reading groups recording longer s t N rank place only within (Some call) met = messages_were_met reading groups recording longer s t N rank place call only within met
 
-still_unmet : (groups : Groups) (recording longer : Lists) (s t : State) (N : ℕ → ℕ → Type 0) (rank place : ℕ) → OnlyReaches recording longer s t N → place < length (calls_of recording rank) → list_all (is_met s) (message_needs_at groups recording rank place) ≡ false → (list_all (is_met t) (message_needs_at groups longer rank place) ≡ false) ⊎ IsWoken groups longer N rank place
-still_unmet groups recording longer s t N rank place only within unmet =
+still_unmet : (reading : Reading) (groups : Groups) (recording longer : Lists) (s t : State) (N : ℕ → ℕ → Type 0) (rank place : ℕ) → OnlyReaches recording longer s t N → place < length (calls_of recording rank) → list_all (is_met s) (message_needs_at reading groups recording rank place) ≡ false → (list_all (is_met t) (message_needs_at reading groups longer rank place) ≡ false) ⊎ IsWoken groups longer N rank place
+still_unmet reading groups recording longer s t N rank place only within unmet =
     ⊎_elim
-    (λ (met : list_all (is_met t) (message_needs_at groups longer rank place) ≡ true).
+    (λ (met : list_all (is_met t) (message_needs_at reading groups longer rank place) ≡ true).
     ⊎_elim
-    (λ (was : list_all (is_met s) (message_needs_at groups recording rank place) ≡ true). absurd (false≢true (sym unmet ∙ was)))
+    (λ (was : list_all (is_met s) (message_needs_at reading groups recording rank place) ≡ true). absurd (false≢true (sym unmet ∙ was)))
     (λ (woken : IsWoken groups longer N rank place). inr woken)
-    (messages_there groups recording longer s t N rank place only within (slice_get (calls_of recording rank) place)
+    (messages_there reading groups recording longer s t N rank place only within (slice_get (calls_of recording rank) place)
     (rw (call_stays recording longer rank place only.goes_on within) at met)))
-    (λ (still : list_all (is_met t) (message_needs_at groups longer rank place) ≡ false). inl still)
-    (cases_Bool (list_all (is_met t) (message_needs_at groups longer rank place)))
+    (λ (still : list_all (is_met t) (message_needs_at reading groups longer rank place) ≡ false). inl still)
+    (cases_Bool (list_all (is_met t) (message_needs_at reading groups longer rank place)))
 
 -- an operation that is awaited is a call of the rank, and stays awaited
 pub awaited_call : (recording : Lists) (rank place start : ℕ) → IsAwaited recording rank place start → start < length (calls_of recording rank)
@@ -150,16 +195,16 @@ awaited_on recording longer rank place start goes_on h =
           h.which;
     }
 
-pub partner_waits_on : (groups : Groups) (recording longer : Lists) (s t : State) (N : ℕ → ℕ → Type 0) (rank start : ℕ) → OnlyReaches recording longer s t N → get_or t rank 0 ≡ get_or s rank 0 → NeedsPartner groups recording s rank start → NeedsPartner groups longer t rank start ⊎ IsWoken groups longer N rank start
-partner_waits_on groups recording longer s t N rank start only same h =
+pub partner_waits_on : (reading : Reading) (groups : Groups) (recording longer : Lists) (s t : State) (N : ℕ → ℕ → Type 0) (rank start : ℕ) → OnlyReaches recording longer s t N → get_or t rank 0 ≡ get_or s rank 0 → NeedsPartner reading groups recording s rank start → NeedsPartner reading groups longer t rank start ⊎ IsWoken groups longer N rank start
+partner_waits_on reading groups recording longer s t N rank start only same h =
     ⊎_elim
-    (λ (still : list_all (is_met t) (message_needs_at groups longer rank start) ≡ false).
+    (λ (still : list_all (is_met t) (message_needs_at reading groups longer rank start) ≡ false).
     inl (record {
       is_awaited = subst (λ (place : ℕ). IsAwaited longer rank place start) (sym same) (awaited_on recording longer rank (get_or s rank 0) start only.goes_on h.is_awaited);
       is_unmet = still;
     }))
     (λ (woken : IsWoken groups longer N rank start). inr woken)
-    (still_unmet groups recording longer s t N rank start only (awaited_call recording rank (get_or s rank 0) start h.is_awaited) h.is_unmet)
+    (still_unmet reading groups recording longer s t N rank start only (awaited_call recording rank (get_or s rank 0) start h.is_awaited) h.is_unmet)
 
 pub wave_waits_on : (groups : Groups) (recording longer : Lists) (s t : State) (waves : Waves) (rank comm : ℕ) → GoesOn recording longer → get_or t rank 0 ≡ get_or s rank 0 → NeedsWave groups recording s waves rank comm → NeedsWave groups longer t waves rank comm
 wave_waits_on groups recording longer s t waves rank comm goes_on same h =

@@ -1,19 +1,16 @@
 -- What is kept as ranks are looked at, wait, move on and are woken.
+use Rattle.moves.specs.declared.reading.Reading.{Reading}
 use Rattle.std.proofs.Common.{◌≡◌, ℕ, zero, suc, ◌+◌, ◌-◌, ◌*◌, ◌<◌, ◌≤◌, ◌≢◌, true, false, Option, Some, None, List, [], ◌∷◌, ◌++◌, length, replicate, drop, get_or, set, refl, sym, ap, subst, ◌∙◌, ⊎_elim, inl, inr, arith, get_or-set_same, get_or-set_other}
-use Rattle.std.specs.Prelude.{◌⊎◌, ◌^◌, min, ◌==◌}
+use Rattle.std.specs.Prelude.{◌⊎◌, min}
 use Rattle.std.specs.List.{slice_get}
-use Rattle.std.specs.Option.{option_map_or}
 use Rattle.std.proofs.Math.Nat.{suc-mul, min-le_left}
-use Rattle.std.proofs.lemmas.List.{length-set, length-append, length-replicate}
-use Rattle.std.proofs.lemmas.Option.{none-some, same_Some, slice_get_within, get_or_from_slice_get, slice_get-get_or}
-use Rattle.std.proofs.lemmas.Bool.{cases_eq, cases_Bool, false≢true, eqb-true, eq-eqb}
+use Rattle.std.proofs.lemmas.List.{length-set, length-replicate}
+use Rattle.std.proofs.lemmas.Option.{none-some, same_Some, slice_get-get_or}
+use Rattle.std.proofs.lemmas.Bool.{cases_eq}
 use Rattle.mpicall.specs.declared.call.Call.{Call}
 use Rattle.mpigroup.specs.Groups.{Groups, group_of}
-use Rattle.pairing.specs.declared.envelope.Half.{Half}
-use Rattle.pairing.specs.declared.envelope.Half.TheVariants.{Send as SendHalf, Recv as RecvHalf}
 use Rattle.pairing.specs.Limits.{most_calls}
 use Rattle.pairing.specs.Recordings.{Lists, calls_of, appended}
-use Rattle.pairing.specs.Partners.{partner_of}
 use Rattle.pairing.specs.Waves.{wave_of}
 use Rattle.arenalist.specs.Numbers.{list_at}
 use Rattle.arenalist.specs.Arena.{first_value}
@@ -23,7 +20,7 @@ use Rattle.moves.specs.Stands.{calls_in}
 use Rattle.moves.specs.Analysed.{most_touches}
 use Rattle.moves.specs.declared.waves.Waves.{Waves}
 use Rattle.moves.specs.Links.{Entries, count, in_all, held, IsLinked}
-use Rattle.moves.specs.Waiting.{HasJoined, HasArrived, complete_of, met_of, AreWaves, IsNoException, NeedsPartner, NeedsWave, Rests, Waiting, own_list, comm_list, woken, with_rank, with_awaited, awaits, woken_at, woken_partner, woken_comm, WaitsIn, HasLists, IsKept, IsNobody, IsInHand, IsSettled, IsReaching, to_do, paid, cost_of, touches_of}
+use Rattle.moves.specs.Waiting.{HasJoined, HasArrived, complete_of, met_of, AreWaves, IsNoException, NeedsPartner, NeedsWave, Rests, Waiting, own_list, comm_list, with_rank, with_awaited, WaitsFor, WaitsIn, HasLists, IsKept, IsNobody, IsInHand, IsSettled, IsReaching, to_do, paid, cost_of, touches_of}
 use Rattle.moves.proofs.RunLemmas.{get_start, reached_step, reached_ranks, total_moved, total_most}
 use Rattle.moves.proofs.StandLemmas.{reached_within}
 use Rattle.moves.proofs.NeedLemmas.{length_of_calls}
@@ -31,85 +28,12 @@ use Rattle.moves.proofs.ArrivalLemmas.{no_calls}
 use Rattle.moves.proofs.AdvanceLemmas.{stuck_end, moved_later}
 use Rattle.moves.proofs.AnalyserLemmas.{goes_on_by, still_reached, start_end}
 use Rattle.moves.proofs.StayLemmas.{call_stays}
-use Rattle.moves.proofs.LinkLemmas.{none_linked, none_there, held_less, count_in_all, found_in, held_at, Wakes, wakes_none, wakes_both, wakes_list, appended_there, linked_woken, changed, taken, linked_at, linked_nodes, linked_behind, sum_count, appended_work}
+use Rattle.moves.proofs.LinkLemmas.{none_linked, none_there, held_less, count_in_all, found_in, held_at, linked_woken, changed, taken, linked_at, linked_nodes, linked_behind, sum_count}
 use Rattle.moves.proofs.TouchLemmas.{sum_at_most_one, cost_cases, paid_ahead, paid_there, paid_moved, paid_waves, paid_waiters, paid_most}
 use Rattle.moves.proofs.WaveLemmas.{fewer_excepted}
 use Rattle.moves.proofs.WaitLemmas.{partner_stuck, wave_stuck, resting_stuck, open_parts, open_from}
+use Rattle.moves.proofs.WakeLemmas.{most_work, Wakens, load, list_cost, all_woken, all_wakens, waiter_emptied, wave_emptied, three_cost, none_woken}
 use Rattle.moves.proofs.ReachLemmas.{OnlyReaches, IsWoken, awaited_place, partner_waits_on, wave_waits_on, waves_on, rests_on, moved_other, moved_own, moved_on, appended_other, arrived_there, arrived_ahead}
-
--- the greatest count
-abbrev most_work : ℕ
-most_work = 2 ^ 64 - 1
-
--- what waking does to waiting ranks
-record Wakens (old new : Waiting) : Type 0 where
-  pub wakes : Wakes old.lists new.lists
-  pub same_spare : new.spare ≡ old.spare
-  pub same_awaited : new.awaited ≡ old.awaited
-  pub no_less : min old.work most_work ≤ min new.work most_work
-
-wakens_none : (w : Waiting) → Wakens w w
-wakens_none w = record { wakes = wakes_none w.lists; same_spare = refl; same_awaited = refl; no_less = omega arith }
-
-wakens_both : (a b c : Waiting) → Wakens a b → Wakens b c → Wakens a c
-wakens_both a b c h g = record {
-  wakes = wakes_both a.lists b.lists c.lists h.wakes g.wakes;
-  same_spare = g.same_spare ∙ h.same_spare;
-  same_awaited = g.same_awaited ∙ h.same_awaited;
-  no_less = omega (arith, h.no_less, g.no_less);
-}
-
-wakens_list : (w : Waiting) (l : ℕ) → 0 < l → l < length w.lists → Wakens w (woken w l)
-wakens_list w l later within = record { wakes = wakes_list w.lists l later within; same_spare = refl; same_awaited = refl; no_less = omega arith }
-
-awaits_there : (xs : List ℕ) (rank place : ℕ) (there : Option ℕ) → slice_get xs rank ≡ there → option_map_or (λ awaited. awaited == place) there false ≡ true → (rank < length xs) × (get_or xs rank 0 ≡ place)
-awaits_there xs rank place None e h = absurd (false≢true h)
-awaits_there xs rank place (Some awaited) e h = (slice_get_within xs rank awaited e, get_or_from_slice_get xs rank awaited 0 e ∙ eqb-true awaited place h)
-
-awaits_parts : (w : Waiting) (rank place : ℕ) → awaits w rank place ≡ true → (rank < length w.awaited) × (get_or w.awaited rank 0 ≡ place)
-awaits_parts w rank place h = awaits_there w.awaited rank place (slice_get w.awaited rank) refl h
-
-awaits_from : (w : Waiting) (rank : ℕ) → rank < length w.awaited → awaits w rank (get_or w.awaited rank 0) ≡ true
-awaits_from w rank within = rw (slice_get-get_or w.awaited rank 0 within) (eq-eqb (get_or w.awaited rank 0) (get_or w.awaited rank 0) refl)
-
-wakens_at : (w : Waiting) (partner : ℕ × ℕ) → 1 + length w.awaited ≤ length w.lists → Wakens w (woken_at w partner)
-wakens_at w partner room =
-    ⊎_elim
-    (λ (yes : awaits w partner.0 partner.1 ≡ true).
-    let parts = awaits_parts w partner.0 partner.1 yes in
-    rw yes (wakens_list w (own_list partner.0) (omega arith) (omega (arith, parts.0, room))))
-    (λ (no : awaits w partner.0 partner.1 ≡ false). rw no (wakens_none w))
-    (cases_Bool (awaits w partner.0 partner.1))
-
-wakens_partner : (w : Waiting) (partner : Option (ℕ × ℕ)) → 1 + length w.awaited ≤ length w.lists → Wakens w (woken_partner w partner)
-wakens_partner w None room = wakens_none w
-wakens_partner w (Some partner) room = wakens_at w partner room
-
--- the rank that waits for the partner is in its list no more
-emptied_by : (w : Waiting) (rank r : ℕ) (partner : Option (ℕ × ℕ)) → rank < length w.awaited → 1 + length w.awaited ≤ length w.lists → partner ≡ Some (rank, get_or w.awaited rank 0) → count r (list_at (woken_partner w partner).lists (own_list rank)) ≡ 0
-emptied_by w rank r partner within room is = rw is (rw (awaits_from w rank within) (ap (count r) (appended_there w.lists (own_list rank) (omega arith) (omega (arith, within, room)))))
-
-wakens_comm : (w : Waiting) (done : Option ℕ) (comms : ℕ) → ((comm : ℕ) → done ≡ Some comm → comm_list (length w.awaited) comm < length w.lists) → Wakens w (woken_comm w done)
-wakens_comm w None comms within = wakens_none w
-wakens_comm w (Some comm) comms within = wakens_list w (comm_list (length w.awaited) comm) (omega arith) (within comm refl)
-
--- what wakes cost: four for each rank that is woken
-abbrev load : Waiting → ℕ
-load w = w.work + 2 * length (list_at w.lists 0)
-
-list_cost : (w : Waiting) (l : ℕ) → 0 < l → l < length w.lists → load (woken w l) ≤ load w + 4 * length (list_at w.lists l)
-list_cost w l later within =
-    omega (arith, min-le_left (w.work + 2 * length (list_at w.lists l)) most_work, ap (length {A = ℕ × ℕ}) (appended_work w.lists l later within), length-append (list_at w.lists 0) (list_at w.lists l))
-
-partner_cost : (w : Waiting) (partner : Option (ℕ × ℕ)) → 1 + length w.awaited ≤ length w.lists → ((rank : ℕ) → rank < length w.awaited → length (list_at w.lists (own_list rank)) ≤ 1) → load (woken_partner w partner) ≤ load w + 4
-partner_cost w None room short = omega arith
-partner_cost w (Some partner) room short =
-    ⊎_elim
-    (λ (yes : awaits w partner.0 partner.1 ≡ true).
-    let parts = awaits_parts w partner.0 partner.1 yes in
-    rw yes (omega (arith, list_cost w (own_list partner.0) (omega arith) (omega (arith, parts.0, room)), short partner.0 parts.0)))
-    (λ (no : awaits w partner.0 partner.1 ≡ false). rw no (omega arith))
-    (cases_Bool (awaits w partner.0 partner.1))
 
 -- a list in which one rank alone may wait has no more than that rank
 own_short : (ranks : ℕ) (ls : List Entries) (W : ℕ → ℕ → Type 0) (R : ℕ → Type 0) (rank list : ℕ) → IsLinked ranks ls W R → 0 < list → ((other : ℕ) → W other list → other ≡ rank) → length (list_at ls list) ≤ 1
@@ -133,119 +57,50 @@ still_open groups recording s waves new rank comm same h =
       is_joined = open_from groups recording new rank h.start comm (record { wave = is_in.wave; there = is_in.there; least = omega (arith, same, is_in.least); some_member = is_in.some_member });
     }
 
-room_of : (groups : Groups) (recording : Lists) (w : Waiting) → HasLists groups recording w → 1 + length w.awaited ≤ length w.lists
-room_of groups recording w h = omega (arith, h.lists, h.awaited)
-
--- all wakes that the reaching of a call takes
-abbrev pub all_woken : Groups → Lists → ℕ → ℕ → Waiting → Option ℕ → Waiting
-all_woken groups recording rank place w done =
-    woken_comm (woken_partner (woken_partner w (partner_of groups recording rank place SendHalf)) (partner_of groups recording rank place RecvHalf)) done
-
-all_wakens : (groups : Groups) (recording : Lists) (rank place : ℕ) (w : Waiting) (done : Option ℕ) → HasLists groups recording w → ((comm : ℕ) → done ≡ Some comm → comm < length groups) → Wakens w (all_woken groups recording rank place w done)
-all_wakens groups recording rank place w done h known =
-    let sent = partner_of groups recording rank place SendHalf in
-    let received = partner_of groups recording rank place RecvHalf in
-    let first : Wakens w (woken_partner w sent) = wakens_partner w sent (room_of groups recording w h) in
-    let room : 1 + length (woken_partner w sent).awaited ≤ length (woken_partner w sent).lists = omega (arith, room_of groups recording w h, ap (length {A = ℕ}) first.same_awaited, first.wakes.lists) in
-    let second : Wakens (woken_partner w sent) (woken_partner (woken_partner w sent) received) = wakens_partner (woken_partner w sent) received room in
-    let both = wakens_both w (woken_partner w sent) (woken_partner (woken_partner w sent) received) first second in
-    wakens_both w (woken_partner (woken_partner w sent) received) (all_woken groups recording rank place w done) both
-    (wakens_comm (woken_partner (woken_partner w sent) received) done (length groups)
-    (λ comm e. omega (arith, known comm e, h.lists, h.awaited, both.wakes.lists, ap (length {A = ℕ}) both.same_awaited)))
-
--- who waits for the call as a partner is in its list no more
-partner_emptied : (groups : Groups) (recording : Lists) (rank place : ℕ) (w : Waiting) (done : Option ℕ) (other r : ℕ) (half : Half) → HasLists groups recording w → ((comm : ℕ) → done ≡ Some comm → comm < length groups) → other < length recording → partner_of groups recording rank place half ≡ Some (other, get_or w.awaited other 0) → count r (list_at (all_woken groups recording rank place w done).lists (own_list other)) ≡ 0
-partner_emptied groups recording rank place w done other r SendHalf h known is_rank is =
-    let sent = partner_of groups recording rank place SendHalf in
-    let received = partner_of groups recording rank place RecvHalf in
-    let first : Wakens w (woken_partner w sent) = wakens_partner w sent (room_of groups recording w h) in
-    let room : 1 + length (woken_partner w sent).awaited ≤ length (woken_partner w sent).lists = omega (arith, room_of groups recording w h, ap (length {A = ℕ}) first.same_awaited, first.wakes.lists) in
-    let second : Wakens (woken_partner w sent) (woken_partner (woken_partner w sent) received) = wakens_partner (woken_partner w sent) received room in
-    let both = wakens_both w (woken_partner w sent) (woken_partner (woken_partner w sent) received) first second in
-    let last = wakens_comm (woken_partner (woken_partner w sent) received) done (length groups)
-    (λ comm e. omega (arith, known comm e, h.lists, h.awaited, both.wakes.lists, ap (length {A = ℕ}) both.same_awaited)) in
-    let none = emptied_by w other r sent (omega (arith, is_rank, h.awaited)) (room_of groups recording w h) is in
-    omega (arith, none, second.wakes.fewer r (own_list other) (omega arith), last.wakes.fewer r (own_list other) (omega arith))
-partner_emptied groups recording rank place w done other r RecvHalf h known is_rank is =
-    let sent = partner_of groups recording rank place SendHalf in
-    let received = partner_of groups recording rank place RecvHalf in
-    let first : Wakens w (woken_partner w sent) = wakens_partner w sent (room_of groups recording w h) in
-    let room : 1 + length (woken_partner w sent).awaited ≤ length (woken_partner w sent).lists = omega (arith, room_of groups recording w h, ap (length {A = ℕ}) first.same_awaited, first.wakes.lists) in
-    let second : Wakens (woken_partner w sent) (woken_partner (woken_partner w sent) received) = wakens_partner (woken_partner w sent) received room in
-    let both = wakens_both w (woken_partner w sent) (woken_partner (woken_partner w sent) received) first second in
-    let last = wakens_comm (woken_partner (woken_partner w sent) received) done (length groups)
-    (λ comm e. omega (arith, known comm e, h.lists, h.awaited, both.wakes.lists, ap (length {A = ℕ}) both.same_awaited)) in
-    let awaited : received ≡ Some (other, get_or (woken_partner w sent).awaited other 0) = is ∙ ap (λ (xs : List ℕ). Some (other, get_or xs other 0)) (sym first.same_awaited) in
-    let none = emptied_by (woken_partner w sent) other r received (omega (arith, is_rank, h.awaited, ap (length {A = ℕ}) first.same_awaited)) room awaited in
-    omega (arith, none, last.wakes.fewer r (own_list other) (omega arith))
-
--- who waits for the communicator's waves is in its list no more, once one of them is complete
-comm_emptied : (w : Waiting) (comm r : ℕ) → comm_list (length w.awaited) comm < length w.lists → count r (list_at (woken_comm w (Some comm)).lists (comm_list (length w.awaited) comm)) ≡ 0
-comm_emptied w comm r within = ap (count r) (appended_there w.lists (comm_list (length w.awaited) comm) (omega arith) within)
-
-wave_emptied : (groups : Groups) (recording : Lists) (rank place : ℕ) (w : Waiting) (comm r : ℕ) → HasLists groups recording w → comm < length groups → count r (list_at (all_woken groups recording rank place w (Some comm)).lists (comm_list (length recording) comm)) ≡ 0
-wave_emptied groups recording rank place w comm r h known =
-    let sent = partner_of groups recording rank place SendHalf in
-    let received = partner_of groups recording rank place RecvHalf in
-    let first : Wakens w (woken_partner w sent) = wakens_partner w sent (room_of groups recording w h) in
-    let room : 1 + length (woken_partner w sent).awaited ≤ length (woken_partner w sent).lists = omega (arith, room_of groups recording w h, ap (length {A = ℕ}) first.same_awaited, first.wakes.lists) in
-    let second : Wakens (woken_partner w sent) (woken_partner (woken_partner w sent) received) = wakens_partner (woken_partner w sent) received room in
-    let both = wakens_both w (woken_partner w sent) (woken_partner (woken_partner w sent) received) first second in
-    let ranks : length (woken_partner (woken_partner w sent) received).awaited ≡ length recording = ap (length {A = ℕ}) both.same_awaited ∙ h.awaited in
-    let none = comm_emptied (woken_partner (woken_partner w sent) received) comm r (omega (arith, known, h.lists, ranks, both.wakes.lists)) in
-    subst (λ (n : ℕ). count r (list_at (all_woken groups recording rank place w (Some comm)).lists (comm_list n comm)) ≡ 0) ranks none
-
 -- what waiting means while those are still to be woken that wait for a call
-abbrev WaitsOrWoken : Groups → Lists → State → Waves → List ℕ → ℕ → ℕ → ℕ → ℕ → Type 0
-WaitsOrWoken groups recording s waves awaited rank place other list =
-    WaitsIn groups recording s waves awaited other list
-    ⊎ ((list ≡ own_list other) × (other < length recording) × ((half : Half) × (partner_of groups recording rank place half ≡ Some (other, get_or awaited other 0))))
+abbrev WaitsOrWoken : Reading → Groups → Lists → State → Waves → List ℕ → ℕ → ℕ → ℕ → ℕ → Type 0
+WaitsOrWoken reading groups recording s waves awaited rank place other list =
+    WaitsIn reading groups recording s waves awaited other list
+    ⊎ ((list ≡ own_list other) × (other < length recording) × (WaitsFor groups recording rank place other (get_or awaited other 0)))
 
-waits_own : (groups : Groups) (recording : Lists) (s : State) (waves : Waves) (awaited : List ℕ) (rank place other owner : ℕ) → owner < length recording → WaitsOrWoken groups recording s waves awaited rank place other (own_list owner) → other ≡ owner
-waits_own groups recording s waves awaited rank place other owner is_rank waits =
+waits_own : (reading : Reading) (groups : Groups) (recording : Lists) (s : State) (waves : Waves) (awaited : List ℕ) (rank place other owner : ℕ) → owner < length recording → WaitsOrWoken reading groups recording s waves awaited rank place other (own_list owner) → other ≡ owner
+waits_own reading groups recording s waves awaited rank place other owner is_rank waits =
     ⊎_elim
-    (λ (old : WaitsIn groups recording s waves awaited other (own_list owner)).
+    (λ (old : WaitsIn reading groups recording s waves awaited other (own_list owner)).
     ⊎_elim
-    (λ (own : (own_list owner ≡ own_list other) × (other < length recording) × NeedsPartner groups recording s other (get_or awaited other 0)). omega (arith, own.0))
+    (λ (own : (own_list owner ≡ own_list other) × (other < length recording) × NeedsPartner reading groups recording s other (get_or awaited other 0)). omega (arith, own.0))
     (λ (wave : (comm : ℕ) × (own_list owner ≡ comm_list (length recording) comm) × NeedsWave groups recording s waves other comm). absurd (omega (arith, wave.1, is_rank)))
     old)
-    (λ (new : (own_list owner ≡ own_list other) × (other < length recording) × ((half : Half) × (partner_of groups recording rank place half ≡ Some (other, get_or awaited other 0)))). omega (arith, new.0))
+    (λ (new : (own_list owner ≡ own_list other) × (other < length recording) × (WaitsFor groups recording rank place other (get_or awaited other 0))). omega (arith, new.0))
     waits
 
-waits_comm : (groups : Groups) (recording : Lists) (s : State) (waves : Waves) (awaited : List ℕ) (rank place other comm : ℕ) → WaitsOrWoken groups recording s waves awaited rank place other (comm_list (length recording) comm) → NeedsWave groups recording s waves other comm
-waits_comm groups recording s waves awaited rank place other comm waits =
+waits_comm : (reading : Reading) (groups : Groups) (recording : Lists) (s : State) (waves : Waves) (awaited : List ℕ) (rank place other comm : ℕ) → WaitsOrWoken reading groups recording s waves awaited rank place other (comm_list (length recording) comm) → NeedsWave groups recording s waves other comm
+waits_comm reading groups recording s waves awaited rank place other comm waits =
     ⊎_elim
-    (λ (old : WaitsIn groups recording s waves awaited other (comm_list (length recording) comm)).
+    (λ (old : WaitsIn reading groups recording s waves awaited other (comm_list (length recording) comm)).
     ⊎_elim
-    (λ (own : (comm_list (length recording) comm ≡ own_list other) × (other < length recording) × NeedsPartner groups recording s other (get_or awaited other 0)). absurd (omega (arith, own.0, own.1)))
+    (λ (own : (comm_list (length recording) comm ≡ own_list other) × (other < length recording) × NeedsPartner reading groups recording s other (get_or awaited other 0)). absurd (omega (arith, own.0, own.1)))
     (λ (wave : (c : ℕ) × (comm_list (length recording) comm ≡ comm_list (length recording) c) × NeedsWave groups recording s waves other c).
     let same : wave.0 ≡ comm = omega (arith, wave.1) in
     subst (λ (c : ℕ). NeedsWave groups recording s waves other c) same wave.2)
     old)
-    (λ (new : (comm_list (length recording) comm ≡ own_list other) × (other < length recording) × ((half : Half) × (partner_of groups recording rank place half ≡ Some (other, get_or awaited other 0)))). absurd (omega (arith, new.0, new.1)))
+    (λ (new : (comm_list (length recording) comm ≡ own_list other) × (other < length recording) × (WaitsFor groups recording rank place other (get_or awaited other 0))). absurd (omega (arith, new.0, new.1)))
     waits
 
--- what the reaching of a place costs beside the wakes of a wave: four for each half, and one for a change of
--- how far its wave is
-both_cost : (groups : Groups) (recording : Lists) (s : State) (waves new : Waves) (rank place : ℕ) (w : Waiting) → IsReaching groups recording s waves w rank place → new.changes ≤ waves.changes + 1 → (wave_of recording rank place ≡ None → new.changes ≡ waves.changes) → load (all_woken groups recording rank place w None) + new.changes + 3 ≤ load w + waves.changes + cost_of (slice_get (calls_of recording rank) place)
-both_cost groups recording s waves new rank place w h changes no_change =
-    let sent = partner_of groups recording rank place SendHalf in
-    let received = partner_of groups recording rank place RecvHalf in
-    let first : Wakens w (woken_partner w sent) = wakens_partner w sent (room_of groups recording w h.has_lists) in
-    let room : 1 + length (woken_partner w sent).awaited ≤ length (woken_partner w sent).lists = omega (arith, room_of groups recording w h.has_lists, ap (length {A = ℕ}) first.same_awaited, first.wakes.lists) in
-    let now = linked_woken (length recording) w.lists (woken_partner w sent).lists _ _ h.linked first.wakes in
-    let first_cost = partner_cost w sent (room_of groups recording w h.has_lists)
-    (λ owner is_rank. own_short (length recording) w.lists _ _ owner (own_list owner) h.linked (omega arith) (λ other waits. waits_own groups recording s waves w.awaited rank place other owner (omega (arith, is_rank, h.has_lists.awaited)) waits)) in
-    let second_cost = partner_cost (woken_partner w sent) received room
-    (λ owner is_rank. own_short (length recording) (woken_partner w sent).lists _ _ owner (own_list owner) now (omega arith) (λ other waits. waits_own groups recording s waves w.awaited rank place other owner (omega (arith, is_rank, h.has_lists.awaited, ap (length {A = ℕ}) first.same_awaited)) waits)) in
+-- what the reaching of a place costs beside the wakes of a wave: four for each half, four for a probe, and one for a
+-- change of how far its wave is
+both_cost : (reading : Reading) (groups : Groups) (recording : Lists) (s : State) (waves new : Waves) (rank place : ℕ) (w : Waiting) → IsReaching reading groups recording s waves w rank place → new.changes ≤ waves.changes + 1 → (wave_of recording rank place ≡ None → new.changes ≡ waves.changes) → load (all_woken groups recording rank place w None) + new.changes + 3 ≤ load w + waves.changes + cost_of (slice_get (calls_of recording rank) place)
+both_cost reading groups recording s waves new rank place w h changes no_change =
+    let three = three_cost groups recording rank place w (omega (arith, h.has_lists.lists, h.has_lists.awaited))
+    (λ x wakens owner is_rank.
+    own_short (length recording) x.lists _ _ owner (own_list owner) (linked_woken (length recording) w.lists x.lists _ _ h.linked wakens.wakes) (omega arith)
+    (λ other waits. waits_own reading groups recording s waves w.awaited rank place other owner (omega (arith, is_rank, h.has_lists.awaited, ap (length {A = ℕ}) wakens.same_awaited)) waits)) in
     ⊎_elim
     (λ (none : (cost_of (slice_get (calls_of recording rank) place) ≡ 3) × (slice_get (calls_of recording rank) place ≡ None)).
-    let none_sent : sent ≡ None = rw none.1 refl in
-    let none_received : received ≡ None = rw none.1 refl in
     let none_joined : wave_of recording rank place ≡ None = rw none.1 refl in
-    let same : load (all_woken groups recording rank place w None) ≡ load w = rw (none_sent, none_received) refl in
+    let same : load (all_woken groups recording rank place w None) ≡ load w = ap load (none_woken groups recording rank place w none.1) in
     omega (arith, same, none.0, no_change none_joined))
-    (λ (some : (cost_of (slice_get (calls_of recording rank) place) ≡ 12) × (place < length (calls_of recording rank))). omega (arith, some.0, first_cost, second_cost, changes))
+    (λ (some : (cost_of (slice_get (calls_of recording rank) place) ≡ 16) × (place < length (calls_of recording rank))). omega (arith, some.0, three, changes))
     (cost_cases (calls_of recording rank) place)
 
 -- how far each communicator's waves are never falls
@@ -258,9 +113,9 @@ grows waves new (Some c) others one comm =
     (cases_eq c comm)
 
 -- the wakes of a wave are paid by the calls of it
-all_cost : (groups : Groups) (recording : Lists) (s : State) (waves new : Waves) (rank place : ℕ) (w : Waiting) (done : Option ℕ) → IsReaching groups recording s waves w rank place → ((comm : ℕ) → done ≢ Some comm → complete_of new comm ≡ complete_of waves comm) → ((comm : ℕ) → done ≡ Some comm → complete_of new comm ≡ complete_of waves comm + 1) → ((comm : ℕ) → done ≡ Some comm → comm < length groups) → load (all_woken groups recording rank place w done) + paid recording s waves ≤ load (all_woken groups recording rank place w None) + paid recording s new
-all_cost groups recording s waves new rank place w None h others one known = omega (arith, paid_waves recording s waves new (grows waves new None others one))
-all_cost groups recording s waves new rank place w (Some comm) h others one known =
+all_cost : (reading : Reading) (groups : Groups) (recording : Lists) (s : State) (waves new : Waves) (rank place : ℕ) (w : Waiting) (done : Option ℕ) → IsReaching reading groups recording s waves w rank place → ((comm : ℕ) → done ≢ Some comm → complete_of new comm ≡ complete_of waves comm) → ((comm : ℕ) → done ≡ Some comm → complete_of new comm ≡ complete_of waves comm + 1) → ((comm : ℕ) → done ≡ Some comm → comm < length groups) → load (all_woken groups recording rank place w done) + paid recording s waves ≤ load (all_woken groups recording rank place w None) + paid recording s new
+all_cost reading groups recording s waves new rank place w None h others one known = omega (arith, paid_waves recording s waves new (grows waves new None others one))
+all_cost reading groups recording s waves new rank place w (Some comm) h others one known =
     let both : Waiting = all_woken groups recording rank place w None in
     let wakens : Wakens w both = all_wakens groups recording rank place w None h.has_lists (λ c e. absurd (none-some c e)) in
     let ranks : length both.awaited ≡ length recording = ap (length {A = ℕ}) wakens.same_awaited ∙ h.has_lists.awaited in
@@ -275,7 +130,7 @@ all_cost groups recording s waves new rank place w (Some comm) h others one know
       paid_waiters groups recording s waves new comm entries (grows waves new (Some comm) others one) (one comm refl)
           (λ other. omega (arith, count_in_all other both.lists (comm_list (length recording) comm), now.once other))
           (λ other on. now.ranks_only other (omega (arith, on, count_in_all other both.lists (comm_list (length recording) comm))))
-          (λ other on. waits_comm groups recording s waves w.awaited rank place other comm (now.waits other (comm_list (length recording) comm) (omega arith) on)),
+          (λ other on. waits_comm reading groups recording s waves w.awaited rank place other comm (now.waits other (comm_list (length recording) comm) (omega arith) on)),
     )
 
 -- the lists stay as many once the partners are woken
@@ -285,8 +140,8 @@ partners_room groups recording rank place w h =
     (wakens.wakes.lists, ap (length {A = ℕ}) wakens.same_awaited)
 
 -- the rank that has reached its call is in hand, once all that waited for it are to be looked at
-pub reach_hand : (groups : Groups) (recording : Lists) (s : State) (waves new : Waves) (w : Waiting) (rank place : ℕ) (done : Option ℕ) → IsReaching groups recording s waves w rank place → AreWaves groups recording s new IsNoException → ((comm : ℕ) → done ≢ Some comm → complete_of new comm ≡ complete_of waves comm) → ((comm : ℕ) → done ≡ Some comm → complete_of new comm ≡ complete_of waves comm + 1) → ((comm : ℕ) → done ≡ Some comm → comm < length groups) → new.changes ≤ waves.changes + 1 → (wave_of recording rank place ≡ None → new.changes ≡ waves.changes) → IsInHand groups recording s new (all_woken groups recording rank place w done) rank
-reach_hand groups recording s waves new w rank place done h are others one known changes no_change =
+pub reach_hand : (reading : Reading) (groups : Groups) (recording : Lists) (s : State) (waves new : Waves) (w : Waiting) (rank place : ℕ) (done : Option ℕ) → IsReaching reading groups recording s waves w rank place → AreWaves groups recording s new IsNoException → ((comm : ℕ) → done ≢ Some comm → complete_of new comm ≡ complete_of waves comm) → ((comm : ℕ) → done ≡ Some comm → complete_of new comm ≡ complete_of waves comm + 1) → ((comm : ℕ) → done ≡ Some comm → comm < length groups) → new.changes ≤ waves.changes + 1 → (wave_of recording rank place ≡ None → new.changes ≡ waves.changes) → IsInHand reading groups recording s new (all_woken groups recording rank place w done) rank
+reach_hand reading groups recording s waves new w rank place done h are others one known changes no_change =
     let all : Waiting = all_woken groups recording rank place w done in
     let wakens : Wakens w all = all_wakens groups recording rank place w done h.has_lists known in
     let awaited : all.awaited ≡ w.awaited = wakens.same_awaited in
@@ -299,24 +154,24 @@ reach_hand groups recording s waves new w rank place done h are others one known
           awaited = ap (length {A = ℕ}) awaited ∙ h.has_lists.awaited;
         };
         linked =
-            changed (length recording) all.lists _ (WaitsIn groups recording s new all.awaited) _ (λ other. Rests recording s other ⊎ (other ≡ rank)) now
+            changed (length recording) all.lists _ (WaitsIn reading groups recording s new all.awaited) _ (λ other. Rests recording s other ⊎ (other ≡ rank)) now
             (λ other list is_rank later on waits.
             ⊎_elim
-            (λ (old : WaitsIn groups recording s waves w.awaited other list).
+            (λ (old : WaitsIn reading groups recording s waves w.awaited other list).
             ⊎_elim
-            (λ (own : (list ≡ own_list other) × (other < length recording) × NeedsPartner groups recording s other (get_or w.awaited other 0)).
-            inl (own.0, own.1, subst (λ (xs : List ℕ). NeedsPartner groups recording s other (get_or xs other 0)) (sym awaited) own.2))
+            (λ (own : (list ≡ own_list other) × (other < length recording) × NeedsPartner reading groups recording s other (get_or w.awaited other 0)).
+            inl (own.0, own.1, subst (λ (xs : List ℕ). NeedsPartner reading groups recording s other (get_or xs other 0)) (sym awaited) own.2))
             (λ (wave : (comm : ℕ) × (list ≡ comm_list (length recording) comm) × NeedsWave groups recording s waves other comm).
             inr (wave.0, wave.1, by_done other wave.0 list on wave.1 wave.2 done refl))
             old)
-            (λ (new_partner : (list ≡ own_list other) × (other < length recording) × ((half : Half) × (partner_of groups recording rank place half ≡ Some (other, get_or w.awaited other 0)))).
-            let none = partner_emptied groups recording rank place w done other other new_partner.2.0 h.has_lists known new_partner.1 new_partner.2.1 in
-            absurd (omega (arith, on, none, ap (λ (l : ℕ). count other (list_at all.lists l)) new_partner.0)))
+            (λ (new_call : (list ≡ own_list other) × (other < length recording) × (WaitsFor groups recording rank place other (get_or w.awaited other 0))).
+            let none = waiter_emptied groups recording rank place w done other other h.has_lists known new_call.1 new_call.2 in
+            absurd (omega (arith, on, none, ap (λ (l : ℕ). count other (list_at all.lists l)) new_call.0)))
             waits)
             (λ other is_rank none rests. rests);
         are_waves = are;
         is_reached = h.is_reached;
-        is_paid = omega (arith, all_cost groups recording s waves new rank place w done h others one known, both_cost groups recording s waves new rank place w h changes no_change, h.is_paid);
+        is_paid = omega (arith, all_cost reading groups recording s waves new rank place w done h others one known, both_cost reading groups recording s waves new rank place w h changes no_change, h.is_paid);
       };
       is_rank = h.is_rank;
       in_none = omega (arith, wakens.wakes.all rank, h.in_none);
@@ -337,23 +192,23 @@ reach_hand groups recording s waves new w rank place done h are others one known
 pub fewer_never : (waves new : Waves) (w last : Waiting) → waves.changes ≤ new.changes → min w.work most_work ≤ min last.work most_work → touches_of waves w ≤ touches_of new last
 fewer_never waves new w last changes work = omega (arith, changes, work)
 
-pub reach_counts : (groups : Groups) (recording : Lists) (s : State) (waves new : Waves) (w : Waiting) (rank place : ℕ) (done : Option ℕ) → IsReaching groups recording s waves w rank place → ((comm : ℕ) → done ≡ Some comm → comm < length groups) → waves.changes ≤ new.changes → touches_of waves w ≤ touches_of new (all_woken groups recording rank place w done)
-reach_counts groups recording s waves new w rank place done h known changes =
+pub reach_counts : (reading : Reading) (groups : Groups) (recording : Lists) (s : State) (waves new : Waves) (w : Waiting) (rank place : ℕ) (done : Option ℕ) → IsReaching reading groups recording s waves w rank place → ((comm : ℕ) → done ≡ Some comm → comm < length groups) → waves.changes ≤ new.changes → touches_of waves w ≤ touches_of new (all_woken groups recording rank place w done)
+reach_counts reading groups recording s waves new w rank place done h known changes =
     let all : Waiting = all_woken groups recording rank place w done in
     let wakens : Wakens w all = all_wakens groups recording rank place w done h.has_lists known in
     fewer_never waves new w all changes wakens.no_less
 
 -- there is a spare node for the rank in hand
-pub hand_room : (groups : Groups) (recording : Lists) (s : State) (waves : Waves) (w : Waiting) (rank : ℕ) → IsInHand groups recording s waves w rank → 0 < w.spare
-hand_room groups recording s waves w rank h =
+pub hand_room : (reading : Reading) (groups : Groups) (recording : Lists) (s : State) (waves : Waves) (w : Waiting) (rank : ℕ) → IsInHand reading groups recording s waves w rank → 0 < w.spare
+hand_room reading groups recording s waves w rank h =
     omega (arith, held_less (length recording) rank w.lists _ _ h.kept.linked h.is_rank h.in_none, h.kept.has_lists.nodes)
 
 -- the rank in hand rests
-pub hand_rests : (groups : Groups) (recording : Lists) (s : State) (waves : Waves) (w : Waiting) (rank : ℕ) → IsInHand groups recording s waves w rank → Rests recording s rank → IsKept groups recording s waves w IsNobody 0
-hand_rests groups recording s waves w rank h rests = record {
+pub hand_rests : (reading : Reading) (groups : Groups) (recording : Lists) (s : State) (waves : Waves) (w : Waiting) (rank : ℕ) → IsInHand reading groups recording s waves w rank → Rests recording s rank → IsKept reading groups recording s waves w IsNobody 0
+hand_rests reading groups recording s waves w rank h rests = record {
   has_lists = h.kept.has_lists;
   linked =
-      changed (length recording) w.lists _ (WaitsIn groups recording s waves w.awaited) _ (λ other. Rests recording s other ⊎ IsNobody other) h.kept.linked
+      changed (length recording) w.lists _ (WaitsIn reading groups recording s waves w.awaited) _ (λ other. Rests recording s other ⊎ IsNobody other) h.kept.linked
       (λ other list is_rank later on waits. waits)
       (λ other is_rank none rest.
       ⊎_elim
@@ -366,7 +221,7 @@ hand_rests groups recording s waves w rank h rests = record {
 }
 
 -- The rank in hand is linked where it waits.
-pub record Links (groups : Groups) (recording : Lists) (s : State) (waves : Waves) (w last : Waiting) (rank list node : ℕ) : Type 0 where
+pub record Links (reading : Reading) (groups : Groups) (recording : Lists) (s : State) (waves : Waves) (w last : Waiting) (rank list node : ℕ) : Type 0 where
   pub later : 0 < list
   pub within : list < length w.lists
   pub room : 0 < w.spare
@@ -375,15 +230,15 @@ pub record Links (groups : Groups) (recording : Lists) (s : State) (waves : Wave
   pub work : last.work ≡ min (w.work + 1) most_work
   pub long : length last.awaited ≡ length w.awaited
   pub awaited : (other : ℕ) → other ≢ rank → get_or last.awaited other 0 ≡ get_or w.awaited other 0
-  pub waits : WaitsIn groups recording s waves last.awaited rank list
+  pub waits : WaitsIn reading groups recording s waves last.awaited rank list
 
-pub hand_links : (groups : Groups) (recording : Lists) (s : State) (waves : Waves) (w last : Waiting) (rank list node : ℕ) → IsInHand groups recording s waves w rank → Links groups recording s waves w last rank list node → IsKept groups recording s waves last IsNobody 0
-hand_links groups recording s waves w last rank list node h links =
+pub hand_links : (reading : Reading) (groups : Groups) (recording : Lists) (s : State) (waves : Waves) (w last : Waiting) (rank list node : ℕ) → IsInHand reading groups recording s waves w rank → Links reading groups recording s waves w last rank list node → IsKept reading groups recording s waves last IsNobody 0
+hand_links reading groups recording s waves w last rank list node h links =
     let nodes = linked_nodes w.lists last.lists list node rank links.within links.lists in
-    let right = changed (length recording) w.lists _ (WaitsIn groups recording s waves last.awaited) _ (λ other. (Rests recording s other ⊎ IsNobody other) ⊎ (other ≡ rank)) h.kept.linked
+    let right = changed (length recording) w.lists _ (WaitsIn reading groups recording s waves last.awaited) _ (λ other. (Rests recording s other ⊎ IsNobody other) ⊎ (other ≡ rank)) h.kept.linked
     (λ other list' is_rank later on waits.
     ⊎_elim
-    (λ (own : (list' ≡ own_list other) × (other < length recording) × NeedsPartner groups recording s other (get_or w.awaited other 0)).
+    (λ (own : (list' ≡ own_list other) × (other < length recording) × NeedsPartner reading groups recording s other (get_or w.awaited other 0)).
     ⊎_elim
     (λ (same : other ≡ rank).
     let on' : 0 < count rank (list_at w.lists list') = subst (λ (k : ℕ). 0 < count k (list_at w.lists list')) same on in
@@ -404,18 +259,18 @@ hand_links groups recording s waves w last rank list node h links =
         awaited = links.long ∙ h.kept.has_lists.awaited;
       };
       linked =
-          linked_at (length recording) w.lists last.lists list node rank (WaitsIn groups recording s waves last.awaited) (λ other. Rests recording s other ⊎ IsNobody other) right h.is_rank h.in_none links.within (λ later. links.waits) links.lists;
+          linked_at (length recording) w.lists last.lists list node rank (WaitsIn reading groups recording s waves last.awaited) (λ other. Rests recording s other ⊎ IsNobody other) right h.is_rank h.in_none links.within (λ later. links.waits) links.lists;
       are_waves = h.kept.are_waves;
       is_reached = h.kept.is_reached;
       is_paid =
           omega (arith, h.kept.is_paid, links.work, min-le_left (w.work + 1) most_work, ap (length {A = ℕ × ℕ}) (linked_behind w.lists last.lists list node rank links.later links.lists));
     }
 
-pub links_counts : (groups : Groups) (recording : Lists) (s : State) (waves : Waves) (w last : Waiting) (rank list node : ℕ) → Links groups recording s waves w last rank list node → touches_of waves w ≤ touches_of waves last
-links_counts groups recording s waves w last rank list node links = omega (arith, links.work)
+pub links_counts : (reading : Reading) (groups : Groups) (recording : Lists) (s : State) (waves : Waves) (w last : Waiting) (rank list node : ℕ) → Links reading groups recording s waves w last rank list node → touches_of waves w ≤ touches_of waves last
+links_counts reading groups recording s waves w last rank list node links = omega (arith, links.work)
 
-pub links_partner : (groups : Groups) (recording : Lists) (s : State) (waves : Waves) (w last : Waiting) (rank place node : ℕ) → IsInHand groups recording s waves w rank → NeedsPartner groups recording s rank place → 0 < w.spare → last ≡ with_rank (with_awaited w rank place) (own_list rank) node rank → Links groups recording s waves w last rank (own_list rank) node
-links_partner groups recording s waves w last rank place node h needs room is =
+pub links_partner : (reading : Reading) (groups : Groups) (recording : Lists) (s : State) (waves : Waves) (w last : Waiting) (rank place node : ℕ) → IsInHand reading groups recording s waves w rank → NeedsPartner reading groups recording s rank place → 0 < w.spare → last ≡ with_rank (with_awaited w rank place) (own_list rank) node rank → Links reading groups recording s waves w last rank (own_list rank) node
+links_partner reading groups recording s waves w last rank place node h needs room is =
     let awaited : last.awaited ≡ set w.awaited rank place = ap (λ (x : Waiting). x.awaited) is in
     let here : get_or last.awaited rank 0 ≡ place = ap (λ (xs : List ℕ). get_or xs rank 0) awaited ∙ get_or-set_same w.awaited rank place 0 (omega (arith, h.is_rank, h.kept.has_lists.awaited)) in
     record {
@@ -438,8 +293,8 @@ comm_known (group ∷ groups) (suc comm) h = omega (arith, comm_known groups com
 pub wave_known : (groups : Groups) (recording : Lists) (s : State) (waves : Waves) (rank comm : ℕ) → NeedsWave groups recording s waves rank comm → comm < length groups
 wave_known groups recording s waves rank comm h = comm_known groups comm (open_parts groups recording waves rank h.start comm h.is_joined).some_member
 
-pub links_wave : (groups : Groups) (recording : Lists) (s : State) (waves : Waves) (w last : Waiting) (rank comm node : ℕ) → IsInHand groups recording s waves w rank → NeedsWave groups recording s waves rank comm → 0 < w.spare → last ≡ with_rank w (comm_list (length w.awaited) comm) node rank → Links groups recording s waves w last rank (comm_list (length w.awaited) comm) node
-links_wave groups recording s waves w last rank comm node h needs room is = record {
+pub links_wave : (reading : Reading) (groups : Groups) (recording : Lists) (s : State) (waves : Waves) (w last : Waiting) (rank comm node : ℕ) → IsInHand reading groups recording s waves w rank → NeedsWave groups recording s waves rank comm → 0 < w.spare → last ≡ with_rank w (comm_list (length w.awaited) comm) node rank → Links reading groups recording s waves w last rank (comm_list (length w.awaited) comm) node
+links_wave reading groups recording s waves w last rank comm node h needs room is = record {
   later = omega arith;
   within = omega (arith, wave_known groups recording s waves rank comm needs, h.kept.has_lists.lists, h.kept.has_lists.awaited);
   room = room;
@@ -452,9 +307,9 @@ links_wave groups recording s waves w last rank comm node h needs room is = reco
 }
 
 -- the rank in hand moves on
-pub hand_moves : (groups : Groups) (recording : Lists) (s t : State) (waves : Waves) (w : Waiting) (rank place : ℕ) → IsInHand groups recording s waves w rank → can_move groups recording s rank ≡ true → get_or s rank 0 < most_calls → t ≡ moved s rank → place ≡ get_or t rank 0 → IsReaching groups recording t waves w rank place
-hand_moves groups recording s t waves w rank place h able few is there =
-    let in_s : rank < length s = omega (arith, reached_ranks (can_move groups recording) (length recording) s h.kept.is_reached, h.is_rank) in
+pub hand_moves : (reading : Reading) (groups : Groups) (recording : Lists) (s t : State) (waves : Waves) (w : Waiting) (rank place : ℕ) → IsInHand reading groups recording s waves w rank → can_move reading groups recording s rank ≡ true → get_or s rank 0 < most_calls → t ≡ moved s rank → place ≡ get_or t rank 0 → IsReaching reading groups recording t waves w rank place
+hand_moves reading groups recording s t waves w rank place h able few is there =
+    let in_s : rank < length s = omega (arith, reached_ranks (can_move reading groups recording) (length recording) s h.kept.is_reached, h.is_rank) in
     let next : get_or t rank 0 ≡ get_or s rank 0 + 1 = ap (λ (x : State). get_or x rank 0) is ∙ moved_own s rank in_s in
     let only : OnlyReaches recording recording s t (λ other at_place. (other ≡ rank) × (at_place ≡ get_or s rank 0 + 1)) =
     subst (λ (x : State). OnlyReaches recording recording s x (λ other at_place. (other ≡ rank) × (at_place ≡ get_or s rank 0 + 1))) (sym is) (moved_on recording s rank in_s (moved_later s rank in_s)) in
@@ -467,13 +322,13 @@ hand_moves groups recording s t waves w rank place h able few is there =
           let differs : other ≢ rank = λ e.
           omega (arith, subst (λ (k : ℕ). 0 < count k (list_at w.lists list)) e on, count_in_all rank w.lists list, h.in_none) in
           ⊎_elim
-          (λ (own : (list ≡ own_list other) × (other < length recording) × NeedsPartner groups recording s other (get_or w.awaited other 0)).
+          (λ (own : (list ≡ own_list other) × (other < length recording) × NeedsPartner reading groups recording s other (get_or w.awaited other 0)).
           ⊎_elim
-          (λ (still : NeedsPartner groups recording t other (get_or w.awaited other 0)). inl (inl (own.0, own.1, still)))
+          (λ (still : NeedsPartner reading groups recording t other (get_or w.awaited other 0)). inl (inl (own.0, own.1, still)))
           (λ (new : IsWoken groups recording (λ someone at_place. (someone ≡ rank) × (at_place ≡ get_or s rank 0 + 1)) other (get_or w.awaited other 0)).
           let at_place : new.place ≡ place = new.is_new.1 ∙ sym next ∙ sym there in
-          inr (own.0, own.1, (new.half, subst (λ (p : ℕ). partner_of groups recording rank p new.half ≡ Some (other, get_or w.awaited other 0)) at_place (subst (λ (k : ℕ). partner_of groups recording k new.place new.half ≡ Some (other, get_or w.awaited other 0)) new.is_new.0 new.is_partner))))
-          (partner_waits_on groups recording recording s t _ other (get_or w.awaited other 0) only (same other differs) own.2))
+          inr (own.0, own.1, subst (λ (p : ℕ). WaitsFor groups recording rank p other (get_or w.awaited other 0)) at_place (subst (λ (k : ℕ). WaitsFor groups recording k new.place other (get_or w.awaited other 0)) new.is_new.0 new.waits)))
+          (partner_waits_on reading groups recording recording s t _ other (get_or w.awaited other 0) only (same other differs) own.2))
           (λ (wave : (comm : ℕ) × (list ≡ comm_list (length recording) comm) × NeedsWave groups recording s waves other comm).
           inl (inr (wave.0, wave.1, wave_waits_on groups recording recording s t waves other wave.0 only.goes_on (same other differs) wave.2)))
           waits)
@@ -491,7 +346,7 @@ hand_moves groups recording s t waves w rank place h able few is there =
           (λ comm member is_member e.
           let at_place : e.0 ≡ place = e.1.1 ∙ sym next ∙ sym there in
           (e.1.0, subst (λ (p : ℕ). wave_of recording rank p ≡ Some (comm, complete_of waves comm)) at_place (subst (λ (k : ℕ). wave_of recording k e.0 ≡ Some (comm, complete_of waves comm)) e.1.0 e.2)));
-      is_reached = reached_step (can_move groups recording) (length recording) s t h.kept.is_reached (record { rank = rank; is_rank = in_s; can_move = able; moves_on = is });
+      is_reached = reached_step (can_move reading groups recording) (length recording) s t h.kept.is_reached (record { rank = rank; is_rank = in_s; can_move = able; moves_on = is });
       is_rank = h.is_rank;
       in_none = h.in_none;
       is_there = there;
@@ -504,22 +359,22 @@ hand_moves groups recording s t waves w rank place h able few is there =
           omega (arith, more, after, cost, h.kept.is_paid);
     }
 
-cost_most : (there : Option Call) → cost_of there ≤ 12
+cost_most : (there : Option Call) → cost_of there ≤ 16
 cost_most None = omega arith
 cost_most (Some call) = omega arith
 
 -- the call arrives at which its rank stands
-stands_at_end : (groups : Groups) (recording : Lists) (s : State) (waves : Waves) (awaited : List ℕ) (rank list : ℕ) → get_or s rank 0 ≡ length (calls_of recording rank) → WaitsIn groups recording s waves awaited rank list → ⊥
-stands_at_end groups recording s waves awaited rank list at_end waits =
+stands_at_end : (reading : Reading) (groups : Groups) (recording : Lists) (s : State) (waves : Waves) (awaited : List ℕ) (rank list : ℕ) → get_or s rank 0 ≡ length (calls_of recording rank) → WaitsIn reading groups recording s waves awaited rank list → ⊥
+stands_at_end reading groups recording s waves awaited rank list at_end waits =
     ⊎_elim
-    (λ (own : (list ≡ own_list rank) × (rank < length recording) × NeedsPartner groups recording s rank (get_or awaited rank 0)).
+    (λ (own : (list ≡ own_list rank) × (rank < length recording) × NeedsPartner reading groups recording s rank (get_or awaited rank 0)).
     omega (arith, awaited_place recording rank (get_or s rank 0) (get_or awaited rank 0) own.2.is_awaited, at_end))
     (λ (wave : (comm : ℕ) × (list ≡ comm_list (length recording) comm) × NeedsWave groups recording s waves rank comm).
     omega (arith, awaited_place recording rank (get_or s rank 0) wave.2.start wave.2.is_awaited, at_end))
     waits
 
-pub at_end_in_none : (groups : Groups) (recording : Lists) (s : State) (waves : Waves) (w : Waiting) (rank : ℕ) → IsSettled groups recording s waves w → get_or s rank 0 ≡ length (calls_of recording rank) → in_all rank w.lists ≡ 0
-at_end_in_none groups recording s waves w rank h at_end = none (in_all rank w.lists) refl
+pub at_end_in_none : (reading : Reading) (groups : Groups) (recording : Lists) (s : State) (waves : Waves) (w : Waiting) (rank : ℕ) → IsSettled reading groups recording s waves w → get_or s rank 0 ≡ length (calls_of recording rank) → in_all rank w.lists ≡ 0
+at_end_in_none reading groups recording s waves w rank h at_end = none (in_all rank w.lists) refl
   where
     none : (n : ℕ) → in_all rank w.lists ≡ n → in_all rank w.lists ≡ 0
     none zero e = e
@@ -527,15 +382,15 @@ at_end_in_none groups recording s waves w rank h at_end = none (in_all rank w.li
         let found = found_in rank w.lists (omega (arith, e)) in
         ⊎_elim
         (λ (first : found.0 ≡ 0). absurd (omega (arith, found.1, ap (λ (l : ℕ). count rank (list_at w.lists l)) first, ap (count rank) h.is_empty)))
-        (λ (later : found.0 ≢ 0). absurd (stands_at_end groups recording s waves w.awaited rank found.0 at_end (h.kept.linked.waits rank found.0 (omega arith) found.1)))
+        (λ (later : found.0 ≢ 0). absurd (stands_at_end reading groups recording s waves w.awaited rank found.0 at_end (h.kept.linked.waits rank found.0 (omega arith) found.1)))
         (cases_eq found.0 0)
 
-pub arrival_reaches : (groups : Groups) (recording : Lists) (s : State) (waves : Waves) (w : Waiting) (rank place : ℕ) (call : Call) → IsSettled groups recording s waves w → rank < length recording → get_or s rank 0 ≡ length (calls_of recording rank) → place ≡ get_or s rank 0 → place ≤ most_calls → IsTheEnd (can_move groups recording) (length recording) s → IsReaching groups (appended recording rank call) s waves w rank place
-arrival_reaches groups recording s waves w rank place call h is_rank at_end there few end =
+pub arrival_reaches : (reading : Reading) (groups : Groups) (recording : Lists) (s : State) (waves : Waves) (w : Waiting) (rank place : ℕ) (call : Call) → IsSettled reading groups recording s waves w → rank < length recording → get_or s rank 0 ≡ length (calls_of recording rank) → place ≡ get_or s rank 0 → place ≤ most_calls → IsTheEnd (can_move reading groups recording) (length recording) s → IsReaching reading groups (appended recording rank call) s waves w rank place
+arrival_reaches reading groups recording s waves w rank place call h is_rank at_end there few end =
     let longer : Lists = appended recording rank call in
     let only = arrived_there recording s rank call is_rank in
     let same_ranks : length recording ≡ length longer = only.goes_on.same_ranks in
-    let in_none = at_end_in_none groups recording s waves w rank h at_end in
+    let in_none = at_end_in_none reading groups recording s waves w rank h at_end in
     record {
       has_lists = record {
         lists = h.kept.has_lists.lists ∙ ap (λ (n : ℕ). 1 + n + length groups) same_ranks;
@@ -543,17 +398,17 @@ arrival_reaches groups recording s waves w rank place call h is_rank at_end ther
         awaited = h.kept.has_lists.awaited ∙ same_ranks;
       };
       linked =
-          subst (λ (n : ℕ). IsLinked n w.lists (WaitsOrWoken groups longer s waves w.awaited rank place) (λ other. Rests longer s other ⊎ (other ≡ rank))) same_ranks
-          (changed (length recording) w.lists _ (WaitsOrWoken groups longer s waves w.awaited rank place) _ (λ other. Rests longer s other ⊎ (other ≡ rank)) h.kept.linked
+          subst (λ (n : ℕ). IsLinked n w.lists (WaitsOrWoken reading groups longer s waves w.awaited rank place) (λ other. Rests longer s other ⊎ (other ≡ rank))) same_ranks
+          (changed (length recording) w.lists _ (WaitsOrWoken reading groups longer s waves w.awaited rank place) _ (λ other. Rests longer s other ⊎ (other ≡ rank)) h.kept.linked
           (λ other list is_rank' later on waits.
           ⊎_elim
-          (λ (own : (list ≡ own_list other) × (other < length recording) × NeedsPartner groups recording s other (get_or w.awaited other 0)).
+          (λ (own : (list ≡ own_list other) × (other < length recording) × NeedsPartner reading groups recording s other (get_or w.awaited other 0)).
           ⊎_elim
-          (λ (still : NeedsPartner groups longer s other (get_or w.awaited other 0)). inl (inl (own.0, omega (arith, own.1, same_ranks), still)))
+          (λ (still : NeedsPartner reading groups longer s other (get_or w.awaited other 0)). inl (inl (own.0, omega (arith, own.1, same_ranks), still)))
           (λ (new : IsWoken groups longer (λ someone at_place. (someone ≡ rank) × (at_place ≡ length (calls_of recording rank))) other (get_or w.awaited other 0)).
           let at_place : new.place ≡ place = new.is_new.1 ∙ sym at_end ∙ sym there in
-          inr (own.0, omega (arith, own.1, same_ranks), (new.half, subst (λ (p : ℕ). partner_of groups longer rank p new.half ≡ Some (other, get_or w.awaited other 0)) at_place (subst (λ (k : ℕ). partner_of groups longer k new.place new.half ≡ Some (other, get_or w.awaited other 0)) new.is_new.0 new.is_partner))))
-          (partner_waits_on groups recording longer s s _ other (get_or w.awaited other 0) only refl own.2))
+          inr (own.0, omega (arith, own.1, same_ranks), subst (λ (p : ℕ). WaitsFor groups longer rank p other (get_or w.awaited other 0)) at_place (subst (λ (k : ℕ). WaitsFor groups longer k new.place other (get_or w.awaited other 0)) new.is_new.0 new.waits)))
+          (partner_waits_on reading groups recording longer s s _ other (get_or w.awaited other 0) only refl own.2))
           (λ (wave : (comm : ℕ) × (list ≡ comm_list (length recording) comm) × NeedsWave groups recording s waves other comm).
           inl (inr (wave.0, wave.1 ∙ ap (λ (n : ℕ). comm_list n wave.0) same_ranks, wave_waits_on groups recording longer s s waves other wave.0 only.goes_on refl wave.2)))
           waits)
@@ -571,19 +426,19 @@ arrival_reaches groups recording s waves w rank place call h is_rank at_end ther
           (λ comm member is_member e.
           let at_place : e.0 ≡ place = e.1.1 ∙ sym at_end ∙ sym there in
           (e.1.0, subst (λ (p : ℕ). wave_of longer rank p ≡ Some (comm, complete_of waves comm)) at_place (subst (λ (k : ℕ). wave_of longer k e.0 ≡ Some (comm, complete_of waves comm)) e.1.0 e.2)));
-      is_reached = still_reached groups recording rank call s is_rank end;
+      is_reached = still_reached reading groups recording rank call s is_rank end;
       is_rank = omega (arith, is_rank, same_ranks);
       in_none = in_none;
       is_there = there;
       few = few;
       is_paid =
-          let cost : cost_of (slice_get (calls_of longer rank) place) ≤ 12 = cost_most (slice_get (calls_of longer rank) place) in
+          let cost : cost_of (slice_get (calls_of longer rank) place) ≤ 16 = cost_most (slice_get (calls_of longer rank) place) in
           omega (arith, cost, h.kept.is_paid, paid_there recording s waves rank call is_rank at_end);
     }
 
 -- a call arrives that its rank has not come to
-pub arrival_waits : (groups : Groups) (recording : Lists) (s : State) (waves : Waves) (w : Waiting) (rank : ℕ) (call : Call) → IsSettled groups recording s waves w → rank < length recording → get_or s rank 0 < length (calls_of recording rank) → IsTheEnd (can_move groups recording) (length recording) s → IsSettled groups (appended recording rank call) s waves w
-arrival_waits groups recording s waves w rank call h is_rank behind end =
+pub arrival_waits : (reading : Reading) (groups : Groups) (recording : Lists) (s : State) (waves : Waves) (w : Waiting) (rank : ℕ) (call : Call) → IsSettled reading groups recording s waves w → rank < length recording → get_or s rank 0 < length (calls_of recording rank) → IsTheEnd (can_move reading groups recording) (length recording) s → IsSettled reading groups (appended recording rank call) s waves w
+arrival_waits reading groups recording s waves w rank call h is_rank behind end =
     let longer : Lists = appended recording rank call in
     let only = arrived_ahead recording s rank call is_rank behind in
     let same_ranks : length recording ≡ length longer = only.goes_on.same_ranks in
@@ -596,15 +451,15 @@ arrival_waits groups recording s waves w rank call h is_rank behind end =
           awaited = h.kept.has_lists.awaited ∙ same_ranks;
         };
         linked =
-            subst (λ (n : ℕ). IsLinked n w.lists (WaitsIn groups longer s waves w.awaited) (λ other. Rests longer s other ⊎ IsNobody other)) same_ranks
-            (changed (length recording) w.lists _ (WaitsIn groups longer s waves w.awaited) _ (λ other. Rests longer s other ⊎ IsNobody other) h.kept.linked
+            subst (λ (n : ℕ). IsLinked n w.lists (WaitsIn reading groups longer s waves w.awaited) (λ other. Rests longer s other ⊎ IsNobody other)) same_ranks
+            (changed (length recording) w.lists _ (WaitsIn reading groups longer s waves w.awaited) _ (λ other. Rests longer s other ⊎ IsNobody other) h.kept.linked
             (λ other list is_rank' later on waits.
             ⊎_elim
-            (λ (own : (list ≡ own_list other) × (other < length recording) × NeedsPartner groups recording s other (get_or w.awaited other 0)).
+            (λ (own : (list ≡ own_list other) × (other < length recording) × NeedsPartner reading groups recording s other (get_or w.awaited other 0)).
             ⊎_elim
-            (λ (still : NeedsPartner groups longer s other (get_or w.awaited other 0)). inl (own.0, omega (arith, own.1, same_ranks), still))
+            (λ (still : NeedsPartner reading groups longer s other (get_or w.awaited other 0)). inl (own.0, omega (arith, own.1, same_ranks), still))
             (λ (new : IsWoken groups longer (λ someone at_place. ⊥) other (get_or w.awaited other 0)). absurd new.is_new)
-            (partner_waits_on groups recording longer s s _ other (get_or w.awaited other 0) only refl own.2))
+            (partner_waits_on reading groups recording longer s s _ other (get_or w.awaited other 0) only refl own.2))
             (λ (wave : (comm : ℕ) × (list ≡ comm_list (length recording) comm) × NeedsWave groups recording s waves other comm).
             inr (wave.0, wave.1 ∙ ap (λ (n : ℕ). comm_list n wave.0) same_ranks, wave_waits_on groups recording longer s s waves other wave.0 only.goes_on refl wave.2))
             waits)
@@ -616,7 +471,7 @@ arrival_waits groups recording s waves w rank call h is_rank behind end =
         are_waves =
             fewer_excepted groups longer s waves _ _ (waves_on groups recording longer s s waves _ only h.kept.are_waves)
             (λ comm member is_member e. e.1);
-        is_reached = still_reached groups recording rank call s is_rank end;
+        is_reached = still_reached reading groups recording rank call s is_rank end;
         is_paid = omega (arith, h.kept.is_paid, paid_ahead recording s waves rank call is_rank);
       };
     }
@@ -629,8 +484,8 @@ arrival_waits groups recording s waves w rank call h is_rank behind end =
         (cases_eq other rank)
 
 -- the first of the worklist is taken
-pub kept_taken : (groups : Groups) (recording : Lists) (s : State) (waves : Waves) (w new : Waiting) (rank : ℕ) → IsKept groups recording s waves w IsNobody 0 → first_value (list_at w.lists 0) ≡ Some rank → new.lists ≡ set w.lists 0 (drop 1 (list_at w.lists 0)) → new.spare ≡ w.spare + 1 → new.work ≡ min (w.work + 1) most_work → new.awaited ≡ w.awaited → IsInHand groups recording s waves new rank
-kept_taken groups recording s waves w new rank h first lists spare work awaited =
+pub kept_taken : (reading : Reading) (groups : Groups) (recording : Lists) (s : State) (waves : Waves) (w new : Waiting) (rank : ℕ) → IsKept reading groups recording s waves w IsNobody 0 → first_value (list_at w.lists 0) ≡ Some rank → new.lists ≡ set w.lists 0 (drop 1 (list_at w.lists 0)) → new.spare ≡ w.spare + 1 → new.work ≡ min (w.work + 1) most_work → new.awaited ≡ w.awaited → IsInHand reading groups recording s waves new rank
+kept_taken reading groups recording s waves w new rank h first lists spare work awaited =
     let it = taken (length recording) w.lists new.lists rank _ _ h.linked (omega (arith, h.has_lists.lists)) first lists in
     record {
       kept = record {
@@ -641,7 +496,7 @@ kept_taken groups recording s waves w new rank h first lists spare work awaited 
         };
         linked =
             changed (length recording) new.lists _ _ _ _ it.linked
-            (λ other list is_rank later on waits. subst (λ (xs : List ℕ). WaitsIn groups recording s waves xs other list) (sym awaited) waits)
+            (λ other list is_rank later on waits. subst (λ (xs : List ℕ). WaitsIn reading groups recording s waves xs other list) (sym awaited) waits)
             (λ other is_rank none rests.
             ⊎_elim
             (λ (old : Rests recording s other ⊎ IsNobody other).
@@ -659,13 +514,13 @@ kept_taken groups recording s waves w new rank h first lists spare work awaited 
       in_none = it.in_none;
     }
 
-pub taken_shorter : (groups : Groups) (recording : Lists) (s : State) (waves : Waves) (w new : Waiting) (rank : ℕ) → IsKept groups recording s waves w IsNobody 0 → first_value (list_at w.lists 0) ≡ Some rank → new.lists ≡ set w.lists 0 (drop 1 (list_at w.lists 0)) → to_do recording s new < to_do recording s w
-taken_shorter groups recording s waves w new rank h first lists =
+pub taken_shorter : (reading : Reading) (groups : Groups) (recording : Lists) (s : State) (waves : Waves) (w new : Waiting) (rank : ℕ) → IsKept reading groups recording s waves w IsNobody 0 → first_value (list_at w.lists 0) ≡ Some rank → new.lists ≡ set w.lists 0 (drop 1 (list_at w.lists 0)) → to_do recording s new < to_do recording s w
+taken_shorter reading groups recording s waves w new rank h first lists =
     let it = taken (length recording) w.lists new.lists rank _ _ h.linked (omega (arith, h.has_lists.lists)) first lists in
     omega (arith, it.shorter)
 
-pub links_falls : (groups : Groups) (recording : Lists) (s : State) (waves : Waves) (w last : Waiting) (rank list node : ℕ) → Links groups recording s waves w last rank list node → to_do recording s last ≤ to_do recording s w
-links_falls groups recording s waves w last rank list node links =
+pub links_falls : (reading : Reading) (groups : Groups) (recording : Lists) (s : State) (waves : Waves) (w last : Waiting) (rank list node : ℕ) → Links reading groups recording s waves w last rank list node → to_do recording s last ≤ to_do recording s w
+links_falls reading groups recording s waves w last rank list node links =
     omega (arith, ap (length {A = ℕ × ℕ}) (linked_behind w.lists last.lists list node rank links.later links.lists))
 
 less_to_do : (a b m l : ℕ) → a < b → l ≤ m → (k : ℕ) → (b - suc a) * (m + 1) + l < (b - a) * (m + 1) + k
@@ -673,23 +528,23 @@ less_to_do a b m l less most k =
     let next : b - a ≡ suc (b - suc a) = omega (arith, less) in
     rw next (omega (arith, most, suc-mul (b - suc a) (m + 1)))
 
-pub moved_falls : (groups : Groups) (recording : Lists) (s t : State) (new : Waves) (w last : Waiting) (rank : ℕ) → IsInHand groups recording t new last rank → rank < length s → t ≡ moved s rank → to_do recording t last < to_do recording s w
-moved_falls groups recording s t new w last rank h is_rank is =
-    let within = reached_within groups recording t h.kept.is_reached in
+pub moved_falls : (reading : Reading) (groups : Groups) (recording : Lists) (s t : State) (new : Waves) (w last : Waiting) (rank : ℕ) → IsInHand reading groups recording t new last rank → rank < length s → t ≡ moved s rank → to_do recording t last < to_do recording s w
+moved_falls reading groups recording s t new w last rank h is_rank is =
+    let within = reached_within reading groups recording t h.kept.is_reached in
     let total_t : total t ≡ suc (total s) = ap total is ∙ total_moved s rank is_rank ∙ omega arith in
     let most = total_most t _ within.ranks within.stands in
     rw total_t (less_to_do (total s) (calls_in recording) (length recording) (length (list_at last.lists 0)) (omega (arith, most, total_t)) (omega (arith, held_at last.lists 0, h.kept.has_lists.nodes)) (length (list_at w.lists 0)))
 
 -- no rank can move once none is to be looked at
-pub settled_end : (groups : Groups) (recording : Lists) (s : State) (waves : Waves) (w : Waiting) → IsSettled groups recording s waves w → IsTheEnd (can_move groups recording) (length recording) s
-settled_end groups recording s waves w h =
-    stuck_end groups recording s h.kept.is_reached
-    (λ rank is_rank. by_all rank (omega (arith, is_rank, reached_ranks (can_move groups recording) (length recording) s h.kept.is_reached)) (in_all rank w.lists) refl)
+pub settled_end : (reading : Reading) (groups : Groups) (recording : Lists) (s : State) (waves : Waves) (w : Waiting) → IsSettled reading groups recording s waves w → IsTheEnd (can_move reading groups recording) (length recording) s
+settled_end reading groups recording s waves w h =
+    stuck_end reading groups recording s h.kept.is_reached
+    (λ rank is_rank. by_all rank (omega (arith, is_rank, reached_ranks (can_move reading groups recording) (length recording) s h.kept.is_reached)) (in_all rank w.lists) refl)
   where
-    by_all : (rank : ℕ) → rank < length recording → (n : ℕ) → in_all rank w.lists ≡ n → can_move groups recording s rank ≡ false
+    by_all : (rank : ℕ) → rank < length recording → (n : ℕ) → in_all rank w.lists ≡ n → can_move reading groups recording s rank ≡ false
     by_all rank is_rank zero e =
         ⊎_elim
-        (λ (rest : Rests recording s rank). resting_stuck groups recording s rank rest)
+        (λ (rest : Rests recording s rank). resting_stuck reading groups recording s rank rest)
         (λ (nobody : IsNobody rank). absurd nobody)
         (h.kept.linked.rests rank is_rank e)
     by_all rank is_rank (suc n) e =
@@ -698,35 +553,35 @@ settled_end groups recording s waves w h =
         (λ (first : found.0 ≡ 0). absurd (omega (arith, found.1, ap (λ (l : ℕ). count rank (list_at w.lists l)) first, ap (count rank) h.is_empty)))
         (λ (later : found.0 ≢ 0).
         ⊎_elim
-        (λ (own : (found.0 ≡ own_list rank) × (rank < length recording) × NeedsPartner groups recording s rank (get_or w.awaited rank 0)). partner_stuck groups recording s rank (get_or w.awaited rank 0) own.2)
-        (λ (wave : (comm : ℕ) × (found.0 ≡ comm_list (length recording) comm) × NeedsWave groups recording s waves rank comm). wave_stuck groups recording s waves rank wave.0 h.kept.are_waves wave.2)
+        (λ (own : (found.0 ≡ own_list rank) × (rank < length recording) × NeedsPartner reading groups recording s rank (get_or w.awaited rank 0)). partner_stuck reading groups recording s rank (get_or w.awaited rank 0) own.2)
+        (λ (wave : (comm : ℕ) × (found.0 ≡ comm_list (length recording) comm) × NeedsWave groups recording s waves rank comm). wave_stuck reading groups recording s waves rank wave.0 h.kept.are_waves wave.2)
         (h.kept.linked.waits rank found.0 (omega arith) found.1))
         (cases_eq found.0 0)
 
 -- a rank stands at its list's end, or before it
-pub stand_within : (groups : Groups) (recording : Lists) (s : State) (rank : ℕ) → IsReached (can_move groups recording) (length recording) s → get_or s rank 0 ≤ length (calls_of recording rank)
-stand_within groups recording s rank reached = omega (arith, (reached_within groups recording s reached).stands rank, length_of_calls recording rank)
+pub stand_within : (reading : Reading) (groups : Groups) (recording : Lists) (s : State) (rank : ℕ) → IsReached (can_move reading groups recording) (length recording) s → get_or s rank 0 ≤ length (calls_of recording rank)
+stand_within reading groups recording s rank reached = omega (arith, (reached_within reading groups recording s reached).stands rank, length_of_calls recording rank)
 
 -- what arrived at its rank's stand is reached
-pub arrived_reaching : (groups : Groups) (recording : Lists) (s : State) (waves : Waves) (w : Waiting) (rank place : ℕ) → HasArrived groups recording s waves w rank place → get_or s rank 0 ≡ place → IsReaching groups recording s waves w rank place
-arrived_reaching groups recording s waves w rank place h there =
-    rw h.is (arrival_reaches groups h.before s waves w rank place h.call h.settled h.is_rank (there ∙ h.is_next) (sym there) h.few (settled_end groups h.before s waves w h.settled))
+pub arrived_reaching : (reading : Reading) (groups : Groups) (recording : Lists) (s : State) (waves : Waves) (w : Waiting) (rank place : ℕ) → HasArrived reading groups recording s waves w rank place → get_or s rank 0 ≡ place → IsReaching reading groups recording s waves w rank place
+arrived_reaching reading groups recording s waves w rank place h there =
+    rw h.is (arrival_reaches reading groups h.before s waves w rank place h.call h.settled h.is_rank (there ∙ h.is_next) (sym there) h.few (settled_end reading groups h.before s waves w h.settled))
 
 -- what arrived before its rank has come to it wakes none
-pub arrived_settled : (groups : Groups) (recording : Lists) (s : State) (waves : Waves) (w : Waiting) (rank place : ℕ) → HasArrived groups recording s waves w rank place → get_or s rank 0 ≢ place → IsSettled groups recording s waves w
-arrived_settled groups recording s waves w rank place h not_there =
-    rw h.is (arrival_waits groups h.before s waves w rank h.call h.settled h.is_rank
-    (omega (arith, stand_within groups h.before s rank h.settled.kept.is_reached, h.is_next, not_there)) (settled_end groups h.before s waves w h.settled))
+pub arrived_settled : (reading : Reading) (groups : Groups) (recording : Lists) (s : State) (waves : Waves) (w : Waiting) (rank place : ℕ) → HasArrived reading groups recording s waves w rank place → get_or s rank 0 ≢ place → IsSettled reading groups recording s waves w
+arrived_settled reading groups recording s waves w rank place h not_there =
+    rw h.is (arrival_waits reading groups h.before s waves w rank h.call h.settled h.is_rank
+    (omega (arith, stand_within reading groups h.before s rank h.settled.kept.is_reached, h.is_next, not_there)) (settled_end reading groups h.before s waves w h.settled))
 
 -- at the start no rank has a call
 no_call_joined : (ranks comm wave member : ℕ) (s : State) → HasJoined (replicate ranks []) s comm wave member → ⊥
 no_call_joined ranks comm wave member s h = none-some h.0 (rw (no_calls ranks member) at h.1)
 
-pub new_settled : (groups : Groups) (recording : Lists) (s : State) (waves : Waves) (w : Waiting) (ranks : ℕ) → recording ≡ replicate ranks [] → s ≡ start ranks → waves.complete.items ≡ replicate (length groups) 0 → waves.met.items ≡ replicate (length groups) 0 → w.lists ≡ replicate (1 + ranks + length groups) [] → w.spare ≡ ranks → w.work ≡ 0 → waves.changes ≡ 0 → w.awaited ≡ replicate ranks 0 → IsSettled groups recording s waves w
-new_settled groups recording s waves w ranks is_empty zeros complete met lists spare work changes awaited =
+pub new_settled : (reading : Reading) (groups : Groups) (recording : Lists) (s : State) (waves : Waves) (w : Waiting) (ranks : ℕ) → recording ≡ replicate ranks [] → s ≡ start ranks → waves.complete.items ≡ replicate (length groups) 0 → waves.met.items ≡ replicate (length groups) 0 → w.lists ≡ replicate (1 + ranks + length groups) [] → w.spare ≡ ranks → w.work ≡ 0 → waves.changes ≡ 0 → w.awaited ≡ replicate ranks 0 → IsSettled reading groups recording s waves w
+new_settled reading groups recording s waves w ranks is_empty zeros complete met lists spare work changes awaited =
     let long : length recording ≡ ranks = ap (length {A = List Call}) is_empty ∙ length-replicate ranks [] in
     let none = none_there (1 + ranks + length groups) in
-    let end = start_end groups ranks in
+    let end = start_end reading groups ranks in
     record {
       is_empty = ap (λ (ls : List Entries). list_at ls 0) lists ∙ none.1;
       kept = record {
@@ -750,7 +605,7 @@ new_settled groups recording s waves w ranks is_empty zeros complete met lists s
       };
     }
 
--- the touches are no more than 18 for each call
-pub touches_within : (groups : Groups) (recording : Lists) (s : State) (waves : Waves) (w : Waiting) → IsSettled groups recording s waves w → touches_of waves w ≤ most_touches recording
-touches_within groups recording s waves w h =
-    omega (arith, min-le_left (w.work + waves.changes) most_work, h.kept.is_paid, paid_most recording s waves (λ rank. stand_within groups recording s rank h.kept.is_reached))
+-- the touches are no more than 22 for each call
+pub touches_within : (reading : Reading) (groups : Groups) (recording : Lists) (s : State) (waves : Waves) (w : Waiting) → IsSettled reading groups recording s waves w → touches_of waves w ≤ most_touches recording
+touches_within reading groups recording s waves w h =
+    omega (arith, min-le_left (w.work + waves.changes) most_work, h.kept.is_paid, paid_most recording s waves (λ rank. stand_within reading groups recording s rank h.kept.is_reached))

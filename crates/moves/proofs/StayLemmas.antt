@@ -11,10 +11,12 @@ use Rattle.mpigroup.specs.Groups.{Groups}
 use Rattle.pairing.specs.declared.envelope.Half.{Half}
 use Rattle.pairing.specs.Recordings.{Lists, calls_of, GoesOn}
 use Rattle.pairing.specs.Partners.{partner_of}
+use Rattle.pairing.specs.Probed.{probed_of}
 use Rattle.pairing.specs.Places.{places}
 use Rattle.pairing.specs.Requests.{does_start, does_complete, last_of, unless_completed, started_in, started_before}
 use Rattle.pairing.specs.Waves.{place_in_wave, wave_of}
 use Rattle.pairing.proofs.PartnerLemmas.{partners_stay}
+use Rattle.pairing.proofs.ProbedLemmas.{probed_sends_stay}
 use Rattle.pairing.proofs.PlaceLemmas.{nth_place, place_nth, slice_get-front}
 use Rattle.pairing.proofs.RequestLemmas.{place_within}
 use Rattle.pairing.proofs.WaveLemmas.{waves_stay}
@@ -54,13 +56,14 @@ start_is_a_call recording rank place req start h =
     omega (arith, within, length-take place (calls_of recording rank))
 
 -- The rank's first calls are the same over the other recording, with the same waves and requests, and with each
--- partner and each member's call that is reached at the stands.
+-- partner, each probed send and each member's call that is reached at the stands.
 pub record Carries (groups : Groups) (recording other : Lists) (stands : State) (rank calls : ℕ) : Type 0 where
   pub call : (place : ℕ) → place < calls → slice_get (calls_of other rank) place ≡ slice_get (calls_of recording rank) place
   pub wave : (place : ℕ) → place < calls → wave_of other rank place ≡ wave_of recording rank place
   pub start : (place req : ℕ) → place < calls → started_before other rank place req ≡ started_before recording rank place req
   pub start_within : (place req start : ℕ) → place < calls → started_before recording rank place req ≡ Some start → start < calls
   pub partner : (place : ℕ) (half : Half) (partner there : ℕ) → place < calls → partner_of groups recording rank place half ≡ Some (partner, there) → there ≤ get_or stands partner 0 → partner_of groups other rank place half ≡ Some (partner, there)
+  pub probed : (place sender there : ℕ) → place < calls → probed_of groups recording rank place ≡ Some (sender, there) → there ≤ get_or stands sender 0 → probed_of groups other rank place ≡ Some (sender, there)
   pub member : (comm wave member place : ℕ) → place_in_wave recording comm wave member ≡ Some place → place ≤ get_or stands member 0 → place_in_wave other comm wave member ≡ Some place
 
 pub carries_on : (groups : Groups) (recording longer : Lists) (stands : State) (rank : ℕ) → GoesOn recording longer → Carries groups recording longer stands rank (length (calls_of recording rank))
@@ -70,6 +73,7 @@ carries_on groups recording longer stands rank goes_on = record {
   start = λ place req within. start_stays recording longer rank place req goes_on (omega (arith, within));
   start_within = λ place req start within. start_is_a_call recording rank place req start;
   partner = λ place half partner there within h reached. partners_stay groups recording longer rank place half partner there goes_on h;
+  probed = λ place sender there within h reached. probed_sends_stay groups recording longer rank place sender there goes_on h;
   member = λ comm wave member place h reached. waves_stay recording longer comm wave member place goes_on h;
 }
 

@@ -118,19 +118,19 @@ paid_ahead recording s waves rank call is_rank =
     let most = sum_least (length recording) (paid_by recording s waves) (paid_by (appended recording rank call) s waves) (λ other within. paid_on recording (appended recording rank call) s waves other goes_on) in
     subst (λ (n : ℕ). paid recording s waves ≤ sum_to n (paid_by (appended recording rank call) s waves)) goes_on.same_ranks most
 
-pub paid_there : (recording : Lists) (s : State) (waves : Waves) (rank : ℕ) (call : Call) → rank < length recording → get_or s rank 0 ≡ length (calls_of recording rank) → paid recording s waves + 12 ≤ paid (appended recording rank call) s waves
+pub paid_there : (recording : Lists) (s : State) (waves : Waves) (rank : ℕ) (call : Call) → rank < length recording → get_or s rank 0 ≡ length (calls_of recording rank) → paid recording s waves + 16 ≤ paid (appended recording rank call) s waves
 paid_there recording s waves rank call is_rank at_end =
     let goes_on = goes_on_by recording rank call is_rank in
-    let most = sum_more (length recording) rank 12 (paid_by recording s waves) (paid_by (appended recording rank call) s waves) is_rank
+    let most = sum_more (length recording) rank 16 (paid_by recording s waves) (paid_by (appended recording rank call) s waves) is_rank
     (λ other within differs. paid_on recording (appended recording rank call) s waves other goes_on)
     (omega (arith, appended_length recording rank call is_rank, at_end, done_on recording (appended recording rank call) waves rank goes_on)) in
-    subst (λ (n : ℕ). paid recording s waves + 12 ≤ sum_to n (paid_by (appended recording rank call) s waves)) goes_on.same_ranks most
+    subst (λ (n : ℕ). paid recording s waves + 16 ≤ sum_to n (paid_by (appended recording rank call) s waves)) goes_on.same_ranks most
 
 -- the reaching of a place costs no more where no call is there
-pub cost_cases : (calls : List Call) (place : ℕ) → ((cost_of (slice_get calls place) ≡ 3) × (slice_get calls place ≡ None)) ⊎ ((cost_of (slice_get calls place) ≡ 12) × (place < length calls))
+pub cost_cases : (calls : List Call) (place : ℕ) → ((cost_of (slice_get calls place) ≡ 3) × (slice_get calls place ≡ None)) ⊎ ((cost_of (slice_get calls place) ≡ 16) × (place < length calls))
 cost_cases calls place = by_call (slice_get calls place) refl
   where
-    by_call : (there : Option Call) → slice_get calls place ≡ there → ((cost_of (slice_get calls place) ≡ 3) × (slice_get calls place ≡ None)) ⊎ ((cost_of (slice_get calls place) ≡ 12) × (place < length calls))
+    by_call : (there : Option Call) → slice_get calls place ≡ there → ((cost_of (slice_get calls place) ≡ 3) × (slice_get calls place ≡ None)) ⊎ ((cost_of (slice_get calls place) ≡ 16) × (place < length calls))
     by_call None e = inl (ap cost_of e, e)
     by_call (Some call) e = inr (ap cost_of e, slice_get_within calls place call e)
 
@@ -142,8 +142,8 @@ paid_moved recording s waves rank is_rank in_s =
     ⊎_elim
     (λ (none : (cost_of (slice_get (calls_of recording rank) (get_or s rank 0 + 1)) ≡ 3) × (slice_get (calls_of recording rank) (get_or s rank 0 + 1) ≡ None)).
     omega (arith, none.0, sum_more (length recording) rank 2 (paid_by recording s waves) (paid_by recording (moved s rank) waves) is_rank others (omega (arith, own))))
-    (λ (some : (cost_of (slice_get (calls_of recording rank) (get_or s rank 0 + 1)) ≡ 12) × (get_or s rank 0 + 1 < length (calls_of recording rank))).
-    omega (arith, some.0, sum_more (length recording) rank 11 (paid_by recording s waves) (paid_by recording (moved s rank) waves) is_rank others (omega (arith, own, some.1))))
+    (λ (some : (cost_of (slice_get (calls_of recording rank) (get_or s rank 0 + 1)) ≡ 16) × (get_or s rank 0 + 1 < length (calls_of recording rank))).
+    omega (arith, some.0, sum_more (length recording) rank 15 (paid_by recording s waves) (paid_by recording (moved s rank) waves) is_rank others (omega (arith, own, some.1))))
     (cost_cases (calls_of recording rank) (get_or s rank 0 + 1))
 
 -- waves come to be complete
@@ -176,7 +176,7 @@ paid_waiters groups recording s waves new comm entries h one once ranks needs =
     (cases_lt 0 (count rank entries)) in
     omega (arith, sum_least (length recording) (λ rank. paid_by recording s waves rank + 4 * count rank entries) (paid_by recording s new) each, sum_both (length recording) (paid_by recording s waves) (λ rank. 4 * count rank entries) (λ rank. paid_by recording s waves rank + 4 * count rank entries) (λ rank. refl), sum_times (length recording) 4 (λ rank. count rank entries), sum_count (length recording) entries ranks)
 
--- no more is paid than 18 a call
+-- no more is paid than 22 a call
 done_within : (recording : Lists) (waves : Waves) (rank : ℕ) → done_of recording waves rank ≤ length (calls_of recording rank)
 done_within recording waves rank = sum_ones (length (calls_of recording rank)) (λ place. is_done waves (wave_of recording rank place)) (λ place. done_most waves (wave_of recording rank place))
   where
@@ -190,6 +190,6 @@ calls_sum (calls ∷ recording) =
     sum_first (length recording) (λ rank. length (calls_of (calls ∷ recording) rank))
     ∙ ap (λ (n : ℕ). length calls + n) (calls_sum recording)
 
-pub paid_most : (recording : Lists) (s : State) (waves : Waves) → ((rank : ℕ) → get_or s rank 0 ≤ length (calls_of recording rank)) → paid recording s waves ≤ 18 * calls_in recording
+pub paid_most : (recording : Lists) (s : State) (waves : Waves) → ((rank : ℕ) → get_or s rank 0 ≤ length (calls_of recording rank)) → paid recording s waves ≤ 22 * calls_in recording
 paid_most recording s waves within =
-    omega (arith, sum_least (length recording) (paid_by recording s waves) (λ rank. 18 * length (calls_of recording rank)) (λ rank is_rank. omega (arith, within rank, done_within recording waves rank)), sum_times (length recording) 18 (λ rank. length (calls_of recording rank)), calls_sum recording)
+    omega (arith, sum_least (length recording) (paid_by recording s waves) (λ rank. 22 * length (calls_of recording rank)) (λ rank is_rank. omega (arith, within rank, done_within recording waves rank)), sum_times (length recording) 22 (λ rank. length (calls_of recording rank)), calls_sum recording)

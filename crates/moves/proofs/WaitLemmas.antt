@@ -1,4 +1,5 @@
 -- What looks tell, and that a rank that waits cannot move on.
+use Rattle.moves.specs.declared.reading.Reading.{Reading}
 use Rattle.std.proofs.Common.{◌≡◌, ℕ, suc, ◌+◌, ◌<◌, ◌≤◌, ◌≢◌, ◌&&◌, Bool, true, false, Option, Some, None, List, [], ◌∷◌, ◌++◌, length, map, flat_map, take, get_or, refl, sym, ap, subst, ◌∙◌, ⊎_elim, inl, inr, arith}
 use Rattle.std.specs.Prelude.{if◌then◌else◌, nat_le, nat_lt, is_some}
 use Rattle.std.specs.List.{slice_get, list_all}
@@ -60,11 +61,11 @@ wave_met groups recording s waves (Some (comm, wave)) h none =
     (λ (no : is_open groups waves comm wave ≡ false). not_open_met groups recording s waves comm wave h no)
     (cases_Bool (is_open groups waves comm wave))
 
-pub operation_passes : (groups : Groups) (recording : Lists) (s : State) (waves : Waves) (rank place : ℕ) (call : Call) → AreWaves groups recording s waves IsNoException → slice_get (calls_of recording rank) place ≡ Some call → list_all (is_met s) (message_needs groups recording rank place call) ≡ true → open_wave groups recording waves rank place ≡ None → list_all (is_met s) (operation_needs_at groups recording rank place) ≡ true
-operation_passes groups recording s waves rank place call h there messages none =
+pub operation_passes : (reading : Reading) (groups : Groups) (recording : Lists) (s : State) (waves : Waves) (rank place : ℕ) (call : Call) → AreWaves groups recording s waves IsNoException → slice_get (calls_of recording rank) place ≡ Some call → list_all (is_met s) (message_needs reading groups recording rank place call) ≡ true → open_wave groups recording waves rank place ≡ None → list_all (is_met s) (operation_needs_at reading groups recording rank place) ≡ true
+operation_passes reading groups recording s waves rank place call h there messages none =
     rw there
-    (list_all-append (is_met s) (message_needs groups recording rank place call) (wave_needs groups recording rank place)
-    ∙ and_both (list_all (is_met s) (message_needs groups recording rank place call)) (list_all (is_met s) (wave_needs groups recording rank place)) messages (wave_met groups recording s waves (wave_of recording rank place) h none))
+    (list_all-append (is_met s) (message_needs reading groups recording rank place call) (wave_needs groups recording rank place)
+    ∙ and_both (list_all (is_met s) (message_needs reading groups recording rank place call)) (list_all (is_met s) (wave_needs groups recording rank place)) messages (wave_met groups recording s waves (wave_of recording rank place) h none))
 
 -- an open wave that a call joins
 pub record IsIn (groups : Groups) (recording : Lists) (waves : Waves) (rank place comm : ℕ) : Type 0 where
@@ -130,105 +131,105 @@ pub index_parts : (recording : Lists) (rank place index start : ℕ) (call : Cal
 index_parts recording rank place index start call there h =
     and_then_parts (started_before recording rank place) (slice_get (completes call) index) start (rw there at h)
 
-awaited_met : (groups : Groups) (recording : Lists) (s : State) (rank start : ℕ) → can_move groups recording s rank ≡ true → IsAwaited recording rank (get_or s rank 0) start → list_all (is_met s) (operation_needs_at groups recording rank start) ≡ true
-awaited_met groups recording s rank start able h =
+awaited_met : (reading : Reading) (groups : Groups) (recording : Lists) (s : State) (rank start : ℕ) → can_move reading groups recording s rank ≡ true → IsAwaited recording rank (get_or s rank 0) start → list_all (is_met s) (operation_needs_at reading groups recording rank start) ≡ true
+awaited_met reading groups recording s rank start able h =
     let place : ℕ = get_or s rank 0 in
-    let pass = can_pass groups recording s rank able in
+    let pass = can_pass reading groups recording s rank able in
     let same : pass.call ≡ h.call = same_Some pass.call h.call (sym pass.is_present ∙ h.is_present) in
-    let needs : list_all (is_met s) (needs_of_call groups recording rank place h.call) ≡ true = rw same at pass.needs_met in
-    let waited : list_all (is_met s) (operation_needs groups recording rank place h.call ++ flat_map (request_needs groups recording rank place) (completes h.call)) ≡ true = rw h.starts_none at needs in
-    let both = and_true (list_all (is_met s) (operation_needs groups recording rank place h.call)) (list_all (is_met s) (flat_map (request_needs groups recording rank place) (completes h.call)))
-    (sym (list_all-append (is_met s) (operation_needs groups recording rank place h.call) (flat_map (request_needs groups recording rank place) (completes h.call))) ∙ waited) in
+    let needs : list_all (is_met s) (needs_of_call reading groups recording rank place h.call) ≡ true = rw same at pass.needs_met in
+    let waited : list_all (is_met s) (operation_needs reading groups recording rank place h.call ++ flat_map (request_needs reading groups recording rank place) (completes h.call)) ≡ true = rw h.starts_none at needs in
+    let both = and_true (list_all (is_met s) (operation_needs reading groups recording rank place h.call)) (list_all (is_met s) (flat_map (request_needs reading groups recording rank place) (completes h.call)))
+    (sym (list_all-append (is_met s) (operation_needs reading groups recording rank place h.call) (flat_map (request_needs reading groups recording rank place) (completes h.call))) ∙ waited) in
     ⊎_elim
     (λ (own : start ≡ place).
     let there : slice_get (calls_of recording rank) start ≡ Some h.call = rw own h.is_present in
     rw there (rw own both.0))
     (λ (completed : (index : ℕ) × (completed_of recording rank place index ≡ Some start)).
     let parts = index_parts recording rank place completed.0 start h.call h.is_present completed.1 in
-    let met : list_all (is_met s) (request_needs groups recording rank place parts.0) ≡ true =
-    at_index (λ req. list_all (is_met s) (request_needs groups recording rank place req)) (completes h.call) completed.0 parts.0 parts.1
-    (sym (list_all-flat_map (is_met s) (request_needs groups recording rank place) (completes h.call)) ∙ both.1) in
+    let met : list_all (is_met s) (request_needs reading groups recording rank place parts.0) ≡ true =
+    at_index (λ req. list_all (is_met s) (request_needs reading groups recording rank place req)) (completes h.call) completed.0 parts.0 parts.1
+    (sym (list_all-flat_map (is_met s) (request_needs reading groups recording rank place) (completes h.call)) ∙ both.1) in
     rw parts.2 at met)
     h.which
 
-operation_parts : (groups : Groups) (recording : Lists) (s : State) (rank place : ℕ) (there : Option Call) → slice_get (calls_of recording rank) place ≡ there → list_all (is_met s) (option_map_or (operation_needs groups recording rank place) there []) ≡ true → (list_all (is_met s) (option_map_or (message_needs groups recording rank place) there []) ≡ true) × (list_all (is_met s) (wave_needs groups recording rank place) ≡ true)
-operation_parts groups recording s rank place None e h = (refl, rw e refl)
-operation_parts groups recording s rank place (Some call) e h =
-    and_true (list_all (is_met s) (message_needs groups recording rank place call)) (list_all (is_met s) (wave_needs groups recording rank place))
-    (sym (list_all-append (is_met s) (message_needs groups recording rank place call) (wave_needs groups recording rank place)) ∙ h)
+operation_parts : (reading : Reading) (groups : Groups) (recording : Lists) (s : State) (rank place : ℕ) (there : Option Call) → slice_get (calls_of recording rank) place ≡ there → list_all (is_met s) (option_map_or (operation_needs reading groups recording rank place) there []) ≡ true → (list_all (is_met s) (option_map_or (message_needs reading groups recording rank place) there []) ≡ true) × (list_all (is_met s) (wave_needs groups recording rank place) ≡ true)
+operation_parts reading groups recording s rank place None e h = (refl, rw e refl)
+operation_parts reading groups recording s rank place (Some call) e h =
+    and_true (list_all (is_met s) (message_needs reading groups recording rank place call)) (list_all (is_met s) (wave_needs groups recording rank place))
+    (sym (list_all-append (is_met s) (message_needs reading groups recording rank place call) (wave_needs groups recording rank place)) ∙ h)
 
 not_able : (b : Bool) → (b ≡ true → ⊥) → b ≡ false
 not_able true h = absurd (h refl)
 not_able false h = refl
 
-pub partner_stuck : (groups : Groups) (recording : Lists) (s : State) (rank start : ℕ) → NeedsPartner groups recording s rank start → can_move groups recording s rank ≡ false
-partner_stuck groups recording s rank start h =
-    not_able (can_move groups recording s rank)
+pub partner_stuck : (reading : Reading) (groups : Groups) (recording : Lists) (s : State) (rank start : ℕ) → NeedsPartner reading groups recording s rank start → can_move reading groups recording s rank ≡ false
+partner_stuck reading groups recording s rank start h =
+    not_able (can_move reading groups recording s rank)
     (λ able.
-    let parts = operation_parts groups recording s rank start (slice_get (calls_of recording rank) start) refl (awaited_met groups recording s rank start able h.is_awaited) in
+    let parts = operation_parts reading groups recording s rank start (slice_get (calls_of recording rank) start) refl (awaited_met reading groups recording s rank start able h.is_awaited) in
     false≢true (sym h.is_unmet ∙ parts.0))
 
-pub wave_stuck : (groups : Groups) (recording : Lists) (s : State) (waves : Waves) (rank comm : ℕ) → AreWaves groups recording s waves IsNoException → NeedsWave groups recording s waves rank comm → can_move groups recording s rank ≡ false
-wave_stuck groups recording s waves rank comm are h =
-    not_able (can_move groups recording s rank)
+pub wave_stuck : (reading : Reading) (groups : Groups) (recording : Lists) (s : State) (waves : Waves) (rank comm : ℕ) → AreWaves groups recording s waves IsNoException → NeedsWave groups recording s waves rank comm → can_move reading groups recording s rank ≡ false
+wave_stuck reading groups recording s waves rank comm are h =
+    not_able (can_move reading groups recording s rank)
     (λ able.
-    let parts = operation_parts groups recording s rank h.start (slice_get (calls_of recording rank) h.start) refl (awaited_met groups recording s rank h.start able h.is_awaited) in
+    let parts = operation_parts reading groups recording s rank h.start (slice_get (calls_of recording rank) h.start) refl (awaited_met reading groups recording s rank h.start able h.is_awaited) in
     open_unmet groups recording s waves rank h.start comm are (open_parts groups recording waves rank h.start comm h.is_joined) parts.1)
 
-pub resting_stuck : (groups : Groups) (recording : Lists) (s : State) (rank : ℕ) → Rests recording s rank → can_move groups recording s rank ≡ false
-resting_stuck groups recording s rank h = rw h refl
+pub resting_stuck : (reading : Reading) (groups : Groups) (recording : Lists) (s : State) (rank : ℕ) → Rests recording s rank → can_move reading groups recording s rank ≡ false
+resting_stuck reading groups recording s rank h = rw h refl
 
 -- What a look at one request, at a call and at a rank tells, from the looks that it is made of.
-pub told_request : (groups : Groups) (recording : Lists) (s : State) (waves : Waves) (rank place index start : ℕ) (look : Look) → completed_of recording rank place index ≡ Some start → TellsOperation groups recording s waves rank start look → TellsRequest groups recording s waves rank place index look
-told_request groups recording s waves rank place index start Over there h = h
-told_request groups recording s waves rank place index start Passes there h = rw there h
-told_request groups recording s waves rank place index start (Partner p) there h = (there ∙ ap (λ (k : ℕ). Some k) (sym h.0), rw h.0 h.1)
-told_request groups recording s waves rank place index start (Wave comm) there h = (start, there, h)
+pub told_request : (reading : Reading) (groups : Groups) (recording : Lists) (s : State) (waves : Waves) (rank place index start : ℕ) (look : Look) → completed_of recording rank place index ≡ Some start → TellsOperation reading groups recording s waves rank start look → TellsRequest reading groups recording s waves rank place index look
+told_request reading groups recording s waves rank place index start Over there h = h
+told_request reading groups recording s waves rank place index start Passes there h = rw there h
+told_request reading groups recording s waves rank place index start (Partner p) there h = (there ∙ ap (λ (k : ℕ). Some k) (sym h.0), rw h.0 h.1)
+told_request reading groups recording s waves rank place index start (Wave comm) there h = (start, there, h)
 
-pub told_completed : (groups : Groups) (recording : Lists) (s : State) (waves : Waves) (rank place index : ℕ) (call : Call) (look : Look) → look ≢ Passes → TellsRequest groups recording s waves rank place index look → TellsCompleted groups recording s waves rank place call look
-told_completed groups recording s waves rank place index call Over other h = h
-told_completed groups recording s waves rank place index call Passes other h = absurd (other refl)
-told_completed groups recording s waves rank place index call (Partner p) other h = (index, h.0, h.1)
-told_completed groups recording s waves rank place index call (Wave comm) other h = (index, h.0, h.1, h.2)
+pub told_completed : (reading : Reading) (groups : Groups) (recording : Lists) (s : State) (waves : Waves) (rank place index : ℕ) (call : Call) (look : Look) → look ≢ Passes → TellsRequest reading groups recording s waves rank place index look → TellsCompleted reading groups recording s waves rank place call look
+told_completed reading groups recording s waves rank place index call Over other h = h
+told_completed reading groups recording s waves rank place index call Passes other h = absurd (other refl)
+told_completed reading groups recording s waves rank place index call (Partner p) other h = (index, h.0, h.1)
+told_completed reading groups recording s waves rank place index call (Wave comm) other h = (index, h.0, h.1, h.2)
 
-pub told_call_by_operation : (groups : Groups) (recording : Lists) (s : State) (waves : Waves) (rank place : ℕ) (call : Call) (look : Look) → slice_get (calls_of recording rank) place ≡ Some call → is_some (starts call) ≡ false → look ≢ Passes → TellsOperation groups recording s waves rank place look → TellsCall groups recording s waves rank place call look
-told_call_by_operation groups recording s waves rank place call Over there none other h = h
-told_call_by_operation groups recording s waves rank place call Passes there none other h = absurd (other refl)
-told_call_by_operation groups recording s waves rank place call (Partner p) there none other h = (record { call = call; is_present = there; starts_none = none; which = inl h.0 }, rw h.0 h.1)
-told_call_by_operation groups recording s waves rank place call (Wave comm) there none other h = (place, record { call = call; is_present = there; starts_none = none; which = inl refl }, h)
+pub told_call_by_operation : (reading : Reading) (groups : Groups) (recording : Lists) (s : State) (waves : Waves) (rank place : ℕ) (call : Call) (look : Look) → slice_get (calls_of recording rank) place ≡ Some call → is_some (starts call) ≡ false → look ≢ Passes → TellsOperation reading groups recording s waves rank place look → TellsCall reading groups recording s waves rank place call look
+told_call_by_operation reading groups recording s waves rank place call Over there none other h = h
+told_call_by_operation reading groups recording s waves rank place call Passes there none other h = absurd (other refl)
+told_call_by_operation reading groups recording s waves rank place call (Partner p) there none other h = (record { call = call; is_present = there; starts_none = none; which = inl h.0 }, rw h.0 h.1)
+told_call_by_operation reading groups recording s waves rank place call (Wave comm) there none other h = (place, record { call = call; is_present = there; starts_none = none; which = inl refl }, h)
 
-pub told_call_by_requests : (groups : Groups) (recording : Lists) (s : State) (waves : Waves) (rank place : ℕ) (call : Call) (look : Look) → slice_get (calls_of recording rank) place ≡ Some call → is_some (starts call) ≡ false → list_all (is_met s) (operation_needs_at groups recording rank place) ≡ true → TellsCompleted groups recording s waves rank place call look → TellsCall groups recording s waves rank place call look
-told_call_by_requests groups recording s waves rank place call Over there none own h = h
-told_call_by_requests groups recording s waves rank place call Passes there none own h =
-    let own_needs : list_all (is_met s) (operation_needs groups recording rank place call) ≡ true = rw there at own in
+pub told_call_by_requests : (reading : Reading) (groups : Groups) (recording : Lists) (s : State) (waves : Waves) (rank place : ℕ) (call : Call) (look : Look) → slice_get (calls_of recording rank) place ≡ Some call → is_some (starts call) ≡ false → list_all (is_met s) (operation_needs_at reading groups recording rank place) ≡ true → TellsCompleted reading groups recording s waves rank place call look → TellsCall reading groups recording s waves rank place call look
+told_call_by_requests reading groups recording s waves rank place call Over there none own h = h
+told_call_by_requests reading groups recording s waves rank place call Passes there none own h =
+    let own_needs : list_all (is_met s) (operation_needs reading groups recording rank place call) ≡ true = rw there at own in
     rw none
-    (list_all-append (is_met s) (operation_needs groups recording rank place call) (flat_map (request_needs groups recording rank place) (completes call))
-    ∙ and_both (list_all (is_met s) (operation_needs groups recording rank place call)) (list_all (is_met s) (flat_map (request_needs groups recording rank place) (completes call))) own_needs h)
-told_call_by_requests groups recording s waves rank place call (Partner p) there none own h = (record { call = call; is_present = there; starts_none = none; which = inr (h.0, h.1) }, h.2)
-told_call_by_requests groups recording s waves rank place call (Wave comm) there none own h = (h.1, record { call = call; is_present = there; starts_none = none; which = inr (h.0, h.2) }, h.3)
+    (list_all-append (is_met s) (operation_needs reading groups recording rank place call) (flat_map (request_needs reading groups recording rank place) (completes call))
+    ∙ and_both (list_all (is_met s) (operation_needs reading groups recording rank place call)) (list_all (is_met s) (flat_map (request_needs reading groups recording rank place) (completes call))) own_needs h)
+told_call_by_requests reading groups recording s waves rank place call (Partner p) there none own h = (record { call = call; is_present = there; starts_none = none; which = inr (h.0, h.1) }, h.2)
+told_call_by_requests reading groups recording s waves rank place call (Wave comm) there none own h = (h.1, record { call = call; is_present = there; starts_none = none; which = inr (h.0, h.2) }, h.3)
 
-pub told_rank : (groups : Groups) (recording : Lists) (s : State) (waves : Waves) (rank place : ℕ) (call : Call) (look : Look) → place ≡ get_or s rank 0 → slice_get (calls_of recording rank) place ≡ Some call → ends_list call ≡ false → TellsCall groups recording s waves rank place call look → TellsRank groups recording s waves rank look
-told_rank groups recording s waves rank place call look stands there goes h =
+pub told_rank : (reading : Reading) (groups : Groups) (recording : Lists) (s : State) (waves : Waves) (rank place : ℕ) (call : Call) (look : Look) → place ≡ get_or s rank 0 → slice_get (calls_of recording rank) place ≡ Some call → ends_list call ≡ false → TellsCall reading groups recording s waves rank place call look → TellsRank reading groups recording s waves rank look
+told_rank reading groups recording s waves rank place call look stands there goes h =
     by_look look
     (subst (λ (k : ℕ). slice_get (calls_of recording rank) k ≡ Some call) stands there)
-    (subst (λ (k : ℕ). TellsCall groups recording s waves rank k call look) stands h)
+    (subst (λ (k : ℕ). TellsCall reading groups recording s waves rank k call look) stands h)
   where
-    by_look : (look : Look) → slice_get (calls_of recording rank) (get_or s rank 0) ≡ Some call → TellsCall groups recording s waves rank (get_or s rank 0) call look → TellsRank groups recording s waves rank look
+    by_look : (look : Look) → slice_get (calls_of recording rank) (get_or s rank 0) ≡ Some call → TellsCall reading groups recording s waves rank (get_or s rank 0) call look → TellsRank reading groups recording s waves rank look
     by_look Over there h = absurd h
-    by_look Passes there h = can_from_pass groups recording s rank (record { call = call; is_present = there; is_no_end = goes; needs_met = h })
+    by_look Passes there h = can_from_pass reading groups recording s rank (record { call = call; is_present = there; is_no_end = goes; needs_met = h })
     by_look (Partner p) there h = record { is_awaited = h.0; is_unmet = h.1 }
     by_look (Wave comm) there h = record { start = h.0; is_awaited = h.1; is_joined = h.2 }
 
 -- one request more that has what it needs
-pub request_passes : (groups : Groups) (recording : Lists) (s : State) (rank place index : ℕ) (call : Call) → slice_get (calls_of recording rank) place ≡ Some call → index < length (completes call) → list_all (λ req. list_all (is_met s) (request_needs groups recording rank place req)) (take index (completes call)) ≡ true → list_all (is_met s) (option_map_or (operation_needs_at groups recording rank) (completed_of recording rank place index) []) ≡ true → list_all (λ req. list_all (is_met s) (request_needs groups recording rank place req)) (take (index + 1) (completes call)) ≡ true
-request_passes groups recording s rank place index call there within so_far met =
+pub request_passes : (reading : Reading) (groups : Groups) (recording : Lists) (s : State) (rank place index : ℕ) (call : Call) → slice_get (calls_of recording rank) place ≡ Some call → index < length (completes call) → list_all (λ req. list_all (is_met s) (request_needs reading groups recording rank place req)) (take index (completes call)) ≡ true → list_all (is_met s) (option_map_or (operation_needs_at reading groups recording rank) (completed_of recording rank place index) []) ≡ true → list_all (λ req. list_all (is_met s) (request_needs reading groups recording rank place req)) (take (index + 1) (completes call)) ≡ true
+request_passes reading groups recording s rank place index call there within so_far met =
     let req : ℕ = get_or (completes call) index 0 in
     let named : slice_get (completes call) index ≡ Some req = slice_get-get_or (completes call) index 0 within in
-    passes_more (λ req. list_all (is_met s) (request_needs groups recording rank place req)) (completes call) index req named so_far
-    (ap (λ (start : Option ℕ). list_all (is_met s) (option_map_or (operation_needs_at groups recording rank) start [])) (sym (start_is recording rank place index req call there named)) ∙ met)
+    passes_more (λ req. list_all (is_met s) (request_needs reading groups recording rank place req)) (completes call) index req named so_far
+    (ap (λ (start : Option ℕ). list_all (is_met s) (option_map_or (operation_needs_at reading groups recording rank) start [])) (sym (start_is recording rank place index req call there named)) ∙ met)
 
-pub requests_pass : (groups : Groups) (recording : Lists) (s : State) (rank place index : ℕ) (call : Call) → length (completes call) ≤ index → list_all (λ req. list_all (is_met s) (request_needs groups recording rank place req)) (take index (completes call)) ≡ true → list_all (is_met s) (flat_map (request_needs groups recording rank place) (completes call)) ≡ true
-requests_pass groups recording s rank place index call whole all =
-    list_all-flat_map (is_met s) (request_needs groups recording rank place) (completes call)
-    ∙ ap (λ (some : List ℕ). list_all (λ req. list_all (is_met s) (request_needs groups recording rank place req)) some) (sym (take_all index (completes call) whole))
+pub requests_pass : (reading : Reading) (groups : Groups) (recording : Lists) (s : State) (rank place index : ℕ) (call : Call) → length (completes call) ≤ index → list_all (λ req. list_all (is_met s) (request_needs reading groups recording rank place req)) (take index (completes call)) ≡ true → list_all (is_met s) (flat_map (request_needs reading groups recording rank place) (completes call)) ≡ true
+requests_pass reading groups recording s rank place index call whole all =
+    list_all-flat_map (is_met s) (request_needs reading groups recording rank place) (completes call)
+    ∙ ap (λ (some : List ℕ). list_all (λ req. list_all (is_met s) (request_needs reading groups recording rank place req)) some) (sym (take_all index (completes call) whole))
     ∙ all

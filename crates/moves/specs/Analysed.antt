@@ -1,6 +1,7 @@
 -- What an analyser has of a run whose records are still coming.
 use Rattle.std.specs.Prelude.{ℕ, ◌+◌, ◌*◌, List, [], ◌∷◌, length, map}
 use Rattle.mpicall.specs.declared.call.Call.{Call}
+use Rattle.moves.specs.declared.reading.Reading.{Reading}
 use Rattle.mpigroup.specs.Groups.{Groups}
 use Rattle.pairing.specs.Recordings.{Lists}
 use Rattle.pairing.specs.Requests.{waits_for}
@@ -10,6 +11,7 @@ use Rattle.moves.specs.Stands.{calls_in}
 -- the groups of a run's communicators, the calls of each rank that were accepted, the ranks' stands, and how
 -- often waiting ranks and waves were touched
 pub record Analysed : Type 0 where
+  pub reading : Reading
   pub groups : Groups
   pub recording : Lists
   pub stands : State

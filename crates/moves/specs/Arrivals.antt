@@ -1,5 +1,6 @@
 -- Arrivals: records of many ranks as they are read, in any mix. Those are kept that have no fault. How
 -- records are read is this project's own; MPI says nothing of it.
+use Rattle.moves.specs.declared.reading.Reading.{Reading}
 use Rattle.std.specs.Prelude.{◌≡◌, ℕ, ◌==◌, is_none, List, [], ◌∷◌, ◌++◌, replicate, if◌then◌else◌}
 use Rattle.mpicall.specs.declared.call.Call.{Call}
 use Rattle.mpigroup.specs.Groups.{Groups, ranks_of}
@@ -51,5 +52,5 @@ MixesAreKeptAlike =
 -- the same order in both, the stands of what is kept of the two mixes are the same.
 abbrev pub MixesStandAlike : Type 0
 MixesStandAlike =
-    (groups : Groups) (a b : List Arrival) → ((rank : ℕ) → calls_by rank a ≡ calls_by rank b) →
-    stands_of groups (kept groups a) ≡ stands_of groups (kept groups b)
+    (reading : Reading) (groups : Groups) (a b : List Arrival) → ((rank : ℕ) → calls_by rank a ≡ calls_by rank b) →
+    stands_of reading groups (kept groups a) ≡ stands_of reading groups (kept groups b)

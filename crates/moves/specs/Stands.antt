@@ -1,12 +1,14 @@
--- Where the ranks of a run come to stand by this project's strict reading of MPI, and what that tells of
+-- Where the ranks of a run come to stand by one of this project's readings of MPI, and what that tells of
 -- every run.
-use Rattle.std.specs.Prelude.{◌≡◌, ℕ, ◌≤◌, Bool, true, false, Some, List, length, map, slice_get, slice_index}
+use Rattle.moves.specs.declared.reading.Reading.{Reading}
+use Rattle.std.specs.Prelude.{◌≡◌, ℕ, ◌≤◌, Bool, true, false, nat_lt, Some, List, length, map, slice_get, slice_index}
 use Rattle.std.specs.Option.{option_map_or}
 use Rattle.mpicall.specs.Ending.{ends_list}
 use Rattle.mpicall.specs.declared.call.Call.{Call}
 use Rattle.mpigroup.specs.Groups.{Groups}
 use Rattle.pairing.specs.Recordings.{Lists, calls_of, GoesOn}
 use Rattle.moves.specs.Runs.{State, IsRun, end_of, IsMaximal, IsTheEnd, StandsNoLater, total, lowest_run}
+use Rattle.moves.specs.Readings.{is_no_laxer}
 use Rattle.moves.specs.Needs.{can_move}
 
 -- how many calls the recording has
@@ -14,20 +16,20 @@ abbrev pub calls_in : Lists → ℕ
 calls_in recording = total (map length recording)
 
 -- a run over a recording: each of its steps moves a rank whose present call needs nothing that is not reached
-abbrev pub IsRunOver : Groups → Lists → List State → Type 0
-IsRunOver groups recording states = IsRun (can_move groups recording) (length recording) states
+abbrev pub IsRunOver : Reading → Groups → Lists → List State → Type 0
+IsRunOver reading groups recording states = IsRun (can_move reading groups recording) (length recording) states
 
 -- the last state of a run over a recording
 abbrev pub end_over : Lists → List State → State
 end_over recording states = end_of (length recording) states
 
 -- the run over a recording that always moves the lowest rank that can move
-abbrev pub lowest_run_over : Groups → Lists → List State
-lowest_run_over groups recording = lowest_run (can_move groups recording) (length recording) (calls_in recording)
+abbrev pub lowest_run_over : Reading → Groups → Lists → List State
+lowest_run_over reading groups recording = lowest_run (can_move reading groups recording) (length recording) (calls_in recording)
 
 -- the stands of a recording: the last state of that run
-abbrev pub stands_of : Groups → Lists → State
-stands_of groups recording = end_over recording (lowest_run_over groups recording)
+abbrev pub stands_of : Reading → Groups → Lists → State
+stands_of reading groups recording = end_over recording (lowest_run_over reading groups recording)
 
 -- in a state, the rank's present call is the one that ends its list
 abbrev pub is_at_end : Lists → State → ℕ → Bool
@@ -37,34 +39,46 @@ is_at_end recording stands rank = option_map_or ends_list (slice_get (calls_of r
 -- ends at the stands.
 abbrev pub EveryMaximalRunEndsAtTheStands : Type 0
 EveryMaximalRunEndsAtTheStands =
-    (groups : Groups) (recording : Lists) →
-    IsMaximal (can_move groups recording) (length recording) (lowest_run_over groups recording)
-    × IsTheEnd (can_move groups recording) (length recording) (stands_of groups recording)
+    (reading : Reading) (groups : Groups) (recording : Lists) →
+    IsMaximal (can_move reading groups recording) (length recording) (lowest_run_over reading groups recording)
+    × IsTheEnd (can_move reading groups recording) (length recording) (stands_of reading groups recording)
 
 -- Law: a rank that is not at its end at the stands is brought there by no run, maximal or not.
 abbrev pub NoRunBringsAStuckRankToItsEnd : Type 0
 NoRunBringsAStuckRankToItsEnd =
-    (groups : Groups) (recording : Lists) (rank : ℕ) (states : List State) → IsRunOver groups recording states →
-    is_at_end recording (stands_of groups recording) rank ≡ false →
+    (reading : Reading) (groups : Groups) (recording : Lists) (rank : ℕ) (states : List State) → IsRunOver reading groups recording states →
+    is_at_end recording (stands_of reading groups recording) rank ≡ false →
     is_at_end recording (end_over recording states) rank ≡ false
 
 -- Law: a rank that is at its end at the stands is brought there by every maximal run.
 abbrev pub EveryMaximalRunBringsTheOthers : Type 0
 EveryMaximalRunBringsTheOthers =
-    (groups : Groups) (recording : Lists) (rank : ℕ) (states : List State) →
-    IsMaximal (can_move groups recording) (length recording) states →
-    is_at_end recording (stands_of groups recording) rank ≡ true →
+    (reading : Reading) (groups : Groups) (recording : Lists) (rank : ℕ) (states : List State) →
+    IsMaximal (can_move reading groups recording) (length recording) states →
+    is_at_end recording (stands_of reading groups recording) rank ≡ true →
     is_at_end recording (end_over recording states) rank ≡ true
 
 -- Law: a longer recording lowers no stand.
 abbrev pub LongerRecordingsLowerNoStand : Type 0
 LongerRecordingsLowerNoStand =
-    (groups : Groups) (recording longer : Lists) → GoesOn recording longer →
-    StandsNoLater (stands_of groups recording) (stands_of groups longer)
+    (reading : Reading) (groups : Groups) (recording longer : Lists) → GoesOn recording longer →
+    StandsNoLater (stands_of reading groups recording) (stands_of reading groups longer)
 
 -- Law: no run moves a rank past a call that ends its list, so a call behind it is never reached.
 abbrev pub NoCallBehindTheEndIsReached : Type 0
 NoCallBehindTheEndIsReached =
-    (groups : Groups) (recording : Lists) (rank place : ℕ) (call : Call) (states : List State) → IsRunOver groups recording states →
+    (reading : Reading) (groups : Groups) (recording : Lists) (rank place : ℕ) (call : Call) (states : List State) → IsRunOver reading groups recording states →
     slice_get (calls_of recording rank) place ≡ Some call → ends_list call ≡ true →
     slice_index (end_over recording states) rank ≤ place
+
+-- the rank stands earlier in the first state
+abbrev pub stands_earlier : State → State → ℕ → Bool
+stands_earlier s t rank = nat_lt (slice_index s rank) (slice_index t rank)
+
+-- Law: under a reading that is no laxer no rank comes to stand later.
+abbrev pub StricterReadingsStandNoLater : Type 0
+StricterReadingsStandNoLater =
+    (first second : Reading) (groups : Groups) (recording : Lists) (s t : State) → is_no_laxer first second ≡ true →
+    IsTheEnd (can_move first groups recording) (length recording) s →
+    IsTheEnd (can_move second groups recording) (length recording) t →
+    StandsNoLater s t

@@ -1,4 +1,6 @@
--- What a rank waits for that cannot move on: the partner of one of its messages, or a wave.
+-- What a rank waits for that cannot move on: the partner of one of its messages, the send that its probe sees,
+-- or a wave.
+use Rattle.moves.specs.declared.reading.Reading.{Reading}
 use Rattle.std.specs.Prelude.{min, ◌≡◌, ℕ, ◌+◌, ◌-◌, ◌*◌, ◌<◌, ◌≤◌, ◌⊎◌, Bool, true, false, ◌&&◌, nat_le, nat_lt, Option, Some, None, is_some, option_and_then, if◌then◌else◌, List, [], ◌++◌, length, flat_map, slice_get, slice_index, slice_set, ◌==◌}
 use Rattle.std.specs.List.{list_all}
 use Rattle.std.specs.Option.{option_map_or}
@@ -9,6 +11,8 @@ use Rattle.pairing.specs.declared.envelope.Half.TheVariants.{Send as SendHalf, R
 use Rattle.pairing.specs.Limits.{most_calls}
 use Rattle.pairing.specs.Recordings.{Lists, calls_of, appended as with_call}
 use Rattle.pairing.specs.Partners.{partner_of}
+use Rattle.pairing.specs.Envelopes.{message_of}
+use Rattle.pairing.specs.Probed.{probed_of}
 use Rattle.pairing.specs.Pairs.{completed_of}
 use Rattle.pairing.specs.Requests.{starts, completes}
 use Rattle.pairing.specs.Waves.{place_in_wave, wave_of}
@@ -17,21 +21,22 @@ use Rattle.moves.specs.declared.look.Look.TheVariants.{Over, Passes, Partner, Wa
 use Rattle.moves.specs.declared.need.Need.{Need}
 use Rattle.moves.specs.declared.waves.Waves.{Waves}
 use Rattle.moves.specs.Links.{sum_to, Entries, in_all, held, IsLinked}
-use Rattle.moves.specs.Needs.{half_needs, is_buffered, operation_needs_at, request_needs, needs_of_call, is_met, may_pass, can_move}
+use Rattle.moves.specs.Needs.{half_needs, probe_needs, sends_freely, operation_needs_at, request_needs, needs_of_call, is_met, may_pass, can_move}
 use Rattle.moves.specs.Runs.{State, IsReached, total}
 use Rattle.moves.specs.Stands.{calls_in}
 use Rattle.arenalist.specs.Numbers.{list_at}
 use Rattle.arenalist.specs.Arena.{linked, appended, counted}
 
--- what the messages of the call at a place need: the partners of its halves
-abbrev pub message_needs : Groups → Lists → ℕ → ℕ → Call → List Need
-message_needs groups recording rank place call =
-    (if is_buffered call then [] else half_needs groups recording rank place SendHalf call)
+-- what the messages of the call at a place need: the partners of its halves, and the send that it probes for
+abbrev pub message_needs : Reading → Groups → Lists → ℕ → ℕ → Call → List Need
+message_needs reading groups recording rank place call =
+    (if sends_freely reading call then [] else half_needs groups recording rank place SendHalf call)
     ++ half_needs groups recording rank place RecvHalf call
+    ++ probe_needs groups recording rank place call
 
-abbrev pub message_needs_at : Groups → Lists → ℕ → ℕ → List Need
-message_needs_at groups recording rank place =
-    option_map_or (message_needs groups recording rank place) (slice_get (calls_of recording rank) place) []
+abbrev pub message_needs_at : Reading → Groups → Lists → ℕ → ℕ → List Need
+message_needs_at reading groups recording rank place =
+    option_map_or (message_needs reading groups recording rank place) (slice_get (calls_of recording rank) place) []
 
 -- the call at the place waits for the operation that the call at `start` is or starts
 pub record IsAwaited (recording : Lists) (rank place start : ℕ) : Type 0 where
@@ -75,7 +80,7 @@ abbrev pub open_wave : Groups → Lists → Waves → ℕ → ℕ → Option ℕ
 open_wave groups recording waves rank place =
     option_and_then (λ wave. if is_open groups waves wave.0 wave.1 then Some wave.0 else None) (wave_of recording rank place)
 
--- Touches, and what pays for them. A call that is accepted pays 3, one that is reached 9, one that is passed 2,
+-- Touches, and what pays for them. A call that is accepted pays 3, one that is reached 13, one that is passed 2,
 -- and one whose wave is complete 4.
 abbrev pub is_done : Waves → Option (ℕ × ℕ) → ℕ
 is_done waves None = 0
@@ -89,7 +94,7 @@ reached_of recording stands rank = min (length (calls_of recording rank)) (slice
 
 abbrev pub paid_by : Lists → State → Waves → ℕ → ℕ
 paid_by recording stands waves rank =
-    3 * length (calls_of recording rank) + 9 * reached_of recording stands rank + 2 * slice_index stands rank + 4 * done_of recording waves rank
+    3 * length (calls_of recording rank) + 13 * reached_of recording stands rank + 2 * slice_index stands rank + 4 * done_of recording waves rank
 
 abbrev pub paid : Lists → State → Waves → ℕ
 paid recording stands waves = sum_to (length recording) (paid_by recording stands waves)
@@ -97,47 +102,48 @@ paid recording stands waves = sum_to (length recording) (paid_by recording stand
 -- what the reaching of a place spends: less where no call is there
 abbrev pub cost_of : Option Call → ℕ
 cost_of None = 3
-cost_of (Some call) = 12
+cost_of (Some call) = 16
 
 -- what is told of the operation of the call at a place: that its needs are met, or what it waits for
-abbrev pub TellsOperation : Groups → Lists → State → Waves → ℕ → ℕ → Look → Type 0
-TellsOperation groups recording stands waves rank place Over = ⊥
-TellsOperation groups recording stands waves rank place Passes = list_all (is_met stands) (operation_needs_at groups recording rank place) ≡ true
-TellsOperation groups recording stands waves rank place (Partner start) = (start ≡ place) × (list_all (is_met stands) (message_needs_at groups recording rank place) ≡ false)
-TellsOperation groups recording stands waves rank place (Wave comm) = open_wave groups recording waves rank place ≡ Some comm
+abbrev pub TellsOperation : Reading → Groups → Lists → State → Waves → ℕ → ℕ → Look → Type 0
+TellsOperation reading groups recording stands waves rank place Over = ⊥
+TellsOperation reading groups recording stands waves rank place Passes = list_all (is_met stands) (operation_needs_at reading groups recording rank place) ≡ true
+TellsOperation reading groups recording stands waves rank place (Partner start) = (start ≡ place) × (list_all (is_met stands) (message_needs_at reading groups recording rank place) ≡ false)
+TellsOperation reading groups recording stands waves rank place (Wave comm) = open_wave groups recording waves rank place ≡ Some comm
 
 -- the same of the operation that the call at a place completes with that index
-abbrev pub TellsRequest : Groups → Lists → State → Waves → ℕ → ℕ → ℕ → Look → Type 0
-TellsRequest groups recording stands waves rank place index Over = ⊥
-TellsRequest groups recording stands waves rank place index Passes =
-    list_all (is_met stands) (option_map_or (operation_needs_at groups recording rank) (completed_of recording rank place index) []) ≡ true
-TellsRequest groups recording stands waves rank place index (Partner start) =
-    (completed_of recording rank place index ≡ Some start) × (list_all (is_met stands) (message_needs_at groups recording rank start) ≡ false)
-TellsRequest groups recording stands waves rank place index (Wave comm) =
+abbrev pub TellsRequest : Reading → Groups → Lists → State → Waves → ℕ → ℕ → ℕ → Look → Type 0
+TellsRequest reading groups recording stands waves rank place index Over = ⊥
+TellsRequest reading groups recording stands waves rank place index Passes =
+    list_all (is_met stands) (option_map_or (operation_needs_at reading groups recording rank) (completed_of recording rank place index) []) ≡ true
+TellsRequest reading groups recording stands waves rank place index (Partner start) =
+    (completed_of recording rank place index ≡ Some start) × (list_all (is_met stands) (message_needs_at reading groups recording rank start) ≡ false)
+TellsRequest reading groups recording stands waves rank place index (Wave comm) =
     (start : ℕ) × (completed_of recording rank place index ≡ Some start) × (open_wave groups recording waves rank start ≡ Some comm)
 
 -- the same of the operations that the call at a place completes
-abbrev pub TellsCompleted : Groups → Lists → State → Waves → ℕ → ℕ → Call → Look → Type 0
-TellsCompleted groups recording stands waves rank place call Over = ⊥
-TellsCompleted groups recording stands waves rank place call Passes = list_all (is_met stands) (flat_map (request_needs groups recording rank place) (completes call)) ≡ true
-TellsCompleted groups recording stands waves rank place call (Partner start) =
-    (index : ℕ) × (completed_of recording rank place index ≡ Some start) × (list_all (is_met stands) (message_needs_at groups recording rank start) ≡ false)
-TellsCompleted groups recording stands waves rank place call (Wave comm) =
+abbrev pub TellsCompleted : Reading → Groups → Lists → State → Waves → ℕ → ℕ → Call → Look → Type 0
+TellsCompleted reading groups recording stands waves rank place call Over = ⊥
+TellsCompleted reading groups recording stands waves rank place call Passes = list_all (is_met stands) (flat_map (request_needs reading groups recording rank place) (completes call)) ≡ true
+TellsCompleted reading groups recording stands waves rank place call (Partner start) =
+    (index : ℕ) × (completed_of recording rank place index ≡ Some start) × (list_all (is_met stands) (message_needs_at reading groups recording rank start) ≡ false)
+TellsCompleted reading groups recording stands waves rank place call (Wave comm) =
     (index start : ℕ) × (completed_of recording rank place index ≡ Some start) × (open_wave groups recording waves rank start ≡ Some comm)
 
 -- the same of the call at a place
-abbrev pub TellsCall : Groups → Lists → State → Waves → ℕ → ℕ → Call → Look → Type 0
-TellsCall groups recording stands waves rank place call Over = ⊥
-TellsCall groups recording stands waves rank place call Passes = list_all (is_met stands) (needs_of_call groups recording rank place call) ≡ true
-TellsCall groups recording stands waves rank place call (Partner start) =
-    IsAwaited recording rank place start × (list_all (is_met stands) (message_needs_at groups recording rank start) ≡ false)
-TellsCall groups recording stands waves rank place call (Wave comm) =
+abbrev pub TellsCall : Reading → Groups → Lists → State → Waves → ℕ → ℕ → Call → Look → Type 0
+TellsCall reading groups recording stands waves rank place call Over = ⊥
+TellsCall reading groups recording stands waves rank place call Passes = list_all (is_met stands) (needs_of_call reading groups recording rank place call) ≡ true
+TellsCall reading groups recording stands waves rank place call (Partner start) =
+    IsAwaited recording rank place start × (list_all (is_met stands) (message_needs_at reading groups recording rank start) ≡ false)
+TellsCall reading groups recording stands waves rank place call (Wave comm) =
     (start : ℕ) × (IsAwaited recording rank place start) × (open_wave groups recording waves rank start ≡ Some comm)
 
--- a message of an operation that the rank's present call waits for has no partner that is reached
-pub record NeedsPartner (groups : Groups) (recording : Lists) (stands : State) (rank start : ℕ) : Type 0 where
+-- a message of an operation that the rank's present call waits for has no partner that is reached, or a probe sees
+-- no send that is reached
+pub record NeedsPartner (reading : Reading) (groups : Groups) (recording : Lists) (stands : State) (rank start : ℕ) : Type 0 where
   pub is_awaited : IsAwaited recording rank (slice_index stands rank) start
-  pub is_unmet : list_all (is_met stands) (message_needs_at groups recording rank start) ≡ false
+  pub is_unmet : list_all (is_met stands) (message_needs_at reading groups recording rank start) ≡ false
 
 -- such an operation joins a wave of the communicator that isn't complete
 pub record NeedsWave (groups : Groups) (recording : Lists) (stands : State) (waves : Waves) (rank comm : ℕ) : Type 0 where
@@ -146,18 +152,18 @@ pub record NeedsWave (groups : Groups) (recording : Lists) (stands : State) (wav
   pub is_joined : open_wave groups recording waves rank start ≡ Some comm
 
 -- what is told of a rank where it stands: that it can move on, what it waits for, or that it rests, as it
--- has no call there or its Finalize
+-- has no call there or the one that ends its list
 abbrev pub Rests : Lists → State → ℕ → Type 0
 Rests recording stands rank = may_pass (slice_get (calls_of recording rank) (slice_index stands rank)) ≡ false
 
-abbrev pub TellsRank : Groups → Lists → State → Waves → ℕ → Look → Type 0
-TellsRank groups recording stands waves rank Over = Rests recording stands rank
-TellsRank groups recording stands waves rank Passes = can_move groups recording stands rank ≡ true
-TellsRank groups recording stands waves rank (Partner start) = NeedsPartner groups recording stands rank start
-TellsRank groups recording stands waves rank (Wave comm) = NeedsWave groups recording stands waves rank comm
+abbrev pub TellsRank : Reading → Groups → Lists → State → Waves → ℕ → Look → Type 0
+TellsRank reading groups recording stands waves rank Over = Rests recording stands rank
+TellsRank reading groups recording stands waves rank Passes = can_move reading groups recording stands rank ≡ true
+TellsRank reading groups recording stands waves rank (Partner start) = NeedsPartner reading groups recording stands rank start
+TellsRank reading groups recording stands waves rank (Wave comm) = NeedsWave groups recording stands waves rank comm
 
 -- What the waiting ranks are seen as: the lists, how many nodes are spare, how much was done in the lists,
--- and for each rank the place of the operation for whose partner it waits, or waited last.
+-- and for each rank the place of the operation for whose partner it waits, or waited last; at a probe its own.
 pub record Waiting : Type 0 where
   pub lists : List Entries
   pub spare : ℕ
@@ -204,14 +210,43 @@ woken_at w partner = if awaits w partner.0 partner.1 then woken w (own_list part
 abbrev pub woken_partner : Waiting → Option (ℕ × ℕ) → Waiting
 woken_partner w partner = option_map_or (woken_at w) partner w
 
+-- the rank of the world that the call at the place sends its message to
+abbrev pub sent_to : Groups → Lists → ℕ → ℕ → Option ℕ
+sent_to groups recording rank place =
+    option_and_then (λ m. world_rank_of groups m.comm m.peer) (option_and_then (message_of SendHalf) (slice_get (calls_of recording rank) place))
+
+-- the rank's probe at `start` sees the call at the place of the other
+abbrev pub sees : Groups → Lists → ℕ → ℕ → ℕ → ℕ → Bool
+sees groups recording prober start rank place =
+    option_map_or (λ sent. sent.0 == rank && sent.1 == place) (probed_of groups recording prober start) false
+
+-- the rank that waits at a probe which sees the call at the place, with the probe's place; it is the one that the
+-- call sends to
+abbrev pub prober_of : Groups → Lists → List ℕ → ℕ → ℕ → Option (ℕ × ℕ)
+prober_of groups recording awaited rank place =
+    option_and_then
+    (λ prober. option_and_then (λ start. if sees groups recording prober start rank place then Some (prober, start) else None) (slice_get awaited prober))
+    (sent_to groups recording rank place)
+
+-- the waiting ranks once that one is to be looked at
+abbrev pub woken_prober : Groups → Lists → ℕ → ℕ → Waiting → Waiting
+woken_prober groups recording rank place w = woken_partner w (prober_of groups recording w.awaited rank place)
+
 -- and once those are to be looked at that wait for the waves of a communicator, if it is one
 abbrev pub woken_comm : Waiting → Option ℕ → Waiting
 woken_comm w comm = option_map_or (λ comm. woken w (comm_list (length w.awaited) comm)) comm w
 
+-- The other rank waits for the call at the place: as the partner of its operation at `start`, or as the send that
+-- its probe there sees.
+abbrev pub WaitsFor : Groups → Lists → ℕ → ℕ → ℕ → ℕ → Type 0
+WaitsFor groups recording rank place other start =
+    ((half : Half) × (partner_of groups recording rank place half ≡ Some (other, start)))
+    ⊎ (probed_of groups recording other start ≡ Some (rank, place))
+
 -- the rank waits in that list, for a partner or for a wave
-abbrev pub WaitsIn : Groups → Lists → State → Waves → List ℕ → ℕ → ℕ → Type 0
-WaitsIn groups recording stands waves awaited rank list =
-    ((list ≡ own_list rank) × (rank < length recording) × NeedsPartner groups recording stands rank (slice_index awaited rank))
+abbrev pub WaitsIn : Reading → Groups → Lists → State → Waves → List ℕ → ℕ → ℕ → Type 0
+WaitsIn reading groups recording stands waves awaited rank list =
+    ((list ≡ own_list rank) × (rank < length recording) × NeedsPartner reading groups recording stands rank (slice_index awaited rank))
     ⊎ ((comm : ℕ) × (list ≡ comm_list (length recording) comm) × NeedsWave groups recording stands waves rank comm)
 
 -- there is a list for each rank and for each communicator, and a node for each rank
@@ -230,36 +265,36 @@ spent waves waiting = waiting.work + waves.changes + 2 * length (list_at waiting
 
 -- What holds between looks: each rank is to be looked at, or waits rightly, or rests. Some may be excepted
 -- from resting. What is spent is paid, and so much more is left.
-pub record IsKept (groups : Groups) (recording : Lists) (stands : State) (waves : Waves) (waiting : Waiting) (IsExcepted : ℕ → Type 0) (left : ℕ) : Type 0 where
+pub record IsKept (reading : Reading) (groups : Groups) (recording : Lists) (stands : State) (waves : Waves) (waiting : Waiting) (IsExcepted : ℕ → Type 0) (left : ℕ) : Type 0 where
   pub has_lists : HasLists groups recording waiting
-  pub linked : IsLinked (length recording) waiting.lists (WaitsIn groups recording stands waves waiting.awaited) (λ rank. Rests recording stands rank ⊎ IsExcepted rank)
+  pub linked : IsLinked (length recording) waiting.lists (WaitsIn reading groups recording stands waves waiting.awaited) (λ rank. Rests recording stands rank ⊎ IsExcepted rank)
   pub are_waves : AreWaves groups recording stands waves IsNoException
-  pub is_reached : IsReached (can_move groups recording) (length recording) stands
+  pub is_reached : IsReached (can_move reading groups recording) (length recording) stands
   pub is_paid : spent waves waiting + left ≤ paid recording stands waves
 
 abbrev pub IsNobody : ℕ → Type 0
 IsNobody rank = ⊥
 
 -- the rank was taken off the worklist to be looked at
-pub record IsInHand (groups : Groups) (recording : Lists) (stands : State) (waves : Waves) (waiting : Waiting) (rank : ℕ) : Type 0 where
-  pub kept : IsKept groups recording stands waves waiting (λ other. other ≡ rank) 1
+pub record IsInHand (reading : Reading) (groups : Groups) (recording : Lists) (stands : State) (waves : Waves) (waiting : Waiting) (rank : ℕ) : Type 0 where
+  pub kept : IsKept reading groups recording stands waves waiting (λ other. other ≡ rank) 1
   pub is_rank : rank < length recording
   pub in_none : in_all rank waiting.lists ≡ 0
 
 -- no rank is to be looked at
-pub record IsSettled (groups : Groups) (recording : Lists) (stands : State) (waves : Waves) (waiting : Waiting) : Type 0 where
-  pub kept : IsKept groups recording stands waves waiting IsNobody 0
+pub record IsSettled (reading : Reading) (groups : Groups) (recording : Lists) (stands : State) (waves : Waves) (waiting : Waiting) : Type 0 where
+  pub kept : IsKept reading groups recording stands waves waiting IsNobody 0
   pub is_empty : list_at waiting.lists 0 ≡ []
 
 -- The rank has just reached its call at the place: the ranks that wait for it are still to be woken.
-pub record IsReaching (groups : Groups) (recording : Lists) (stands : State) (waves : Waves) (waiting : Waiting) (rank place : ℕ) : Type 0 where
+pub record IsReaching (reading : Reading) (groups : Groups) (recording : Lists) (stands : State) (waves : Waves) (waiting : Waiting) (rank place : ℕ) : Type 0 where
   pub has_lists : HasLists groups recording waiting
   pub linked : IsLinked (length recording) waiting.lists
-      (λ other list. WaitsIn groups recording stands waves waiting.awaited other list
-      ⊎ ((list ≡ own_list other) × (other < length recording) × ((half : Half) × (partner_of groups recording rank place half ≡ Some (other, slice_index waiting.awaited other)))))
+      (λ other list. WaitsIn reading groups recording stands waves waiting.awaited other list
+      ⊎ ((list ≡ own_list other) × (other < length recording) × (WaitsFor groups recording rank place other (slice_index waiting.awaited other))))
       (λ other. Rests recording stands other ⊎ (other ≡ rank))
   pub are_waves : AreWaves groups recording stands waves (λ comm member. (member ≡ rank) × (wave_of recording rank place ≡ Some (comm, complete_of waves comm)))
-  pub is_reached : IsReached (can_move groups recording) (length recording) stands
+  pub is_reached : IsReached (can_move reading groups recording) (length recording) stands
   pub is_rank : rank < length recording
   pub in_none : in_all rank waiting.lists ≡ 0
   pub is_there : place ≡ slice_index stands rank
@@ -267,11 +302,11 @@ pub record IsReaching (groups : Groups) (recording : Lists) (stands : State) (wa
   pub is_paid : spent waves waiting + cost_of (slice_get (calls_of recording rank) place) ≤ paid recording stands waves
 
 -- The rank's call has arrived at the place, and no rank was to be looked at before.
-pub record HasArrived (groups : Groups) (recording : Lists) (stands : State) (waves : Waves) (waiting : Waiting) (rank place : ℕ) : Type 0 where
+pub record HasArrived (reading : Reading) (groups : Groups) (recording : Lists) (stands : State) (waves : Waves) (waiting : Waiting) (rank place : ℕ) : Type 0 where
   pub before : Lists
   pub call : Call
   pub is : recording ≡ with_call before rank call
-  pub settled : IsSettled groups before stands waves waiting
+  pub settled : IsSettled reading groups before stands waves waiting
   pub is_rank : rank < length before
   pub is_next : place ≡ length (calls_of before rank)
   pub few : place ≤ most_calls

@@ -15,6 +15,7 @@ ghost use Rattle.moves.specs.Arrivals.{IsKeptOn};
 ghost use Rattle.moves.specs.Analysed.{most_touches};
 
 use crate::need::stand_of;
+use crate::reading::Reading;
 use crate::settle::arrive;
 use crate::waiters::Waiters;
 use crate::waves::Waves;
@@ -26,11 +27,12 @@ use std::alloc::{AllocError, Global};
 use std::marker::Model;
 
 /// The calls of all ranks that were accepted so far, and where the ranks stand. Contracts see the groups of
-/// the run's head, each rank's list of calls, and each rank's stand: the number of its calls that it has
+/// the run's head, the reading, each rank's list of calls, and each rank's stand: the number of its calls that it has
 /// completed. At any time the ranks stand where every maximal run over these calls ends. They see too how
 /// often waiting ranks and waves were touched: what the arena of the waiting ranks counts, and the changes of
 /// how far waves are.
 pub struct Analyser {
+    reading: Reading,
     pairs: Pairs,
     stands: Vec<u32>,
     waves: Waves,
@@ -40,6 +42,7 @@ pub struct Analyser {
 impl Drop for Analyser {
     fn drop(self) {
         let Analyser {
+            reading: _,
             pairs: _,
             stands: _,
             waves: _,
@@ -54,9 +57,9 @@ impl Model for Analyser {
 
     ghost Value = { Analysed };
 
-    ghost view = { λ a. record { groups = a.pairs.groups; recording = a.pairs.recording; stands = a.stands.items; touches = touches_of a.waves a.waiters } };
+    ghost view = { λ a. record { reading = a.reading; groups = a.pairs.groups; recording = a.pairs.recording; stands = a.stands.items; touches = touches_of a.waves a.waiters } };
 
-    ghost invariant = { λ a. IsSettled a.pairs.groups a.pairs.recording a.stands.items a.waves a.waiters };
+    ghost invariant = { λ a. IsSettled a.reading a.pairs.groups a.pairs.recording a.stands.items a.waves a.waiters };
 }
 
 /// The place of the next call of a rank.
@@ -82,12 +85,14 @@ fn are_closed(pairs: &Pairs) -> bool
 }
 
 impl Analyser {
-    /// No calls yet, for the ranks of the head, each of which stands at 0.
-    pub fn new(alloc: Global, head: Head) -> Result<Analyser, AllocError>
+    /// No calls yet, for the ranks of the head, each of which stands at 0. The sends are read by the reading, at all
+    /// times.
+    pub fn new(alloc: Global, head: Head, reading: Reading) -> Result<Analyser, AllocError>
+        ensures reading { IfOk result (λ analyser. analyser.reading ≡ reading) }
         ensures groups { IfOk result (λ analyser. analyser.groups ≡ head) }
         ensures recording { IfOk result (λ analyser. analyser.recording ≡ replicate (ranks_of head) []) }
         ensures stands { IfOk result (λ analyser. analyser.stands ≡ start (ranks_of head)) }
-        ensures end { IfOk result (λ analyser. IsTheEnd (can_move analyser.groups analyser.recording) (length analyser.recording) analyser.stands) }
+        ensures end { IfOk result (λ analyser. IsTheEnd (can_move analyser.reading analyser.groups analyser.recording) (length analyser.recording) analyser.stands) }
         ensures touches { IfOk result (λ analyser. analyser.touches ≡ 0) }
     {
         let (ranks, comms) = (head.ranks(), head.comms());
@@ -96,6 +101,7 @@ impl Analyser {
         let waiters = Waiters::new(alloc, ranks, comms)?;
         let pairs = Pairs::new(alloc, head)?;
         Ok(Analyser {
+            reading,
             pairs,
             stands,
             waves,
@@ -108,6 +114,7 @@ impl Analyser {
     /// memory; and then all is as it was. Once the call is accepted, the rest takes no memory.
     pub fn offer(&mut self, rank: u16, call: &Record) -> Result<(), OfferFault>
         requires is_rank { rank < length self.old.recording }
+        ensures reading { self.new.reading ≡ self.old.reading }
         ensures groups { self.new.groups ≡ self.old.groups }
         ensures ok { OnOk result (self.new.recording ≡ appended self.old.recording rank call.now) }
         ensures lawful { OnOk result (fault_of self.old.groups rank (calls_of self.old.recording rank) call.now ≡ None) }
@@ -115,8 +122,8 @@ impl Analyser {
         ensures fault { IfErr result (TellsFault (fault_of self.old.groups rank (calls_of self.old.recording rank) call.now)) }
         ensures err { OnErr result (self.new ≡ self.old) }
         ensures kept { result ≢ Err Memory → IsKeptOn self.old.groups self.old.recording self.new.recording (rank, call.now) }
-        ensures end { IsTheEnd (can_move self.new.groups self.new.recording) (length self.new.recording) self.new.stands }
-        ensures stands { self.new.stands ≡ stands_of self.new.groups self.new.recording }
+        ensures end { IsTheEnd (can_move self.new.reading self.new.groups self.new.recording) (length self.new.recording) self.new.stands }
+        ensures stands { self.new.stands ≡ stands_of self.new.reading self.new.groups self.new.recording }
         ensures no_lower { StandsNoLater self.old.stands self.new.stands }
         ensures touches { self.new.touches ≤ most_touches self.new.recording }
         ensures no_fewer { self.old.touches ≤ self.new.touches }
@@ -125,6 +132,7 @@ impl Analyser {
         match self.pairs.admit(rank, place, call) {
             Ok(()) => {
                 arrive(
+                    self.reading,
                     &self.pairs,
                     &mut self.stands,
                     &mut self.waves,
@@ -149,13 +157,20 @@ impl Analyser {
         work.saturating_add(self.waves.changes)
     }
 
+    /// By which reading the sends are read.
+    pub fn reading(&self) -> Reading
+        ensures { result ≡ self.now.reading }
+    {
+        self.reading
+    }
+
     /// The head of the run.
     pub fn head(&self) -> &Head
         ensures value { result.now ≡ self.now.groups }
         ensures ranks { length self.now.recording ≡ ranks_of self.now.groups }
         ensures lawful { IsLawful self.now.groups self.now.recording }
-        ensures end { IsTheEnd (can_move self.now.groups self.now.recording) (length self.now.recording) self.now.stands }
-        ensures stands { self.now.stands ≡ stands_of self.now.groups self.now.recording }
+        ensures end { IsTheEnd (can_move self.now.reading self.now.groups self.now.recording) (length self.now.recording) self.now.stands }
+        ensures stands { self.now.stands ≡ stands_of self.now.reading self.now.groups self.now.recording }
     {
         self.pairs.head()
     }
@@ -171,13 +186,14 @@ impl Analyser {
     /// Where a rank stands: how many of its calls it has completed. None where there is no such rank.
     pub fn stand(&self, rank: u16) -> Option<u32>
         ensures value { result ≡ slice_get self.now.stands rank }
-        ensures end { IsTheEnd (can_move self.now.groups self.now.recording) (length self.now.recording) self.now.stands }
-        ensures stands { self.now.stands ≡ stands_of self.now.groups self.now.recording }
+        ensures end { IsTheEnd (can_move self.now.reading self.now.groups self.now.recording) (length self.now.recording) self.now.stands }
+        ensures stands { self.now.stands ≡ stands_of self.now.reading self.now.groups self.now.recording }
     {
         self.stands.get(usize::from(rank)).copied()
     }
 
-    /// Whether a rank stands at its Finalize; not where there is no such rank.
+    /// Whether a rank stands at the call that ends its list, its Finalize or the end of a list that was cut off; not
+    /// where there is no such rank.
     pub fn is_ended(&self, rank: u16) -> bool
         ensures { result ≡ is_at_end self.now.recording self.now.stands rank }
     {
@@ -187,7 +203,7 @@ impl Analyser {
         }
     }
 
-    /// Whether the Finalize of each rank was accepted.
+    /// Whether the list of each rank is ended: its Finalize was accepted, or that the list was cut off.
     pub fn is_closed(&self) -> bool
         ensures { (result ≡ true) ↔ IsClosed self.now.recording }
     {

@@ -7,12 +7,13 @@ ghost use Rattle.std.specs.Option.{option_map_or};
 ghost use Rattle.pairing.specs.Limits.{most_calls};
 ghost use Rattle.pairing.specs.Recordings.{calls_of};
 ghost use Rattle.pairing.specs.Partners.{partner_of};
-ghost use Rattle.moves.specs.Needs.{half_needs, is_buffered, is_met};
+ghost use Rattle.pairing.specs.Probed.{probed_of};
+ghost use Rattle.moves.specs.Needs.{half_needs, probe_needs, is_met};
 ghost use Rattle.moves.specs.Waiting.{message_needs, AreWaves, IsNoException, TellsOperation, TellsRequest, TellsCompleted, TellsCall, TellsRank};
 
 use crate::need::{Need, is_met, stand_of};
+use crate::reading::{Reading, sends_freely};
 use crate::waves::Waves;
-use mpicall::call::Mode;
 use pairing::envelope::Half;
 use pairing::pairs::Pairs;
 use pairing::stored::StoredCall;
@@ -20,11 +21,12 @@ use pairing::stored::StoredCall;
 /// What a look at a rank tells.
 #[derive(Clone, Copy)]
 pub(crate) enum Look {
-    /// The rank has no call where it stands, or its Finalize.
+    /// The rank has no call where it stands, or the one that ends its list.
     Over,
     /// Each need of its call is met.
     Passes,
-    /// A message of the operation at the place has no partner that is reached.
+    /// A message of the operation at the place has no partner that is reached, or a probe there sees no send that
+    /// is reached.
     Partner { place: u32 },
     /// A wave of the communicator is not complete.
     Wave { comm: u16 },
@@ -65,28 +67,52 @@ fn is_half_met(
     }
 }
 
-fn is_buffered(call: &StoredCall<'_>) -> bool
-    ensures { result ≡ is_buffered call.now }
+/// Whether the probe at the place sees a send, and the send is reached.
+fn is_probed_met(pairs: &Pairs, stands: &[u32], rank: u16, place: u32) -> bool
+    ensures { result ≡ option_map_or (λ sent. nat_le sent.1 (slice_index stands.now sent.0)) (probed_of pairs.now.groups pairs.now.recording rank place) false }
 {
-    matches!(call.mode(), Some(Mode::Buffered))
+    match pairs.probed(rank, place) {
+        Some((other, there)) => {
+            let need = Need::At {
+                rank: other,
+                place: there,
+            };
+            is_met(stands, &need)
+        }
+        None => false,
+    }
+}
+
+/// Whether a probe has what it needs: the send that the next receive of its envelope would get. Every other call
+/// has.
+fn is_probe_met(pairs: &Pairs, stands: &[u32], rank: u16, place: u32, call: &StoredCall<'_>) -> bool
+    ensures { result ≡ list_all (is_met stands.now) (probe_needs pairs.now.groups pairs.now.recording rank place call.now) }
+{
+    match call.probed() {
+        Some(_) => is_probed_met(pairs, stands, rank, place),
+        None => true,
+    }
 }
 
 /// Whether each message of the call has what it needs.
 fn are_messages_met(
+    reading: Reading,
     pairs: &Pairs,
     stands: &[u32],
     rank: u16,
     place: u32,
     call: &StoredCall<'_>,
 ) -> bool
-    ensures { result ≡ list_all (is_met stands.now) (message_needs pairs.now.groups pairs.now.recording rank place call.now) }
+    ensures { result ≡ list_all (is_met stands.now) (message_needs reading pairs.now.groups pairs.now.recording rank place call.now) }
 {
-    (is_buffered(call) || is_half_met(pairs, stands, rank, place, Half::Send, call))
+    (sends_freely(reading, call) || is_half_met(pairs, stands, rank, place, Half::Send, call))
         && is_half_met(pairs, stands, rank, place, Half::Recv, call)
+        && is_probe_met(pairs, stands, rank, place, call)
 }
 
 /// What is told of the operation of the call at the place.
 fn look_at_operation(
+    reading: Reading,
     pairs: &Pairs,
     stands: &[u32],
     waves: &Waves,
@@ -96,9 +122,9 @@ fn look_at_operation(
 ) -> Look
     requires waves { AreWaves pairs.now.groups pairs.now.recording stands.now waves.now IsNoException }
     requires call { slice_get (calls_of pairs.now.recording rank) place ≡ Some call.now }
-    ensures { TellsOperation pairs.now.groups pairs.now.recording stands.now waves.now rank place result }
+    ensures { TellsOperation reading pairs.now.groups pairs.now.recording stands.now waves.now rank place result }
 {
-    if !are_messages_met(pairs, stands, rank, place, call) {
+    if !are_messages_met(reading, pairs, stands, rank, place, call) {
         return Look::Partner { place };
     }
     match waves.open_wave(pairs, rank, place) {
@@ -108,18 +134,26 @@ fn look_at_operation(
 }
 
 /// The same of the call that started a request.
-fn look_at_start(pairs: &Pairs, stands: &[u32], waves: &Waves, rank: u16, start: u32) -> Look
+fn look_at_start(
+    reading: Reading,
+    pairs: &Pairs,
+    stands: &[u32],
+    waves: &Waves,
+    rank: u16,
+    start: u32,
+) -> Look
     requires { AreWaves pairs.now.groups pairs.now.recording stands.now waves.now IsNoException }
-    ensures { TellsOperation pairs.now.groups pairs.now.recording stands.now waves.now rank start result }
+    ensures { TellsOperation reading pairs.now.groups pairs.now.recording stands.now waves.now rank start result }
 {
     match pairs.call(rank, start) {
-        Some(call) => look_at_operation(pairs, stands, waves, rank, start, &call),
+        Some(call) => look_at_operation(reading, pairs, stands, waves, rank, start, &call),
         None => Look::Passes,
     }
 }
 
 /// The same of the request with that index among those that the call at the place completes.
 fn look_at_request(
+    reading: Reading,
     pairs: &Pairs,
     stands: &[u32],
     waves: &Waves,
@@ -128,16 +162,17 @@ fn look_at_request(
     index: usize,
 ) -> Look
     requires { AreWaves pairs.now.groups pairs.now.recording stands.now waves.now IsNoException }
-    ensures { TellsRequest pairs.now.groups pairs.now.recording stands.now waves.now rank place index result }
+    ensures { TellsRequest reading pairs.now.groups pairs.now.recording stands.now waves.now rank place index result }
 {
     match pairs.completed(rank, place, index) {
-        Some(start) => look_at_start(pairs, stands, waves, rank, start),
+        Some(start) => look_at_start(reading, pairs, stands, waves, rank, start),
         None => Look::Passes,
     }
 }
 
 /// What is told of the requests that the call at the place completes.
 fn look_at_requests(
+    reading: Reading,
     pairs: &Pairs,
     stands: &[u32],
     waves: &Waves,
@@ -147,10 +182,10 @@ fn look_at_requests(
 ) -> Look
     requires waves { AreWaves pairs.now.groups pairs.now.recording stands.now waves.now IsNoException }
     requires call { slice_get (calls_of pairs.now.recording rank) place ≡ Some call.now }
-    ensures { TellsCompleted pairs.now.groups pairs.now.recording stands.now waves.now rank place call.now result }
+    ensures { TellsCompleted reading pairs.now.groups pairs.now.recording stands.now waves.now rank place call.now result }
 {
     for index in 0..call.completed_count() {
-        match look_at_request(pairs, stands, waves, rank, place, index) {
+        match look_at_request(reading, pairs, stands, waves, rank, place, index) {
             Look::Passes => {}
             look => return look,
         }
@@ -160,6 +195,7 @@ fn look_at_requests(
 
 /// What is told of the call at the place: a call that starts a request needs nothing.
 fn look_at_call(
+    reading: Reading,
     pairs: &Pairs,
     stands: &[u32],
     waves: &Waves,
@@ -169,13 +205,13 @@ fn look_at_call(
 ) -> Look
     requires waves { AreWaves pairs.now.groups pairs.now.recording stands.now waves.now IsNoException }
     requires call { slice_get (calls_of pairs.now.recording rank) place ≡ Some call.now }
-    ensures { TellsCall pairs.now.groups pairs.now.recording stands.now waves.now rank place call.now result }
+    ensures { TellsCall reading pairs.now.groups pairs.now.recording stands.now waves.now rank place call.now result }
 {
     if call.starts().is_some() {
         return Look::Passes;
     }
-    match look_at_operation(pairs, stands, waves, rank, place, call) {
-        Look::Passes => look_at_requests(pairs, stands, waves, rank, place, call),
+    match look_at_operation(reading, pairs, stands, waves, rank, place, call) {
+        Look::Passes => look_at_requests(reading, pairs, stands, waves, rank, place, call),
         look => look,
     }
 }
@@ -191,9 +227,15 @@ fn has_call(pairs: &Pairs, rank: u16, place: u32) -> bool
 }
 
 /// What is told of a rank where it stands.
-pub(crate) fn look_at(pairs: &Pairs, stands: &[u32], waves: &Waves, rank: u16) -> Look
+pub(crate) fn look_at(
+    reading: Reading,
+    pairs: &Pairs,
+    stands: &[u32],
+    waves: &Waves,
+    rank: u16,
+) -> Look
     requires waves { AreWaves pairs.now.groups pairs.now.recording stands.now waves.now IsNoException }
-    ensures tells { TellsRank pairs.now.groups pairs.now.recording stands.now waves.now rank result }
+    ensures tells { TellsRank reading pairs.now.groups pairs.now.recording stands.now waves.now rank result }
     ensures room { result ≡ Look.Passes → slice_index stands.now rank < most_calls }
 {
     let stand = stand_of(stands, rank);
@@ -201,7 +243,9 @@ pub(crate) fn look_at(pairs: &Pairs, stands: &[u32], waves: &Waves, rank: u16) -
         return Look::Over;
     }
     match pairs.call(rank, stand) {
-        Some(call) if !call.ends_list() => look_at_call(pairs, stands, waves, rank, stand, &call),
+        Some(call) if !call.ends_list() => look_at_call(
+            reading, pairs, stands, waves, rank, stand, &call,
+        ),
         _ => Look::Over,
     }
 }

@@ -4,10 +4,11 @@ ghost use Rattle.std.specs.Prelude.{◌≡◌, ◌<◌, ◌≤◌, true, false, 
 ghost use Rattle.pairing.specs.Limits.{most_calls};
 ghost use Rattle.pairing.specs.Partners.{partner_of};
 ghost use Rattle.moves.specs.Runs.{moved, StandsNoLater};
-ghost use Rattle.moves.specs.Waiting.{comm_list, woken_partner, woken_comm, IsKept, IsNobody, IsInHand, IsSettled, IsReaching, HasArrived, touches_of, to_do};
+ghost use Rattle.moves.specs.Waiting.{comm_list, sent_to, sees, prober_of, woken_partner, woken_prober, woken_comm, IsKept, IsNobody, IsInHand, IsSettled, IsReaching, HasArrived, touches_of, to_do};
 
 use crate::look::{Look, look_at};
 use crate::need::stand_of;
+use crate::reading::Reading;
 use crate::waiters::Waiters;
 use crate::waves::Waves;
 use pairing::envelope::Half;
@@ -32,6 +33,50 @@ fn wake_partner(pairs: &Pairs, waiters: &mut Waiters, rank: u16, place: u32, hal
     }
 }
 
+/// The rank of the world that the call at the place sends its message to, if it sends one.
+fn sent_to(pairs: &Pairs, rank: u16, place: u32) -> Option<u16>
+    ensures { result ≡ sent_to pairs.now.groups pairs.now.recording rank place }
+{
+    let call = pairs.call(rank, place)?;
+    let message = call.message(Half::Send)?;
+    pairs.head().world_rank(message.comm, message.peer)
+}
+
+/// Whether the rank's probe at `start` sees the call at the place of the other.
+fn sees(pairs: &Pairs, prober: u16, start: u32, rank: u16, place: u32) -> bool
+    ensures { result ≡ sees pairs.now.groups pairs.now.recording prober start rank place }
+{
+    match pairs.probed(prober, start) {
+        Some((sender, there)) => sender == rank && there == place,
+        None => false,
+    }
+}
+
+/// The rank that waits at a probe which sees the call at the place, with the probe's place.
+fn prober_of(pairs: &Pairs, waiters: &Waiters, rank: u16, place: u32) -> Option<(u16, u32)>
+    ensures { result ≡ prober_of pairs.now.groups pairs.now.recording waiters.now.awaited rank place }
+{
+    let prober = sent_to(pairs, rank, place)?;
+    let start = waiters.awaited(prober)?;
+    if sees(pairs, prober, start, rank, place) {
+        Some((prober, start))
+    } else {
+        None
+    }
+}
+
+/// Wakes the rank that waits at a probe which sees the call at the place, if one does. Nobody is searched: it is
+/// the rank that the call sends to.
+fn wake_prober(pairs: &Pairs, waiters: &mut Waiters, rank: u16, place: u32)
+    ensures { waiters.new ≡ woken_prober pairs.now.groups pairs.now.recording rank place waiters.old }
+{
+    if pairs.has_probes() {
+        if let Some((prober, start)) = prober_of(pairs, waiters, rank, place) {
+            waiters.wake_rank(prober, start);
+        }
+    }
+}
+
 /// Wakes the ranks that wait for the waves of the communicator, if it is one.
 fn wake_members(waiters: &mut Waiters, comm: Option<u16>)
     requires { IfSome comm (λ comm. comm_list (length waiters.old.awaited) comm < length waiters.old.lists) }
@@ -44,6 +89,7 @@ fn wake_members(waiters: &mut Waiters, comm: Option<u16>)
 
 /// Wakes all that wait for the call at the place, which its rank has just reached. That rank is in hand then.
 fn reach(
+    reading: Reading,
     pairs: &Pairs,
     stands: &[u32],
     waves: &mut Waves,
@@ -51,12 +97,13 @@ fn reach(
     rank: u16,
     place: u32,
 )
-    requires { IsReaching pairs.now.groups pairs.now.recording stands.now waves.old waiters.old rank place }
-    ensures in_hand { IsInHand pairs.now.groups pairs.now.recording stands.now waves.new waiters.new rank }
+    requires { IsReaching reading pairs.now.groups pairs.now.recording stands.now waves.old waiters.old rank place }
+    ensures in_hand { IsInHand reading pairs.now.groups pairs.now.recording stands.now waves.new waiters.new rank }
     ensures counts { touches_of waves.old waiters.old ≤ touches_of waves.new waiters.new }
 {
     wake_partner(pairs, waiters, rank, place, Half::Send);
     wake_partner(pairs, waiters, rank, place, Half::Recv);
+    wake_prober(pairs, waiters, rank, place);
     let complete = waves.reach(pairs, stands, rank, place);
     wake_members(waiters, complete);
 }
@@ -64,21 +111,22 @@ fn reach(
 /// Looks at the rank in hand, and answers whether it still is: it moves on by one, or is linked where it
 /// waits, or is let go where it rests.
 fn settle_one(
+    reading: Reading,
     pairs: &Pairs,
     stands: &mut Vec<u32>,
     waves: &mut Waves,
     waiters: &mut Waiters,
     rank: u16,
 ) -> bool
-    requires { IsInHand pairs.now.groups pairs.now.recording stands.old.items waves.old waiters.old rank }
-    ensures in_hand { result ≡ true → IsInHand pairs.now.groups pairs.now.recording stands.new.items waves.new waiters.new rank }
-    ensures kept { result ≡ false → IsKept pairs.now.groups pairs.now.recording stands.new.items waves.new waiters.new IsNobody 0 }
+    requires { IsInHand reading pairs.now.groups pairs.now.recording stands.old.items waves.old waiters.old rank }
+    ensures in_hand { result ≡ true → IsInHand reading pairs.now.groups pairs.now.recording stands.new.items waves.new waiters.new rank }
+    ensures kept { result ≡ false → IsKept reading pairs.now.groups pairs.now.recording stands.new.items waves.new waiters.new IsNobody 0 }
     ensures no_lower { StandsNoLater stands.old.items stands.new.items }
     ensures counts { touches_of waves.old waiters.old ≤ touches_of waves.new waiters.new }
     ensures no_more { to_do pairs.now.recording stands.new.items waiters.new ≤ to_do pairs.now.recording stands.old.items waiters.old }
     ensures falls { result ≡ true → to_do pairs.now.recording stands.new.items waiters.new < to_do pairs.now.recording stands.old.items waiters.old }
 {
-    match look_at(pairs, stands, waves, rank) {
+    match look_at(reading, pairs, stands, waves, rank) {
         Look::Over => false,
         Look::Partner { place } => {
             waiters.wait_for_partner(rank, place);
@@ -91,7 +139,7 @@ fn settle_one(
         Look::Passes => {
             move_on(stands, rank);
             let place = stand_of(stands, rank);
-            reach(pairs, stands, waves, waiters, rank, place);
+            reach(reading, pairs, stands, waves, waiters, rank, place);
             true
         }
     }
@@ -99,36 +147,44 @@ fn settle_one(
 
 /// Looks at the rank in hand until it waits or rests.
 fn settle_rank(
+    reading: Reading,
     pairs: &Pairs,
     stands: &mut Vec<u32>,
     waves: &mut Waves,
     waiters: &mut Waiters,
     rank: u16,
 )
-    requires { IsInHand pairs.now.groups pairs.now.recording stands.old.items waves.old waiters.old rank }
-    ensures kept { IsKept pairs.now.groups pairs.now.recording stands.new.items waves.new waiters.new IsNobody 0 }
+    requires { IsInHand reading pairs.now.groups pairs.now.recording stands.old.items waves.old waiters.old rank }
+    ensures kept { IsKept reading pairs.now.groups pairs.now.recording stands.new.items waves.new waiters.new IsNobody 0 }
     ensures no_lower { StandsNoLater stands.old.items stands.new.items }
     ensures counts { touches_of waves.old waiters.old ≤ touches_of waves.new waiters.new }
     ensures no_more { to_do pairs.now.recording stands.new.items waiters.new ≤ to_do pairs.now.recording stands.old.items waiters.old }
 {
-    while settle_one(pairs, stands, waves, waiters, rank) {}
+    while settle_one(reading, pairs, stands, waves, waiters, rank) {}
 }
 
 /// Looks at ranks until none is to be looked at. It takes no memory.
-fn settle(pairs: &Pairs, stands: &mut Vec<u32>, waves: &mut Waves, waiters: &mut Waiters)
-    requires { IsKept pairs.now.groups pairs.now.recording stands.old.items waves.old waiters.old IsNobody 0 }
-    ensures settled { IsSettled pairs.now.groups pairs.now.recording stands.new.items waves.new waiters.new }
+fn settle(
+    reading: Reading,
+    pairs: &Pairs,
+    stands: &mut Vec<u32>,
+    waves: &mut Waves,
+    waiters: &mut Waiters,
+)
+    requires { IsKept reading pairs.now.groups pairs.now.recording stands.old.items waves.old waiters.old IsNobody 0 }
+    ensures settled { IsSettled reading pairs.now.groups pairs.now.recording stands.new.items waves.new waiters.new }
     ensures no_lower { StandsNoLater stands.old.items stands.new.items }
     ensures counts { touches_of waves.old waiters.old ≤ touches_of waves.new waiters.new }
 {
     while let Some(rank) = waiters.next() {
-        settle_rank(pairs, stands, waves, waiters, rank);
+        settle_rank(reading, pairs, stands, waves, waiters, rank);
     }
 }
 
 /// Moves the ranks on once a rank's call has arrived at the place, at its list's end: only where the rank
 /// stands there is any rank woken.
 pub(crate) fn arrive(
+    reading: Reading,
     pairs: &Pairs,
     stands: &mut Vec<u32>,
     waves: &mut Waves,
@@ -136,14 +192,14 @@ pub(crate) fn arrive(
     rank: u16,
     place: u32,
 )
-    requires { HasArrived pairs.now.groups pairs.now.recording stands.old.items waves.old waiters.old rank place }
-    ensures settled { IsSettled pairs.now.groups pairs.now.recording stands.new.items waves.new waiters.new }
+    requires { HasArrived reading pairs.now.groups pairs.now.recording stands.old.items waves.old waiters.old rank place }
+    ensures settled { IsSettled reading pairs.now.groups pairs.now.recording stands.new.items waves.new waiters.new }
     ensures no_lower { StandsNoLater stands.old.items stands.new.items }
     ensures counts { touches_of waves.old waiters.old ≤ touches_of waves.new waiters.new }
 {
     if stand_of(stands, rank) == place {
-        reach(pairs, stands, waves, waiters, rank, place);
-        settle_rank(pairs, stands, waves, waiters, rank);
-        settle(pairs, stands, waves, waiters);
+        reach(reading, pairs, stands, waves, waiters, rank, place);
+        settle_rank(reading, pairs, stands, waves, waiters, rank);
+        settle(reading, pairs, stands, waves, waiters);
     }
 }

@@ -112,7 +112,15 @@ impl Waiters {
         self.lists.push_reserved(self.ids[list], rank)
     }
 
-    /// Links a rank where it waits for the partner of its operation at the place.
+    /// The place of the operation for whose partner the rank waits, or waited last, or of the probe at which it does.
+    pub(crate) fn awaited(&self, rank: u16) -> Option<u32>
+        ensures { result ≡ slice_get self.now.awaited rank }
+    {
+        self.awaited.get(usize::from(rank)).copied()
+    }
+
+    /// Links a rank where it waits for the partner of its operation at the place, or for the send that its probe
+    /// there sees.
     pub(crate) fn wait_for_partner(&mut self, rank: u16, place: u32) -> Node
         requires is_rank { rank < length self.old.awaited }
         requires room { 0 < self.old.spare }
@@ -141,7 +149,8 @@ impl Waiters {
         self.lists.append(self.ids[0], self.ids[list]);
     }
 
-    /// Wakes a rank if it waits for the partner of its operation at the place.
+    /// Wakes a rank if it waits for the partner of its operation at the place, or for the send that its probe there
+    /// sees.
     pub(crate) fn wake_rank(&mut self, rank: u16, place: u32)
         ensures { self.new ≡ woken_at self.old (rank, place) }
     {

@@ -1,13 +1,14 @@
 -- What the readers of the fields behind a word say of these fields.
 use Rattle.std.proofs.Common.{◌≡◌, ℕ, ◌+◌, ◌-◌, ◌<◌, ◌≤◌, Bool, true, false, List, [], ◌∷◌, ◌++◌, length, sym, ap, ◌∙◌, refl, arith, Option, Some, None, option_map, ◌&&◌, ◌==◌, map, is_some, nat_le, cond, length-append, append_assoc, suc}
+use Rattle.std.specs.Prelude.{if◌then◌else◌}
 use Rattle.std.specs.Fmt.{decimal}
 use Rattle.std.specs.List.{list_all}
 use Rattle.std.proofs.lemmas.Bool.Decides.{nat_tests}
 use Rattle.std.proofs.lemmas.List.{length-map, map-append, append-nil}
 use Rattle.std.proofs.lemmas.List.Folds.{list_all-append}
-use Rattle.mpicall.specs.Argument.{Argument, Form, NumberUpTo, Number, spell, is_in_range, is_in_form, request_form, request_argument, index_form, read_argument}
+use Rattle.mpicall.specs.Argument.{Argument, Form, NumberUpTo, Number, spell, is_in_range, is_in_form, request_form, bytes_form, request_argument, index_form, read_argument}
 use Rattle.mpicall.specs.Limits.{in_ranges, names_enough}
-use Rattle.mpicall.specs.Line.{Shape, Fixed, Chosen, shape_of, root_forms, operation_forms, takes_count, each_in_form, all_requests, all_in_form, fits, fits_line}
+use Rattle.mpicall.specs.Line.{Shape, Fixed, Chosen, shape_of, root_forms, bytes_forms, operation_forms, takes_count, each_in_form, all_requests, all_in_form, fits, fits_line}
 use Rattle.mpicall.specs.Number.{number_up_to, is_canonical, value_of}
 use Rattle.mpicall.specs.Reading.{with_behind, next_argument, take_arguments, all_taken, ReadsWhole, ReadsBehind, ReadsFields, requests_fit, SpellsRequests}
 use Rattle.mpicall.specs.Spelling.{word_of_call, arguments_of, fields_of}
@@ -17,13 +18,14 @@ use Rattle.mpicall.proofs.DecimalLemmas.{number-decimal}
 use Rattle.mpicall.proofs.ArgumentLemmas.{small_form, and_true, le_to, le_from, argument_spelled}
 use Rattle.mpicall.proofs.RowLemmas.{row_spelled, row_length, row_none}
 use Rattle.mpicall.specs.declared.call.Call.{Call}
-use Rattle.mpicall.specs.declared.call.Call.TheVariants.{Send, Recv, Isend, Irecv, Sendrecv, Wait, Waitall, Waitany, Coll, Icoll, Dup, Split, Finalize}
+use Rattle.mpicall.specs.declared.call.Call.TheVariants.{Send, Recv, Isend, Irecv, Sendrecv, Wait, Waitall, Waitany, Coll, Icoll, Dup, Split, Probe, Finalize, Open}
 use Rattle.mpicall.specs.declared.word.Collective.TheVariants.{Barrier, Bcast, Gather, Scatter, Reduce, Allgather, Alltoall, Allreduce, Scan, Exscan}
 use Rattle.mpicall.specs.declared.word.Collective.{Collective}
+use Rattle.mpicall.specs.declared.call.Mode.TheVariants.{Standard, Synchronous, Buffered}
 use Rattle.mpicall.specs.declared.word.Operation.TheVariants.{Send as SendOperation, Recv as RecvOperation, Coll as CollOperation}
 use Rattle.mpicall.specs.declared.word.Operation.{Operation}
 use Rattle.mpicall.specs.declared.word.Word.{Word}
-use Rattle.mpicall.specs.declared.word.Word.TheVariants.{Blocking, Started, Sendrecv as SendrecvWord, Wait as WaitWord, Waitall as WaitallWord, Waitany as WaitanyWord, Dup as DupWord, Split as SplitWord, Finalize as FinalizeWord}
+use Rattle.mpicall.specs.declared.word.Word.TheVariants.{Blocking, Started, Sendrecv as SendrecvWord, Wait as WaitWord, Waitall as WaitallWord, Waitany as WaitanyWord, Dup as DupWord, Split as SplitWord, Probe as ProbeWord, Finalize as FinalizeWord, Open as OpenWord}
 
 -- Words whose fields have fixed forms.
 
@@ -39,45 +41,46 @@ root_small Allreduce = refl
 root_small Scan = refl
 root_small Exscan = refl
 
-operation_small : (o : Operation) → list_all small_form (operation_forms o) ≡ true
-operation_small (SendOperation mode) = refl
-operation_small RecvOperation = refl
-operation_small (CollOperation c) = root_small c
+bytes_small : (plain count : ℕ) → list_all small_form (bytes_forms plain count) ≡ true
+bytes_small plain count = by_test (count == plain + 1)
+  where
+    by_test : (more : Bool) → list_all small_form (if more then bytes_form ∷ [] else []) ≡ true
+    by_test true = refl
+    by_test false = refl
+
+operation_small : (o : Operation) (count : ℕ) → list_all small_form (operation_forms o count) ≡ true
+operation_small (SendOperation Standard) count = bytes_small 3 count
+operation_small (SendOperation Synchronous) count = refl
+operation_small (SendOperation Buffered) count = refl
+operation_small RecvOperation count = refl
+operation_small (CollOperation c) count = root_small c
 
 abbrev shape_small : Shape → Bool
 shape_small (Fixed forms) = list_all small_form forms
 shape_small _ = true
 
-word_small : (w : Word) → shape_small (shape_of w) ≡ true
-word_small (Blocking o) = operation_small o
-word_small (Started o) = operation_small o
-word_small SendrecvWord = refl
-word_small WaitWord = refl
-word_small WaitallWord = refl
-word_small WaitanyWord = refl
-word_small DupWord = refl
-word_small SplitWord = refl
-word_small FinalizeWord = refl
+word_small : (w : Word) (count : ℕ) → shape_small (shape_of w count) ≡ true
+word_small (Blocking o) count = operation_small o count
+word_small (Started o) count = operation_small o (count - 1)
+word_small SendrecvWord count = bytes_small 5 count
+word_small WaitWord count = refl
+word_small WaitallWord count = refl
+word_small WaitanyWord count = refl
+word_small DupWord count = refl
+word_small SplitWord count = refl
+word_small ProbeWord count = refl
+word_small FinalizeWord count = refl
+word_small OpenWord count = refl
 
 abbrev is_fixed : Shape → Bool
 is_fixed (Fixed forms) = true
 is_fixed _ = false
 
--- a call whose word has fixed forms has no list of requests
-fixed_enough : (x : Call) → is_fixed (shape_of (word_of_call x)) ≡ true → names_enough x ≡ true
-fixed_enough (Send mode comm dest tag) h = refl
-fixed_enough (Recv comm source tag) h = refl
-fixed_enough (Isend req mode comm dest tag) h = refl
-fixed_enough (Irecv req comm source tag) h = refl
-fixed_enough (Sendrecv comm dest send_tag source recv_tag) h = refl
-fixed_enough (Wait req) h = refl
-fixed_enough (Waitall reqs) h = cc
-fixed_enough (Waitany chosen reqs) h = cc
-fixed_enough (Coll comm kind) h = refl
-fixed_enough (Icoll req comm kind) h = refl
-fixed_enough (Dup comm new) h = refl
-fixed_enough (Split comm colour key new) h = refl
-fixed_enough Finalize h = refl
+-- a word whose forms are fixed names no list of requests
+pub lists_none : Word → Bool
+lists_none WaitallWord = false
+lists_none WaitanyWord = false
+lists_none _ = true
 
 pub both : (a b : Bool) → a ≡ true → b ≡ true → (a && b) ≡ true
 both a b ha hb = rw (ha, hb) refl
@@ -86,41 +89,40 @@ not_both : (a b : Bool) → (a ≡ true → b ≡ false) → (a && b) ≡ false
 not_both true b h = h refl
 not_both false b h = refl
 
-pub fixed_all : (w : Word) (forms : List Form) (fields : List (List ℕ)) (call : Call) → shape_of w ≡ Fixed forms → take_arguments forms fields ≡ Some (arguments_of call, []) → word_of_call call ≡ w → (fields ≡ map spell (arguments_of call)) × (word_of_call call ≡ w) × (in_ranges call ≡ true)
-fixed_all w forms fields call is taken word =
-    let small : list_all small_form forms ≡ true = ap shape_small (sym is) ∙ word_small w in
+pub fixed_all : (w : Word) (forms : List Form) (fields : List (List ℕ)) (call : Call) → shape_of w (length fields) ≡ Fixed forms → take_arguments forms fields ≡ Some (arguments_of call, []) → word_of_call call ≡ w → names_enough call ≡ true → (fields ≡ map spell (arguments_of call)) × (word_of_call call ≡ w) × (in_ranges call ≡ true)
+fixed_all w forms fields call is taken word enough =
+    let small : list_all small_form forms ≡ true = ap shape_small (sym is) ∙ word_small w (length fields) in
     let spelled = row_spelled forms fields (arguments_of call) [] small taken in
-    let enough = fixed_enough call (ap (λ v. is_fixed (shape_of v)) word ∙ ap is_fixed is) in
     (spelled.fields_are ∙ append-nil (map spell (arguments_of call)), word, both _ _ spelled.in_range enough)
 
-fixed_more : (w : Word) (forms : List Form) (fields : List (List ℕ)) (args : List Argument) (field : List ℕ) (behind : List (List ℕ)) → shape_of w ≡ Fixed forms → take_arguments forms fields ≡ Some (args, field ∷ behind) → fits w fields ≡ false
+fixed_more : (w : Word) (forms : List Form) (fields : List (List ℕ)) (args : List Argument) (field : List ℕ) (behind : List (List ℕ)) → shape_of w (length fields) ≡ Fixed forms → take_arguments forms fields ≡ Some (args, field ∷ behind) → fits w fields ≡ false
 fixed_more w forms fields args field behind is taken =
     let count = row_length forms fields args (field ∷ behind) taken in
     let no : (length forms == length fields) ≡ false = grind (arith, nat_tests, count) in
     rw (is, no) refl
 
-fixed_none : (w : Word) (forms : List Form) (fields : List (List ℕ)) → shape_of w ≡ Fixed forms → take_arguments forms fields ≡ None → fits w fields ≡ false
+fixed_none : (w : Word) (forms : List Form) (fields : List (List ℕ)) → shape_of w (length fields) ≡ Fixed forms → take_arguments forms fields ≡ None → fits w fields ≡ false
 fixed_none w forms fields is taken =
     rw is (not_both (length forms == length fields) (each_in_form forms fields)
     (λ same. let e : length forms ≡ length fields = grind (arith, nat_tests, same) in row_none forms fields e taken))
 
-taken_whole : (w : Word) (forms : List Form) (fields : List (List ℕ)) (call : Call) (taken : Option (List Argument × List (List ℕ))) → taken ≡ take_arguments forms fields → shape_of w ≡ Fixed forms → all_taken taken ≡ Some (arguments_of call) → word_of_call call ≡ w → (fields ≡ map spell (arguments_of call)) × (word_of_call call ≡ w) × (in_ranges call ≡ true)
-taken_whole w forms fields call None e is all word = cc
-taken_whole w forms fields call (Some (args, [])) e is all word =
+taken_whole : (w : Word) (forms : List Form) (fields : List (List ℕ)) (call : Call) (taken : Option (List Argument × List (List ℕ))) → taken ≡ take_arguments forms fields → shape_of w (length fields) ≡ Fixed forms → all_taken taken ≡ Some (arguments_of call) → word_of_call call ≡ w → names_enough call ≡ true → (fields ≡ map spell (arguments_of call)) × (word_of_call call ≡ w) × (in_ranges call ≡ true)
+taken_whole w forms fields call None e is all word enough = cc
+taken_whole w forms fields call (Some (args, [])) e is all word enough =
     let same : args ≡ arguments_of call = cc in
-    fixed_all w forms fields call is (sym e ∙ ap (λ (a : List Argument). Some (a, [])) same) word
-taken_whole w forms fields call (Some (args, field ∷ behind)) e is all word = cc
+    fixed_all w forms fields call is (sym e ∙ ap (λ (a : List Argument). Some (a, [])) same) word enough
+taken_whole w forms fields call (Some (args, field ∷ behind)) e is all word enough = cc
 
-taken_unfit : (w : Word) (forms : List Form) (fields : List (List ℕ)) (taken : Option (List Argument × List (List ℕ))) → taken ≡ take_arguments forms fields → shape_of w ≡ Fixed forms → all_taken taken ≡ None → fits w fields ≡ false
+taken_unfit : (w : Word) (forms : List Form) (fields : List (List ℕ)) (taken : Option (List Argument × List (List ℕ))) → taken ≡ take_arguments forms fields → shape_of w (length fields) ≡ Fixed forms → all_taken taken ≡ None → fits w fields ≡ false
 taken_unfit w forms fields None e is all = fixed_none w forms fields is (sym e)
 taken_unfit w forms fields (Some (args, [])) e is all = cc
 taken_unfit w forms fields (Some (args, field ∷ behind)) e is all = fixed_more w forms fields args field behind is (sym e)
 
-pub fixed_reads : (w : Word) (forms : List Form) (fields : List (List ℕ)) (answer : Option (Unit {0})) (old new : Call) (read : Bool) → shape_of w ≡ Fixed forms → ReadsWhole w forms fields answer old new → read ≡ is_some answer → ReadsBehind w fields read old new
+pub fixed_reads : (w : Word) (forms : List Form) (fields : List (List ℕ)) (answer : Option (Unit {0})) (old new : Call) (read : Bool) → shape_of w (length fields) ≡ Fixed forms → ReadsWhole w forms fields answer old new → read ≡ is_some answer → ReadsBehind w fields read old new
 fixed_reads w forms fields None old new read is reads e =
     rw e (taken_unfit w forms fields (take_arguments forms fields) refl is reads.0, reads.1)
 fixed_reads w forms fields (Some u) old new read is reads e =
-    rw e (taken_whole w forms fields new (take_arguments forms fields) refl is reads.0 reads.1)
+    rw e (taken_whole w forms fields new (take_arguments forms fields) refl is reads.0 reads.1 reads.2)
 
 -- Lists of requests.
 

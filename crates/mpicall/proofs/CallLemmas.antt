@@ -1,5 +1,5 @@
 -- The fields of a call in its ranges fit its word, and are read as the call.
-use Rattle.std.proofs.Common.{◌≡◌, ℕ, ◌+◌, ◌-◌, ◌<◌, ◌≤◌, Bool, true, false, List, [], ◌∷◌, length, sym, ap, ◌∙◌, refl, arith, ◌&&◌, ◌==◌, map, nat_le, get_or, suc}
+use Rattle.std.proofs.Common.{◌≡◌, ℕ, ◌+◌, ◌-◌, ◌<◌, ◌≤◌, Bool, true, false, List, [], ◌∷◌, length, sym, ap, ◌∙◌, refl, arith, Some, None, ◌&&◌, ◌==◌, map, nat_le, get_or, suc}
 use Rattle.std.specs.Fmt.{decimal}
 use Rattle.std.specs.List.{list_all}
 use Rattle.std.proofs.lemmas.Bool.Decides.{nat_tests}
@@ -12,15 +12,17 @@ use Rattle.mpicall.specs.Spelling.{word_of_call, arguments_of, name_of, root_of,
 use Rattle.mpicall.proofs.ArgumentLemmas.{is_small, reads_back, argument_field, IsField, and_true, le_to, le_from}
 use Rattle.mpicall.proofs.DecimalLemmas.{value_decimal}
 use Rattle.mpicall.proofs.RowLemmas.{row_back, row_in_form}
+use Rattle.std.proofs.lemmas.Bool.{false≢true}
+use Rattle.mpicall.specs.declared.call.Mode.TheVariants.{Standard, Synchronous, Buffered}
 use Rattle.mpicall.specs.declared.call.Kind.{Kind}
 use Rattle.mpicall.specs.declared.call.Kind.TheVariants.{Barrier, Bcast, Gather, Scatter, Reduce, Allgather, Alltoall, Allreduce, Scan, Exscan}
 use Rattle.mpicall.specs.declared.call.Call.{Call}
-use Rattle.mpicall.specs.declared.call.Call.TheVariants.{Send, Recv, Isend, Irecv, Sendrecv, Wait, Waitall, Waitany, Coll, Icoll, Dup, Split, Finalize}
+use Rattle.mpicall.specs.declared.call.Call.TheVariants.{Send, Recv, Isend, Irecv, Sendrecv, Wait, Waitall, Waitany, Coll, Icoll, Dup, Split, Probe, Finalize, Open}
 
 -- What is known of a call in its ranges.
 pub record KnownCall (x : Call) : Type 0 where
   pub fits_word : fits (word_of_call x) (map spell (arguments_of x)) ≡ true
-  pub call_is : call_of (word_of_call x) (arguments_in (shape_of (word_of_call x)) (map spell (arguments_of x))) ≡ x
+  pub call_is : call_of (word_of_call x) (arguments_in (shape_of (word_of_call x) (length (map spell (arguments_of x)))) (map spell (arguments_of x))) ≡ x
   pub small : list_all is_small (arguments_of x) ≡ true
   pub few : length (arguments_of x) ≤ 65
 
@@ -53,7 +55,7 @@ same_lengths args =
     let fields = length-map args spell in
     grind (arith, nat_tests, forms, fields)
 
-fixed : (x : Call) → shape_of (word_of_call x) ≡ Fixed (map form_of (arguments_of x)) → call_of (word_of_call x) (arguments_of x) ≡ x → list_all is_small (arguments_of x) ≡ true → length (arguments_of x) ≤ 65 → in_ranges x ≡ true → KnownCall x
+fixed : (x : Call) → shape_of (word_of_call x) (length (map spell (arguments_of x))) ≡ Fixed (map form_of (arguments_of x)) → call_of (word_of_call x) (arguments_of x) ≡ x → list_all is_small (arguments_of x) ≡ true → length (arguments_of x) ≤ 65 → in_ranges x ≡ true → KnownCall x
 fixed x shape call small few h = record {
   fits_word = rw (shape, same_lengths (arguments_of x)) (row_in_form (arguments_of x) small (in_range_of x h));
   call_is = ap (λ s. call_of (word_of_call x) (arguments_in s (map spell (arguments_of x)))) shape
@@ -138,11 +140,22 @@ waitany_known chosen reqs enough h =
 -- Every call.
 
 pub known_call : (x : Call) → in_ranges x ≡ true → KnownCall x
-known_call (Send mode comm dest tag) h = fixed _ refl refl refl (omega arith) h
+known_call (Send Standard comm dest tag None) h = fixed _ refl refl refl (omega arith) h
+known_call (Send Standard comm dest tag (Some bytes)) h = fixed _ refl refl refl (omega arith) h
+known_call (Send Synchronous comm dest tag None) h = fixed _ refl refl refl (omega arith) h
+known_call (Send Synchronous comm dest tag (Some bytes)) h = absurd (false≢true ((and_true (list_all is_in_range (arguments_of (Send Synchronous comm dest tag (Some bytes)))) false h).1))
+known_call (Send Buffered comm dest tag None) h = fixed _ refl refl refl (omega arith) h
+known_call (Send Buffered comm dest tag (Some bytes)) h = absurd (false≢true ((and_true (list_all is_in_range (arguments_of (Send Buffered comm dest tag (Some bytes)))) false h).1))
 known_call (Recv comm source tag) h = fixed _ refl refl refl (omega arith) h
-known_call (Isend req mode comm dest tag) h = fixed _ refl refl refl (omega arith) h
+known_call (Isend req Standard comm dest tag None) h = fixed _ refl refl refl (omega arith) h
+known_call (Isend req Standard comm dest tag (Some bytes)) h = fixed _ refl refl refl (omega arith) h
+known_call (Isend req Synchronous comm dest tag None) h = fixed _ refl refl refl (omega arith) h
+known_call (Isend req Synchronous comm dest tag (Some bytes)) h = absurd (false≢true ((and_true (list_all is_in_range (arguments_of (Isend req Synchronous comm dest tag (Some bytes)))) false h).1))
+known_call (Isend req Buffered comm dest tag None) h = fixed _ refl refl refl (omega arith) h
+known_call (Isend req Buffered comm dest tag (Some bytes)) h = absurd (false≢true ((and_true (list_all is_in_range (arguments_of (Isend req Buffered comm dest tag (Some bytes)))) false h).1))
 known_call (Irecv req comm source tag) h = fixed _ refl refl refl (omega arith) h
-known_call (Sendrecv comm dest send_tag source recv_tag) h = fixed _ refl refl refl (omega arith) h
+known_call (Sendrecv comm dest send_tag source recv_tag None) h = fixed _ refl refl refl (omega arith) h
+known_call (Sendrecv comm dest send_tag source recv_tag (Some bytes)) h = fixed _ refl refl refl (omega arith) h
 known_call (Wait req) h = fixed _ refl refl refl (omega arith) h
 known_call (Waitall reqs) h =
     let parts = and_true (list_all is_in_range (map request_argument reqs)) (few_enough reqs) h in
@@ -160,7 +173,9 @@ known_call (Icoll req comm kind) h =
     fixed (Icoll req comm kind) (ap (λ f. Fixed (request_form ∷ comm_form ∷ f)) row.forms) (ap (Icoll req comm) row.kind_is) row.small (omega arith) h
 known_call (Dup comm new) h = fixed _ refl refl refl (omega arith) h
 known_call (Split comm colour key new) h = fixed _ refl refl refl (omega arith) h
+known_call (Probe comm source tag) h = fixed _ refl refl refl (omega arith) h
 known_call Finalize h = fixed _ refl refl refl (omega arith) h
+known_call Open h = fixed _ refl refl refl (omega arith) h
 
 -- each further field of a call
 unfoldable pub AllFields : List (List ℕ) → Type 0

@@ -8,7 +8,7 @@ use Rattle.mpicall.specs.Spelling.{line_feed}
 use Rattle.mpicall.specs.Lines.{most_bytes, has_line_feed}
 use Rattle.mpicall.specs.Reading.{record_of_line}
 use Rattle.mpicall.specs.Window.{NoFeedBelow, HasNoFeed, EndsLine}
-use Rattle.mpicall.specs.Trace.{Trace, Sealed, Torn, trace_of, trace_of_lines, trace_with, ends_here, put_first, end_after_finalize}
+use Rattle.mpicall.specs.Trace.{Trace, Sealed, Torn, trace_of, trace_of_lines, trace_with, ends_here, put_first, end_with_behind}
 use Rattle.mpicall.specs.Lines.{lines_of}
 use Rattle.mpicall.specs.Stage.{stage_behind, is_own}
 use Rattle.mpicall.specs.Source.{Gives, trace_at, IsOwnFault}
@@ -21,7 +21,7 @@ use Rattle.mpicall.specs.declared.fault.LineFault.TheVariants.{TooLong}
 use Rattle.mpicall.specs.declared.fault.SourceFault.{SourceFault}
 use Rattle.mpicall.specs.declared.fault.SourceFault.TheVariants.{Line, TextAfterFinalize, NoFinalize, ReadFailed, GateStopped, ThreadNotStarted}
 use Rattle.mpicall.specs.declared.source.Stage.{Stage}
-use Rattle.mpicall.specs.declared.source.Stage.TheVariants.{Reading, Finalized, Done, Failed}
+use Rattle.mpicall.specs.declared.source.Stage.TheVariants.{Reading, Ended, Done, Failed}
 
 -- Answers that change nothing.
 
@@ -78,8 +78,8 @@ held_left (Some known) (Some left) held keeps = sym keeps
 
 -- A record was read.
 
-behind_cases : (ends : Bool) (call : Call) (known rest : List ℕ) → trace_of known ≡ put_first call (cond ends (ends_here (end_after_finalize (lines_of rest))) (trace_of rest)) → Gives (Some (trace_of known)) (trace_at (cond ends Finalized Reading) (Some rest)) (Ok (Some call))
-behind_cases true call known rest e = (ends_here (end_after_finalize (lines_of rest)), e, refl)
+behind_cases : (ends : Bool) (call : Call) (known rest : List ℕ) → trace_of known ≡ put_first call (cond ends (ends_here (end_with_behind (lines_of rest))) (trace_of rest)) → Gives (Some (trace_of known)) (trace_at (cond ends Ended Reading) (Some rest)) (Ok (Some call))
+behind_cases true call known rest e = (ends_here (end_with_behind (lines_of rest)), e, refl)
 behind_cases false call known rest e = (trace_of rest, e, refl)
 
 behind_record : (call : Call) (known rest : List ℕ) → trace_of known ≡ trace_with (Ok call) (lines_of rest) (trace_of rest) → Gives (Some (trace_of known)) (trace_at (stage_behind call) (Some rest)) (Ok (Some call))
@@ -154,7 +154,7 @@ gives_line_fault (Some known) (Some left) held n fault keeps (inr (is, none)) so
 -- Behind `finalize`.
 
 abbrev pub end_behind : List ℕ → Trace
-end_behind behind = ends_here (end_after_finalize (lines_of behind))
+end_behind behind = ends_here (end_with_behind (lines_of behind))
 
 pub gives_sealed : (known left : Option (List ℕ)) (now : List ℕ) → (now ≡ []) × IsAtEnd left → Keeps known (prepend_known now left) → Gives (option_map end_behind known) (Some (ends_here Sealed)) (Ok None)
 gives_sealed None left now end keeps = tt
@@ -164,7 +164,7 @@ gives_sealed (Some known) (Some left) now end keeps =
     let old : end_behind known ≡ ends_here Sealed = ap end_behind empty_text in
     (old, ap Some (sym old))
 
-text_behind : (b : Bool) (byte : ℕ) (lines : List (List ℕ)) → end_after_finalize (cond b ((byte ∷ []) ∷ lines) (onto_first byte lines)) ≡ Torn TextAfterFinalize
+text_behind : (b : Bool) (byte : ℕ) (lines : List (List ℕ)) → end_with_behind (cond b ((byte ∷ []) ∷ lines) (onto_first byte lines)) ≡ Torn TextAfterFinalize
 text_behind true byte lines = refl
 text_behind false byte [] = refl
 text_behind false byte (line ∷ lines) = refl

@@ -86,7 +86,7 @@ no_wildcard (Some place) fields all = none_any (drop place fields) (all_behind f
 
 fitting : (w : Word) (fields : List (List ℕ)) → fits w fields ≡ true → wildcard_at (source_place w) fields ≡ false → fault_behind w fields ≡ None
 fitting w fields h plain =
-    let parts = and_true (takes_count (shape_of w) (length fields)) (all_in_form (shape_of w) fields) h in
+    let parts = and_true (takes_count (shape_of w (length fields)) (length fields)) (all_in_form (shape_of w (length fields)) fields) h in
     rw (parts.0, plain, parts.1) refl
 
 call_faultless : (x : Call) → in_ranges x ≡ true → fault_of_fields (fields_of x) ≡ None

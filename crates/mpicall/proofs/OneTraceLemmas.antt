@@ -5,7 +5,7 @@ use Rattle.mpicall.specs.Limits.{in_ranges}
 use Rattle.mpicall.specs.Line.{fault_of_line}
 use Rattle.mpicall.specs.Lines.{body_of, split_fields}
 use Rattle.mpicall.specs.Reading.{record_of_line, call_of_fields, Spells}
-use Rattle.mpicall.specs.Trace.{Trace, Torn, IsTraceOf, trace_of_lines, trace_with, put_first, ends_here, end_after_finalize}
+use Rattle.mpicall.specs.Trace.{Trace, Torn, IsTraceOf, trace_of_lines, trace_with, put_first, ends_here, end_with_behind}
 use Rattle.mpicall.proofs.LineLemmas.{fault_read, spells_read}
 use Rattle.mpicall.proofs.SpelledLemmas.{faultless_spelled}
 use Rattle.mpicall.specs.declared.call.Call.{Call}
@@ -20,7 +20,7 @@ pub is_the_trace : (lines : List (List ℕ)) (trace : Trace) → IsTraceOf lines
 is_the_trace [] trace e = e
 is_the_trace (line ∷ behind) trace (inl (call, rest, h, is, first, others)) =
     let read : record_of_line line ≡ Ok call = spells_read line call (record { line_is = is; in_ranges_is = h }) in
-    let follows = rest_is (ends_list call) behind rest (ends_here (end_after_finalize behind)) (trace_of_lines behind) (is_the_trace behind rest) others in
+    let follows = rest_is (ends_list call) behind rest (ends_here (end_with_behind behind)) (trace_of_lines behind) (is_the_trace behind rest) others in
     first ∙ ap (put_first call) follows ∙ ap (λ r. trace_with r behind (trace_of_lines behind)) (sym read)
 is_the_trace (line ∷ behind) trace (inr (fault, told, is)) =
     is ∙ ap (λ r. trace_with r behind (trace_of_lines behind)) (sym (fault_read line fault told))
@@ -38,11 +38,11 @@ line_trace line behind None is deeper =
     let read = spells_read line call s in
     inl (
       call,
-      cond (ends_list call) (ends_here (end_after_finalize behind)) (trace_of_lines behind),
+      cond (ends_list call) (ends_here (end_with_behind behind)) (trace_of_lines behind),
       s.in_ranges_is,
       s.line_is,
       ap (λ r. trace_with r behind (trace_of_lines behind)) read,
-      rest_of (ends_list call) behind (ends_here (end_after_finalize behind)) (trace_of_lines behind) deeper,
+      rest_of (ends_list call) behind (ends_here (end_with_behind behind)) (trace_of_lines behind) deeper,
     )
 
 the_trace : (lines : List (List ℕ)) → IsTraceOf lines (trace_of_lines lines)

@@ -1,15 +1,18 @@
 -- A line without a fault is the spelling of the call that is read of it.
 use Rattle.std.proofs.Common.{◌≡◌, ℕ, ◌+◌, ◌-◌, ◌<◌, ◌≤◌, Bool, true, false, List, [], ◌∷◌, ◌++◌, length, sym, ap, ◌∙◌, refl, arith, Option, Some, None, Result, Ok, Err, option_map, ◌&&◌, ◌==◌, map, is_some, nat_le, nat_lt, get_or, cond, append_assoc, suc, length-append, codes, ◌^◌, drop, take, drop-cons}
+use Rattle.std.specs.Prelude.{if◌then◌else◌}
+use Rattle.std.specs.List.{slice_get}
+use Rattle.std.proofs.lemmas.Option.{slice_get_past, slice_get-get_or}
 use Rattle.std.specs.Fmt.{decimal}
 use Rattle.std.specs.List.{list_all, list_any}
 use Rattle.std.proofs.lemmas.Bool.Decides.{nat_tests}
 use Rattle.std.proofs.lemmas.List.{append-nil, length-map, drop_all, take-append-drop}
-use Rattle.mpicall.specs.Argument.{Argument, Number, PeerOf, Colour, Key, New, Form, NumberUpTo, PeerForm, ColourForm, KeyForm, NewForm, spell, is_in_range, form_of, read_argument, read_peer, read_number_or, is_in_form, comm_form, tag_form, request_form, request_argument, index_argument}
+use Rattle.mpicall.specs.Argument.{Argument, Number, PeerOf, Colour, Key, New, Form, NumberUpTo, PeerForm, ColourForm, KeyForm, NewForm, spell, is_in_range, form_of, read_argument, read_peer, read_number_or, is_in_form, comm_form, tag_form, bytes_form, request_form, request_argument, index_argument}
 use Rattle.mpicall.specs.declared.limits.TheConstants.{GREATEST_COMM, GREATEST_COLOUR}
 use Rattle.mpicall.specs.declared.call.Call.{Call}
-use Rattle.mpicall.specs.Limits.{in_ranges, few_enough}
+use Rattle.mpicall.specs.Limits.{in_ranges, names_enough, few_enough}
 use Rattle.mpicall.proofs.BodyLemmas.{fixed_all, both}
-use Rattle.mpicall.specs.Line.{Shape, Fixed, Requests, Chosen, root_forms, operation_forms, shape_of, each_in_form, all_requests, takes_count, all_in_form, fits, source_place, wildcard_at, fault_by_word, fault_of_fields, fault_of_line}
+use Rattle.mpicall.specs.Line.{Shape, Fixed, Requests, Chosen, root_forms, bytes_forms, operation_forms, shape_of, each_in_form, all_requests, takes_count, all_in_form, fits, source_place, wildcard_at, fault_by_word, fault_of_fields, fault_of_line}
 use Rattle.mpicall.specs.Lines.{is_blank, most_bytes, has_line_feed, body_of, split_fields}
 use Rattle.mpicall.specs.Word.{word_of, text_of}
 use Rattle.mpicall.proofs.WordLemmas.{word_has}
@@ -17,16 +20,17 @@ use Rattle.mpicall.proofs.LineLemmas.{body_spells}
 use Rattle.mpicall.specs.declared.fault.LineFault.{LineFault}
 use Rattle.mpicall.specs.declared.fault.LineFault.TheVariants.{EmptyField, FieldCount, FieldForm, Wildcard, TooLong, NoLineFeed}
 use Rattle.mpicall.specs.Number.{number_up_to, signed_of, value_of}
-use Rattle.mpicall.specs.Reading.{at, number_in, peer_in, colour_in, key_in, new_in, kind_of, call_of, arguments_in, request_in, take_arguments, taken, put_before, take_behind, with_behind, call_by_word, call_of_fields, Spells}
-use Rattle.mpicall.specs.Spelling.{word_of_call, arguments_of, name_of, root_of, root_arguments, fields_of, line_feed}
+use Rattle.mpicall.specs.Reading.{at, number_in, number_at, peer_in, colour_in, key_in, new_in, kind_of, call_of, arguments_in, request_in, take_arguments, taken, put_before, take_behind, with_behind, call_by_word, call_of_fields, Spells}
+use Rattle.mpicall.specs.Spelling.{word_of_call, arguments_of, name_of, root_of, root_arguments, bytes_arguments, fields_of, line_feed}
 use Rattle.mpicall.proofs.ArgumentLemmas.{and_true, le_to, le_from}
 use Rattle.mpicall.proofs.DecimalLemmas.{number-decimal, value_decimal}
 use Rattle.mpicall.specs.declared.word.Collective.{Collective}
 use Rattle.mpicall.specs.declared.word.Collective.TheVariants.{Barrier, Bcast, Gather, Scatter, Reduce, Allgather, Alltoall, Allreduce, Scan, Exscan}
+use Rattle.mpicall.specs.declared.call.Mode.TheVariants.{Standard, Synchronous, Buffered}
 use Rattle.mpicall.specs.declared.word.Operation.{Operation}
 use Rattle.mpicall.specs.declared.word.Operation.TheVariants.{Send, Recv, Coll}
 use Rattle.mpicall.specs.declared.word.Word.{Word}
-use Rattle.mpicall.specs.declared.word.Word.TheVariants.{Blocking, Started, Sendrecv, Wait, Waitall, Waitany, Dup, Split, Finalize}
+use Rattle.mpicall.specs.declared.word.Word.TheVariants.{Blocking, Started, Sendrecv, Wait, Waitall, Waitany, Dup, Split, Probe, Finalize, Open}
 
 -- Arguments, each put into its form again.
 
@@ -88,35 +92,68 @@ name_kept Allreduce root = refl
 name_kept Scan root = refl
 name_kept Exscan root = refl
 
-blocking_rebuilt : (o : Operation) (args : List Argument) → arguments_of (call_of (Blocking o) args) ≡ rebuild (operation_forms o) 0 args
-blocking_rebuilt (Send mode) args = refl
-blocking_rebuilt Recv args = refl
-blocking_rebuilt (Coll c) args = ap (λ others. Number GREATEST_COMM (number_in (at args 0)) ∷ others) (root_rebuilt c 1 args)
+-- the bytes of a message, where there is one argument more
+bytes_rebuilt : (more : Bool) (place : ℕ) (args : List Argument) → length args ≡ place + length (if more then bytes_form ∷ [] else []) → bytes_arguments (number_at args place) ≡ rebuild (if more then bytes_form ∷ [] else []) place args
+bytes_rebuilt true place args count =
+    let there : slice_get args place ≡ Some (at args place) = slice_get-get_or args place (Number 0 0) (omega (arith, count)) in
+    rw there refl
+bytes_rebuilt false place args count =
+    let none : slice_get args place ≡ None = slice_get_past args place (omega (arith, count)) in
+    rw none refl
 
-started_rebuilt : (o : Operation) (args : List Argument) → arguments_of (call_of (Started o) args) ≡ rebuild (request_form ∷ operation_forms o) 0 args
-started_rebuilt (Send mode) args = refl
-started_rebuilt Recv args = refl
-started_rebuilt (Coll c) args = ap (λ others. Number 2147483647 (number_in (at args 0)) ∷ Number GREATEST_COMM (number_in (at args 1)) ∷ others) (root_rebuilt c 2 args)
+no_bytes : (place : ℕ) (args : List Argument) → length args ≡ place → number_at args place ≡ None
+no_bytes place args count = let none : slice_get args place ≡ None = slice_get_past args place (omega (arith, count)) in rw none refl
+
+blocking_rebuilt : (o : Operation) (args : List Argument) → length args ≡ length (operation_forms o (length args)) → arguments_of (call_of (Blocking o) args) ≡ rebuild (operation_forms o (length args)) 0 args
+blocking_rebuilt (Send Standard) args count =
+    ap (λ others. Number GREATEST_COMM (number_in (at args 0)) ∷ PeerOf (peer_in (at args 1)) ∷ Number 2147483647 (number_in (at args 2)) ∷ others) (bytes_rebuilt (length args == 3 + 1) 3 args (omega (arith, count)))
+blocking_rebuilt (Send Synchronous) args count = rw (no_bytes 3 args count) refl
+blocking_rebuilt (Send Buffered) args count = rw (no_bytes 3 args count) refl
+blocking_rebuilt Recv args count = refl
+blocking_rebuilt (Coll c) args count = ap (λ others. Number GREATEST_COMM (number_in (at args 0)) ∷ others) (root_rebuilt c 1 args)
+
+started_rebuilt : (o : Operation) (args : List Argument) → length args ≡ length (request_form ∷ operation_forms o (length args - 1)) → arguments_of (call_of (Started o) args) ≡ rebuild (request_form ∷ operation_forms o (length args - 1)) 0 args
+started_rebuilt (Send Standard) args count =
+    ap (λ others. Number 2147483647 (number_in (at args 0)) ∷ Number GREATEST_COMM (number_in (at args 1)) ∷ PeerOf (peer_in (at args 2)) ∷ Number 2147483647 (number_in (at args 3)) ∷ others) (bytes_rebuilt (length args - 1 == 3 + 1) 4 args (omega (arith, count)))
+started_rebuilt (Send Synchronous) args count = rw (no_bytes 4 args count) refl
+started_rebuilt (Send Buffered) args count = rw (no_bytes 4 args count) refl
+started_rebuilt Recv args count = refl
+started_rebuilt (Coll c) args count = ap (λ others. Number 2147483647 (number_in (at args 0)) ∷ Number GREATEST_COMM (number_in (at args 1)) ∷ others) (root_rebuilt c 2 args)
+
+sendrecv_rebuilt : (args : List Argument) → length args ≡ length (comm_form ∷ PeerForm ∷ tag_form ∷ PeerForm ∷ tag_form ∷ bytes_forms 5 (length args)) → arguments_of (call_of Sendrecv args) ≡ rebuild (comm_form ∷ PeerForm ∷ tag_form ∷ PeerForm ∷ tag_form ∷ bytes_forms 5 (length args)) 0 args
+sendrecv_rebuilt args count =
+    ap (λ others. Number GREATEST_COMM (number_in (at args 0)) ∷ PeerOf (peer_in (at args 1)) ∷ Number 2147483647 (number_in (at args 2)) ∷ PeerOf (peer_in (at args 3)) ∷ Number 2147483647 (number_in (at args 4)) ∷ others) (bytes_rebuilt (length args == 5 + 1) 5 args (omega (arith, count)))
 
 same_arguments : (forms wanted : List Form) (args made : List Argument) → made ≡ rebuild forms 0 args → Fixed forms ≡ Fixed wanted → map form_of args ≡ wanted → made ≡ args
 same_arguments forms wanted args made e same is =
     let f : forms ≡ map form_of args = cc in
     e ∙ ap (λ fs. rebuild fs 0 args) f ∙ rebuilt args
 
-fixed_back : (w : Word) (forms : List Form) (args : List Argument) → shape_of w ≡ Fixed forms → map form_of args ≡ forms → (arguments_of (call_of w args) ≡ args) × (word_of_call (call_of w args) ≡ w)
-fixed_back (Blocking (Send mode)) forms args is e = (same_arguments _ forms args _ (blocking_rebuilt (Send mode) args) is e, refl)
-fixed_back (Blocking Recv) forms args is e = (same_arguments _ forms args _ (blocking_rebuilt Recv args) is e, refl)
-fixed_back (Blocking (Coll c)) forms args is e = (same_arguments _ forms args _ (blocking_rebuilt (Coll c) args) is e, ap (λ n. Blocking (Coll n)) (name_kept c (at args 1)))
-fixed_back (Started (Send mode)) forms args is e = (same_arguments _ forms args _ (started_rebuilt (Send mode) args) is e, refl)
-fixed_back (Started Recv) forms args is e = (same_arguments _ forms args _ (started_rebuilt Recv args) is e, refl)
-fixed_back (Started (Coll c)) forms args is e = (same_arguments _ forms args _ (started_rebuilt (Coll c) args) is e, ap (λ n. Started (Coll n)) (name_kept c (at args 2)))
-fixed_back Sendrecv forms args is e = (same_arguments (comm_form ∷ PeerForm ∷ tag_form ∷ PeerForm ∷ tag_form ∷ []) forms args _ refl is e, refl)
-fixed_back Wait forms args is e = (same_arguments (request_form ∷ []) forms args _ refl is e, refl)
+count_of : (forms wanted : List Form) (args : List Argument) → Fixed forms ≡ Fixed wanted → map form_of args ≡ wanted → length args ≡ length forms
+count_of forms wanted args same is =
+    let f : forms ≡ map form_of args = cc in
+    sym (length-map args form_of) ∙ ap length (sym f)
+
+fixed_back : (w : Word) (forms : List Form) (args : List Argument) → shape_of w (length args) ≡ Fixed forms → map form_of args ≡ forms → (arguments_of (call_of w args) ≡ args) × (word_of_call (call_of w args) ≡ w) × (names_enough (call_of w args) ≡ true)
+fixed_back (Blocking (Send Standard)) forms args is e = (same_arguments _ forms args _ (blocking_rebuilt (Send Standard) args (count_of _ forms args is e)) is e, refl, refl)
+fixed_back (Blocking (Send Synchronous)) forms args is e = (same_arguments _ forms args _ (blocking_rebuilt (Send Synchronous) args (count_of _ forms args is e)) is e, refl, rw (no_bytes 3 args (count_of _ forms args is e)) refl)
+fixed_back (Blocking (Send Buffered)) forms args is e = (same_arguments _ forms args _ (blocking_rebuilt (Send Buffered) args (count_of _ forms args is e)) is e, refl, rw (no_bytes 3 args (count_of _ forms args is e)) refl)
+fixed_back (Blocking Recv) forms args is e = (same_arguments _ forms args _ (blocking_rebuilt Recv args (count_of _ forms args is e)) is e, refl, refl)
+fixed_back (Blocking (Coll c)) forms args is e = (same_arguments _ forms args _ (blocking_rebuilt (Coll c) args (count_of _ forms args is e)) is e, ap (λ n. Blocking (Coll n)) (name_kept c (at args 1)), refl)
+fixed_back (Started (Send Standard)) forms args is e = (same_arguments _ forms args _ (started_rebuilt (Send Standard) args (count_of _ forms args is e)) is e, refl, refl)
+fixed_back (Started (Send Synchronous)) forms args is e = (same_arguments _ forms args _ (started_rebuilt (Send Synchronous) args (count_of _ forms args is e)) is e, refl, rw (no_bytes 4 args (count_of _ forms args is e)) refl)
+fixed_back (Started (Send Buffered)) forms args is e = (same_arguments _ forms args _ (started_rebuilt (Send Buffered) args (count_of _ forms args is e)) is e, refl, rw (no_bytes 4 args (count_of _ forms args is e)) refl)
+fixed_back (Started Recv) forms args is e = (same_arguments _ forms args _ (started_rebuilt Recv args (count_of _ forms args is e)) is e, refl, refl)
+fixed_back (Started (Coll c)) forms args is e = (same_arguments _ forms args _ (started_rebuilt (Coll c) args (count_of _ forms args is e)) is e, ap (λ n. Started (Coll n)) (name_kept c (at args 2)), refl)
+fixed_back Sendrecv forms args is e = (same_arguments _ forms args _ (sendrecv_rebuilt args (count_of _ forms args is e)) is e, refl, refl)
+fixed_back Wait forms args is e = (same_arguments (request_form ∷ []) forms args _ refl is e, refl, refl)
 fixed_back Waitall forms args is e = cc
 fixed_back Waitany forms args is e = cc
-fixed_back Dup forms args is e = (same_arguments (comm_form ∷ comm_form ∷ []) forms args _ refl is e, refl)
-fixed_back Split forms args is e = (same_arguments (comm_form ∷ ColourForm ∷ KeyForm ∷ NewForm ∷ []) forms args _ refl is e, refl)
-fixed_back Finalize forms args is e = (same_arguments [] forms args _ refl is e, refl)
+fixed_back Dup forms args is e = (same_arguments (comm_form ∷ comm_form ∷ []) forms args _ refl is e, refl, refl)
+fixed_back Split forms args is e = (same_arguments (comm_form ∷ ColourForm ∷ KeyForm ∷ NewForm ∷ []) forms args _ refl is e, refl, refl)
+fixed_back Probe forms args is e = (same_arguments (comm_form ∷ PeerForm ∷ tag_form ∷ []) forms args _ refl is e, refl, refl)
+fixed_back Finalize forms args is e = (same_arguments [] forms args _ refl is e, refl, refl)
+fixed_back Open forms args is e = (same_arguments [] forms args _ refl is e, refl, refl)
 
 -- Fields in their forms are read.
 
@@ -189,17 +226,18 @@ requests_spelled (field ∷ fields) e =
 SpellsBehind : Word → List (List ℕ) → Call → Type 0
 SpellsBehind w fields call = (fields ≡ map spell (arguments_of call)) × (word_of_call call ≡ w) × (in_ranges call ≡ true)
 
-fixed_spells : (w : Word) (forms : List Form) (fields : List (List ℕ)) → shape_of w ≡ Fixed forms → fits w fields ≡ true → SpellsBehind w fields (call_of w (arguments_in (shape_of w) fields))
+fixed_spells : (w : Word) (forms : List Form) (fields : List (List ℕ)) → shape_of w (length fields) ≡ Fixed forms → fits w fields ≡ true → SpellsBehind w fields (call_of w (arguments_in (shape_of w (length fields)) fields))
 unfolding SpellsBehind
 fixed_spells w forms fields is h =
     let fit = rw is at h in
     let parts = and_true (length forms == length fields) (each_in_form forms fields) fit in
     let n : length forms ≡ length fields = grind (arith, nat_tests, parts.0) in
     let row = row_read forms fields n parts.1 in
-    let args : arguments_in (shape_of w) fields ≡ row.args = ap (λ s. arguments_in s fields) is ∙ ap taken row.read in
-    let back = fixed_back w forms row.args is row.forms_are in
+    let args : arguments_in (shape_of w (length fields)) fields ≡ row.args = ap (λ s. arguments_in s fields) is ∙ ap taken row.read in
+    let same : length fields ≡ length row.args = sym n ∙ ap length (sym row.forms_are) ∙ length-map row.args form_of in
+    let back = fixed_back w forms row.args (ap (shape_of w) (sym same) ∙ is) row.forms_are in
     let read = row.read ∙ ap (λ (a : List Argument). Some (a, [])) (sym back.0) in
-    rw args (fixed_all w forms fields (call_of w row.args) is read back.1)
+    rw args (fixed_all w forms fields (call_of w row.args) is read back.1 back.2)
 
 waitall_spells : (fields : List (List ℕ)) → fits Waitall fields ≡ true → SpellsBehind Waitall fields (call_of Waitall (arguments_in Requests fields))
 unfolding SpellsBehind
@@ -237,7 +275,7 @@ waitany_spells (index ∷ fields) h =
     let in_list : nat_le (value_of index) (length (read_requests fields) - 1) ≡ true = rw same first.1 in
     (cons_same _ _ _ _ first.0 others.0, refl, both _ _ (both _ _ in_list others.1) enough)
 
-by_shape : (w : Word) (s : Shape) (fields : List (List ℕ)) → shape_of w ≡ s → fits w fields ≡ true → SpellsBehind w fields (call_of w (arguments_in (shape_of w) fields))
+by_shape : (w : Word) (s : Shape) (fields : List (List ℕ)) → shape_of w (length fields) ≡ s → fits w fields ≡ true → SpellsBehind w fields (call_of w (arguments_in (shape_of w (length fields)) fields))
 by_shape w (Fixed forms) fields is h = fixed_spells w forms fields is h
 by_shape Waitall Requests fields is h = waitall_spells fields h
 by_shape Waitany Chosen fields is h = waitany_spells fields h
@@ -260,9 +298,9 @@ word_spells : (text : List ℕ) (fields : List (List ℕ)) (o : Option Word) →
 unfolding SpellsBehind
 word_spells text fields None is e = cc
 word_spells text fields (Some w) is e =
-    let fit = fit_cases (takes_count (shape_of w) (length fields)) (wildcard_at (source_place w) fields) (all_in_form (shape_of w) fields) e in
-    let spelled = by_shape w (shape_of w) fields refl fit in
-    let word : text ≡ text_of (word_of_call (call_of w (arguments_in (shape_of w) fields))) = word_has text w is ∙ ap text_of (sym spelled.1) in
+    let fit = fit_cases (takes_count (shape_of w (length fields)) (length fields)) (wildcard_at (source_place w) fields) (all_in_form (shape_of w (length fields)) fields) e in
+    let spelled = by_shape w (shape_of w (length fields)) fields refl fit in
+    let word : text ≡ text_of (word_of_call (call_of w (arguments_in (shape_of w (length fields)) fields))) = word_has text w is ∙ ap text_of (sym spelled.1) in
     (cons_same _ _ _ _ word spelled.0, spelled.2)
 
 fields_spell : (fields : List (List ℕ)) → fault_of_fields fields ≡ None → (fields ≡ fields_of (call_of_fields fields)) × (in_ranges (call_of_fields fields) ≡ true)

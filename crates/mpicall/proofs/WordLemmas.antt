@@ -12,7 +12,7 @@ use Rattle.mpicall.specs.declared.word.Collective.TheVariants.{Barrier, Bcast, G
 use Rattle.mpicall.specs.declared.word.Operation.{Operation}
 use Rattle.mpicall.specs.declared.word.Operation.TheVariants.{Send, Recv, Coll}
 use Rattle.mpicall.specs.declared.word.Word.{Word}
-use Rattle.mpicall.specs.declared.word.Word.TheVariants.{Blocking, Started, Sendrecv, Wait, Waitall, Waitany, Dup, Split, Finalize}
+use Rattle.mpicall.specs.declared.word.Word.TheVariants.{Blocking, Started, Sendrecv, Wait, Waitall, Waitany, Dup, Split, Probe, Finalize, Open}
 
 -- What is found has the text.
 
@@ -118,7 +118,9 @@ word_found Waitall = refl
 word_found Waitany = refl
 word_found Dup = refl
 word_found Split = refl
+word_found Probe = refl
 word_found Finalize = refl
+word_found Open = refl
 
 -- Each text has bytes, few and all above the space.
 
@@ -169,4 +171,6 @@ text_is Waitall = fair_text _ refl
 text_is Waitany = fair_text _ refl
 text_is Dup = fair_text _ refl
 text_is Split = fair_text _ refl
+text_is Probe = fair_text _ refl
 text_is Finalize = fair_text _ refl
+text_is Open = fair_text _ refl

@@ -4,7 +4,7 @@ use Rattle.std.specs.Prelude.{ℕ, ◌-◌, ◌+◌, ℤ, pos, negsuc, suc, zero
 use Rattle.std.specs.Fmt.{decimal, signed_decimal}
 use Rattle.std.specs.Str.{bytes_eq}
 use Rattle.mpicall.specs.Number.{number_up_to, signed_of}
-use Rattle.mpicall.specs.declared.limits.TheConstants.{GREATEST_COMM, GREATEST_RANK, GREATEST_TAG, GREATEST_REQUEST, GREATEST_COLOUR, GREATEST_KEY}
+use Rattle.mpicall.specs.declared.limits.TheConstants.{GREATEST_COMM, GREATEST_RANK, GREATEST_TAG, GREATEST_REQUEST, GREATEST_BYTES, GREATEST_COLOUR, GREATEST_KEY}
 use Rattle.mpicall.specs.declared.call.Peer.{Peer}
 use Rattle.mpicall.specs.declared.call.Peer.TheVariants.{Rank, Null}
 
@@ -25,6 +25,9 @@ tag_argument tag = Number GREATEST_TAG tag
 
 abbrev pub request_argument : ℕ → Argument
 request_argument req = Number GREATEST_REQUEST req
+
+abbrev pub bytes_argument : ℕ → Argument
+bytes_argument bytes = Number GREATEST_BYTES bytes
 
 abbrev pub root_argument : ℕ → Argument
 root_argument root = Number GREATEST_RANK root
@@ -85,6 +88,9 @@ tag_form = NumberUpTo GREATEST_TAG
 
 abbrev pub request_form : Form
 request_form = NumberUpTo GREATEST_REQUEST
+
+abbrev pub bytes_form : Form
+bytes_form = NumberUpTo GREATEST_BYTES
 
 abbrev pub root_form : Form
 root_form = NumberUpTo GREATEST_RANK

@@ -1,20 +1,29 @@
 -- The ranges of a call's fields. A record is a call all of whose fields lie in them.
-use Rattle.std.specs.Prelude.{ℕ, Bool, true, ◌&&◌, nat_le, List, length}
+use Rattle.std.specs.Prelude.{ℕ, Bool, true, ◌&&◌, nat_le, Option, is_none, List, length}
+use Rattle.mpicall.specs.declared.call.Mode.{Mode}
+use Rattle.mpicall.specs.declared.call.Mode.TheVariants.{Standard}
 use Rattle.std.specs.List.{list_all}
 use Rattle.mpicall.specs.Argument.{is_in_range}
 use Rattle.mpicall.specs.Spelling.{arguments_of}
 use Rattle.mpicall.specs.declared.limits.TheConstants.{MOST_REQUESTS}
 use Rattle.mpicall.specs.declared.call.Call.{Call}
-use Rattle.mpicall.specs.declared.call.Call.TheVariants.{Waitall, Waitany}
+use Rattle.mpicall.specs.declared.call.Call.TheVariants.{Send, Isend, Waitall, Waitany}
 
 -- one wait names so many requests
 abbrev pub few_enough : List ℕ → Bool
 few_enough reqs = nat_le 1 (length reqs) && nat_le (length reqs) MOST_REQUESTS
 
--- a wait for several requests names some, and not too many
+-- a standard send alone may tell its bytes
+abbrev pub may_tell : Mode → Option ℕ → Bool
+may_tell Standard bytes = true
+may_tell mode bytes = is_none bytes
+
+-- a wait for several requests names some, and not too many, and a send that isn't standard tells no bytes
 abbrev pub names_enough : Call → Bool
 names_enough (Waitall reqs) = few_enough reqs
 names_enough (Waitany chosen reqs) = few_enough reqs
+names_enough (Send mode comm dest tag bytes) = may_tell mode bytes
+names_enough (Isend req mode comm dest tag bytes) = may_tell mode bytes
 names_enough _ = true
 
 -- each argument of the call lies in its range, and its list of requests has a length that is allowed

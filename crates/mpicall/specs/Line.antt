@@ -3,16 +3,17 @@
 use Rattle.std.specs.Prelude.{ℕ, ◌+◌, ◌-◌, Bool, true, false, ◌&&◌, ◌==◌, nat_le, nat_lt, Option, Some, None, if◌then◌else◌, List, [], ◌∷◌, length, take, drop, codes}
 use Rattle.std.specs.List.{list_any, list_all}
 use Rattle.std.specs.Str.{bytes_eq}
-use Rattle.mpicall.specs.Argument.{Form, PeerForm, ColourForm, KeyForm, NewForm, comm_form, tag_form, request_form, root_form, index_form, is_in_form}
+use Rattle.mpicall.specs.Argument.{Form, PeerForm, ColourForm, KeyForm, NewForm, comm_form, tag_form, request_form, bytes_form, root_form, index_form, is_in_form}
 use Rattle.mpicall.specs.Word.{word_of}
 use Rattle.mpicall.specs.Lines.{is_blank, most_bytes, has_line_feed, split_fields, body_of}
 use Rattle.mpicall.specs.declared.limits.TheConstants.{MOST_REQUESTS}
 use Rattle.mpicall.specs.declared.word.Collective.{Collective}
 use Rattle.mpicall.specs.declared.word.Collective.TheVariants.{Barrier, Bcast, Gather, Scatter, Reduce, Allgather, Alltoall, Allreduce, Scan, Exscan}
+use Rattle.mpicall.specs.declared.call.Mode.TheVariants.{Standard, Synchronous, Buffered}
 use Rattle.mpicall.specs.declared.word.Operation.{Operation}
 use Rattle.mpicall.specs.declared.word.Operation.TheVariants.{Send, Recv, Coll}
 use Rattle.mpicall.specs.declared.word.Word.{Word}
-use Rattle.mpicall.specs.declared.word.Word.TheVariants.{Blocking, Started, Sendrecv, Wait, Waitall, Waitany, Dup, Split, Finalize}
+use Rattle.mpicall.specs.declared.word.Word.TheVariants.{Blocking, Started, Sendrecv, Wait, Waitall, Waitany, Dup, Split, Probe, Finalize, Open}
 use Rattle.mpicall.specs.declared.fault.LineFault.{LineFault}
 use Rattle.mpicall.specs.declared.fault.LineFault.TheVariants.{EmptyField, UnknownWord, FieldCount, FieldForm, Wildcard, TooLong, NoLineFeed}
 
@@ -30,23 +31,31 @@ root_forms Scatter = root_form ∷ []
 root_forms Reduce = root_form ∷ []
 root_forms _ = []
 
--- the forms of the fields of an operation
-abbrev pub operation_forms : Operation → List Form
-operation_forms (Send mode) = comm_form ∷ PeerForm ∷ tag_form ∷ []
-operation_forms Recv = comm_form ∷ PeerForm ∷ tag_form ∷ []
-operation_forms (Coll collective) = comm_form ∷ root_forms collective
+-- the bytes of a message may stand behind so many fields: where there is one field more
+abbrev pub bytes_forms : ℕ → ℕ → List Form
+bytes_forms plain count = if count == plain + 1 then bytes_form ∷ [] else []
 
--- the shape of a word; what starts an operation has its request in front
-abbrev pub shape_of : Word → Shape
-shape_of (Blocking operation) = Fixed (operation_forms operation)
-shape_of (Started operation) = Fixed (request_form ∷ operation_forms operation)
-shape_of Sendrecv = Fixed (comm_form ∷ PeerForm ∷ tag_form ∷ PeerForm ∷ tag_form ∷ [])
-shape_of Wait = Fixed (request_form ∷ [])
-shape_of Waitall = Requests
-shape_of Waitany = Chosen
-shape_of Dup = Fixed (comm_form ∷ comm_form ∷ [])
-shape_of Split = Fixed (comm_form ∷ ColourForm ∷ KeyForm ∷ NewForm ∷ [])
-shape_of Finalize = Fixed []
+-- the forms of the fields of an operation, where there are so many fields
+abbrev pub operation_forms : Operation → ℕ → List Form
+operation_forms (Send Standard) count = comm_form ∷ PeerForm ∷ tag_form ∷ bytes_forms 3 count
+operation_forms (Send Synchronous) count = comm_form ∷ PeerForm ∷ tag_form ∷ []
+operation_forms (Send Buffered) count = comm_form ∷ PeerForm ∷ tag_form ∷ []
+operation_forms Recv count = comm_form ∷ PeerForm ∷ tag_form ∷ []
+operation_forms (Coll collective) count = comm_form ∷ root_forms collective
+
+-- the shape of a word's line that has so many fields behind it; what starts an operation has its request in front
+abbrev pub shape_of : Word → ℕ → Shape
+shape_of (Blocking operation) count = Fixed (operation_forms operation count)
+shape_of (Started operation) count = Fixed (request_form ∷ operation_forms operation (count - 1))
+shape_of Sendrecv count = Fixed (comm_form ∷ PeerForm ∷ tag_form ∷ PeerForm ∷ tag_form ∷ bytes_forms 5 count)
+shape_of Wait count = Fixed (request_form ∷ [])
+shape_of Waitall count = Requests
+shape_of Waitany count = Chosen
+shape_of Dup count = Fixed (comm_form ∷ comm_form ∷ [])
+shape_of Split count = Fixed (comm_form ∷ ColourForm ∷ KeyForm ∷ NewForm ∷ [])
+shape_of Probe count = Fixed (comm_form ∷ PeerForm ∷ tag_form ∷ [])
+shape_of Finalize count = Fixed []
+shape_of Open count = Fixed []
 
 -- a line of this shape may have so many fields behind its word
 abbrev pub takes_count : Shape → ℕ → Bool
@@ -77,6 +86,7 @@ abbrev pub source_place : Word → Option ℕ
 source_place (Blocking Recv) = Some 1
 source_place (Started Recv) = Some 2
 source_place Sendrecv = Some 3
+source_place Probe = Some 1
 source_place _ = None
 
 -- a wildcard stands as the source or the tag of a receive
@@ -87,9 +97,9 @@ wildcard_at (Some place) fields = list_any is_any (take 2 (drop place fields))
 -- the first fault of the fields behind a word
 abbrev pub fault_behind : Word → List (List ℕ) → Option LineFault
 fault_behind word fields =
-    if takes_count (shape_of word) (length fields)
+    if takes_count (shape_of word (length fields)) (length fields)
     then (if wildcard_at (source_place word) fields then Some Wildcard
-    else (if all_in_form (shape_of word) fields then None else Some FieldForm))
+    else (if all_in_form (shape_of word (length fields)) fields then None else Some FieldForm))
     else Some FieldCount
 
 abbrev pub fault_by_word : Option Word → List (List ℕ) → Option LineFault
@@ -110,7 +120,7 @@ fault_of_line line =
 
 -- the fields behind a word are as many as it takes, each in its form and range
 abbrev pub fits : Word → List (List ℕ) → Bool
-fits word fields = takes_count (shape_of word) (length fields) && all_in_form (shape_of word) fields
+fits word fields = takes_count (shape_of word (length fields)) (length fields) && all_in_form (shape_of word (length fields)) fields
 
 abbrev pub fits_word : Option Word → List (List ℕ) → Bool
 fits_word None fields = false

@@ -1,10 +1,10 @@
 -- How the fields of a line are read, and the record that a line without a fault spells. Nobody has to
 -- believe this: `read_line` promises that `record_of_line` gives a record exactly where the line is its
 -- spelling, and else the line's first fault.
-use Rattle.std.specs.Prelude.{◌≡◌, ◌<◌, ◌++◌, ℕ, ℤ, pos, Bool, true, false, ◌&&◌, nat_le, MatchBool, Option, Some, None, Result, Ok, Err, MatchResult, MatchOption, List, [], ◌∷◌, length, map, get_or, drop}
+use Rattle.std.specs.Prelude.{◌≡◌, ◌<◌, ◌++◌, ℕ, ℤ, pos, Bool, true, false, ◌&&◌, nat_le, MatchBool, Option, Some, None, Result, Ok, Err, MatchResult, MatchOption, option_map, List, [], ◌∷◌, length, map, get_or, slice_get, drop}
 use Rattle.std.specs.List.{list_all}
 use Rattle.mpicall.specs.declared.limits.TheConstants.{MOST_REQUESTS}
-use Rattle.mpicall.specs.Limits.{in_ranges, few_enough}
+use Rattle.mpicall.specs.Limits.{in_ranges, names_enough, few_enough}
 use Rattle.mpicall.specs.Argument.{is_in_range, spell, Argument, Number, PeerOf, Colour, Key, New, Form, request_argument, index_argument, read_argument}
 use Rattle.mpicall.specs.Number.{value_of}
 use Rattle.mpicall.specs.Word.{word_of}
@@ -16,12 +16,12 @@ use Rattle.mpicall.specs.declared.call.Peer.TheVariants.{Null}
 use Rattle.mpicall.specs.declared.call.Kind.{Kind}
 use Rattle.mpicall.specs.declared.call.Kind.TheVariants.{Barrier, Bcast, Gather, Scatter, Reduce, Allgather, Alltoall, Allreduce, Scan, Exscan}
 use Rattle.mpicall.specs.declared.call.Call.{Call}
-use Rattle.mpicall.specs.declared.call.Call.TheVariants.{Send, Recv, Isend, Irecv, Sendrecv, Wait, Waitall, Waitany, Coll, Icoll, Dup, Split, Finalize}
+use Rattle.mpicall.specs.declared.call.Call.TheVariants.{Send, Recv, Isend, Irecv, Sendrecv, Wait, Waitall, Waitany, Coll, Icoll, Dup, Split, Probe, Finalize, Open}
 use Rattle.mpicall.specs.declared.word.Collective.{Collective}
 use Rattle.mpicall.specs.declared.word.Collective.TheVariants.{Barrier as BarrierName, Bcast as BcastName, Gather as GatherName, Scatter as ScatterName, Reduce as ReduceName, Allgather as AllgatherName, Alltoall as AlltoallName, Allreduce as AllreduceName, Scan as ScanName, Exscan as ExscanName}
 use Rattle.mpicall.specs.declared.word.Operation.TheVariants.{Send as SendOperation, Recv as RecvOperation, Coll as CollOperation}
 use Rattle.mpicall.specs.declared.word.Word.{Word}
-use Rattle.mpicall.specs.declared.word.Word.TheVariants.{Blocking, Started, Sendrecv as SendrecvWord, Wait as WaitWord, Waitall as WaitallWord, Waitany as WaitanyWord, Dup as DupWord, Split as SplitWord, Finalize as FinalizeWord}
+use Rattle.mpicall.specs.declared.word.Word.TheVariants.{Blocking, Started, Sendrecv as SendrecvWord, Wait as WaitWord, Waitall as WaitallWord, Waitany as WaitanyWord, Dup as DupWord, Split as SplitWord, Probe as ProbeWord, Finalize as FinalizeWord, Open as OpenWord}
 use Rattle.mpicall.specs.declared.fault.LineFault.{LineFault}
 
 -- an argument that was read, and the fields behind it
@@ -59,7 +59,7 @@ all_taken (Some (arguments, field ∷ fields)) = None
 abbrev pub ReadsWhole : Word → List Form → List (List ℕ) → Option (Unit {0}) → Call → Call → Type 0
 ReadsWhole word forms fields answer old new =
     MatchOption answer ((all_taken (take_arguments forms fields) ≡ None) × (new ≡ old))
-    (λ _. (all_taken (take_arguments forms fields) ≡ Some (arguments_of new)) × (word_of_call new ≡ word))
+    (λ _. (all_taken (take_arguments forms fields) ≡ Some (arguments_of new)) × (word_of_call new ≡ word) × (names_enough new ≡ true))
 
 -- the number, the peer and so on of an argument that is one
 abbrev pub number_in : Argument → ℕ
@@ -86,6 +86,10 @@ new_in _ = None
 abbrev pub at : List Argument → ℕ → Argument
 at arguments place = get_or arguments place (Number 0 0)
 
+-- the number of one of some arguments, where there is one
+abbrev pub number_at : List Argument → ℕ → Option ℕ
+number_at arguments place = option_map number_in (slice_get arguments place)
+
 abbrev pub kind_of : Collective → Argument → Kind
 kind_of BarrierName root = Barrier
 kind_of BcastName root = Bcast (number_in root)
@@ -100,19 +104,21 @@ kind_of ExscanName root = Exscan
 
 -- the call of a word and its arguments
 abbrev pub call_of : Word → List Argument → Call
-call_of (Blocking (SendOperation mode)) a = Send mode (number_in (at a 0)) (peer_in (at a 1)) (number_in (at a 2))
+call_of (Blocking (SendOperation mode)) a = Send mode (number_in (at a 0)) (peer_in (at a 1)) (number_in (at a 2)) (number_at a 3)
 call_of (Blocking RecvOperation) a = Recv (number_in (at a 0)) (peer_in (at a 1)) (number_in (at a 2))
 call_of (Blocking (CollOperation name)) a = Coll (number_in (at a 0)) (kind_of name (at a 1))
-call_of (Started (SendOperation mode)) a = Isend (number_in (at a 0)) mode (number_in (at a 1)) (peer_in (at a 2)) (number_in (at a 3))
+call_of (Started (SendOperation mode)) a = Isend (number_in (at a 0)) mode (number_in (at a 1)) (peer_in (at a 2)) (number_in (at a 3)) (number_at a 4)
 call_of (Started RecvOperation) a = Irecv (number_in (at a 0)) (number_in (at a 1)) (peer_in (at a 2)) (number_in (at a 3))
 call_of (Started (CollOperation name)) a = Icoll (number_in (at a 0)) (number_in (at a 1)) (kind_of name (at a 2))
-call_of SendrecvWord a = Sendrecv (number_in (at a 0)) (peer_in (at a 1)) (number_in (at a 2)) (peer_in (at a 3)) (number_in (at a 4))
+call_of SendrecvWord a = Sendrecv (number_in (at a 0)) (peer_in (at a 1)) (number_in (at a 2)) (peer_in (at a 3)) (number_in (at a 4)) (number_at a 5)
 call_of WaitWord a = Wait (number_in (at a 0))
 call_of WaitallWord a = Waitall (map number_in a)
 call_of WaitanyWord a = Waitany (number_in (at a 0)) (map number_in (drop 1 a))
 call_of DupWord a = Dup (number_in (at a 0)) (number_in (at a 1))
 call_of SplitWord a = Split (number_in (at a 0)) (colour_in (at a 1)) (key_in (at a 2)) (new_in (at a 3))
+call_of ProbeWord a = Probe (number_in (at a 0)) (peer_in (at a 1)) (number_in (at a 2))
 call_of FinalizeWord a = Finalize
+call_of OpenWord a = Open
 
 -- the arguments that fields of a shape spell
 abbrev pub taken : Option (List Argument × List (List ℕ)) → List Argument
@@ -130,7 +136,7 @@ arguments_in Chosen (index ∷ fields) = index_argument (length fields) (value_o
 
 abbrev pub call_by_word : Option Word → List (List ℕ) → Call
 call_by_word None fields = Finalize
-call_by_word (Some word) fields = call_of word (arguments_in (shape_of word) fields)
+call_by_word (Some word) fields = call_of word (arguments_in (shape_of word (length fields)) fields)
 
 unfoldable pub call_of_fields : List (List ℕ) → Call
 call_of_fields [] = Finalize

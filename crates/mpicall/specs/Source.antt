@@ -3,19 +3,19 @@ use Rattle.std.specs.Prelude.{◌≡◌, ◌≢◌, ℕ, Bool, true, false, ◌&
 use Rattle.std.specs.Io.KnownBytes.{prepend_known, Consumes}
 use Rattle.mpicall.specs.Window.{NoFeedBelow}
 use Rattle.mpicall.specs.Device.{count_if}
-use Rattle.mpicall.specs.Trace.{Trace, End, Sealed, Torn, trace_of, end_after_finalize, ends_here, put_first}
+use Rattle.mpicall.specs.Trace.{Trace, End, Sealed, Torn, trace_of, end_with_behind, ends_here, put_first}
 use Rattle.mpicall.specs.Lines.{lines_of}
 use Rattle.mpicall.specs.declared.call.Call.{Call}
 use Rattle.mpicall.specs.declared.fault.SourceFault.{SourceFault}
 use Rattle.mpicall.specs.declared.fault.SourceFault.TheVariants.{ReadFailed, GateStopped, ThreadNotStarted}
 use Rattle.mpicall.specs.declared.source.Source.{Source}
 use Rattle.mpicall.specs.declared.source.Stage.{Stage}
-use Rattle.mpicall.specs.declared.source.Stage.TheVariants.{Reading, Finalized, Done, Failed}
+use Rattle.mpicall.specs.declared.source.Stage.TheVariants.{Reading, Ended, Done, Failed}
 
 -- the trace that is still to come, by how far the source is and the bytes that it has not used
 abbrev pub trace_at : Stage → Option (List ℕ) → Option Trace
 trace_at Reading bytes = option_map trace_of bytes
-trace_at Finalized bytes = option_map (λ behind. ends_here (end_after_finalize (lines_of behind))) bytes
+trace_at Ended bytes = option_map (λ behind. ends_here (end_with_behind (lines_of behind))) bytes
 trace_at Done bytes = Some (ends_here Sealed)
 trace_at (Failed fault) bytes = Some (ends_here (Torn fault))
 
@@ -34,7 +34,7 @@ IsCutOff unread left = (part : List ℕ) × Consumes unread left part × NoFeedB
 -- the end that a source has answered; None before
 abbrev pub ended_at : Stage → Option End
 ended_at Reading = None
-ended_at Finalized = None
+ended_at Ended = None
 ended_at Done = Some Sealed
 ended_at (Failed fault) = Some (Torn fault)
 

@@ -1,17 +1,17 @@
 -- The spelling of a record: its word and its arguments, each after one space, and a line feed.
 use Rattle.std.specs.Prelude.{ℕ, Option, Some, None, List, [], ◌∷◌, ◌++◌, length, map}
 use Rattle.std.specs.List.{join_with_byte}
-use Rattle.mpicall.specs.Argument.{Argument, PeerOf, Colour, Key, New, comm_argument, tag_argument, request_argument, root_argument, index_argument, spell}
+use Rattle.mpicall.specs.Argument.{Argument, PeerOf, Colour, Key, New, comm_argument, tag_argument, request_argument, bytes_argument, root_argument, index_argument, spell}
 use Rattle.mpicall.specs.Word.{text_of}
 use Rattle.mpicall.specs.declared.call.Kind.{Kind}
 use Rattle.mpicall.specs.declared.call.Kind.TheVariants.{Barrier, Bcast, Gather, Scatter, Reduce, Allgather, Alltoall, Allreduce, Scan, Exscan}
 use Rattle.mpicall.specs.declared.call.Call.{Call}
-use Rattle.mpicall.specs.declared.call.Call.TheVariants.{Send, Recv, Isend, Irecv, Sendrecv, Wait, Waitall, Waitany, Coll, Icoll, Dup, Split, Finalize}
+use Rattle.mpicall.specs.declared.call.Call.TheVariants.{Send, Recv, Isend, Irecv, Sendrecv, Wait, Waitall, Waitany, Coll, Icoll, Dup, Split, Probe, Finalize, Open}
 use Rattle.mpicall.specs.declared.word.Collective.{Collective}
 use Rattle.mpicall.specs.declared.word.Collective.TheVariants.{Barrier as BarrierName, Bcast as BcastName, Gather as GatherName, Scatter as ScatterName, Reduce as ReduceName, Allgather as AllgatherName, Alltoall as AlltoallName, Allreduce as AllreduceName, Scan as ScanName, Exscan as ExscanName}
 use Rattle.mpicall.specs.declared.word.Operation.TheVariants.{Send as SendOperation, Recv as RecvOperation, Coll as CollOperation}
 use Rattle.mpicall.specs.declared.word.Word.{Word}
-use Rattle.mpicall.specs.declared.word.Word.TheVariants.{Blocking, Started, Sendrecv as SendrecvWord, Wait as WaitWord, Waitall as WaitallWord, Waitany as WaitanyWord, Dup as DupWord, Split as SplitWord, Finalize as FinalizeWord}
+use Rattle.mpicall.specs.declared.word.Word.TheVariants.{Blocking, Started, Sendrecv as SendrecvWord, Wait as WaitWord, Waitall as WaitallWord, Waitany as WaitanyWord, Dup as DupWord, Split as SplitWord, Probe as ProbeWord, Finalize as FinalizeWord, Open as OpenWord}
 
 -- the bytes between and behind the fields
 abbrev pub space : ℕ
@@ -42,11 +42,11 @@ root_of _ = None
 
 -- the word of a call
 abbrev pub word_of_call : Call → Word
-word_of_call (Send mode comm dest tag) = Blocking (SendOperation mode)
+word_of_call (Send mode comm dest tag bytes) = Blocking (SendOperation mode)
 word_of_call (Recv comm source tag) = Blocking RecvOperation
-word_of_call (Isend req mode comm dest tag) = Started (SendOperation mode)
+word_of_call (Isend req mode comm dest tag bytes) = Started (SendOperation mode)
 word_of_call (Irecv req comm source tag) = Started RecvOperation
-word_of_call (Sendrecv comm dest send_tag source recv_tag) = SendrecvWord
+word_of_call (Sendrecv comm dest send_tag source recv_tag bytes) = SendrecvWord
 word_of_call (Wait req) = WaitWord
 word_of_call (Waitall reqs) = WaitallWord
 word_of_call (Waitany chosen reqs) = WaitanyWord
@@ -54,20 +54,27 @@ word_of_call (Coll comm kind) = Blocking (CollOperation (name_of kind))
 word_of_call (Icoll req comm kind) = Started (CollOperation (name_of kind))
 word_of_call (Dup comm new) = DupWord
 word_of_call (Split comm colour key new) = SplitWord
+word_of_call (Probe comm source tag) = ProbeWord
 word_of_call Finalize = FinalizeWord
+word_of_call Open = OpenWord
 
 abbrev pub root_arguments : Option ℕ → List Argument
 root_arguments None = []
 root_arguments (Some root) = root_argument root ∷ []
 
+-- the bytes of a message, where they are told
+abbrev pub bytes_arguments : Option ℕ → List Argument
+bytes_arguments None = []
+bytes_arguments (Some bytes) = bytes_argument bytes ∷ []
+
 -- the arguments of a call, in the order of its line
 abbrev pub arguments_of : Call → List Argument
-arguments_of (Send mode comm dest tag) = comm_argument comm ∷ PeerOf dest ∷ tag_argument tag ∷ []
+arguments_of (Send mode comm dest tag bytes) = comm_argument comm ∷ PeerOf dest ∷ tag_argument tag ∷ bytes_arguments bytes
 arguments_of (Recv comm source tag) = comm_argument comm ∷ PeerOf source ∷ tag_argument tag ∷ []
-arguments_of (Isend req mode comm dest tag) = request_argument req ∷ comm_argument comm ∷ PeerOf dest ∷ tag_argument tag ∷ []
+arguments_of (Isend req mode comm dest tag bytes) = request_argument req ∷ comm_argument comm ∷ PeerOf dest ∷ tag_argument tag ∷ bytes_arguments bytes
 arguments_of (Irecv req comm source tag) = request_argument req ∷ comm_argument comm ∷ PeerOf source ∷ tag_argument tag ∷ []
-arguments_of (Sendrecv comm dest send_tag source recv_tag) =
-    comm_argument comm ∷ PeerOf dest ∷ tag_argument send_tag ∷ PeerOf source ∷ tag_argument recv_tag ∷ []
+arguments_of (Sendrecv comm dest send_tag source recv_tag bytes) =
+    comm_argument comm ∷ PeerOf dest ∷ tag_argument send_tag ∷ PeerOf source ∷ tag_argument recv_tag ∷ bytes_arguments bytes
 arguments_of (Wait req) = request_argument req ∷ []
 arguments_of (Waitall reqs) = map request_argument reqs
 arguments_of (Waitany chosen reqs) = index_argument (length reqs) chosen ∷ map request_argument reqs
@@ -75,7 +82,9 @@ arguments_of (Coll comm kind) = comm_argument comm ∷ root_arguments (root_of k
 arguments_of (Icoll req comm kind) = request_argument req ∷ comm_argument comm ∷ root_arguments (root_of kind)
 arguments_of (Dup comm new) = comm_argument comm ∷ comm_argument new ∷ []
 arguments_of (Split comm colour key new) = comm_argument comm ∷ Colour colour ∷ Key key ∷ New new ∷ []
+arguments_of (Probe comm source tag) = comm_argument comm ∷ PeerOf source ∷ tag_argument tag ∷ []
 arguments_of Finalize = []
+arguments_of Open = []
 
 -- the fields of a call, its word first
 abbrev pub fields_of : Call → List (List ℕ)

@@ -11,7 +11,7 @@ use Rattle.mpicall.specs.declared.fault.LineFault.{LineFault}
 use Rattle.mpicall.specs.declared.fault.SourceFault.{SourceFault}
 use Rattle.mpicall.specs.declared.fault.SourceFault.TheVariants.{Line, TextAfterFinalize, NoFinalize}
 
--- how a source ends: with its `finalize` and nothing behind it, or with a fault
+-- how a source ends: with its end record and nothing behind it, or with a fault
 pub data End : Type 0 where
   Sealed : End
   Torn : SourceFault → End
@@ -21,10 +21,10 @@ pub record Trace : Type 0 where
   pub records : List Call
   pub end : End
 
--- the end of a source whose `finalize` has these lines behind it
-abbrev pub end_after_finalize : List (List ℕ) → End
-end_after_finalize [] = Sealed
-end_after_finalize (_ ∷ _) = Torn TextAfterFinalize
+-- the end of a source whose end record has these lines behind it
+abbrev pub end_with_behind : List (List ℕ) → End
+end_with_behind [] = Sealed
+end_with_behind (_ ∷ _) = Torn TextAfterFinalize
 
 -- a trace with one more record in front
 abbrev pub put_first : Call → Trace → Trace
@@ -41,15 +41,15 @@ abbrev pub IsTraceOf : List (List ℕ) → Trace → Type 0
 IsTraceOf [] trace = trace ≡ ends_here (Torn NoFinalize)
 IsTraceOf (line ∷ behind) trace =
     ((call : Call) × (rest : Trace) × (in_ranges call ≡ true) × (line ≡ spelling call) × (trace ≡ put_first call rest)
-    × MatchBool (ends_list call) (rest ≡ ends_here (end_after_finalize behind)) (IsTraceOf behind rest))
+    × MatchBool (ends_list call) (rest ≡ ends_here (end_with_behind behind)) (IsTraceOf behind rest))
     ⊎ ((fault : LineFault) × (fault_of_line line ≡ Some fault) × (trace ≡ ends_here (Torn (Line fault))))
 
 -- the trace of the next line's reading, the lines behind it, and the trace of these
 abbrev pub trace_with : Result Call LineFault → List (List ℕ) → Trace → Trace
-trace_with (Ok call) behind trace = put_first call (if ends_list call then ends_here (end_after_finalize behind) else trace)
+trace_with (Ok call) behind trace = put_first call (if ends_list call then ends_here (end_with_behind behind) else trace)
 trace_with (Err fault) behind trace = ends_here (Torn (Line fault))
 
--- the trace of some lines: their records up to and with the first `finalize`, as long as they are
+-- the trace of some lines: their records up to and with the first end record, as long as they are
 -- spellings of records
 abbrev pub trace_of_lines : List (List ℕ) → Trace
 trace_of_lines [] = ends_here (Torn NoFinalize)

@@ -8,7 +8,7 @@ use Rattle.mpicall.specs.declared.word.Collective.TheVariants.{Barrier, Bcast, G
 use Rattle.mpicall.specs.declared.word.Operation.{Operation}
 use Rattle.mpicall.specs.declared.word.Operation.TheVariants.{Send, Recv, Coll}
 use Rattle.mpicall.specs.declared.word.Word.{Word}
-use Rattle.mpicall.specs.declared.word.Word.TheVariants.{Blocking, Started, Sendrecv, Wait, Waitall, Waitany, Dup, Split, Finalize}
+use Rattle.mpicall.specs.declared.word.Word.TheVariants.{Blocking, Started, Sendrecv, Wait, Waitall, Waitany, Dup, Split, Probe, Finalize, Open}
 
 abbrev pub collective_text : Collective → List ℕ
 collective_text Barrier = codes "barrier"
@@ -43,7 +43,9 @@ text_of Waitall = codes "waitall"
 text_of Waitany = codes "waitany"
 text_of Dup = codes "dup"
 text_of Split = codes "split"
+text_of Probe = codes "probe"
 text_of Finalize = codes "finalize"
+text_of Open = codes "open"
 
 -- the first of some things that has a text
 abbrev pub with_text : {A : Type 0} → (A → List ℕ) → List ℕ → List A → Option A
@@ -62,7 +64,7 @@ abbrev pub messages : List Operation
 messages = Send Standard ∷ Recv ∷ Send Synchronous ∷ Send Buffered ∷ []
 
 abbrev pub other_words : List Word
-other_words = Waitall ∷ Wait ∷ Waitany ∷ Sendrecv ∷ Dup ∷ Split ∷ Finalize ∷ []
+other_words = Waitall ∷ Wait ∷ Waitany ∷ Sendrecv ∷ Dup ∷ Split ∷ Finalize ∷ Probe ∷ Open ∷ []
 
 -- the collective, the operation and the word with a text, if the format has one
 unfoldable pub collective_of : List ℕ → Option Collective

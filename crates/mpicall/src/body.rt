@@ -2,15 +2,15 @@
 
 ghost use Rattle.std.specs.Prelude.{◌≡◌, ◌≤◌, [], ◌∷◌, true, false, List, ℕ, length, MatchOption, MatchBool};
 ghost use Rattle.mpicall.specs.Reading.{ReadsBehind, ReadsFields, requests_fit, SpellsRequests};
-ghost use Rattle.mpicall.specs.declared.word.Word.TheVariants.{Waitall, Waitany, Finalize};
+ghost use Rattle.mpicall.specs.declared.word.Word.TheVariants.{Waitall, Waitany, Finalize, Open};
 
 use crate::call::Call;
 use crate::fields::Fields;
 use crate::limits::{GREATEST_REQUEST, MOST_REQUESTS};
 use crate::number::read_number;
 use crate::reading::{
-    next_number, next_request, read_blocking, read_dup, read_sendrecv, read_split, read_started,
-    read_wait,
+    next_number, next_request, read_blocking, read_dup, read_probe, read_sendrecv, read_split,
+    read_started, read_wait,
 };
 use crate::reqs::Reqs;
 use crate::word::{Word, word_of};
@@ -70,6 +70,16 @@ fn read_finalize(mut fields: Fields<'_>, into: &mut Call) -> bool
     true
 }
 
+fn read_open(mut fields: Fields<'_>, into: &mut Call) -> bool
+    ensures { ReadsBehind Open fields.entry result into.old into.new }
+{
+    if fields.next_field().is_some() {
+        return false;
+    }
+    *into = Call::Open;
+    true
+}
+
 /// Reads the call of a word and the fields behind it; says whether there is one, and else leaves the
 /// place alone.
 fn read_behind(word: Word, fields: Fields<'_>, into: &mut Call) -> bool
@@ -84,7 +94,9 @@ fn read_behind(word: Word, fields: Fields<'_>, into: &mut Call) -> bool
         Word::Sendrecv => read_sendrecv(fields, into).is_some(),
         Word::Dup => read_dup(fields, into).is_some(),
         Word::Split => read_split(fields, into).is_some(),
+        Word::Probe => read_probe(fields, into).is_some(),
         Word::Finalize => read_finalize(fields, into),
+        Word::Open => read_open(fields, into),
     }
 }
 

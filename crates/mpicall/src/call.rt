@@ -40,11 +40,13 @@ pub enum Kind {
 /// and `reqs` are numbers that the recorder gave to requests.
 #[derive(Clone, Copy, PartialEq, Eq)]
 pub enum Call {
+    /// `bytes` is how many bytes the message has, where a standard send tells it.
     Send {
         mode: Mode,
         comm: u16,
         dest: Peer,
         tag: u32,
+        bytes: Option<u32>,
     },
     Recv {
         comm: u16,
@@ -58,6 +60,7 @@ pub enum Call {
         comm: u16,
         dest: Peer,
         tag: u32,
+        bytes: Option<u32>,
     },
     /// A receive that is started, and completed by a wait for its request.
     Irecv {
@@ -72,6 +75,13 @@ pub enum Call {
         send_tag: u32,
         source: Peer,
         recv_tag: u32,
+        bytes: Option<u32>,
+    },
+    /// MPI_Probe: it waits for the message that the next receive would take.
+    Probe {
+        comm: u16,
+        source: Peer,
+        tag: u32,
     },
     Wait {
         req: u32,
@@ -107,6 +117,8 @@ pub enum Call {
         new: Option<u16>,
     },
     Finalize,
+    /// What came behind was not recorded: the list is left open.
+    Open,
 }
 
 impl Call {
@@ -118,7 +130,7 @@ impl Call {
         ensures { result ≡ ends_list self.now }
     {
         match *self {
-            Call::Finalize => true,
+            Call::Finalize | Call::Open => true,
             _ => false,
         }
     }

@@ -5,7 +5,7 @@ ghost use Rattle.std.specs.Fmt.{decimal, signed_decimal};
 ghost use Rattle.mpicall.specs.Argument.{PeerOf, comm_argument, tag_argument, request_argument, peer_field, number_or};
 ghost use Rattle.mpicall.specs.Draft.{line_with};
 ghost use Rattle.mpicall.specs.Limits.{in_ranges};
-ghost use Rattle.mpicall.specs.Spelling.{space, arguments_of, root_of, root_arguments, spelling};
+ghost use Rattle.mpicall.specs.Spelling.{space, arguments_of, root_of, root_arguments, bytes_arguments, spelling};
 ghost use Rattle.mpicall.specs.Word.{text_of};
 
 use crate::call::{Call, Kind, Peer};
@@ -149,6 +149,17 @@ impl Draft {
         }
     }
 
+    /// Adds the bytes of a message, where they are told.
+    fn push_bytes(&mut self, bytes: Option<u32>)
+        requires { length self.old + 12 ≤ MOST_LINE_BYTES }
+        ensures value { self.new ≡ line_with self.old (bytes_arguments bytes) }
+        ensures short { length self.new ≤ length self.old + 12 }
+    {
+        if let Some(bytes) = bytes {
+            self.push_number(bytes);
+        }
+    }
+
     fn push_word(&mut self, word: Word)
         requires { self.old ≡ [] }
         ensures value { self.new ≡ text_of word }
@@ -166,7 +177,9 @@ impl Draft {
             Word::Waitany => self.push_all(b"waitany"),
             Word::Dup => self.push_all(b"dup"),
             Word::Split => self.push_all(b"split"),
+            Word::Probe => self.push_all(b"probe"),
             Word::Finalize => self.push_all(b"finalize"),
+            Word::Open => self.push_all(b"open"),
         }
     }
 
@@ -181,18 +194,24 @@ impl Draft {
                 comm,
                 dest,
                 tag,
+                bytes,
                 ..
-            } => self.push_message(comm, dest, tag),
+            } => {
+                self.push_message(comm, dest, tag);
+                self.push_bytes(bytes);
+            }
             Call::Recv { comm, source, tag } => self.push_message(comm, source, tag),
             Call::Isend {
                 req,
                 comm,
                 dest,
                 tag,
+                bytes,
                 ..
             } => {
                 self.push_number(req);
                 self.push_message(comm, dest, tag);
+                self.push_bytes(bytes);
             }
             Call::Irecv {
                 req,
@@ -209,10 +228,12 @@ impl Draft {
                 send_tag,
                 source,
                 recv_tag,
+                bytes,
             } => {
                 self.push_message(comm, dest, send_tag);
                 self.push_peer(source);
                 self.push_number(recv_tag);
+                self.push_bytes(bytes);
             }
             Call::Wait { req } => self.push_number(req),
             Call::Waitall { ref reqs } => self.push_requests(reqs.as_slice()),
@@ -244,7 +265,8 @@ impl Draft {
                 self.push_key(key);
                 self.push_number_or(b"none", new.map(u32::from));
             }
-            Call::Finalize => {}
+            Call::Probe { comm, source, tag } => self.push_message(comm, source, tag),
+            Call::Finalize | Call::Open => {}
         }
     }
 

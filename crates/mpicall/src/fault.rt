@@ -38,10 +38,10 @@ pub enum SourceFault {
     /// The next line is no spelling of a record.
     #[error("{0}")]
     Line(LineFault),
-    /// There are bytes behind the line of `finalize`.
+    /// There are bytes behind the line of the end record, `finalize` or `open`.
     #[error("text after finalize")]
     TextAfterFinalize,
-    /// The bytes end where a line would begin, and no `finalize` came.
+    /// The bytes end where a line would begin, and no end record came.
     #[error("no finalize")]
     NoFinalize,
     /// A read of the input failed.

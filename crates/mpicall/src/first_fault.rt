@@ -5,6 +5,7 @@ ghost use Rattle.std.specs.List.{list_any};
 ghost use Rattle.mpicall.specs.Line.{root_forms, operation_forms, shape_of, takes_count, is_any, source_place, wildcard_at, fault_of_fields, fits_line};
 ghost use Rattle.mpicall.specs.Lines.{is_blank};
 
+use crate::call::Mode;
 use crate::fault::LineFault;
 use crate::fields::Fields;
 use crate::limits::{MOST_LINE_BYTES, MOST_REQUESTS};
@@ -34,11 +35,12 @@ fn count(mut fields: Fields<'_>) -> usize
     count
 }
 
-/// How many fields an operation takes.
-fn field_count(operation: Operation) -> usize
-    ensures { result ≡ length (operation_forms operation) }
+/// How many fields an operation takes, where there are so many.
+fn field_count(operation: Operation, count: usize) -> usize
+    ensures { result ≡ length (operation_forms operation count) }
 {
     match operation {
+        Operation::Send(Mode::Standard) if count == 4 => 4,
         Operation::Send(_) | Operation::Recv => 3,
         Operation::Coll(
             Collective::Bcast | Collective::Gather | Collective::Scatter | Collective::Reduce,
@@ -49,18 +51,19 @@ fn field_count(operation: Operation) -> usize
 
 /// Whether a word takes so many fields.
 fn takes_count(word: Word, count: usize) -> bool
-    ensures { result ≡ takes_count (shape_of word) count }
+    ensures { result ≡ takes_count (shape_of word count) count }
 {
     match word {
-        Word::Blocking(operation) => count == field_count(operation),
-        Word::Started(operation) => count == 1 + field_count(operation),
-        Word::Sendrecv => count == 5,
+        Word::Blocking(operation) => count == field_count(operation, count),
+        Word::Started(operation) => 1 <= count && count == 1 + field_count(operation, count - 1),
+        Word::Sendrecv => count == 5 || count == 6,
         Word::Wait => count == 1,
         Word::Waitall => 1 <= count && count <= MOST_REQUESTS,
         Word::Waitany => 2 <= count && count <= MOST_REQUESTS + 1,
         Word::Dup => count == 2,
         Word::Split => count == 4,
-        Word::Finalize => count == 0,
+        Word::Probe => count == 3,
+        Word::Finalize | Word::Open => count == 0,
     }
 }
 
@@ -78,6 +81,7 @@ fn source_place(word: Word) -> Option<usize>
         Word::Blocking(Operation::Recv) => Some(1),
         Word::Started(Operation::Recv) => Some(2),
         Word::Sendrecv => Some(3),
+        Word::Probe => Some(1),
         _ => None,
     }
 }

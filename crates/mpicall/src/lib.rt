@@ -1,8 +1,8 @@
 //! Recorded MPI calls: records, their one-line spellings, and sources of records.
 //!
-//! A trace is a text with one line a call, as `send 0 1 5` or `waitall 7 8`, ended by `finalize`. This
-//! crate reads and writes such lines, over any input and output. It takes no memory, but for
-//! `memory::MemoryOutput`, an output that keeps its bytes.
+//! A trace is a text with one line a call, as `send 0 1 5` or `waitall 7 8`, ended by its end record: `finalize`,
+//! or `open` where the rest was not recorded. This crate reads and writes such lines, over any input and output.
+//! It takes no memory, but for `memory::MemoryOutput`, an output that keeps its bytes.
 //!
 //! What it promises, as contracts that are proved:
 //!

@@ -12,6 +12,9 @@ pub const GREATEST_TAG: u32 = 2_147_483_647;
 /// The greatest number of a request.
 pub const GREATEST_REQUEST: u32 = 2_147_483_647;
 
+/// The greatest number of bytes of a message.
+pub const GREATEST_BYTES: u32 = 2_147_483_647;
+
 /// The greatest colour of a split.
 pub const GREATEST_COLOUR: u32 = 2_147_483_647;
 

@@ -2,18 +2,18 @@
 //! one place, which is written once all the fields have come; a line that has a fault leaves it alone, and is
 //! looked at again, by `fault_of_fields`.
 
-ghost use Rattle.std.specs.Prelude.{◌≡◌, ◌≤◌, [], ◌∷◌, Some, None, false, IfSome, MatchOption};
+ghost use Rattle.std.specs.Prelude.{◌≡◌, ◌≤◌, ◌-◌, [], ◌∷◌, Some, None, false, length, IfSome, MatchOption};
 ghost use Rattle.mpicall.specs.Argument.{NumberUpTo, PeerForm, ColourForm, KeyForm, NewForm, Number, PeerOf, Colour, Key, New, comm_form, tag_form, request_form, root_form, comm_argument, tag_argument, request_argument, root_argument};
 ghost use Rattle.mpicall.specs.Lines.{is_empty};
-ghost use Rattle.mpicall.specs.Spelling.{name_of, root_of, root_arguments};
-ghost use Rattle.mpicall.specs.Line.{root_forms, operation_forms};
-ghost use Rattle.mpicall.specs.Reading.{next_argument, take_arguments, ReadsWhole};
-ghost use Rattle.mpicall.specs.declared.word.Word.TheVariants.{Blocking, Started, Sendrecv, Wait, Dup, Split};
+ghost use Rattle.mpicall.specs.Spelling.{name_of, root_of, root_arguments, bytes_arguments};
+ghost use Rattle.mpicall.specs.Line.{root_forms, bytes_forms, operation_forms};
+ghost use Rattle.mpicall.specs.Reading.{next_argument, take_arguments, all_taken, ReadsWhole};
+ghost use Rattle.mpicall.specs.declared.word.Word.TheVariants.{Blocking, Started, Sendrecv, Wait, Dup, Split, Probe};
 
-use crate::call::{Call, Kind, Peer};
+use crate::call::{Call, Kind, Mode, Peer};
 use crate::fields::Fields;
 use crate::limits::{
-    GREATEST_COLOUR, GREATEST_COMM, GREATEST_RANK, GREATEST_REQUEST, GREATEST_TAG,
+    GREATEST_BYTES, GREATEST_COLOUR, GREATEST_COMM, GREATEST_RANK, GREATEST_REQUEST, GREATEST_TAG,
 };
 use crate::number::{read_number, read_signed};
 use crate::word::{Collective, Operation};
@@ -123,6 +123,32 @@ fn next_message(fields: &mut Fields<'_>) -> Option<(u16, Peer, u32)>
     Some((comm, peer, tag))
 }
 
+/// The bytes of a message, where they stand last; no other fields are left.
+fn last_bytes(fields: &mut Fields<'_>) -> Option<Option<u32>>
+    ensures { MatchOption result
+        (all_taken (take_arguments (bytes_forms 0 (length fields.old)) fields.old) ≡ None)
+        (λ bytes. take_arguments (bytes_forms 0 (length fields.old)) fields.old ≡ Some (bytes_arguments bytes, [])) }
+{
+    let Some(field) = fields.next_field() else {
+        return Some(None);
+    };
+    let bytes = read_number(GREATEST_BYTES, field)?;
+    end_of(fields)?;
+    Some(Some(bytes))
+}
+
+/// A communicator, a peer and a tag, behind which the bytes may stand last.
+fn last_message(fields: &mut Fields<'_>) -> Option<(u16, Peer, u32, Option<u32>)>
+    ensures { MatchOption result
+        (all_taken (take_arguments (comm_form ∷ PeerForm ∷ tag_form ∷ bytes_forms 3 (length fields.old)) fields.old) ≡ None)
+        (λ m. take_arguments (comm_form ∷ PeerForm ∷ tag_form ∷ bytes_forms 3 (length fields.old)) fields.old
+        ≡ Some (comm_argument m.0 ∷ PeerOf m.1 ∷ tag_argument m.2 ∷ bytes_arguments m.3, [])) }
+{
+    let (comm, peer, tag) = next_message(fields)?;
+    let bytes = last_bytes(fields)?;
+    Some((comm, peer, tag, bytes))
+}
+
 /// The kind of a collective, whose root is the next field if it has one.
 fn next_kind(collective: Collective, fields: &mut Fields<'_>) -> Option<Kind>
     ensures value { MatchOption result
@@ -161,9 +187,19 @@ pub(crate) fn read_blocking(
     mut fields: Fields<'_>,
     into: &mut Call,
 ) -> Option<()>
-    ensures { ReadsWhole (Blocking operation) (operation_forms operation) fields.entry result into.old into.new }
+    ensures { ReadsWhole (Blocking operation) (operation_forms operation (length fields.entry)) fields.entry result into.old into.new }
 {
     match operation {
+        Operation::Send(Mode::Standard) => {
+            let (comm, dest, tag, bytes) = last_message(&mut fields)?;
+            *into = Call::Send {
+                mode: Mode::Standard,
+                comm,
+                dest,
+                tag,
+                bytes,
+            };
+        }
         Operation::Send(mode) => {
             let (comm, dest, tag) = next_message(&mut fields)?;
             end_of(&mut fields)?;
@@ -172,6 +208,7 @@ pub(crate) fn read_blocking(
                 comm,
                 dest,
                 tag,
+                bytes: None,
             };
         }
         Operation::Recv => {
@@ -195,10 +232,21 @@ pub(crate) fn read_started(
     mut fields: Fields<'_>,
     into: &mut Call,
 ) -> Option<()>
-    ensures { ReadsWhole (Started operation) (request_form ∷ operation_forms operation) fields.entry result into.old into.new }
+    ensures { ReadsWhole (Started operation) (request_form ∷ operation_forms operation (length fields.entry - 1)) fields.entry result into.old into.new }
 {
     let req = next_request(&mut fields)?;
     match operation {
+        Operation::Send(Mode::Standard) => {
+            let (comm, dest, tag, bytes) = last_message(&mut fields)?;
+            *into = Call::Isend {
+                req,
+                mode: Mode::Standard,
+                comm,
+                dest,
+                tag,
+                bytes,
+            };
+        }
         Operation::Send(mode) => {
             let (comm, dest, tag) = next_message(&mut fields)?;
             end_of(&mut fields)?;
@@ -208,6 +256,7 @@ pub(crate) fn read_started(
                 comm,
                 dest,
                 tag,
+                bytes: None,
             };
         }
         Operation::Recv => {
@@ -231,19 +280,29 @@ pub(crate) fn read_started(
 }
 
 pub(crate) fn read_sendrecv(mut fields: Fields<'_>, into: &mut Call) -> Option<()>
-    ensures { ReadsWhole Sendrecv (comm_form ∷ PeerForm ∷ tag_form ∷ PeerForm ∷ tag_form ∷ []) fields.entry result into.old into.new }
+    ensures { ReadsWhole Sendrecv (comm_form ∷ PeerForm ∷ tag_form ∷ PeerForm ∷ tag_form ∷ bytes_forms 5 (length fields.entry)) fields.entry result into.old into.new }
 {
     let (comm, dest, send_tag) = next_message(&mut fields)?;
     let source = next_peer(&mut fields)?;
     let recv_tag = next_tag(&mut fields)?;
-    end_of(&mut fields)?;
+    let bytes = last_bytes(&mut fields)?;
     *into = Call::Sendrecv {
         comm,
         dest,
         send_tag,
         source,
         recv_tag,
+        bytes,
     };
+    Some(())
+}
+
+pub(crate) fn read_probe(mut fields: Fields<'_>, into: &mut Call) -> Option<()>
+    ensures { ReadsWhole Probe (comm_form ∷ PeerForm ∷ tag_form ∷ []) fields.entry result into.old into.new }
+{
+    let (comm, source, tag) = next_message(&mut fields)?;
+    end_of(&mut fields)?;
+    *into = Call::Probe { comm, source, tag };
     Some(())
 }
 

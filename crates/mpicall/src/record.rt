@@ -1,19 +1,19 @@
 //! A record: a call whose fields all lie in the ranges of the trace format.
 
-ghost use Rattle.std.specs.Prelude.{◌≡◌, ◌↔◌, [], ◌∷◌, map, IsTrue, IsSome, IfSome};
+ghost use Rattle.std.specs.Prelude.{◌≡◌, ◌↔◌, ◌&&◌, [], ◌∷◌, map, IsTrue, IsSome, IfSome};
 ghost use Rattle.std.specs.List.{list_all};
 ghost use Rattle.mpicall.specs.Argument.{PeerOf, comm_argument, tag_argument, request_argument, is_in_range, peer_in_range, key_in_range, none_or_up_to};
 ghost use Rattle.mpicall.specs.Ending.{ends_list};
-ghost use Rattle.mpicall.specs.Limits.{in_ranges};
+ghost use Rattle.mpicall.specs.Limits.{in_ranges, may_tell};
 ghost use Rattle.mpicall.specs.Reading.{ReadsFields};
-ghost use Rattle.mpicall.specs.Spelling.{root_of, root_arguments};
+ghost use Rattle.mpicall.specs.Spelling.{root_of, root_arguments, bytes_arguments};
 ghost use Rattle.mpicall.specs.declared.call.Call.TheVariants.{Finalize};
 
 use crate::body::read_fields;
-use crate::call::{Call, Kind, Peer};
+use crate::call::{Call, Kind, Mode, Peer};
 use crate::fields::Fields;
 use crate::limits::{
-    GREATEST_COLOUR, GREATEST_COMM, GREATEST_RANK, GREATEST_REQUEST, GREATEST_TAG,
+    GREATEST_BYTES, GREATEST_COLOUR, GREATEST_COMM, GREATEST_RANK, GREATEST_REQUEST, GREATEST_TAG,
 };
 use crate::word::root_of;
 use std::fmt;
@@ -100,24 +100,41 @@ fn is_key_in_range(key: i32) -> bool
     -2_147_483_648 <= key && key <= 2_147_483_647
 }
 
+/// Whether a send of the mode may tell so many bytes.
+fn are_bytes_in_range(mode: Mode, bytes: Option<u32>) -> bool
+    ensures { result ≡ (list_all is_in_range (bytes_arguments bytes) && may_tell mode bytes) }
+{
+    match (mode, bytes) {
+        (_, None) => true,
+        (Mode::Standard, Some(bytes)) => bytes <= GREATEST_BYTES,
+        _ => false,
+    }
+}
+
 fn is_in_ranges(call: &Call) -> bool
     ensures { result ≡ in_ranges call.now }
 {
     match *call {
         Call::Send {
+            mode,
             comm,
             dest,
             tag,
-            ..
-        } => is_message_in_ranges(comm, dest, tag),
+            bytes,
+        } => is_message_in_ranges(comm, dest, tag) && are_bytes_in_range(mode, bytes),
         Call::Recv { comm, source, tag } => is_message_in_ranges(comm, source, tag),
         Call::Isend {
             req,
+            mode,
             comm,
             dest,
             tag,
-            ..
-        } => { req <= GREATEST_REQUEST && is_message_in_ranges(comm, dest, tag) }
+            bytes,
+        } => {
+            req <= GREATEST_REQUEST
+                && is_message_in_ranges(comm, dest, tag)
+                && are_bytes_in_range(mode, bytes)
+        }
         Call::Irecv {
             req,
             comm,
@@ -130,10 +147,12 @@ fn is_in_ranges(call: &Call) -> bool
             send_tag,
             source,
             recv_tag,
+            bytes,
         } => {
             is_message_in_ranges(comm, dest, send_tag)
                 && is_peer_in_range(source)
                 && recv_tag <= GREATEST_TAG
+                && are_bytes_in_range(Mode::Standard, bytes)
         }
         Call::Wait { req } => req <= GREATEST_REQUEST,
         Call::Waitall { ref reqs } => are_requests_in_range(reqs.as_slice()),
@@ -156,7 +175,8 @@ fn is_in_ranges(call: &Call) -> bool
                 && is_key_in_range(key)
                 && is_none_or_up_to(u32::from(GREATEST_COMM), new.map(u32::from))
         }
-        Call::Finalize => true,
+        Call::Probe { comm, source, tag } => is_message_in_ranges(comm, source, tag),
+        Call::Finalize | Call::Open => true,
     }
 }
 

@@ -15,18 +15,18 @@ use crate::window::{Window, has_more, line_end};
 /// How far a source is.
 #[derive(Clone, Copy, PartialEq, Eq)]
 enum Stage {
-    /// No `finalize` was read so far.
+    /// No end record, `finalize` or `open`, was read so far.
     Reading,
-    /// `finalize` was the last record.
-    Finalized,
-    /// The bytes ended behind `finalize`, and None was answered.
+    /// The end record was the last one.
+    Ended,
+    /// The bytes ended behind the end record, and None was answered.
     Done,
     /// This fault was answered.
     Failed(SourceFault),
 }
 
 /// A source of records over an input. It asks its input only while what it holds neither has a line
-/// feed nor is longer than a line may be, and behind `finalize` only while it holds nothing.
+/// feed nor is longer than a line may be, and behind the end record only while it holds nothing.
 #[derive(Drop)]
 pub struct Source<I> {
     input: I,
@@ -37,7 +37,7 @@ pub struct Source<I> {
 
 impl<I: Input> Source<I> {
     ghost use Rattle.mpicall.specs.declared.call.Call.{Call as CallValue};
-    ghost use Rattle.mpicall.specs.declared.source.Stage.TheVariants.{Reading, Finalized};
+    ghost use Rattle.mpicall.specs.declared.source.Stage.TheVariants.{Reading, Ended};
     ghost use Rattle.mpicall.specs.Source.{coming, ended, input_of, Gives, end_of_answer, answer_of, answer_into, count_after, IsOwnFault, unread, IsCutOff};
     ghost use Rattle.mpicall.specs.Spelling.{spelling};
     ghost use Rattle.mpicall.specs.declared.fault.SourceFault.TheVariants.{ReadFailed};
@@ -57,8 +57,8 @@ impl<I: Input> Source<I> {
         }
     }
 
-    /// The next line's record; None once the bytes end behind `finalize`. A fault is answered for good,
-    /// and so is None.
+    /// The next line's record; None once the bytes end behind the end record. A fault is answered for
+    /// good, and so is None.
     pub fn next(&mut self) -> Result<Option<Record>, SourceFault>
         ensures trace { Gives (coming I.left self.old) (coming I.left self.new) result }
         ensures end { ended self.new ≡ end_of_answer result }
@@ -80,8 +80,8 @@ impl<I: Input> Source<I> {
     }
 
     /// Reads the next line's record into one place, for those that read many: a record takes some 264
-    /// bytes. False once the bytes end behind `finalize`. Only a true answer changes the place. A fault is
-    /// answered for good, and so is false.
+    /// bytes. False once the bytes end behind the end record. Only a true answer changes the place. A
+    /// fault is answered for good, and so is false.
     pub fn next_into(&mut self, into: &mut Record) -> Result<bool, SourceFault>
         ensures trace { Gives (coming I.left self.old) (coming I.left self.new) (answer_into result into.new) }
         ensures end { ended self.new ≡ end_of_answer (answer_into result into.new) }
@@ -97,13 +97,13 @@ impl<I: Input> Source<I> {
     {
         match self.stage {
             Stage::Reading => self.read_record(into),
-            Stage::Finalized => self.read_end(),
+            Stage::Ended => self.read_end(),
             Stage::Done => Ok(false),
             Stage::Failed(fault) => Err(fault),
         }
     }
 
-    /// Reads the next line, where no `finalize` came so far.
+    /// Reads the next line, where no end record came so far.
     fn read_record(&mut self, into: &mut Record) -> Result<bool, SourceFault>
         requires { self.old.stage ≡ Reading }
         ensures trace { Gives (coming I.left self.old) (coming I.left self.new) (answer_into result into.new) }
@@ -141,9 +141,9 @@ impl<I: Input> Source<I> {
         }
     }
 
-    /// Looks for bytes behind `finalize`.
+    /// Looks for bytes behind the end record.
     fn read_end(&mut self) -> Result<bool, SourceFault>
-        requires { self.old.stage ≡ Finalized }
+        requires { self.old.stage ≡ Ended }
         ensures trace { (call : CallValue) → Gives (coming I.left self.old) (coming I.left self.new) (answer_into result call) }
         ensures end { (call : CallValue) → ended self.new ≡ end_of_answer (answer_into result call) }
         ensures count { (call : CallValue) → I.failures (input_of self.new)
@@ -180,7 +180,7 @@ fn stage_behind(entry: &Record) -> Stage
     ensures { result ≡ stage_behind entry.now }
 {
     if entry.ends_list() {
-        Stage::Finalized
+        Stage::Ended
     } else {
         Stage::Reading
     }

@@ -40,7 +40,9 @@ pub enum Word {
     Waitany,
     Dup,
     Split,
+    Probe,
     Finalize,
+    Open,
 }
 
 impl Word {
@@ -61,7 +63,9 @@ impl Word {
             Call::Icoll { kind, .. } => Word::Started(Operation::Coll(name_of(kind))),
             Call::Dup { .. } => Word::Dup,
             Call::Split { .. } => Word::Split,
+            Call::Probe { .. } => Word::Probe,
             Call::Finalize => Word::Finalize,
+            Call::Open => Word::Open,
         }
     }
 }
@@ -166,6 +170,12 @@ fn other_of(field: &[u8]) -> Option<Word>
     }
     if field == b"finalize".as_slice() {
         return Some(Word::Finalize);
+    }
+    if field == b"probe".as_slice() {
+        return Some(Word::Probe);
+    }
+    if field == b"open".as_slice() {
+        return Some(Word::Open);
     }
     None
 }

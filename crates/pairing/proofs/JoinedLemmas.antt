@@ -6,7 +6,7 @@ use Rattle.std.specs.Option.{option_map, option_map_or}
 use Rattle.std.proofs.lemmas.Bool.{cases_eq, eq-eqb, ne_eqb, true≢false}
 use Rattle.std.proofs.lemmas.Option.{unwrap_or-slice_get, slice_get_within, none-some}
 use Rattle.mpicall.specs.declared.call.Call.{Call}
-use Rattle.mpicall.specs.declared.call.Call.TheVariants.{Send, Recv, Isend, Irecv, Sendrecv, Wait, Waitall, Waitany, Coll, Icoll, Dup, Split, Finalize}
+use Rattle.mpicall.specs.declared.call.Call.TheVariants.{Send, Recv, Isend, Irecv, Sendrecv, Wait, Waitall, Waitany, Coll, Icoll, Dup, Split, Probe, Finalize, Open}
 use Rattle.mpigroup.specs.Groups.{Groups, ranks_of}
 use Rattle.pairing.specs.Faults.{comm_of, is_comm, comm_exists}
 use Rattle.pairing.specs.Joined.{seats_of, IsJoined}
@@ -32,15 +32,17 @@ joins_named (Coll c kind) comm h = h
 joins_named (Icoll req c kind) comm h = h
 joins_named (Dup c new) comm h = h
 joins_named (Split c colour key new) comm h = h
-joins_named (Send mode c dest tag) comm h = absurd (none-some comm h)
+joins_named (Send mode c dest tag bytes) comm h = absurd (none-some comm h)
 joins_named (Recv c source tag) comm h = absurd (none-some comm h)
-joins_named (Isend req mode c dest tag) comm h = absurd (none-some comm h)
+joins_named (Isend req mode c dest tag bytes) comm h = absurd (none-some comm h)
 joins_named (Irecv req c source tag) comm h = absurd (none-some comm h)
-joins_named (Sendrecv c dest send_tag source recv_tag) comm h = absurd (none-some comm h)
+joins_named (Sendrecv c dest send_tag source recv_tag bytes) comm h = absurd (none-some comm h)
 joins_named (Wait req) comm h = absurd (none-some comm h)
 joins_named (Waitall reqs) comm h = absurd (none-some comm h)
 joins_named (Waitany chosen reqs) comm h = absurd (none-some comm h)
+joins_named (Probe c source tag) comm h = absurd (none-some comm h)
 joins_named Finalize comm h = absurd (none-some comm h)
+joins_named Open comm h = absurd (none-some comm h)
 
 has_size : (o : Option (List ℕ)) → is_some (option_map length o) ≡ true → (group : List ℕ) × (o ≡ Some group)
 has_size None h = absurd (true≢false (sym h))

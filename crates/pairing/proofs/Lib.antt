@@ -22,3 +22,6 @@ pub mod JoinedLemmas
 pub mod HoldingLemmas
 pub mod ActiveLemmas
 pub mod FrontLemmas
+pub mod ProbedLemmas
+pub mod CallCountLemmas
+pub mod ProbingLemmas

@@ -22,12 +22,12 @@ other_half RecvHalf = SendHalf
 -- the message that a half of a call sends or receives: its communicator, peer and tag. None where the
 -- call has no such half, and where its peer is MPI_PROC_NULL.
 abbrev pub message_of : Half → Call → Option Message
-message_of SendHalf (Send mode comm (Rank dest) tag) = Some (record { comm = comm; peer = dest; tag = tag })
-message_of SendHalf (Isend req mode comm (Rank dest) tag) = Some (record { comm = comm; peer = dest; tag = tag })
-message_of SendHalf (Sendrecv comm (Rank dest) send_tag source recv_tag) = Some (record { comm = comm; peer = dest; tag = send_tag })
+message_of SendHalf (Send mode comm (Rank dest) tag bytes) = Some (record { comm = comm; peer = dest; tag = tag })
+message_of SendHalf (Isend req mode comm (Rank dest) tag bytes) = Some (record { comm = comm; peer = dest; tag = tag })
+message_of SendHalf (Sendrecv comm (Rank dest) send_tag source recv_tag bytes) = Some (record { comm = comm; peer = dest; tag = send_tag })
 message_of RecvHalf (Recv comm (Rank source) tag) = Some (record { comm = comm; peer = source; tag = tag })
 message_of RecvHalf (Irecv req comm (Rank source) tag) = Some (record { comm = comm; peer = source; tag = tag })
-message_of RecvHalf (Sendrecv comm dest send_tag (Rank source) recv_tag) = Some (record { comm = comm; peer = source; tag = recv_tag })
+message_of RecvHalf (Sendrecv comm dest send_tag (Rank source) recv_tag bytes) = Some (record { comm = comm; peer = source; tag = recv_tag })
 message_of _ _ = None
 
 -- the envelope of a message by the half that a member of the communicator's group has of it

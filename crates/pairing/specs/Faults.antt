@@ -11,7 +11,7 @@ use Rattle.mpicall.specs.declared.call.Peer.TheVariants.{Rank, Null}
 use Rattle.mpicall.specs.declared.call.Kind.{Kind}
 use Rattle.mpicall.specs.declared.call.Kind.TheVariants.{Bcast, Gather, Scatter, Reduce}
 use Rattle.mpicall.specs.declared.call.Call.{Call}
-use Rattle.mpicall.specs.declared.call.Call.TheVariants.{Send, Recv, Isend, Irecv, Sendrecv, Coll, Icoll, Dup, Split}
+use Rattle.mpicall.specs.declared.call.Call.TheVariants.{Send, Recv, Isend, Irecv, Sendrecv, Probe, Coll, Icoll, Dup, Split}
 use Rattle.mpigroup.specs.Groups.{Groups, size_of, group_rank_of}
 use Rattle.pairing.specs.Limits.{most_calls}
 use Rattle.pairing.specs.Recordings.{Lists, calls_of, has_end, is_ended, IsClosedList}
@@ -22,11 +22,12 @@ use Rattle.pairing.specs.declared.fault.CallFault.TheVariants.{CallAfterFinalize
 
 -- the communicator over which the call is made, if it names one
 abbrev pub comm_of : Call → Option ℕ
-comm_of (Send mode comm dest tag) = Some comm
+comm_of (Send mode comm dest tag bytes) = Some comm
 comm_of (Recv comm source tag) = Some comm
-comm_of (Isend req mode comm dest tag) = Some comm
+comm_of (Isend req mode comm dest tag bytes) = Some comm
 comm_of (Irecv req comm source tag) = Some comm
-comm_of (Sendrecv comm dest send_tag source recv_tag) = Some comm
+comm_of (Sendrecv comm dest send_tag source recv_tag bytes) = Some comm
+comm_of (Probe comm source tag) = Some comm
 comm_of (Coll comm kind) = Some comm
 comm_of (Icoll req comm kind) = Some comm
 comm_of (Dup comm new) = Some comm
@@ -68,11 +69,12 @@ holds_comm groups rank calls call = option_map_or (λ comm. is_member groups ran
 
 -- each peer and root that the call names is a rank of its communicator's group
 abbrev pub peers_exist : Groups → Call → Bool
-peers_exist groups (Send mode comm dest tag) = is_peer groups comm dest
+peers_exist groups (Send mode comm dest tag bytes) = is_peer groups comm dest
 peers_exist groups (Recv comm source tag) = is_peer groups comm source
-peers_exist groups (Isend req mode comm dest tag) = is_peer groups comm dest
+peers_exist groups (Isend req mode comm dest tag bytes) = is_peer groups comm dest
 peers_exist groups (Irecv req comm source tag) = is_peer groups comm source
-peers_exist groups (Sendrecv comm dest send_tag source recv_tag) = is_peer groups comm dest && is_peer groups comm source
+peers_exist groups (Sendrecv comm dest send_tag source recv_tag bytes) = is_peer groups comm dest && is_peer groups comm source
+peers_exist groups (Probe comm source tag) = is_peer groups comm source
 peers_exist groups (Coll comm kind) = option_map_or (is_group_rank groups comm) (root_of kind) true
 peers_exist groups (Icoll req comm kind) = option_map_or (is_group_rank groups comm) (root_of kind) true
 peers_exist groups _ = true

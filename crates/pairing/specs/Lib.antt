@@ -18,5 +18,9 @@ pub mod Joined
 pub mod Codes
 pub mod Notes
 pub mod Kept
+pub mod Slots
 pub mod Packed
+pub mod Probed
+pub mod Probing
+pub mod Seated
 pub mod Tables

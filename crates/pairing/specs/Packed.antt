@@ -8,7 +8,7 @@ use Rattle.mpicall.specs.Limits.{in_ranges}
 use Rattle.mpicall.specs.declared.call.Call.{Call}
 use Rattle.mpicall.specs.declared.call.Call.TheVariants as made
 use Rattle.pairing.specs.declared.packed.Packed.{Packed}
-use Rattle.pairing.specs.declared.packed.Packed.TheVariants.{Send, Recv, Isend, Irecv, Sendrecv, Wait, Waitall, Waitany, Coll, Icoll, Dup, Split, Finalize}
+use Rattle.pairing.specs.declared.packed.Packed.TheVariants.{Send, Recv, Isend, Irecv, Sendrecv, Wait, Waitall, Waitany, Coll, Icoll, Dup, Split, Probe, Finalize, Open}
 use Rattle.pairing.specs.declared.packed.Entry.{Entry}
 use Rattle.pairing.specs.declared.beside.Beside.{Beside}
 use Rattle.pairing.specs.Limits.{most_calls}
@@ -16,7 +16,7 @@ use Rattle.pairing.specs.Notes.{Noted}
 
 -- the request that a stored call starts
 abbrev pub request_of : Packed → Option ℕ
-request_of (Isend req mode comm dest tag) = Some req
+request_of (Isend mode comm dest req tag bytes) = Some req
 request_of (Irecv req comm source tag) = Some req
 request_of (Icoll req comm kind) = Some req
 request_of _ = None
@@ -46,11 +46,11 @@ unpack_starts starts _ = []
 
 -- the call: a wait names the requests that the calls at its starts start
 abbrev pub unpack : List Entry → List ℕ → Packed → Call
-unpack entries starts (Send mode comm dest tag) = made.Send mode comm dest tag
+unpack entries starts (Send mode comm dest tag bytes) = made.Send mode comm dest tag bytes
 unpack entries starts (Recv comm source tag) = made.Recv comm source tag
-unpack entries starts (Isend req mode comm dest tag) = made.Isend req mode comm dest tag
+unpack entries starts (Isend mode comm dest req tag bytes) = made.Isend req mode comm dest tag bytes
 unpack entries starts (Irecv req comm source tag) = made.Irecv req comm source tag
-unpack entries starts (Sendrecv comm dest send_tag source recv_tag) = made.Sendrecv comm dest send_tag source recv_tag
+unpack entries starts (Sendrecv comm dest source send_tag recv_tag bytes) = made.Sendrecv comm dest send_tag source recv_tag bytes
 unpack entries starts (Wait start) = made.Wait (req_at entries start)
 unpack entries starts (Waitall first count) = made.Waitall (reqs_at entries (part starts first count))
 unpack entries starts (Waitany chosen first count) = made.Waitany chosen (reqs_at entries (part starts first count))
@@ -58,7 +58,9 @@ unpack entries starts (Coll comm kind) = made.Coll comm kind
 unpack entries starts (Icoll req comm kind) = made.Icoll req comm kind
 unpack entries starts (Dup comm new) = made.Dup comm new
 unpack entries starts (Split comm colour key new) = made.Split comm colour key new
+unpack entries starts (Probe comm source tag) = made.Probe comm source tag
 unpack entries starts Finalize = made.Finalize
+unpack entries starts Open = made.Open
 
 -- how long the list of starts is at least
 abbrev pub end_of : Packed → ℕ

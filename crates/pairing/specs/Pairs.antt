@@ -2,7 +2,7 @@
 use Rattle.std.specs.Prelude.{◌≡◌, ℕ, Option, Some, None, option_map, option_and_then, slice_get}
 use Rattle.mpicall.specs.declared.call.Mode.{Mode}
 use Rattle.mpicall.specs.declared.call.Call.{Call}
-use Rattle.mpicall.specs.declared.call.Call.TheVariants.{Send, Isend, Coll}
+use Rattle.mpicall.specs.declared.call.Call.TheVariants.{Send, Isend, Sendrecv, Coll}
 use Rattle.mpicall.specs.declared.call.Kind.{Kind}
 use Rattle.mpigroup.specs.Groups.{Groups}
 use Rattle.pairing.specs.declared.envelope.Half.TheVariants.{Send as SendHalf, Recv as RecvHalf}
@@ -27,9 +27,16 @@ with_call pairs rank call = record { groups = pairs.groups; recording = appended
 
 -- the mode of a call that sends, blocking or not
 abbrev pub mode_of : Call → Option Mode
-mode_of (Send mode comm dest tag) = Some mode
-mode_of (Isend req mode comm dest tag) = Some mode
+mode_of (Send mode comm dest tag bytes) = Some mode
+mode_of (Isend req mode comm dest tag bytes) = Some mode
 mode_of _ = None
+
+-- how many bytes a call that sends tells of its message
+abbrev pub bytes_told : Call → Option ℕ
+bytes_told (Send mode comm dest tag bytes) = bytes
+bytes_told (Isend req mode comm dest tag bytes) = bytes
+bytes_told (Sendrecv comm dest send_tag source recv_tag bytes) = bytes
+bytes_told _ = None
 
 -- the kind of a collective that isn't started alone
 abbrev pub kind_of : Call → Option Kind

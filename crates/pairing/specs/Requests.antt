@@ -10,7 +10,7 @@ use Rattle.pairing.specs.Places.{places}
 
 -- the request that the call starts (MPI 4.0, sections 3.7.2 and 6.12)
 abbrev pub starts : Call → Option ℕ
-starts (Isend req mode comm dest tag) = Some req
+starts (Isend req mode comm dest tag bytes) = Some req
 starts (Irecv req comm source tag) = Some req
 starts (Icoll req comm kind) = Some req
 starts _ = None

@@ -62,11 +62,16 @@ pub(crate) fn comm_of(call: &Call) -> Option<u16>
         | Call::Isend { comm, .. }
         | Call::Irecv { comm, .. }
         | Call::Sendrecv { comm, .. }
+        | Call::Probe { comm, .. }
         | Call::Coll { comm, .. }
         | Call::Icoll { comm, .. }
         | Call::Dup { comm, .. }
         | Call::Split { comm, .. } => Some(comm),
-        Call::Wait { .. } | Call::Waitall { .. } | Call::Waitany { .. } | Call::Finalize => None,
+        Call::Wait { .. }
+        | Call::Waitall { .. }
+        | Call::Waitany { .. }
+        | Call::Finalize
+        | Call::Open => None,
     }
 }
 
@@ -135,9 +140,9 @@ pub(crate) fn peers_exist(head: &Head, call: &Call) -> bool
 {
     match *call {
         Call::Send { comm, dest, .. } | Call::Isend { comm, dest, .. } => is_peer(head, comm, dest),
-        Call::Recv { comm, source, .. } | Call::Irecv { comm, source, .. } => {
-            is_peer(head, comm, source)
-        }
+        Call::Recv { comm, source, .. }
+        | Call::Irecv { comm, source, .. }
+        | Call::Probe { comm, source, .. } => is_peer(head, comm, source),
         Call::Sendrecv {
             comm,
             dest,

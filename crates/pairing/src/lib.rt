@@ -10,15 +10,18 @@
 //!   its first receive, the second with the second, in whatever form each is called. `wave_of` answers the
 //!   wave that a collective joins, and `member` a member's call in a wave (`Waves`): blocking and nonblocking
 //!   ones count together. `started` and `completed` answer the call that started a request which a wait
-//!   names, or completes (`Requests`). No look-up takes memory or scans a list of calls.
+//!   names, or completes (`Requests`). `probed` answers the send that a probe sees (`Probed`): the one that
+//!   the next receive of its envelope takes. No look-up takes memory or scans a list of calls.
 //! - Laws, each on a function that does nothing: partners are mutual, no two sends have one receive, and
 //!   messages of one envelope do not overtake; a wave has at most one call of each rank; in a list without
 //!   faults each request that a wait names has its start, and no request is started while it is active;
-//!   partners and waves stay as a recording goes on.
+//!   partners, waves and what probes see stay as a recording goes on.
 //!
 //! A call takes 32 bytes with the partners of its halves or the number of its wave, and each request that a
-//! wait for several names 4 more; each collective has 4 in the table of waves. Only the halves that have no
-//! partner yet stand in an arena of lists, and `work` tells what was done there: 1 for each half.
+//! wait for several names 4 more; each collective has 4 in the table of waves. A probe has an
+//! entry in a table of its own, which leads to its seat: there the place of the next receive is kept. Only the
+//! halves that have no partner yet stand in an arena of lists, and `work` tells what was done there: 1 for each
+//! half.
 //!
 //! ```text
 //! let mut pairs = Pairs::new(alloc, head)?;
@@ -49,8 +52,12 @@ mod packing;
 pub mod pairs;
 pub mod partner;
 mod place_lists;
+pub mod probed;
+mod probes;
+mod probing;
 mod rank_notes;
 pub mod request;
+mod slots;
 pub mod stored;
 mod tables;
 pub mod wave;

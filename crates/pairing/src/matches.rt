@@ -4,7 +4,7 @@
 ghost use Rattle.std.specs.Prelude.{◌≡◌, ◌+◌, ◌*◌, ◌<◌, ◌≤◌, ◌^◌, [], Some, length, slice_get, min, option_map, IfOk, IfSome, OnOk};
 ghost use Rattle.arenalist.specs.Arena.{counted};
 ghost use Rattle.pairing.specs.Envelopes.{other_half};
-ghost use Rattle.pairing.specs.Matched.{list_no, number_in, pending_at, met, HasNumber, HasRoomFor, IsGrown};
+ghost use Rattle.pairing.specs.Matched.{list_no, number_in, pending_at, pending_by, met, HasNumber, HasRoomFor, IsGrown};
 
 use crate::envelope::{Envelope, Half, envelope_of};
 use arenalist::lists::Lists;
@@ -190,6 +190,27 @@ impl Matches {
                 self.pending.push_reserved(own, place);
                 None
             }
+        }
+    }
+
+    /// The first of the pending halves of the envelope with the number.
+    fn front(&self, half: Half, number: usize) -> Option<u32>
+        requires { number < length self.now.keys }
+        ensures { result ≡ slice_get (pending_at self.now.lists half number) 0 }
+    {
+        match self.pending.first(self.ids[list_no(half, number)]) {
+            Some(node) => Some(*self.pending.get(node)),
+            None => None,
+        }
+    }
+
+    /// The first of the envelope's pending halves; None where none is pending.
+    pub(crate) fn first_pending(&self, half: Half, envelope: &Envelope) -> Option<u32>
+        ensures { result ≡ slice_get (pending_by self.now half envelope.now) 0 }
+    {
+        match self.envelopes.get_index_of(envelope) {
+            Some(number) => self.front(half, number),
+            None => None,
         }
     }
 

@@ -6,7 +6,8 @@ ghost use Rattle.pairing.specs.Envelopes.{message_of};
 ghost use Rattle.pairing.specs.Beside.{partner_in, wave_in};
 ghost use Rattle.pairing.specs.Requests.{starts, completes};
 ghost use Rattle.pairing.specs.Waves.{joins};
-ghost use Rattle.pairing.specs.Pairs.{kind_of, mode_of};
+ghost use Rattle.pairing.specs.Pairs.{bytes_told, kind_of, mode_of};
+ghost use Rattle.pairing.specs.Probed.{probed_message};
 ghost use Rattle.pairing.specs.Notes.{completed_starts, start_of};
 ghost use Rattle.pairing.specs.Packed.{IsStored, req_at, noted_of};
 
@@ -74,11 +75,27 @@ impl<'a> Note<'a> {
         self.entry.call.message(half)
     }
 
+    /// The message that the call probes for. None where it is no probe, and where its source is
+    /// MPI_PROC_NULL.
+    pub(crate) fn probed(&self) -> Option<Message>
+        ensures { result ≡ probed_message self.now.call }
+    {
+        self.entry.call.probed()
+    }
+
     /// The mode of a call that sends, blocking or not; None for every other call, MPI_Sendrecv too.
     pub(crate) fn mode(&self) -> Option<Mode>
         ensures { result ≡ mode_of self.now.call }
     {
         self.entry.call.mode()
+    }
+
+    /// How many bytes a call that sends tells of its message; None where it tells none, and for every other
+    /// call.
+    pub(crate) fn bytes(&self) -> Option<u32>
+        ensures { result ≡ bytes_told self.now.call }
+    {
+        self.entry.call.bytes()
     }
 
     /// The kind of a collective that isn't started alone; None for every other call.

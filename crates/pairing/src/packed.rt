@@ -6,12 +6,14 @@ ghost use Rattle.mpicall.specs.Ending.{ends_list};
 ghost use Rattle.pairing.specs.Envelopes.{message_of};
 ghost use Rattle.pairing.specs.Requests.{starts};
 ghost use Rattle.pairing.specs.Waves.{joins};
-ghost use Rattle.pairing.specs.Pairs.{kind_of, mode_of};
+ghost use Rattle.pairing.specs.Pairs.{bytes_told, kind_of, mode_of};
+ghost use Rattle.pairing.specs.Probed.{probed_message};
 ghost use Rattle.pairing.specs.Packed.{request_of, unpack};
 ghost use Rattle.pairing.specs.declared.packed.Entry.{Entry};
 
 use crate::beside::Beside;
 use crate::envelope::{Half, Message};
+use crate::slots::{PackedBytes, PackedPeer};
 use mpicall::call::{Kind, Mode, Peer};
 use std::mem::size_of;
 
@@ -23,33 +25,36 @@ pub(crate) enum Packed {
     Send {
         mode: Mode,
         comm: u16,
-        dest: Peer,
+        dest: PackedPeer,
         tag: u32,
+        bytes: PackedBytes,
     },
     Recv {
         comm: u16,
-        source: Peer,
+        source: PackedPeer,
         tag: u32,
     },
     Isend {
-        req: u32,
         mode: Mode,
         comm: u16,
-        dest: Peer,
+        dest: PackedPeer,
+        req: u32,
         tag: u32,
+        bytes: PackedBytes,
     },
     Irecv {
         req: u32,
         comm: u16,
-        source: Peer,
+        source: PackedPeer,
         tag: u32,
     },
     Sendrecv {
         comm: u16,
-        dest: Peer,
+        dest: PackedPeer,
+        source: PackedPeer,
         send_tag: u32,
-        source: Peer,
         recv_tag: u32,
+        bytes: PackedBytes,
     },
     Wait {
         start: u32,
@@ -82,7 +87,13 @@ pub(crate) enum Packed {
         key: i32,
         new: Option<u16>,
     },
+    Probe {
+        comm: u16,
+        source: PackedPeer,
+        tag: u32,
+    },
     Finalize,
+    Open,
 }
 
 /// A call, and what is kept beside it.
@@ -102,22 +113,25 @@ impl Packed {
         match *self {
             Packed::Send {
                 comm,
-                dest: Peer::Rank(peer),
+                dest,
                 tag,
                 ..
             }
             | Packed::Isend {
                 comm,
-                dest: Peer::Rank(peer),
+                dest,
                 tag,
                 ..
             }
             | Packed::Sendrecv {
                 comm,
-                dest: Peer::Rank(peer),
+                dest,
                 send_tag: tag,
                 ..
-            } => Some(Message { comm, peer, tag }),
+            } => match dest.peer() {
+                Peer::Rank(peer) => Some(Message { comm, peer, tag }),
+                Peer::Null => None,
+            },
             _ => None,
         }
     }
@@ -127,23 +141,22 @@ impl Packed {
         ensures { (entries : List Entry) (starts : List ℕ) → result ≡ message_of Half.Recv (unpack entries starts self.now) }
     {
         match *self {
-            Packed::Recv {
-                comm,
-                source: Peer::Rank(peer),
-                tag,
-            }
+            Packed::Recv { comm, source, tag }
             | Packed::Irecv {
                 comm,
-                source: Peer::Rank(peer),
+                source,
                 tag,
                 ..
             }
             | Packed::Sendrecv {
                 comm,
-                source: Peer::Rank(peer),
+                source,
                 recv_tag: tag,
                 ..
-            } => Some(Message { comm, peer, tag }),
+            } => match source.peer() {
+                Peer::Rank(peer) => Some(Message { comm, peer, tag }),
+                Peer::Null => None,
+            },
             _ => None,
         }
     }
@@ -160,12 +173,39 @@ impl Packed {
         }
     }
 
+    /// The message that the call probes for. None where it is no probe, and where its source is
+    /// MPI_PROC_NULL.
+    pub(crate) fn probed(&self) -> Option<Message>
+        ensures { (entries : List Entry) (starts : List ℕ) → result ≡ probed_message (unpack entries starts self.now) }
+    {
+        match *self {
+            Packed::Probe { comm, source, tag } => match source.peer() {
+                Peer::Rank(peer) => Some(Message { comm, peer, tag }),
+                Peer::Null => None,
+            },
+            _ => None,
+        }
+    }
+
     /// The mode of a call that sends, blocking or not; None for every other call, MPI_Sendrecv too.
     pub(crate) fn mode(&self) -> Option<Mode>
         ensures { (entries : List Entry) (starts : List ℕ) → result ≡ mode_of (unpack entries starts self.now) }
     {
         match *self {
             Packed::Send { mode, .. } | Packed::Isend { mode, .. } => Some(mode),
+            _ => None,
+        }
+    }
+
+    /// How many bytes a call that sends tells of its message; None where it tells none, and for every other
+    /// call.
+    pub(crate) fn bytes(&self) -> Option<u32>
+        ensures { (entries : List Entry) (starts : List ℕ) → result ≡ bytes_told (unpack entries starts self.now) }
+    {
+        match *self {
+            Packed::Send { bytes, .. }
+            | Packed::Isend { bytes, .. }
+            | Packed::Sendrecv { bytes, .. } => bytes.bytes(),
             _ => None,
         }
     }
@@ -210,6 +250,6 @@ impl Packed {
     pub(crate) fn ends_list(&self) -> bool
         ensures { (entries : List Entry) (starts : List ℕ) → result ≡ ends_list (unpack entries starts self.now) }
     {
-        matches!(*self, Packed::Finalize)
+        matches!(*self, Packed::Finalize | Packed::Open)
     }
 }

@@ -1,13 +1,14 @@
 //! Calls packed, and unpacked again.
 
 ghost use Rattle.std.specs.Prelude.{◌≡◌, ◌+◌, ◌≤◌, ◌++◌, List, ℕ, length, IsTrue};
-ghost use Rattle.mpicall.specs.Limits.{few_enough, names_enough};
+ghost use Rattle.mpicall.specs.Limits.{few_enough, names_enough, in_ranges};
 ghost use Rattle.pairing.specs.Requests.{waits_for};
 ghost use Rattle.pairing.specs.Notes.{listed};
 ghost use Rattle.pairing.specs.Packed.{request_at, req_at, reqs_at, part, unpack, unpack_starts, end_of, listed_starts};
 ghost use Rattle.pairing.specs.declared.packed.Entry.{Entry};
 
 use crate::packed::{Entry, Packed};
+use crate::slots::{PackedBytes, PackedPeer};
 use mpicall::call::Call;
 use mpicall::limits::MOST_REQUESTS;
 use mpicall::reqs::Reqs;
@@ -41,42 +42,108 @@ fn count(reqs: &Reqs) -> u8
     reqs.as_slice().len() as u8
 }
 
-/// The other of `Call` and `Packed`, at the variants whose fields are the same in both. The arms of the
-/// waits are given.
-macro_rules! converted {
-    ($call:expr, $from:ident => $to:ident, $($waits:tt)*) => {
-        match $call {
-            $from::Send { mode, comm, dest, tag } => $to::Send { mode, comm, dest, tag },
-            $from::Recv { comm, source, tag } => $to::Recv { comm, source, tag },
-            $from::Isend { req, mode, comm, dest, tag } => $to::Isend { req, mode, comm, dest, tag },
-            $from::Irecv { req, comm, source, tag } => $to::Irecv { req, comm, source, tag },
-            $from::Sendrecv { comm, dest, send_tag, source, recv_tag } => {
-                $to::Sendrecv { comm, dest, send_tag, source, recv_tag }
-            }
-            $from::Coll { comm, kind } => $to::Coll { comm, kind },
-            $from::Icoll { req, comm, kind } => $to::Icoll { req, comm, kind },
-            $from::Dup { comm, new } => $to::Dup { comm, new },
-            $from::Split { comm, colour, key, new } => $to::Split { comm, colour, key, new },
-            $from::Finalize => $to::Finalize,
-            $($waits)*
-        }
-    };
-}
-
 /// The call packed. The places that started the requests which it names are given, and those that are listed
 /// come to stand from `first` on.
 pub(crate) fn pack(call: &Call, first: u32, starts: &[u32]) -> Packed
-    requires { length starts.now ≡ length (waits_for call.now) }
+    requires starts { length starts.now ≡ length (waits_for call.now) }
+    requires ranges { IsTrue (in_ranges call.now) }
     ensures call { (entries : List Entry) (before : List ℕ) → reqs_at entries starts.now ≡ waits_for call.now → length before ≡ first →
         unpack entries (before ++ listed_starts call.now starts.now) result ≡ call.now }
     ensures starts { (before : List ℕ) → length before ≡ first → unpack_starts (before ++ listed_starts call.now starts.now) result ≡ starts.now }
     ensures end { end_of result ≤ first + length (listed_starts call.now starts.now) }
 {
-    converted!(*call, Call => Packed,
+    match *call {
+        Call::Send {
+            mode,
+            comm,
+            dest,
+            tag,
+            bytes,
+        } => Packed::Send {
+            mode,
+            comm,
+            dest: PackedPeer::of(dest),
+            tag,
+            bytes: PackedBytes::of(bytes),
+        },
+        Call::Recv { comm, source, tag } => Packed::Recv {
+            comm,
+            source: PackedPeer::of(source),
+            tag,
+        },
+        Call::Isend {
+            req,
+            mode,
+            comm,
+            dest,
+            tag,
+            bytes,
+        } => Packed::Isend {
+            mode,
+            comm,
+            dest: PackedPeer::of(dest),
+            req,
+            tag,
+            bytes: PackedBytes::of(bytes),
+        },
+        Call::Irecv {
+            req,
+            comm,
+            source,
+            tag,
+        } => Packed::Irecv {
+            req,
+            comm,
+            source: PackedPeer::of(source),
+            tag,
+        },
+        Call::Sendrecv {
+            comm,
+            dest,
+            send_tag,
+            source,
+            recv_tag,
+            bytes,
+        } => Packed::Sendrecv {
+            comm,
+            dest: PackedPeer::of(dest),
+            source: PackedPeer::of(source),
+            send_tag,
+            recv_tag,
+            bytes: PackedBytes::of(bytes),
+        },
+        Call::Coll { comm, kind } => Packed::Coll { comm, kind },
+        Call::Icoll { req, comm, kind } => Packed::Icoll { req, comm, kind },
+        Call::Dup { comm, new } => Packed::Dup { comm, new },
+        Call::Split {
+            comm,
+            colour,
+            key,
+            new,
+        } => Packed::Split {
+            comm,
+            colour,
+            key,
+            new,
+        },
+        Call::Probe { comm, source, tag } => Packed::Probe {
+            comm,
+            source: PackedPeer::of(source),
+            tag,
+        },
+        Call::Finalize => Packed::Finalize,
+        Call::Open => Packed::Open,
         Call::Wait { .. } => Packed::Wait { start: starts[0] },
-        Call::Waitall { ref reqs } => Packed::Waitall { first, count: count(reqs) },
-        Call::Waitany { chosen, ref reqs } => Packed::Waitany { chosen, first, count: count(reqs) },
-    )
+        Call::Waitall { ref reqs } => Packed::Waitall {
+            first,
+            count: count(reqs),
+        },
+        Call::Waitany { chosen, ref reqs } => Packed::Waitany {
+            chosen,
+            first,
+            count: count(reqs),
+        },
+    }
 }
 
 /// The places that started the requests which a wait names, in its order; none where the call is no wait.
@@ -134,13 +201,100 @@ pub(crate) fn unpack(packed: &Packed, entries: &[Entry], starts: &[u32]) -> Call
     requires few { IsTrue (names_enough (unpack entries.now starts.now packed.now)) }
     ensures { result ≡ unpack entries.now starts.now packed.now }
 {
-    converted!(*packed, Packed => Call,
-        Packed::Wait { start } => Call::Wait { req: req_at(entries, start) },
-        Packed::Waitall { first, count } => {
-            Call::Waitall { reqs: reqs_at(entries, part(starts, first, count)) }
-        }
-        Packed::Waitany { chosen, first, count } => {
-            Call::Waitany { chosen, reqs: reqs_at(entries, part(starts, first, count)) }
-        }
-    )
+    match *packed {
+        Packed::Send {
+            mode,
+            comm,
+            dest,
+            tag,
+            bytes,
+        } => Call::Send {
+            mode,
+            comm,
+            dest: dest.peer(),
+            tag,
+            bytes: bytes.bytes(),
+        },
+        Packed::Recv { comm, source, tag } => Call::Recv {
+            comm,
+            source: source.peer(),
+            tag,
+        },
+        Packed::Isend {
+            mode,
+            comm,
+            dest,
+            req,
+            tag,
+            bytes,
+        } => Call::Isend {
+            req,
+            mode,
+            comm,
+            dest: dest.peer(),
+            tag,
+            bytes: bytes.bytes(),
+        },
+        Packed::Irecv {
+            req,
+            comm,
+            source,
+            tag,
+        } => Call::Irecv {
+            req,
+            comm,
+            source: source.peer(),
+            tag,
+        },
+        Packed::Sendrecv {
+            comm,
+            dest,
+            source,
+            send_tag,
+            recv_tag,
+            bytes,
+        } => Call::Sendrecv {
+            comm,
+            dest: dest.peer(),
+            send_tag,
+            source: source.peer(),
+            recv_tag,
+            bytes: bytes.bytes(),
+        },
+        Packed::Coll { comm, kind } => Call::Coll { comm, kind },
+        Packed::Icoll { req, comm, kind } => Call::Icoll { req, comm, kind },
+        Packed::Dup { comm, new } => Call::Dup { comm, new },
+        Packed::Split {
+            comm,
+            colour,
+            key,
+            new,
+        } => Call::Split {
+            comm,
+            colour,
+            key,
+            new,
+        },
+        Packed::Probe { comm, source, tag } => Call::Probe {
+            comm,
+            source: source.peer(),
+            tag,
+        },
+        Packed::Finalize => Call::Finalize,
+        Packed::Open => Call::Open,
+        Packed::Wait { start } => Call::Wait {
+            req: req_at(entries, start),
+        },
+        Packed::Waitall { first, count } => Call::Waitall {
+            reqs: reqs_at(entries, part(starts, first, count)),
+        },
+        Packed::Waitany {
+            chosen,
+            first,
+            count,
+        } => Call::Waitany {
+            chosen,
+            reqs: reqs_at(entries, part(starts, first, count)),
+        },
+    }
 }

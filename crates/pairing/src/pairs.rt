@@ -1,10 +1,12 @@
 //! Calls of all ranks, added one by one, with what each means for the others.
 
-ghost use Rattle.std.specs.Prelude.{◌≡◌, ◌<◌, ◌≤◌, ℕ, [], length, replicate, slice_get, option_map, None, Err, IfOk, IfErr, IfNone, IfSome, OnOk, OnErr, true};
+ghost use Rattle.std.specs.Prelude.{◌≡◌, ◌<◌, ◌≤◌, ℕ, [], length, replicate, slice_get, option_map, None, Err, IfOk, IfErr, IfNone, IfSome, OnOk, OnErr, false, true};
 ghost use Rattle.mpigroup.specs.Groups.{ranks_of};
 ghost use Rattle.pairing.specs.Limits.{most_calls};
 ghost use Rattle.pairing.specs.Recordings.{Lists, calls_of, appended, is_ended, has_end};
 ghost use Rattle.pairing.specs.Partners.{partner_of};
+ghost use Rattle.pairing.specs.Probed.{probed_of, seen_from, HasProbe, NoneIsProbed};
+ghost use Rattle.pairing.specs.Seated.{IsProbing};
 ghost use Rattle.pairing.specs.Requests.{started_of};
 ghost use Rattle.pairing.specs.Waves.{wave_of, member_of};
 ghost use Rattle.pairing.specs.Faults.{fault_of, waits_for_active, IsLawful};
@@ -16,12 +18,14 @@ ghost use Rattle.pairing.specs.Tables.{AreTables, HaveRoom, GoOnBy, IsKept};
 ghost use Rattle.pairing.specs.declared.added.PairFault.TheVariants.{Refused};
 
 use crate::added::{Added, Joined, PairFault};
-use crate::envelope::Half;
+use crate::envelope::{Envelope, Half, rank_of_half};
 use crate::fault::CallFault;
 use crate::first_fault::first_fault;
 use crate::matches::Halves;
 use crate::meeting::meet_halves;
 use crate::notes::Notes;
+use crate::probes::received_by;
+use crate::probing::Probing;
 use crate::request::waits_for;
 use crate::stored::StoredCall;
 use crate::tables::Tables;
@@ -38,6 +42,7 @@ pub struct Pairs {
     head: Head,
     notes: Notes,
     tables: Tables,
+    probing: Probing,
 }
 
 impl Drop for Pairs {
@@ -46,11 +51,13 @@ impl Drop for Pairs {
             head: _,
             notes: _,
             tables: _,
+            probing: _,
         } = self;
     }
 }
 
 impl Model for Pairs {
+    ghost use Rattle.pairing.specs.Seated.{IsProbing};
     ghost use Rattle.pairing.specs.Notes.{recording_of};
     ghost use Rattle.pairing.specs.Pairs.{Paired};
     ghost use Rattle.pairing.specs.Tables.{IsKept};
@@ -59,7 +66,7 @@ impl Model for Pairs {
 
     ghost view = { λ p. record { groups = p.head; recording = recording_of p.notes.lists } };
 
-    ghost invariant = { λ p. IsKept p.head p.notes.lists p.tables };
+    ghost invariant = { λ p. IsKept p.head p.notes.lists p.tables × IsProbing p.head (recording_of p.notes.lists) p.probing };
 }
 
 /// Whether the last call of a rank ends its list.
@@ -192,6 +199,47 @@ fn partner_of(head: &Head, notes: &Notes, rank: u16, place: u32, half: Half) -> 
     Some((other, there))
 }
 
+/// The send of the envelope that a probe sees which has a seat.
+fn seen_from(
+    head: &Head,
+    notes: &Notes,
+    tables: &Tables,
+    rank: u16,
+    followed: Option<u32>,
+    envelope: &Envelope,
+) -> Option<(u16, u32)>
+    requires { IsKept head.now notes.now.lists tables.now }
+    ensures { result ≡ seen_from head.now (recording_of notes.now.lists) rank followed envelope.now }
+{
+    match followed {
+        Some(receive) => partner_of(head, notes, rank, receive, Half::Recv),
+        None => {
+            let other = rank_of_half(head, Half::Send, envelope)?;
+            let there = tables.matches.first_pending(Half::Send, envelope)?;
+            Some((other, there))
+        }
+    }
+}
+
+/// The send that the probe at the place sees.
+fn probed_of(
+    head: &Head,
+    notes: &Notes,
+    tables: &Tables,
+    probing: &Probing,
+    rank: u16,
+    place: u32,
+) -> Option<(u16, u32)>
+    requires kept { IsKept head.now notes.now.lists tables.now }
+    requires probing { IsProbing head.now (recording_of notes.now.lists) probing.now }
+    ensures { result ≡ probed_of head.now (recording_of notes.now.lists) rank place }
+{
+    let note = notes.get(rank, place)?;
+    let envelope = received_by(head, rank, note.probed()?)?;
+    let seat = probing.seat(rank, place)?;
+    seen_from(head, notes, tables, rank, probing.followed(seat), &envelope)
+}
+
 /// The wave that a call joins.
 #[inline(always)]
 fn wave_of(notes: &Notes, rank: u16, place: u32) -> Option<(u16, u32)>
@@ -256,10 +304,12 @@ impl Pairs {
     {
         let notes = Notes::new(alloc, head.ranks())?;
         let tables = Tables::new(alloc, &head)?;
+        let probing = Probing::new(alloc);
         Ok(Pairs {
             head,
             notes,
             tables,
+            probing,
         })
     }
 
@@ -274,8 +324,13 @@ impl Pairs {
         ensures fault { IfErr result (TellsFault (fault_of self.old.groups rank (calls_of self.old.recording rank) call.now)) }
         ensures err { OnErr result (self.new ≡ self.old) }
     {
+        // The ranks are few, so the calls are, and each probe's seat has a number of 32 bits.
+        let _ranks = self.head.ranks();
         if let Some(fault) = next_fault(&self.head, &self.notes, &self.tables, rank, call) {
             return Err(PairFault::Refused(fault));
+        }
+        if self.probing.reserve(call).is_err() {
+            return Err(PairFault::Memory);
         }
         match reserve(&self.head, &mut self.notes, &mut self.tables, rank, call) {
             Ok(halves) => {
@@ -288,6 +343,7 @@ impl Pairs {
                     call,
                     &halves,
                 );
+                self.probing.put(&self.head, rank, place, call, &halves);
                 Ok(())
             }
             Err(_) => Err(PairFault::Memory),
@@ -358,6 +414,30 @@ impl Pairs {
         ensures { result ≡ partner_of self.now.groups self.now.recording rank place half }
     {
         partner_of(&self.head, &self.notes, rank, place, half)
+    }
+
+    /// Whether there is a probe among the calls, whose source is not MPI_PROC_NULL. Where this answers false,
+    /// `probed` answers None everywhere.
+    pub fn has_probes(&self) -> bool
+        ensures none { result ≡ false → NoneIsProbed self.now.groups self.now.recording }
+        ensures some { result ≡ true → HasProbe self.now.groups self.now.recording }
+    {
+        self.probing.has_probes()
+    }
+
+    /// The rank and place of the send that the probe at `place` sees; None where no probe stands there, and
+    /// where there is no such send yet.
+    pub fn probed(&self, rank: u16, place: u32) -> Option<(u16, u32)>
+        ensures { result ≡ probed_of self.now.groups self.now.recording rank place }
+    {
+        probed_of(
+            &self.head,
+            &self.notes,
+            &self.tables,
+            &self.probing,
+            rank,
+            place,
+        )
     }
 
     /// The communicator and the number of the wave that the call at the place joins; None where it joins

@@ -5,7 +5,8 @@ ghost use Rattle.mpicall.specs.Ending.{ends_list};
 ghost use Rattle.pairing.specs.Envelopes.{message_of};
 ghost use Rattle.pairing.specs.Requests.{starts, completes};
 ghost use Rattle.pairing.specs.Waves.{joins};
-ghost use Rattle.pairing.specs.Pairs.{kind_of, mode_of};
+ghost use Rattle.pairing.specs.Pairs.{bytes_told, kind_of, mode_of};
+ghost use Rattle.pairing.specs.Probed.{probed_message};
 
 use crate::envelope::{Half, Message};
 use crate::note::Note;
@@ -51,11 +52,27 @@ impl<'a> StoredCall<'a> {
         self.note.message(half)
     }
 
+    /// The message that the call probes for. None where it is no probe, and where its source is
+    /// MPI_PROC_NULL.
+    pub fn probed(&self) -> Option<Message>
+        ensures { result ≡ probed_message self.now }
+    {
+        self.note.probed()
+    }
+
     /// The mode of a call that sends, blocking or not; None for every other call, MPI_Sendrecv too.
     pub fn mode(&self) -> Option<Mode>
         ensures { result ≡ mode_of self.now }
     {
         self.note.mode()
+    }
+
+    /// How many bytes a call that sends tells of its message; None where it tells none, and for every other
+    /// call. Only sends in standard mode and MPI_Sendrecv tell them.
+    pub fn bytes(&self) -> Option<u32>
+        ensures { result ≡ bytes_told self.now }
+    {
+        self.note.bytes()
     }
 
     /// The kind of a collective that isn't started alone; None for every other call.

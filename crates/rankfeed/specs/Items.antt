@@ -7,8 +7,8 @@ use Rattle.rankfeed.specs.declared.item.Ending.TheVariants.{Sealed, Torn}
 use Rattle.rankfeed.specs.declared.item.Item.{Item}
 use Rattle.rankfeed.specs.declared.item.Item.TheVariants.{Entry, Mark}
 
--- what may follow what: the item before, if there is one, and the item behind it. The call that ends its
--- rank's list is MPI_Finalize (MPI 4.0, section 11.2.2)
+-- what may follow what: the item before, if there is one, and the item behind it. The end record of a rank's
+-- list is MPI_Finalize (MPI 4.0, section 11.2.2), or the record that the list was left open
 abbrev pub may_follow : Option Item → Item → Bool
 may_follow None (Entry call) = true
 may_follow None (Mark Sealed) = false
@@ -64,7 +64,7 @@ calls_among (Entry call ∷ items) = call ∷ calls_among items
 calls_among (Mark earlier ∷ items) = calls_among items
 
 -- the order of a feed's items in plain words: an end mark is last, no record follows the one that
--- ends the list (MPI_Finalize), and Sealed stands only directly behind it
+-- ends the list, and Sealed stands only directly behind it
 pub record IsFeed (items : List Item) : Type 0 where
   pub mark_is_last : (before after : List Item) (earlier : Ending) → items ≡ before ++ Mark earlier ∷ after → after ≡ []
   pub none_behind_list_end : (before after : List Item) (call : Call) → items ≡ before ++ Entry call ∷ after → ends_list call ≡ true → calls_among after ≡ []

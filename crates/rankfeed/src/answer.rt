@@ -14,7 +14,7 @@ pub enum PutFault {
     /// There is no room now.
     #[error("no room for a record")]
     Full(Record),
-    /// Finalize was put, and no record follows it.
+    /// The end record was put, and no record follows it.
     #[error("a record behind finalize")]
     Closed(Record),
 }
@@ -32,7 +32,7 @@ pub enum Took {
     Record(Record),
     /// Nothing is there now.
     Empty,
-    /// All records were taken, Finalize last. Each later call answers the same.
+    /// All records were taken, the end record last. Each later call answers the same.
     Sealed,
     /// The records stopped, for the fault. Each later call answers the same.
     Torn(SourceFault),
@@ -45,7 +45,7 @@ pub enum Came {
     Record,
     /// Nothing is there now.
     Empty,
-    /// All records were taken, Finalize last. Each later call answers the same.
+    /// All records were taken, the end record last. Each later call answers the same.
     Sealed,
     /// The records stopped, for the fault. Each later call answers the same.
     Torn(SourceFault),

@@ -30,7 +30,7 @@ pub enum PutFault {
     /// There is no room now.
     #[error("no room for a record")]
     Full(Record),
-    /// Finalize was put, and no record follows it.
+    /// The end record was put, and no record follows it.
     #[error("a record behind finalize")]
     Closed(Record),
     /// The channel has no taker any more.
@@ -130,7 +130,7 @@ impl Feed {
         self.rank
     }
 
-    /// Whether Finalize was put, so that the feed takes no other record.
+    /// Whether the end record was put, so that the feed takes no other record.
     pub fn is_done(&self) -> bool
         ensures { result ≡ end_the_list (sent_by self.now) }
     {
@@ -225,7 +225,7 @@ impl Feed {
         }
     }
 
-    /// Puts the end mark of a feed whose records are all put.
+    /// Puts the end mark of a feed whose records are all put, the end record last.
     #[tactic(auto, using(crate::proofs::ItemLemmas::item_steps))]
     pub fn seal<R: Wait>(self, wait: &R) -> Result<Receipt, Unsealed>
         requires { IsTrue (end_the_list (sent_by self)) }

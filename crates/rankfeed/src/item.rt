@@ -9,7 +9,7 @@ use mpicall::record::Record;
 /// How a feed ends.
 #[derive(Clone, Copy, PartialEq, Eq)]
 pub enum Ending {
-    /// All records were put, Finalize last.
+    /// All records were put, the end record last.
     Sealed,
     /// The records stop here, for the fault.
     Torn(SourceFault),

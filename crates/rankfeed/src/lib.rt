@@ -1,8 +1,8 @@
 //! The feed of one rank's records, from the thread that reads them to the one that takes them.
 //!
 //! A feed has two ends, and each may go to a thread of its own. A `Feed` puts records at the back and
-//! then one end mark: `seal` where Finalize was put, `tear` with the fault where the records stop. Its
-//! `Taker` takes from the front.
+//! then one end mark: `seal` where the end record was put (`finalize` or `open`), `tear` with the fault
+//! where the records stop. Its `Taker` takes from the front.
 //!
 //! What it promises, as contracts that are proved:
 //!
@@ -10,10 +10,9 @@
 //!   left is what was sent: no record is lost, doubled, changed, invented or out of its place. `meet`
 //!   tells how many items are left, and from then on each call finds one.
 //! - A put that is refused hands the record back and changes nothing. `Closed` comes exactly where
-//!   Finalize was put, `Full` never for a new feed's first `capacity` records.
+//!   the end record was put, `Full` never for a new feed's first `capacity` records.
 //! - The items are in order (`IsFeed` of `specs/Items.antt`): an end mark is last, no record follows
-//!   the one that ends the list (`Call::ends_list`: MPI_Finalize), and `Sealed` stands only directly
-//!   behind it.
+//!   the end record (`Call::ends_list`), and `Sealed` stands only directly behind it.
 //! - No call but `put` waits, and none but `open` takes memory. The end mark has a place of its own.
 //!
 //! It isn't promised that a full feed has room again, that an item comes to an empty one, or that there

@@ -100,7 +100,7 @@ impl Feed {
         self.rank
     }
 
-    /// Whether Finalize was put, so that the feed takes no other record.
+    /// Whether the end record was put, `finalize` or `open`, so that the feed takes no other record.
     pub fn is_done(&self) -> bool
         ensures { result ≡ end_the_list (sent_by self.now) }
     {
@@ -169,7 +169,7 @@ impl Feed {
     }
 
     /// Puts a copy of a record at the back, and waits for a place, for those that put many: a record takes
-    /// some 264 bytes. False where Finalize was put before; then nothing is put.
+    /// some 264 bytes. False where the end record was put before; then nothing is put.
     #[tactic(auto, using(crate::proofs::ItemLemmas::item_steps))]
     pub fn put_copy(&mut self, call: &Record, wait: &impl Wait) -> bool
         ensures name { feed_ring self.new ≡ feed_ring self.old }
@@ -212,7 +212,7 @@ impl Feed {
         }
     }
 
-    /// Puts the end mark of a feed whose records are all put.
+    /// Puts the end mark of a feed whose records are all put, the end record last.
     #[tactic(auto, using(crate::proofs::ItemLemmas::item_steps))]
     pub fn seal(self) -> Result<Receipt, Unsealed>
         requires { IsTrue (end_the_list (sent_by self)) }

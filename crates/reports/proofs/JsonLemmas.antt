@@ -1,4 +1,5 @@
 -- Lists of JSON values, told one value at a time, and that a report has no float.
+use Rattle.moves.specs.declared.reading.Reading.{Reading}
 use Rattle.std.proofs.Common.{◌≡◌, ℕ, ◌+◌, ◌<◌, Bool, false, ◌||◌, List, [], ◌∷◌, ◌++◌, length, map, take, get_or, refl, sym, ap}
 use Rattle.std.proofs.lemmas.List.{map-append, take_more}
 use Rattle.mpigroup.specs.Groups.{Groups}
@@ -41,19 +42,19 @@ no_float_need : (need : Need) → has_float (need_data need) ≡ false
 no_float_need (At rank place) = refl
 no_float_need (Lacking rank) = refl
 
-no_float_rank : (groups : Groups) (recording : Lists) (rank : ℕ) → has_float (rank_data groups recording rank) ≡ false
-no_float_rank groups recording rank = rw (no_float_told need_data no_float_need (unmet_of groups recording rank)) refl
+no_float_rank : (reading : Reading) (groups : Groups) (recording : Lists) (rank : ℕ) → has_float (rank_data reading groups recording rank) ≡ false
+no_float_rank reading groups recording rank = rw (no_float_told need_data no_float_need (unmet_of reading groups recording rank)) refl
 
 no_float_cause : (cause : CauseView) → has_float (cause_data cause) ≡ false
 no_float_cause (CycleOf ranks) = rw (no_float_told numeral (λ n. refl) ranks) refl
 no_float_cause (MissingOf rank peer) = refl
 
-pub no_float : (groups : Groups) (recording : Lists) → has_float (report_data groups recording) ≡ false
+pub no_float : (reading : Reading) (groups : Groups) (recording : Lists) → has_float (report_data reading groups recording) ≡ false
 unfolding report_data
-no_float groups recording =
+no_float reading groups recording =
     rw (
-      no_float_told cause_data no_float_cause (causes_of groups recording),
+      no_float_told cause_data no_float_cause (causes_of reading groups recording),
       no_float_told finding_data (λ finding. refl) (findings_of groups recording),
-      no_float_told (rank_data groups recording) (no_float_rank groups recording) (stuck_of groups recording),
+      no_float_told (rank_data reading groups recording) (no_float_rank reading groups recording) (stuck_of reading groups recording),
     )
     refl

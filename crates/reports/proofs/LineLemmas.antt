@@ -17,7 +17,7 @@ use Rattle.mpicall.specs.declared.word.Collective.TheVariants.{Barrier, Bcast, G
 use Rattle.mpicall.specs.declared.word.Operation.{Operation}
 use Rattle.mpicall.specs.declared.word.Operation.TheVariants.{Send, Recv, Coll}
 use Rattle.mpicall.specs.declared.word.Word.{Word}
-use Rattle.mpicall.specs.declared.word.Word.TheVariants.{Blocking, Started, Sendrecv, Wait, Waitall, Waitany, Dup, Split, Finalize}
+use Rattle.mpicall.specs.declared.word.Word.TheVariants.{Blocking, Started, Sendrecv, Wait, Waitall, Waitany, Dup, Split, Probe, Finalize, Open}
 
 -- ---- numbers
 
@@ -89,7 +89,9 @@ word_small Waitall = refl
 word_small Waitany = refl
 word_small Dup = refl
 word_small Split = refl
+word_small Probe = refl
 word_small Finalize = refl
+word_small Open = refl
 
 -- ---- fields and lines
 

@@ -1,4 +1,5 @@
 -- The JSON report: one object in compact form and a line feed. Keys stand in the order of their bytes.
+use Rattle.moves.specs.declared.reading.Reading.{Reading}
 use Rattle.std.specs.Prelude.{ℕ, List, [], ◌∷◌, ◌++◌, codes, map, slice_index}
 use Rattle.std.specs.List.{join_with_byte}
 use Rattle.serde_json.specs.Data.{Data, null, number, unsigned, string, array, object, item, no_items, member, no_members}
@@ -40,11 +41,11 @@ need_data (At rank place) = pair (numeral rank) (numeral place)
 need_data (Lacking rank) = pair (numeral rank) null
 
 -- `{"at":I,"call":LINE,"needs":[..],"rank":R}`: where a rank stands, its call there, and what it needs
-abbrev pub rank_data : Groups → Lists → ℕ → Data
-rank_data groups recording rank =
-    object (member (codes "at") (numeral (slice_index (stands_of groups recording) rank))
-    (member (codes "call") (spaced (present_fields groups recording rank))
-    (member (codes "needs") (each need_data (unmet_of groups recording rank))
+abbrev pub rank_data : Reading → Groups → Lists → ℕ → Data
+rank_data reading groups recording rank =
+    object (member (codes "at") (numeral (slice_index (stands_of reading groups recording) rank))
+    (member (codes "call") (spaced (present_fields reading groups recording rank))
+    (member (codes "needs") (each need_data (unmet_of reading groups recording rank))
     (member (codes "rank") (numeral rank) no_members))))
 
 -- `{"cycle":[..]}` with the ranks of a cycle; `{"missing":[R,K]}`: rank R waits, and rank K lacks the call
@@ -57,13 +58,13 @@ abbrev pub finding_data : Finding → Data
 finding_data finding = spaced (finding_fields finding)
 
 -- `{"causes":[..],"findings":[..],"ranks":[..],"verdict":..}`
-unfoldable pub report_data : Groups → Lists → Data
-report_data groups recording =
-    object (member (codes "causes") (each cause_data (causes_of groups recording))
+unfoldable pub report_data : Reading → Groups → Lists → Data
+report_data reading groups recording =
+    object (member (codes "causes") (each cause_data (causes_of reading groups recording))
     (member (codes "findings") (each finding_data (findings_of groups recording))
-    (member (codes "ranks") (each (rank_data groups recording) (stuck_of groups recording))
-    (member (codes "verdict") (string (verdict_text (verdict_of groups recording))) no_members))))
+    (member (codes "ranks") (each (rank_data reading groups recording) (stuck_of reading groups recording))
+    (member (codes "verdict") (string (verdict_text (verdict_of reading groups recording))) no_members))))
 
 -- the whole report
-unfoldable pub json_report : Groups → Lists → List ℕ
-json_report groups recording = compact_text (report_data groups recording) ++ line_feed ∷ []
+unfoldable pub json_report : Reading → Groups → Lists → List ℕ
+json_report reading groups recording = compact_text (report_data reading groups recording) ++ line_feed ∷ []

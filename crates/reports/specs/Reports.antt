@@ -1,6 +1,7 @@
 -- The report of a recording: its bytes, in either format.
 use Rattle.std.specs.Prelude.{◌≡◌, ℕ, Option, List}
 use Rattle.mpicall.specs.Device.{one_more, AppendsBeginning}
+use Rattle.moves.specs.declared.reading.Reading.{Reading}
 use Rattle.mpigroup.specs.Groups.{Groups}
 use Rattle.pairing.specs.Recordings.{Lists}
 use Rattle.reports.specs.JsonReport.{json_report}
@@ -10,9 +11,9 @@ use Rattle.reports.specs.declared.report.Format.TheVariants.{Text, Json}
 use Rattle.reports.specs.declared.report.ReportFault.{ReportFault}
 use Rattle.reports.specs.declared.report.ReportFault.TheVariants.{Memory, Write}
 
-unfoldable pub report_of : Format → Groups → Lists → List ℕ
-report_of Text groups recording = text_report groups recording
-report_of Json groups recording = json_report groups recording
+unfoldable pub report_of : Format → Reading → Groups → Lists → List ℕ
+report_of Text reading groups recording = text_report reading groups recording
+report_of Json reading groups recording = json_report reading groups recording
 
 -- Only JSON takes memory, and where there is none the output is as it was; a failed write leaves a beginning
 -- of the report, and adds one to the count of failures.

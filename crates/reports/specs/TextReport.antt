@@ -1,5 +1,6 @@
 -- The text report: a line with the verdict, and then a line for each unmet need of a stuck rank, for each
 -- cycle, for each missing call and for each finding. Numbers are decimal.
+use Rattle.moves.specs.declared.reading.Reading.{Reading}
 use Rattle.std.specs.Prelude.{ℕ, List, [], ◌∷◌, ◌++◌, codes, flat_map, map, slice_index}
 use Rattle.std.specs.Option.{option_map_or}
 use Rattle.std.specs.Fmt.{decimal}
@@ -12,7 +13,7 @@ use Rattle.waitgraph.specs.Verdicts.{verdict_of}
 use Rattle.moves.specs.declared.need.Need.{Need}
 use Rattle.moves.specs.declared.need.Need.TheVariants.{At, Lacking}
 use Rattle.waitgraph.specs.declared.verdict.Verdict.{Verdict}
-use Rattle.waitgraph.specs.declared.verdict.Verdict.TheVariants.{Free, Hang}
+use Rattle.waitgraph.specs.declared.verdict.Verdict.TheVariants.{Free, Hang, Unfinished}
 use Rattle.waitgraph.specs.Causes.{CauseView, CycleOf, MissingOf, causes_of}
 use Rattle.waitgraph.specs.Findings.{findings_of}
 use Rattle.reports.specs.FindingTexts.{finding_fields}
@@ -27,15 +28,16 @@ line fields = join_with_byte space fields ++ line_feed ∷ []
 abbrev pub verdict_text : Verdict → List ℕ
 verdict_text Free = codes "free"
 verdict_text Hang = codes "hang"
+verdict_text Unfinished = codes "unfinished"
 
--- `verdict free` or `verdict hang`
+-- `verdict free`, `verdict hang` or `verdict unfinished`
 abbrev pub verdict_line : Verdict → List ℕ
 verdict_line verdict = line (codes "verdict" ∷ verdict_text verdict ∷ [])
 
 -- the fields of the call at which a rank stands; its list isn't at its end there
-abbrev pub present_fields : Groups → Lists → ℕ → List (List ℕ)
-present_fields groups recording rank =
-    option_map_or fields_of (call_at recording rank (slice_index (stands_of groups recording) rank)) []
+abbrev pub present_fields : Reading → Groups → Lists → ℕ → List (List ℕ)
+present_fields reading groups recording rank =
+    option_map_or fields_of (call_at recording rank (slice_index (stands_of reading groups recording) rank)) []
 
 -- `rank K call J`: what is waited for is the rank's call at the place; `rank K none`: the rank lacks it
 abbrev pub need_fields : Need → List (List ℕ)
@@ -43,14 +45,14 @@ need_fields (At rank place) = codes "rank" ∷ decimal rank ∷ codes "call" ∷
 need_fields (Lacking rank) = codes "rank" ∷ decimal rank ∷ codes "none" ∷ []
 
 -- `rank R at I LINE waits ..`: where the rank stands, its call there as its trace has it, and what it needs
-abbrev pub unmet_line : Groups → Lists → ℕ → Need → List ℕ
-unmet_line groups recording rank need =
-    line (codes "rank" ∷ decimal rank ∷ codes "at" ∷ decimal (slice_index (stands_of groups recording) rank)
-    ∷ present_fields groups recording rank ++ codes "waits" ∷ need_fields need)
+abbrev pub unmet_line : Reading → Groups → Lists → ℕ → Need → List ℕ
+unmet_line reading groups recording rank need =
+    line (codes "rank" ∷ decimal rank ∷ codes "at" ∷ decimal (slice_index (stands_of reading groups recording) rank)
+    ∷ present_fields reading groups recording rank ++ codes "waits" ∷ need_fields need)
 
 -- a line for each unmet need of a rank
-abbrev pub rank_lines : Groups → Lists → ℕ → List ℕ
-rank_lines groups recording rank = flat_map (unmet_line groups recording rank) (unmet_of groups recording rank)
+abbrev pub rank_lines : Reading → Groups → Lists → ℕ → List ℕ
+rank_lines reading groups recording rank = flat_map (unmet_line reading groups recording rank) (unmet_of reading groups recording rank)
 
 -- `cycle` and its ranks, or `missing`, the rank that waits and the rank that lacks the call
 abbrev pub cause_line : CauseView → List ℕ
@@ -62,9 +64,9 @@ abbrev pub finding_line : Finding → List ℕ
 finding_line finding = line (codes "finding" ∷ finding_fields finding)
 
 -- the whole report
-unfoldable pub text_report : Groups → Lists → List ℕ
-text_report groups recording =
-    verdict_line (verdict_of groups recording)
-    ++ flat_map (rank_lines groups recording) (stuck_of groups recording)
-    ++ flat_map cause_line (causes_of groups recording)
+unfoldable pub text_report : Reading → Groups → Lists → List ℕ
+text_report reading groups recording =
+    verdict_line (verdict_of reading groups recording)
+    ++ flat_map (rank_lines reading groups recording) (stuck_of reading groups recording)
+    ++ flat_map cause_line (causes_of reading groups recording)
     ++ flat_map finding_line (findings_of groups recording)

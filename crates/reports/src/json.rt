@@ -27,13 +27,14 @@ fn verdict_text(verdict: Verdict) -> &'static str
     match verdict {
         Verdict::Free => "free",
         Verdict::Hang => "hang",
+        Verdict::Unfinished => "unfinished",
     }
 }
 
 #[tactic(auto, unfolding(crate::specs::JsonReport::report_data))]
 fn report_value(alloc: Global, analyser: &Analyser, graph: &Graph) -> Result<Value, AllocError>
-    requires { IsGraphOf analyser.now.groups analyser.now.recording graph.now }
-    ensures { IfOk result (λ report. view report ≡ report_data analyser.now.groups analyser.now.recording) }
+    requires { IsGraphOf analyser.now.reading analyser.now.groups analyser.now.recording graph.now }
+    ensures { IfOk result (λ report. view report ≡ report_data analyser.now.reading analyser.now.groups analyser.now.recording) }
 {
     let causes = causes_value(alloc, graph.causes())?;
     let findings = findings_value(alloc, graph.findings())?;
@@ -49,8 +50,8 @@ pub(crate) fn json_text(
     analyser: &Analyser,
     graph: &Graph,
 ) -> Result<String, AllocError>
-    requires { IsGraphOf analyser.now.groups analyser.now.recording graph.now }
-    ensures { IfOk result (λ text. string_bytes text ≡ json_report analyser.now.groups analyser.now.recording) }
+    requires { IsGraphOf analyser.now.reading analyser.now.groups analyser.now.recording graph.now }
+    ensures { IfOk result (λ text. string_bytes text ≡ json_report analyser.now.reading analyser.now.groups analyser.now.recording) }
 {
     let report = report_value(alloc, analyser, graph)?;
     let mut text = report.to_string(alloc)?;

@@ -41,10 +41,10 @@ fn write_json<O: Output>(
     graph: &Graph,
     out: &mut O,
 ) -> Result<(), ReportFault>
-    requires { IsGraphOf analyser.now.groups analyser.now.recording graph.now }
-    ensures written { OnOk result (Appends (O.written out.old) (O.written out.new) (json_report analyser.now.groups analyser.now.recording)) }
+    requires { IsGraphOf analyser.now.reading analyser.now.groups analyser.now.recording graph.now }
+    ensures written { OnOk result (Appends (O.written out.old) (O.written out.new) (json_report analyser.now.reading analyser.now.groups analyser.now.recording)) }
     ensures no_write_failed { OnOk result (O.failures out.new ≡ O.failures out.old) }
-    ensures fault { IfErr result (LeavesReport O.written O.failures out.old out.new Format.Json (json_report analyser.now.groups analyser.now.recording)) }
+    ensures fault { IfErr result (LeavesReport O.written O.failures out.old out.new Format.Json (json_report analyser.now.reading analyser.now.groups analyser.now.recording)) }
 {
     let Ok(text) = json_text(alloc, analyser, graph) else {
         return Err(ReportFault::Memory);
@@ -65,10 +65,10 @@ pub fn write_report<O: Output>(
     format: Format,
     out: &mut O,
 ) -> Result<(), ReportFault>
-    requires { IsGraphOf analyser.now.groups analyser.now.recording graph.now }
-    ensures written { OnOk result (Appends (O.written out.old) (O.written out.new) (report_of format analyser.now.groups analyser.now.recording)) }
+    requires { IsGraphOf analyser.now.reading analyser.now.groups analyser.now.recording graph.now }
+    ensures written { OnOk result (Appends (O.written out.old) (O.written out.new) (report_of format analyser.now.reading analyser.now.groups analyser.now.recording)) }
     ensures no_write_failed { OnOk result (O.failures out.new ≡ O.failures out.old) }
-    ensures fault { IfErr result (LeavesReport O.written O.failures out.old out.new format (report_of format analyser.now.groups analyser.now.recording)) }
+    ensures fault { IfErr result (LeavesReport O.written O.failures out.old out.new format (report_of format analyser.now.reading analyser.now.groups analyser.now.recording)) }
 {
     match format {
         Format::Text => match write_text(analyser, graph, out) {

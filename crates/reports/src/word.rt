@@ -59,6 +59,8 @@ pub(crate) fn push_word(text: &mut String, word: Word) -> Result<(), AllocError>
         Word::Waitany => text.push_str("waitany"),
         Word::Dup => text.push_str("dup"),
         Word::Split => text.push_str("split"),
+        Word::Probe => text.push_str("probe"),
         Word::Finalize => text.push_str("finalize"),
+        Word::Open => text.push_str("open"),
     }
 }

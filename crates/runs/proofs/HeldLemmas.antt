@@ -1,4 +1,5 @@
 -- What the items of the ranks' feeds say of the traces that the sources tell.
+use Rattle.moves.specs.declared.reading.Reading.{Reading}
 use Rattle.std.proofs.Common.{◌≡◌, ⊎_elim, ℕ, zero, suc, ◌+◌, ◌<◌, ◌-◌, Bool, true, false, Option, Some, None, Ok, Err, IfOk, IfErr, IfSome, option_and_then, Result, All, List, [], ◌∷◌, ◌++◌, length, map, slice_get, refl, sym, ap, subst, ◌∙◌, arith, append_assoc, append-nil}
 use Rattle.std.specs.List.{range_with_len}
 use Rattle.std.proofs.lemmas.List.FromFn.{length-range_with_len}
@@ -346,8 +347,8 @@ mapped_length : {A B : Type 0} (f : A → B) (xs : List A) → length (map f xs)
 mapped_length f [] = refl
 mapped_length f (x ∷ xs) = ap suc (mapped_length f xs)
 
-accepts_at : {I : Type 0} (left : I → Option (List ℕ)) (may_stop : ℕ → ℕ → Type 0) (sources : List (Source I)) (groups : Groups) (outcome : Outcome) → IsOutcomeOfFeeds left may_stop sources groups outcome → (rank : ℕ) → rank < length sources → AcceptsRank groups rank (told_by left sources rank) (calls_of outcome.analyser.recording rank)
-accepts_at left may_stop sources groups outcome is rank within =
+accepts_at : {I : Type 0} (left : I → Option (List ℕ)) (may_stop : ℕ → ℕ → Type 0) (sources : List (Source I)) (reading : Reading) (groups : Groups) (outcome : Outcome) → IsOutcomeOfFeeds left may_stop sources reading groups outcome → (rank : ℕ) → rank < length sources → AcceptsRank groups rank (told_by left sources rank) (calls_of outcome.analyser.recording rank)
+accepts_at left may_stop sources reading groups outcome is rank within =
     let source = found_at sources rank within in
     let items = found_at is.items rank (omega (arith, within, one_list_a_source left may_stop 0 sources is.items is.fed)) in
     let trace : slice_get (map trace_of_items is.items) rank ≡ Some (trace_of_items items.0) = mapped_at trace_of_items is.items rank items.0 items.1 in
@@ -358,13 +359,13 @@ accepts_at left may_stop sources groups outcome is rank within =
     subst (λ (told : Option Trace). AcceptsRank groups rank told (calls_of outcome.analyser.recording rank)) (told_here left sources rank source.0 source.1)
     (accepts_told groups rank (coming left source.0) (may_stop (0 + rank)) items.0 (calls_of outcome.analyser.recording rank) (fed_at left may_stop 0 sources is.items rank source.0 items.0 is.fed source.1 items.1) calls none)
 
-pub accepts_all : {I : Type 0} (left : I → Option (List ℕ)) (may_stop : ℕ → ℕ → Type 0) (sources : List (Source I)) (groups : Groups) (outcome : Outcome) → length sources ≡ ranks_of groups → IsOutcomeOfFeeds left may_stop sources groups outcome → AcceptsAll groups (told_by left sources) outcome.analyser.recording
-accepts_all left may_stop sources groups outcome one is =
+pub accepts_all : {I : Type 0} (left : I → Option (List ℕ)) (may_stop : ℕ → ℕ → Type 0) (sources : List (Source I)) (reading : Reading) (groups : Groups) (outcome : Outcome) → length sources ≡ ranks_of groups → IsOutcomeOfFeeds left may_stop sources reading groups outcome → AcceptsAll groups (told_by left sources) outcome.analyser.recording
+accepts_all left may_stop sources reading groups outcome one is =
     let count : length outcome.analyser.recording ≡ length sources =
     ap (λ (lists : Lists). length lists) is.over.recording ∙ mapped_length (λ (t : Trace). t.records) (map trace_of_items is.items) ∙ mapped_length trace_of_items is.items ∙ one_list_a_source left may_stop 0 sources is.items is.fed in record {
       one_a_rank = count ∙ one;
       closed = subst IsClosed (sym is.over.recording) is.over.closed;
-      accepted = λ rank within. accepts_at left may_stop sources groups outcome is rank (omega (arith, count, within));
+      accepted = λ rank within. accepts_at left may_stop sources reading groups outcome is rank (omega (arith, count, within));
     }
 
 pub lowest_refusal : {I : Type 0} (left : I → Option (List ℕ)) (may_stop : ℕ → ℕ → Type 0) (sources : List (Source I)) (groups : Groups) (refusal : Refusal) → length sources ≡ ranks_of groups → IsRefusalOfFeeds left may_stop sources groups refusal → IsLowestRefusal groups (told_by left sources) refusal
@@ -469,7 +470,7 @@ feeds_of groups feeds ranks = sym (mapped_length rank_of feeds) ∙ ap (λ (ns :
 pub feeds_count : {I : Type 0} (groups : Groups) (feeds : List Feed) (sources : List (Source I)) → length sources ≡ ranks_of groups → map rank_of feeds ≡ range_with_len 0 (ranks_of groups) → length feeds ≡ length sources
 feeds_count groups feeds sources one ranks = feeds_of groups feeds ranks ∙ sym one
 
-module _ {I : Type 0} (left : I → Option (List ℕ)) (may_stop : ℕ → ℕ → Type 0) (sources : List (Source I)) (feeds : List Feed) (fed : List Fed) (collector now : Collector) (receipts : List (Option Receipt)) (groups : Groups) where
+module _ {I : Type 0} (left : I → Option (List ℕ)) (may_stop : ℕ → ℕ → Type 0) (sources : List (Source I)) (feeds : List Feed) (fed : List Fed) (collector now : Collector) (receipts : List (Option Receipt)) (reading : Reading) (groups : Groups) where
   pub close_receipts : AreFedFrom left may_stop sources feeds fed → rings collector ≡ map feed_ring feeds → IsSameSession collector now → receipts ≡ map receipt_of fed → AreReceiptsOf (rings now) receipts
   close_receipts are rings_are same is =
       rw is (subst (λ (names : List FeedName). AreReceiptsOf names (map receipt_of fed)) (sym (same.names ∙ rings_are)) (receipts_of_feeds left may_stop sources feeds fed are))
@@ -480,15 +481,17 @@ module _ {I : Type 0} (left : I → Option (List ℕ)) (may_stop : ℕ → ℕ �
       let every : first_missing (map receipt_of fed) ≡ None = ap first_missing (sym is) ∙ present in
       rw is (fed_by_threads left may_stop 0 sources feeds fed are whole every)
 
-  outcome_of_feeds : (outcome : Outcome) → AreFedFrom left may_stop sources feeds fed → map rank_of feeds ≡ range_with_len 0 (ranks_of groups) → kept collector ≡ nothing_kept groups → IsSameSession collector now → receipts ≡ map receipt_of fed → (first_missing receipts ≡ None) × IsOutcomeOver (kept now).groups (traces_held receipts) outcome → IsOutcomeOfFeeds left may_stop sources groups outcome
+  outcome_of_feeds : (outcome : Outcome) → AreFedFrom left may_stop sources feeds fed → map rank_of feeds ≡ range_with_len 0 (ranks_of groups) → kept collector ≡ nothing_kept reading groups → IsSameSession collector now → receipts ≡ map receipt_of fed → (first_missing receipts ≡ None) × IsOutcomeOver (kept now).reading (kept now).groups (traces_held receipts) outcome → IsOutcomeOfFeeds left may_stop sources reading groups outcome
   outcome_of_feeds outcome are ranks first same is answer =
-      let head : (kept now).groups ≡ groups = same.groups ∙ ap (λ (k : Kept). k.groups) first in record {
+      let head : (kept now).groups ≡ groups = same.groups ∙ ap (λ (k : Kept). k.groups) first in
+      let alike : (kept now).reading ≡ reading = same.reading ∙ ap (λ (k : Kept). k.reading) first in
+      let now_over = subst (λ (r : Reading). IsOutcomeOver r (kept now).groups (traces_held receipts) outcome) alike answer.1 in record {
         items = items_held receipts;
         fed = all_fed are ranks is answer.0;
-        over = subst (λ (ts : List Trace). IsOutcomeOver groups ts outcome) (held_traces receipts) (subst (λ (gs : Groups). IsOutcomeOver gs (traces_held receipts) outcome) head answer.1);
+        over = subst (λ (ts : List Trace). IsOutcomeOver reading groups ts outcome) (held_traces receipts) (subst (λ (gs : Groups). IsOutcomeOver reading gs (traces_held receipts) outcome) head now_over);
       }
 
-  refusal_of_feeds : (refusal : Refusal) → AreFedFrom left may_stop sources feeds fed → map rank_of feeds ≡ range_with_len 0 (ranks_of groups) → kept collector ≡ nothing_kept groups → IsSameSession collector now → receipts ≡ map receipt_of fed → (first_missing receipts ≡ None) × (refusal_of (kept now).groups (traces_held receipts) ≡ Some refusal) → IsRefusalOfFeeds left may_stop sources groups refusal
+  refusal_of_feeds : (refusal : Refusal) → AreFedFrom left may_stop sources feeds fed → map rank_of feeds ≡ range_with_len 0 (ranks_of groups) → kept collector ≡ nothing_kept reading groups → IsSameSession collector now → receipts ≡ map receipt_of fed → (first_missing receipts ≡ None) × (refusal_of (kept now).groups (traces_held receipts) ≡ Some refusal) → IsRefusalOfFeeds left may_stop sources groups refusal
   refusal_of_feeds refusal are ranks first same is answer =
       let head : (kept now).groups ≡ groups = same.groups ∙ ap (λ (k : Kept). k.groups) first in record {
         items = items_held receipts;
@@ -509,11 +512,11 @@ module _ {I : Type 0} (left : I → Option (List ℕ)) (may_stop : ℕ → ℕ �
       let count : length receipts ≡ ranks_of groups = ap (λ (rs : List (Option Receipt)). length rs) is ∙ mapped_length receipt_of fed ∙ fed_count sources feeds fed are ∙ one in
       omega (arith, count, missing_rank receipts rank missing)
 
-  pub closes_well : (answer : Result Outcome CloseFault) → AreFedFrom left may_stop sources feeds fed → map rank_of feeds ≡ range_with_len 0 (ranks_of groups) → kept collector ≡ nothing_kept groups → IsSameSession collector now → receipts ≡ map receipt_of fed → Closes (kept now).groups receipts answer → IfOk answer (IsOutcomeOfFeeds left may_stop sources groups)
+  pub closes_well : (answer : Result Outcome CloseFault) → AreFedFrom left may_stop sources feeds fed → map rank_of feeds ≡ range_with_len 0 (ranks_of groups) → kept collector ≡ nothing_kept reading groups → IsSameSession collector now → receipts ≡ map receipt_of fed → Closes (kept now).reading (kept now).groups receipts answer → IfOk answer (IsOutcomeOfFeeds left may_stop sources reading groups)
   closes_well (Ok outcome) are ranks first same is answer = outcome_of_feeds outcome are ranks first same is answer
   closes_well (Err fault) are ranks first same is answer = tt
 
-  pub closes_refusing : (answer : Result Outcome CloseFault) → AreFedFrom left may_stop sources feeds fed → length sources ≡ ranks_of groups → map rank_of feeds ≡ range_with_len 0 (ranks_of groups) → kept collector ≡ nothing_kept groups → IsSameSession collector now → receipts ≡ map receipt_of fed → Closes (kept now).groups receipts answer → IfErr answer (λ fault. RefusesFeeds left may_stop sources groups (of_close fault))
+  pub closes_refusing : (answer : Result Outcome CloseFault) → AreFedFrom left may_stop sources feeds fed → length sources ≡ ranks_of groups → map rank_of feeds ≡ range_with_len 0 (ranks_of groups) → kept collector ≡ nothing_kept reading groups → IsSameSession collector now → receipts ≡ map receipt_of fed → Closes (kept now).reading (kept now).groups receipts answer → IfErr answer (λ fault. RefusesFeeds left may_stop sources groups (of_close fault))
   closes_refusing (Ok outcome) are one ranks first same is answer = tt
   closes_refusing (Err Memory) are one ranks first same is answer = tt
   closes_refusing (Err (Unproved rank)) are one ranks first same is answer = unproved_rank rank are one is answer

@@ -1,4 +1,5 @@
 -- What the ranks' answers say of a run over the traces that their sources tell.
+use Rattle.moves.specs.declared.reading.Reading.{Reading}
 use Rattle.std.proofs.Common.{◌≡◌, ◌↔◌, ℕ, ◌+◌, ◌<◌, List, [], ◌∷◌, length, map, sym, ap, ◌∙◌, refl, arith, zero, suc, Option, Some, None, IfSome, slice_get, subst, option_and_then, Result, Ok, Err, IfOk, IfErr, OnOk}
 use Rattle.std.specs.Io.KnownBytes.{Appends}
 use Rattle.mpicall.specs.Device.{AppendsBeginning}
@@ -7,12 +8,13 @@ use Rattle.mpicall.specs.Source.{coming}
 use Rattle.mpicall.specs.declared.call.Call.{Call}
 use Rattle.mpicall.specs.declared.source.Source.{Source}
 use Rattle.mpigroup.specs.Groups.{Groups, ranks_of}
-use Rattle.pairing.specs.Recordings.{Lists, calls_of}
+use Rattle.pairing.specs.Recordings.{Lists, calls_of, IsClosed}
 use Rattle.std.proofs.lemmas.Bool.{not-true, not_from_false}
 use Rattle.moves.specs.Stands.{lowest_run_over, stands_of, is_at_end}
-use Rattle.waitgraph.specs.Verdicts.{verdict_of, SomeRankIsStuck}
+use Rattle.waitgraph.specs.Verdicts.{verdict_of, SomeRankIsHeld, SomeRankIsStuck}
 use Rattle.waitgraph.specs.declared.verdict.Verdict.{Verdict}
 use Rattle.waitgraph.specs.declared.verdict.Verdict.TheVariants.{Hang}
+use Rattle.waitgraph.proofs.VerdictLemmas.{hang_tells_of_a_held_rank, hang_tells_of_a_stuck_rank}
 use Rattle.moves.proofs.StandLemmas.{no_run_brings_a_stuck_rank_to_its_end, every_maximal_run_ends_at_the_stands}
 use Rattle.gather.specs.Answers.{fault_of_rank, refusal_or, refusal_from, lists_of, SomeRankCannotEnd}
 use Rattle.runs.specs.Told.{Tells, IsVerdictOver, RefusesOver}
@@ -83,20 +85,20 @@ same_lists (l ∷ lists) (t ∷ traces) e same =
     cc
 
 -- a rank that is stuck comes to its end in no run, and one that does so in none is stuck
-cannot_end : (groups : Groups) (lists : Lists) → SomeRankIsStuck groups lists ↔ SomeRankCannotEnd groups lists
-cannot_end groups lists = (
+cannot_end : (reading : Reading) (groups : Groups) (lists : Lists) → SomeRankIsStuck reading groups lists ↔ SomeRankCannotEnd reading groups lists
+cannot_end reading groups lists = (
   λ stuck. record {
     rank = stuck.rank;
     is_rank = stuck.is_rank;
     in_no_run = λ states is_run.
-        no_run_brings_a_stuck_rank_to_its_end groups lists stuck.rank states is_run
-        (not-true (is_at_end lists (stands_of groups lists) stuck.rank) stuck.stays);
+        no_run_brings_a_stuck_rank_to_its_end reading groups lists stuck.rank states is_run
+        (not-true (is_at_end lists (stands_of reading groups lists) stuck.rank) stuck.stays);
   },
   λ cannot. record {
     rank = cannot.rank;
     is_rank = cannot.is_rank;
-    stays = not_from_false (is_at_end lists (stands_of groups lists) cannot.rank)
-        (cannot.in_no_run (lowest_run_over groups lists) (every_maximal_run_ends_at_the_stands groups lists).0.is_run);
+    stays = not_from_false (is_at_end lists (stands_of reading groups lists) cannot.rank)
+        (cannot.in_no_run (lowest_run_over reading groups lists) (every_maximal_run_ends_at_the_stands reading groups lists).0.is_run);
   },
 )
 
@@ -123,20 +125,26 @@ lists_are left groups sources lists traces one all tells =
     let ranks = all.one_a_rank in
     same_lists lists traces (omega arith) (λ k trace at. (each_accepted left groups sources lists traces one all tells k trace at).0)
 
-pub verdict_over : {I : Type 0} (left : I → Option (List ℕ)) (groups : Groups) (sources : List (Source I)) (lists : Lists) (verdict : Verdict) (traces : List Trace) → length sources ≡ ranks_of groups → AcceptsAll groups (told_by left sources) lists → verdict ≡ verdict_of groups lists → ((verdict ≡ Hang) ↔ SomeRankIsStuck groups lists) → Tells left sources traces → IsVerdictOver groups traces verdict
-verdict_over left groups sources lists verdict traces one all value hang tells =
+verdict_over : {I : Type 0} (left : I → Option (List ℕ)) (reading : Reading) (groups : Groups) (sources : List (Source I)) (lists : Lists) (verdict : Verdict) (traces : List Trace) → length sources ≡ ranks_of groups → AcceptsAll groups (told_by left sources) lists → verdict ≡ verdict_of reading groups lists → Tells left sources traces → IsVerdictOver reading groups traces verdict
+verdict_over left reading groups sources lists verdict traces one all value tells =
     let each = each_accepted left groups sources lists traces one all tells in
     let same : lists ≡ lists_of traces = lists_are left groups sources lists traces one all tells in
-    let both = cannot_end groups lists in
+    let of_traces : verdict ≡ verdict_of reading groups (lists_of traces) = value ∙ ap (verdict_of reading groups) same in
+    let cannot = cannot_end reading groups (lists_of traces) in
+    let stuck = hang_tells_of_a_stuck_rank reading groups (lists_of traces) (subst IsClosed same all.closed) in
     record {
       no_refusal = none_from groups 0 traces (λ k trace at. let e : k ≡ 0 + k = omega arith in subst (λ (n : ℕ). fault_of_rank groups n trace ≡ None) e (each k trace at).1);
-      value = value ∙ ap (verdict_of groups) same;
-      hang = subst (λ (ls : Lists). (verdict ≡ Hang) ↔ SomeRankCannotEnd groups ls) same (λ is. both.0 (hang.0 is), λ cannot. hang.1 (both.1 cannot));
+      value = of_traces;
+      stands = (every_maximal_run_ends_at_the_stands reading groups (lists_of traces)).1;
+      hang = subst (λ (v : Verdict). (v ≡ Hang) ↔ SomeRankIsHeld reading groups (lists_of traces)) (sym of_traces) (hang_tells_of_a_held_rank reading groups (lists_of traces));
+      closed = λ none.
+          subst (λ (v : Verdict). (v ≡ Hang) ↔ SomeRankCannotEnd reading groups (lists_of traces)) (sym of_traces)
+          (λ is. cannot.0 ((stuck none).0 is), λ in_no_run. (stuck none).1 (cannot.1 in_no_run));
     }
 
 -- the report of the recording is that of the run
-pub report_over : {I : Type 0} (left : I → Option (List ℕ)) (groups : Groups) (sources : List (Source I)) (lists : Lists) (format : Format) (verdict : Verdict) → length sources ≡ ranks_of groups → AcceptsAll groups (told_by left sources) lists → verdict ≡ verdict_of groups lists → IsReportOver left sources groups format verdict (report_of format groups lists)
-report_over left groups sources lists format verdict one all value = record {
+pub report_over : {I : Type 0} (left : I → Option (List ℕ)) (reading : Reading) (groups : Groups) (sources : List (Source I)) (lists : Lists) (format : Format) (verdict : Verdict) → length sources ≡ ranks_of groups → AcceptsAll groups (told_by left sources) lists → verdict ≡ verdict_of reading groups lists → IsReportOver left sources reading groups format verdict (report_of format reading groups lists)
+report_over left reading groups sources lists format verdict one all value = record {
   recording = lists;
   accepted = all;
   of_traces = λ traces tells. lists_are left groups sources lists traces one all tells;
@@ -171,31 +179,36 @@ refused_over left groups sources (Refused refusal) traces one refuses tells =
     }
 
 -- the answer of a report is that of the run
-pub run_verdict : {I : Type 0} (left : I → Option (List ℕ)) (groups told : Groups) (sources : List (Source I)) (lists : Lists) (answer : Result Verdict RunFault) → length sources ≡ ranks_of groups → told ≡ groups → AcceptsAll groups (told_by left sources) lists → IfOk answer (λ verdict. verdict ≡ verdict_of told lists) → IfOk answer (λ verdict. (verdict ≡ Hang) ↔ SomeRankIsStuck told lists) → IfOk answer (λ verdict. (traces : List Trace) → Tells left sources traces → IsVerdictOver groups traces verdict)
-run_verdict left groups told sources lists (Err fault) one same all value hang = tt
-run_verdict left groups told sources lists (Ok verdict) one same all value hang = λ traces tells.
-    verdict_over left groups sources lists verdict traces one all (value ∙ ap (λ (gs : Groups). verdict_of gs lists) same)
-    (subst (λ (gs : Groups). (verdict ≡ Hang) ↔ SomeRankIsStuck gs lists) same hang) tells
+pub run_verdict : {I : Type 0} (left : I → Option (List ℕ)) (reading known : Reading) (groups told : Groups) (sources : List (Source I)) (lists : Lists) (answer : Result Verdict RunFault) → length sources ≡ ranks_of groups → known ≡ reading → told ≡ groups → AcceptsAll groups (told_by left sources) lists → IfOk answer (λ verdict. verdict ≡ verdict_of known told lists) → IfOk answer (λ verdict. (traces : List Trace) → Tells left sources traces → IsVerdictOver reading groups traces verdict)
+run_verdict left reading known groups told sources lists (Err fault) one alike same all value = tt
+run_verdict left reading known groups told sources lists (Ok verdict) one alike same all value = λ traces tells.
+    let of_run : verdict ≡ verdict_of reading groups lists =
+    subst (λ (gs : Groups). verdict ≡ verdict_of reading gs lists) same (subst (λ (r : Reading). verdict ≡ verdict_of r told lists) alike value) in
+    verdict_over left reading groups sources lists verdict traces one all of_run tells
 
-pub run_written : {I O : Type 0} (left : I → Option (List ℕ)) (written : O → Option (List ℕ)) (failures : O → ℕ) (groups told : Groups) (sources : List (Source I)) (lists : Lists) (format : Format) (old new : O) (answer : Result Verdict RunFault) → length sources ≡ ranks_of groups → told ≡ groups → AcceptsAll groups (told_by left sources) lists → IfOk answer (λ verdict. verdict ≡ verdict_of told lists) → OnOk answer (Appends (written old) (written new) (report_of format told lists)) → IfOk answer (WritesReport left written failures sources groups format old new)
-run_written left written failures groups told sources lists format old new (Err fault) one same all value report = tt
-run_written left written failures groups told sources lists format old new (Ok verdict) one same all value report = (
-  report_of format groups lists,
-  report_over left groups sources lists format verdict one all (value ∙ ap (λ (gs : Groups). verdict_of gs lists) same),
-  subst (λ (gs : Groups). Appends (written old) (written new) (report_of format gs lists)) same report,
-)
+pub run_written : {I O : Type 0} (left : I → Option (List ℕ)) (written : O → Option (List ℕ)) (failures : O → ℕ) (reading known : Reading) (groups told : Groups) (sources : List (Source I)) (lists : Lists) (format : Format) (old new : O) (answer : Result Verdict RunFault) → length sources ≡ ranks_of groups → known ≡ reading → told ≡ groups → AcceptsAll groups (told_by left sources) lists → IfOk answer (λ verdict. verdict ≡ verdict_of known told lists) → OnOk answer (Appends (written old) (written new) (report_of format known told lists)) → IfOk answer (WritesReport left written failures sources reading groups format old new)
+run_written left written failures reading known groups told sources lists format old new (Err fault) one alike same all value report = tt
+run_written left written failures reading known groups told sources lists format old new (Ok verdict) one alike same all value report =
+    let both : (verdict ≡ verdict_of reading groups lists) × Appends (written old) (written new) (report_of format reading groups lists) =
+    subst (λ (gs : Groups). (verdict ≡ verdict_of reading gs lists) × Appends (written old) (written new) (report_of format reading gs lists)) same
+    (subst (λ (r : Reading). (verdict ≡ verdict_of r told lists) × Appends (written old) (written new) (report_of format r told lists)) alike (value, report)) in (
+      report_of format reading groups lists,
+      report_over left reading groups sources lists format verdict one all both.0,
+      both.1,
+    )
 
-pub run_output : {I O : Type 0} (left : I → Option (List ℕ)) (written : O → Option (List ℕ)) (failures : O → ℕ) (groups told : Groups) (sources : List (Source I)) (lists : Lists) (format : Format) (old new : O) (answer : Result Verdict RunFault) → length sources ≡ ranks_of groups → told ≡ groups → AcceptsAll groups (told_by left sources) lists → IfErr answer (LeavesReport written failures old new (report_of format told lists)) → IfErr answer (LeavesOutput left written failures sources groups format old new)
-run_output left written failures groups told sources lists format old new (Ok verdict) one same all leaves = tt
-run_output left written failures groups told sources lists format old new (Err Memory) one same all leaves = leaves
-run_output left written failures groups told sources lists format old new (Err (Unproved rank)) one same all leaves = absurd leaves
-run_output left written failures groups told sources lists format old new (Err (Refused refusal)) one same all leaves = absurd leaves
-run_output left written failures groups told sources lists format old new (Err Write) one same all leaves = (
+pub run_output : {I O : Type 0} (left : I → Option (List ℕ)) (written : O → Option (List ℕ)) (failures : O → ℕ) (reading known : Reading) (groups told : Groups) (sources : List (Source I)) (lists : Lists) (format : Format) (old new : O) (answer : Result Verdict RunFault) → length sources ≡ ranks_of groups → known ≡ reading → told ≡ groups → AcceptsAll groups (told_by left sources) lists → IfErr answer (LeavesReport written failures old new (report_of format known told lists)) → IfErr answer (LeavesOutput left written failures sources reading groups format old new)
+run_output left written failures reading known groups told sources lists format old new (Ok verdict) one alike same all leaves = tt
+run_output left written failures reading known groups told sources lists format old new (Err Memory) one alike same all leaves = leaves
+run_output left written failures reading known groups told sources lists format old new (Err (Unproved rank)) one alike same all leaves = absurd leaves
+run_output left written failures reading known groups told sources lists format old new (Err (Refused refusal)) one alike same all leaves = absurd leaves
+run_output left written failures reading known groups told sources lists format old new (Err Write) one alike same all leaves = (
   (
-    verdict_of groups lists,
-    report_of format groups lists,
-    report_over left groups sources lists format (verdict_of groups lists) one all refl,
-    subst (λ (gs : Groups). AppendsBeginning (written old) (written new) (report_of format gs lists)) same leaves.0,
+    verdict_of reading groups lists,
+    report_of format reading groups lists,
+    report_over left reading groups sources lists format (verdict_of reading groups lists) one all refl,
+    subst (λ (gs : Groups). AppendsBeginning (written old) (written new) (report_of format reading gs lists)) same
+        (subst (λ (r : Reading). AppendsBeginning (written old) (written new) (report_of format r told lists)) alike leaves.0),
   ),
   leaves.1,
 )
@@ -232,10 +245,10 @@ pub close_refuses : {I : Type 0} (left : I → Option (List ℕ)) (may_stop : �
 close_refuses left may_stop groups sources fault told is one refuses traces tells =
     rw is (refused_over left groups sources (of_close fault) traces one (feeds_refuse left may_stop groups sources fault one refuses) tells)
 
-close_leaves : {I O : Type 0} (left : I → Option (List ℕ)) (written : O → Option (List ℕ)) (failures : O → ℕ) (groups : Groups) (sources : List (Source I)) (format : Format) (out : O) (fault : CloseFault) → LeavesOutput left written failures sources groups format out out (of_close fault)
-close_leaves left written failures groups sources format out close.Memory = refl
-close_leaves left written failures groups sources format out (close.Unproved rank) = refl
-close_leaves left written failures groups sources format out (close.Refused refusal) = refl
+close_leaves : {I O : Type 0} (left : I → Option (List ℕ)) (written : O → Option (List ℕ)) (failures : O → ℕ) (reading : Reading) (groups : Groups) (sources : List (Source I)) (format : Format) (out : O) (fault : CloseFault) → LeavesOutput left written failures sources reading groups format out out (of_close fault)
+close_leaves left written failures reading groups sources format out close.Memory = refl
+close_leaves left written failures reading groups sources format out (close.Unproved rank) = refl
+close_leaves left written failures reading groups sources format out (close.Refused refusal) = refl
 
-pub close_output : {I O : Type 0} (left : I → Option (List ℕ)) (written : O → Option (List ℕ)) (failures : O → ℕ) (groups : Groups) (sources : List (Source I)) (format : Format) (out : O) (fault : CloseFault) (told : RunFault) → told ≡ of_close fault → LeavesOutput left written failures sources groups format out out told
-close_output left written failures groups sources format out fault told is = rw is (close_leaves left written failures groups sources format out fault)
+pub close_output : {I O : Type 0} (left : I → Option (List ℕ)) (written : O → Option (List ℕ)) (failures : O → ℕ) (reading : Reading) (groups : Groups) (sources : List (Source I)) (format : Format) (out : O) (fault : CloseFault) (told : RunFault) → told ≡ of_close fault → LeavesOutput left written failures sources reading groups format out out told
+close_output left written failures reading groups sources format out fault told is = rw is (close_leaves left written failures reading groups sources format out fault)

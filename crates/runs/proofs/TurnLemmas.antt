@@ -120,6 +120,7 @@ module _ {I : Type 0} (left : I → Option (List ℕ)) (may_stop : ℕ → ℕ �
 
 leaves_still : (rank : ℕ) (old now new : Kept) → Leaves rank old now → Leaves rank now new → Leaves rank old new
 leaves_still rank old now new first then = record {
+  reading = then.reading ∙ first.reading;
   groups = then.groups ∙ first.groups;
   ranks = then.ranks ∙ first.ranks;
   places = then.places ∙ first.places;
@@ -138,13 +139,14 @@ later_still left may_stop rank old now new before then after first next = record
 }
 
 pub are_later_first : {I : Type 0} (left : I → Option (List ℕ)) (may_stop : ℕ → ℕ → Type 0) (turns : List (Turn I)) (kept : Kept) → AreLater left may_stop turns kept turns kept
-are_later_first left may_stop turns kept = record { count = refl; ranks = refl; places = refl; groups = refl; turns = λ sources all. all }
+are_later_first left may_stop turns kept = record { count = refl; ranks = refl; places = refl; reading = refl; groups = refl; turns = λ sources all. all }
 
 pub are_later_still : {I : Type 0} (left : I → Option (List ℕ)) (may_stop : ℕ → ℕ → Type 0) (old now new : List (Turn I)) (before then after : Kept) → AreLater left may_stop old before now then → AreLater left may_stop now then new after → AreLater left may_stop old before new after
 are_later_still left may_stop old now new before then after first next = record {
   count = next.count ∙ first.count;
   ranks = next.ranks ∙ first.ranks;
   places = next.places ∙ first.places;
+  reading = next.reading ∙ first.reading;
   groups = next.groups ∙ first.groups;
   turns = λ sources all. next.turns sources (first.turns sources all);
 }
@@ -180,6 +182,7 @@ set_later left may_stop turns place rank was now before after same within read l
       count = length-set turns rank now;
       ranks = later.leaves.ranks;
       places = later.leaves.places;
+      reading = later.leaves.reading;
       groups = later.leaves.groups;
       turns = λ sources all. record {
         count = length-set turns rank now ∙ all.count;
@@ -215,18 +218,18 @@ source_at [] k turn at = cc
 source_at {I = I} (t ∷ ts) zero turn at = let same : t ≡ turn = cc in ap (λ (one : Turn I). Some one.source) same
 source_at (t ∷ ts) (suc k) turn at = source_at ts k turn at
 
-turn_begun : {I : Type 0} (left : I → Option (List ℕ)) (may_stop : ℕ → ℕ → Type 0) (rank : ℕ) (turn : Turn I) (kept : Kept) → kept ≡ nothing_kept kept.groups → IsBegun turn → IsTurnOf left may_stop rank turn.source turn kept
+turn_begun : {I : Type 0} (left : I → Option (List ℕ)) (may_stop : ℕ → ℕ → Type 0) (rank : ℕ) (turn : Turn I) (kept : Kept) → kept ≡ nothing_kept kept.reading kept.groups → IsBegun turn → IsTurnOf left may_stop rank turn.source turn kept
 turn_begun left may_stop rank turn kept nothing begun = record {
   items = [];
-  places = subst (λ (k : Kept). length k.faults ≡ length k.recording) (sym nothing) (places_at_first kept.groups);
+  places = subst (λ (k : Kept). length k.faults ≡ length k.recording) (sym nothing) (places_at_first kept.reading kept.groups);
   came = subst (λ (over : Bool). CameOf left (may_stop rank) turn.source turn [] over) (sym begun.2) (record {
     read = record { fresh = turn.fresh begun.2; told = begins (coming left turn.source) [] refl; at = rw begun.0 refl };
     done = sym begun.1;
   });
-  kept_so = λ calm. subst (λ (k : Kept). IsKeptIn rank [] k) (sym nothing) (kept_at_first kept.groups rank);
+  kept_so = λ calm. subst (λ (k : Kept). IsKeptIn rank [] k) (sym nothing) (kept_at_first kept.reading kept.groups rank);
 }
 
-all_begun : {I : Type 0} (left : I → Option (List ℕ)) (may_stop : ℕ → ℕ → Type 0) (sources : List (Source I)) (turns : List (Turn I)) (kept : Kept) → kept ≡ nothing_kept kept.groups → map source_of turns ≡ sources → All (λ turn. IsBegun turn) turns → AreTurnsOf left may_stop sources turns kept
+all_begun : {I : Type 0} (left : I → Option (List ℕ)) (may_stop : ℕ → ℕ → Type 0) (sources : List (Source I)) (turns : List (Turn I)) (kept : Kept) → kept ≡ nothing_kept kept.reading kept.groups → map source_of turns ≡ sources → All (λ turn. IsBegun turn) turns → AreTurnsOf left may_stop sources turns kept
 all_begun {I = I} left may_stop sources turns kept nothing are all = record {
   count = sym (length-map turns source_of) ∙ ap length are;
   each = λ rank source turn at_source at_turn.
@@ -244,11 +247,11 @@ read_by left may_stop rank source turn kept over of = record {
   kept_so = of.kept_so;
 }
 
-pub all_read : {I : Type 0} (left : I → Option (List ℕ)) (may_stop : ℕ → ℕ → Type 0) (sources : List (Source I)) (begun over : List (Turn I)) (first last : Kept) → length first.recording ≡ length sources → first ≡ nothing_kept first.groups → map source_of begun ≡ sources → All (λ turn. IsBegun turn) begun → AreLater left may_stop begun first over last → All (λ turn. IsOver turn) over → AreReadOf left may_stop sources last
+pub all_read : {I : Type 0} (left : I → Option (List ℕ)) (may_stop : ℕ → ℕ → Type 0) (sources : List (Source I)) (begun over : List (Turn I)) (first last : Kept) → length first.recording ≡ length sources → first ≡ nothing_kept first.reading first.groups → map source_of begun ≡ sources → All (λ turn. IsBegun turn) begun → AreLater left may_stop begun first over last → All (λ turn. IsOver turn) over → AreReadOf left may_stop sources last
 all_read left may_stop sources begun over first last one nothing are all later ends =
     let turns = later.turns sources (all_begun left may_stop sources begun first nothing are all) in record {
       one_a_rank = later.ranks ∙ one;
-      places = later.places ∙ subst (λ (k : Kept). length k.faults ≡ length k.recording) (sym nothing) (places_at_first first.groups) ∙ sym later.ranks;
+      places = later.places ∙ subst (λ (k : Kept). length k.faults ≡ length k.recording) (sym nothing) (places_at_first first.reading first.groups) ∙ sym later.ranks;
       each = λ rank source at.
           let turn = found_at over rank (omega (arith, turns.count, slice_get_within sources rank source at)) in
           read_by left may_stop rank source turn.0 last (all_at (λ turn. IsOver turn) over rank turn.0 ends turn.1) (turns.each rank source turn.0 at turn.1);

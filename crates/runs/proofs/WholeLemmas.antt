@@ -1,4 +1,5 @@
 -- What is answered of records that were read by turns: the answer over the traces that their items make.
+use Rattle.moves.specs.declared.reading.Reading.{Reading}
 use Rattle.std.proofs.Common.{◌≡◌, ℕ, zero, suc, ◌+◌, ◌<◌, true, false, Option, Some, None, Result, Ok, Err, IfOk, IfErr, List, [], ◌∷◌, length, map, slice_get, refl, sym, ap, subst, ◌∙◌, inl, arith}
 use Rattle.mpicall.specs.Source.{coming}
 use Rattle.mpicall.specs.declared.call.Call.{Call}
@@ -105,36 +106,38 @@ module _ {I : Type 0} (left : I → Option (List ℕ)) (may_stop : ℕ → ℕ �
       let all = read_whole read calm in
       λ rank is_rank. an_ended_lawful_list_is_closed kept.groups rank (calls_of kept.recording rank) (lawful rank is_rank) (all.ended none rank is_rank)
 
-  module _ (groups : Groups) where
-    outcome_read : (outcome : Outcome) → AreReadOf left may_stop sources kept → kept.groups ≡ groups → kept.wanted ≡ false → IsOutcomeOfKept kept outcome → IsOutcomeOfFeeds left may_stop sources groups outcome
-    outcome_read outcome read same calm is =
+  module _ (reading : Reading) (groups : Groups) where
+    outcome_read : (outcome : Outcome) → AreReadOf left may_stop sources kept → kept.reading ≡ reading → kept.groups ≡ groups → kept.wanted ≡ false → IsOutcomeOfKept kept outcome → IsOutcomeOfFeeds left may_stop sources reading groups outcome
+    outcome_read outcome read alike same calm is =
         let all = read_whole read calm in
         let recording = all.recording is.no_refusal in
-        let over : IsOutcomeOver kept.groups (map trace_of_items all.items) outcome = record {
+        let over : IsOutcomeOver kept.reading kept.groups (map trace_of_items all.items) outcome = record {
           no_refusal = sym all.refusal ∙ is.no_refusal;
+          same_reading = is.same_reading;
           same_groups = is.same_groups;
           recording = is.recording ∙ recording;
           closed = subst IsClosed recording is.closed;
         } in record {
           items = all.items;
           fed = all.fed;
-          over = subst (λ (gs : Groups). IsOutcomeOver gs (map trace_of_items all.items) outcome) same over;
+          over = subst (λ (gs : Groups). IsOutcomeOver reading gs (map trace_of_items all.items) outcome) same
+              (subst (λ (r : Reading). IsOutcomeOver r kept.groups (map trace_of_items all.items) outcome) alike over);
         }
 
-    refusal_read : (refusal : Refusal) → AreReadOf left may_stop sources kept → kept.groups ≡ groups → kept.wanted ≡ false → refusal_kept kept ≡ Some refusal → IsRefusalOfFeeds left may_stop sources groups refusal
-    refusal_read refusal read same calm is =
+    refusal_read : (refusal : Refusal) → AreReadOf left may_stop sources kept → kept.reading ≡ reading → kept.groups ≡ groups → kept.wanted ≡ false → refusal_kept kept ≡ Some refusal → IsRefusalOfFeeds left may_stop sources groups refusal
+    refusal_read refusal read alike same calm is =
         let all = read_whole read calm in record {
           items = all.items;
           fed = all.fed;
           over = ap (λ (gs : Groups). refusal_of gs (map trace_of_items all.items)) (sym same) ∙ sym all.refusal ∙ is;
         }
 
-    pub concludes_well : (answer : Result Outcome CloseFault) → AreReadOf left may_stop sources kept → kept.groups ≡ groups → Concludes kept answer → IfOk answer (IsOutcomeOfFeeds left may_stop sources groups)
-    concludes_well (Ok outcome) read same c = outcome_read outcome read same c.0 c.1
-    concludes_well (Err fault) read same c = tt
+    pub concludes_well : (answer : Result Outcome CloseFault) → AreReadOf left may_stop sources kept → kept.reading ≡ reading → kept.groups ≡ groups → Concludes kept answer → IfOk answer (IsOutcomeOfFeeds left may_stop sources reading groups)
+    concludes_well (Ok outcome) read alike same c = outcome_read outcome read alike same c.0 c.1
+    concludes_well (Err fault) read alike same c = tt
 
-    pub concludes_refusing : (answer : Result Outcome CloseFault) → AreReadOf left may_stop sources kept → kept.groups ≡ groups → Concludes kept answer → IfErr answer (λ fault. RefusesFeeds left may_stop sources groups (of_close fault))
-    concludes_refusing (Ok outcome) read same c = tt
-    concludes_refusing (Err Memory) read same c = tt
-    concludes_refusing (Err (Unproved rank)) read same c = absurd c
-    concludes_refusing (Err (Refused refusal)) read same c = refusal_read refusal read same c.0 c.1
+    pub concludes_refusing : (answer : Result Outcome CloseFault) → AreReadOf left may_stop sources kept → kept.reading ≡ reading → kept.groups ≡ groups → Concludes kept answer → IfErr answer (λ fault. RefusesFeeds left may_stop sources groups (of_close fault))
+    concludes_refusing (Ok outcome) read alike same c = tt
+    concludes_refusing (Err Memory) read alike same c = tt
+    concludes_refusing (Err (Unproved rank)) read alike same c = absurd c
+    concludes_refusing (Err (Refused refusal)) read alike same c = refusal_read refusal read alike same c.0 c.1

@@ -1,4 +1,5 @@
 -- What a run answers, by what is read of its ranks' sources: put on their feeds by threads, or entered by turns.
+use Rattle.moves.specs.declared.reading.Reading.{Reading}
 use Rattle.std.specs.Prelude.{◌≡◌, ℕ, ◌+◌, ◌<◌, ⊤, Option, Some, None, Result, Ok, Err, List, [], ◌∷◌, map}
 use Rattle.mpicall.specs.Source.{coming}
 use Rattle.mpicall.specs.declared.source.Source.{Source}
@@ -22,9 +23,10 @@ use Rattle.gather.specs.declared.outcome.CloseFault.TheVariants as close
 use Rattle.gather.specs.declared.outcome.Outcome.{Outcome}
 use Rattle.runs.specs.declared.threads.Fed.{Fed}
 
--- a later time of the same session: its feeds and its head are as they were
+-- a later time of the same session: its feeds, its reading and its head are as they were
 pub record IsSameSession (old new : Collector) : Type 0 where
   pub names : rings new ≡ rings old
+  pub reading : (kept new).reading ≡ (kept old).reading
   pub groups : (kept new).groups ≡ (kept old).groups
 
 -- the receipt that came of a source, if one did
@@ -50,10 +52,10 @@ AreFedBy left may_stop rank (source ∷ sources) (items ∷ rest) =
 AreFedBy left may_stop rank sources items = ⊥
 
 -- the outcome is that of items such as are read of these sources, one list a rank
-pub record IsOutcomeOfFeeds {I : Type 0} (left : I → Option (List ℕ)) (may_stop : ℕ → ℕ → Type 0) (sources : List (Source I)) (groups : Groups) (outcome : Outcome) : Type 0 where
+pub record IsOutcomeOfFeeds {I : Type 0} (left : I → Option (List ℕ)) (may_stop : ℕ → ℕ → Type 0) (sources : List (Source I)) (reading : Reading) (groups : Groups) (outcome : Outcome) : Type 0 where
   pub items : List (List Item)
   pub fed : AreFedBy left may_stop 0 sources items
-  pub over : IsOutcomeOver groups (map trace_of_items items) outcome
+  pub over : IsOutcomeOver reading groups (map trace_of_items items) outcome
 
 -- the refusal is that of the lowest rank that has a fault over such items
 pub record IsRefusalOfFeeds {I : Type 0} (left : I → Option (List ℕ)) (may_stop : ℕ → ℕ → Type 0) (sources : List (Source I)) (groups : Groups) (refusal : Refusal) : Type 0 where

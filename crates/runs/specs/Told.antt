@@ -1,13 +1,18 @@
 -- What an answer says of traces, where the sources' inputs tell them. These are the words of `run`; what it
 -- stands on speaks of each rank alone, by the words of `Ranks`.
+use Rattle.moves.specs.declared.reading.Reading.{Reading}
 use Rattle.std.specs.Prelude.{◌≡◌, ◌↔◌, ℕ, ◌<◌, Bool, true, false, ⊤, Option, Some, None, List, length, map, slice_get, All}
 use Rattle.mpicall.specs.Source.{coming, ended}
 use Rattle.mpicall.specs.declared.source.Source.{Source}
 use Rattle.mpicall.specs.Trace.{Trace}
 use Rattle.mpicall.specs.declared.fault.SourceFault.TheVariants.{ReadFailed, GateStopped, ThreadNotStarted}
 use Rattle.mpigroup.specs.Groups.{Groups}
+use Rattle.moves.specs.Runs.{IsTheEnd}
+use Rattle.moves.specs.Needs.{can_move}
+use Rattle.moves.specs.Stands.{stands_of}
+use Rattle.waitgraph.specs.Held.{is_some_left_open}
 use Rattle.gather.specs.Answers.{fault_of_rank, refusal_of, lists_of, SomeRankCannotEnd}
-use Rattle.waitgraph.specs.Verdicts.{verdict_of}
+use Rattle.waitgraph.specs.Verdicts.{verdict_of, SomeRankIsHeld}
 use Rattle.waitgraph.specs.declared.verdict.Verdict.{Verdict}
 use Rattle.waitgraph.specs.declared.verdict.Verdict.TheVariants.{Hang}
 use Rattle.gather.specs.declared.fault.RankFault.{RankFault}
@@ -44,8 +49,12 @@ RefusesOver groups traces (Unproved rank) = ⊤
 RefusesOver groups traces (Refused refusal) = IsRefusalOver groups traces refusal
 RefusesOver groups traces Write = ⊤
 
--- no rank has a fault over these traces, and the verdict is theirs
-pub record IsVerdictOver (groups : Groups) (traces : List Trace) (verdict : Verdict) : Type 0 where
+-- No rank has a fault over these traces, and the verdict is theirs: every maximal run over them ends where the ranks
+-- stand, and it is hang exactly if some rank is held there; where no list was left open, exactly if some rank comes to
+-- its Finalize in no run.
+pub record IsVerdictOver (reading : Reading) (groups : Groups) (traces : List Trace) (verdict : Verdict) : Type 0 where
   pub no_refusal : refusal_of groups traces ≡ None
-  pub value : verdict ≡ verdict_of groups (lists_of traces)
-  pub hang : (verdict ≡ Hang) ↔ SomeRankCannotEnd groups (lists_of traces)
+  pub value : verdict ≡ verdict_of reading groups (lists_of traces)
+  pub stands : IsTheEnd (can_move reading groups (lists_of traces)) (length (lists_of traces)) (stands_of reading groups (lists_of traces))
+  pub hang : (verdict ≡ Hang) ↔ SomeRankIsHeld reading groups (lists_of traces)
+  pub closed : is_some_left_open (lists_of traces) ≡ false → (verdict ≡ Hang) ↔ SomeRankCannotEnd reading groups (lists_of traces)

@@ -61,6 +61,7 @@ pub record AreLater {I : Type 0} (left : I → Option (List ℕ)) (may_stop : �
   pub count : length new ≡ length old
   pub ranks : length after.recording ≡ length before.recording
   pub places : length after.faults ≡ length before.faults
+  pub reading : after.reading ≡ before.reading
   pub groups : after.groups ≡ before.groups
   pub turns : (sources : List (Source I)) → AreTurnsOf left may_stop sources old before → AreTurnsOf left may_stop sources new after
 

@@ -1,9 +1,9 @@
 //! The report of a run over the sources of its ranks, which are read at once.
 
-ghost use Rattle.std.specs.Prelude.{◌≡◌, ◌↔◌, ◌<◌, ◌≤◌, ℕ, [], List, length, map, vec_len, vec_capacity, IfOk, IfErr, OnOk};
+ghost use Rattle.std.specs.Prelude.{◌≡◌, ◌<◌, ◌≤◌, ℕ, [], List, length, map, vec_len, vec_capacity, IfOk, IfErr, OnOk};
 ghost use Rattle.mpicall.specs.Trace.{Trace as TraceValue};
 ghost use Rattle.mpigroup.specs.Groups.{ranks_of};
-ghost use Rattle.waitgraph.specs.Verdicts.{verdict_of, SomeRankIsStuck};
+ghost use Rattle.waitgraph.specs.Verdicts.{verdict_of};
 ghost use Rattle.std.specs.Io.KnownBytes.{Appends};
 ghost use Rattle.reports.specs.Reports.{report_of};
 ghost use Rattle.runs.specs.Told.{AreFresh, Tells, IsVerdictOver, RefusesOver};
@@ -19,6 +19,7 @@ use gather::gate::Gate;
 use gather::ledger::Ledger;
 use gather::outcome::{CloseFault, Outcome};
 use gather::session::Session;
+use moves::reading::Reading;
 use mpicall::device::{Input, Output};
 use mpicall::source::Source;
 use mpigroup::head::Head;
@@ -61,6 +62,7 @@ fn receipts_of(fed: Vec<Fed>, receipts: Vec<Option<Receipt>>) -> Vec<Option<Rece
 fn outcome_in_threads<I, G, R>(
     alloc: Global,
     head: Head,
+    reading: Reading,
     sources: Vec<Source<I>>,
     capacity: u16,
     gate: &G,
@@ -74,7 +76,7 @@ where
     requires room { 0 < capacity }
     requires one_a_rank { length sources.items ≡ ranks_of head }
     requires fresh { AreFresh sources.items }
-    ensures ok { IfOk result (IsOutcomeOfFeeds I.left (G.may_stop gate.now) sources.items head) }
+    ensures ok { IfOk result (IsOutcomeOfFeeds I.left (G.may_stop gate.now) sources.items reading head) }
     ensures fault { IfErr result (λ fault. RefusesFeeds I.left (G.may_stop gate.now) sources.items head (of_close fault)) }
 {
     let ranks = sources.len();
@@ -88,7 +90,7 @@ where
         return Err(CloseFault::Memory);
     };
     let not_started = NotStarted::none();
-    match Session::open(alloc, head, capacity, 0, rt) {
+    match Session::open(alloc, head, reading, capacity, 0, rt) {
         Ok((feeds, collector, _watches)) => {
             let (collector, fed) = in_threads(
                 rt,
@@ -111,6 +113,7 @@ where
 fn outcome_in_turns<I, G, R>(
     alloc: Global,
     head: Head,
+    reading: Reading,
     sources: Vec<Source<I>>,
     gate: &G,
     rt: &R,
@@ -121,13 +124,13 @@ where
     R: Wait,
     requires one_a_rank { length sources.items ≡ ranks_of head }
     requires fresh { AreFresh sources.items }
-    ensures ok { IfOk result (IsOutcomeOfFeeds I.left (G.may_stop gate.now) sources.items head) }
+    ensures ok { IfOk result (IsOutcomeOfFeeds I.left (G.may_stop gate.now) sources.items reading head) }
     ensures fault { IfErr result (λ fault. RefusesFeeds I.left (G.may_stop gate.now) sources.items head (of_close fault)) }
 {
     let Ok(turns) = Vec::with_capacity(alloc, sources.len()) else {
         return Err(CloseFault::Memory);
     };
-    match Ledger::new(alloc, head) {
+    match Ledger::new(alloc, head, reading) {
         Ok(ledger) => read_in_turns(sources, turns, ledger, gate, rt).conclude(alloc),
         Err(_) => Err(CloseFault::Memory),
     }
@@ -137,6 +140,7 @@ where
 fn outcome_of<I, G, R>(
     alloc: Global,
     head: Head,
+    reading: Reading,
     sources: Vec<Source<I>>,
     capacity: u16,
     gate: &G,
@@ -150,15 +154,17 @@ where
     requires room { 0 < capacity }
     requires one_a_rank { length sources.items ≡ ranks_of head }
     requires fresh { AreFresh sources.items }
-    ensures ok { IfOk result (IsOutcomeOfFeeds I.left (G.may_stop gate.now) sources.items head) }
+    ensures ok { IfOk result (IsOutcomeOfFeeds I.left (G.may_stop gate.now) sources.items reading head) }
     ensures fault { IfErr result (λ fault. RefusesFeeds I.left (G.may_stop gate.now) sources.items head (of_close fault)) }
     ensures stopped { IfErr result (λ fault. StopsWhereAllowed (G.may_stop gate.now) (of_close fault)) }
 {
     match by {
         ReadBy::Threads { stack_size } => {
-            outcome_in_threads(alloc, head, sources, capacity, gate, rt, stack_size)
+            outcome_in_threads(
+                alloc, head, reading, sources, capacity, gate, rt, stack_size,
+            )
         }
-        ReadBy::Turns => outcome_in_turns(alloc, head, sources, gate, rt),
+        ReadBy::Turns => outcome_in_turns(alloc, head, reading, sources, gate, rt),
     }
 }
 
@@ -180,11 +186,10 @@ fn report<O: Output>(
     format: Format,
     out: &mut O,
 ) -> Result<Verdict, RunFault>
-    ensures value { IfOk result (λ verdict. verdict ≡ verdict_of outcome.now.analyser.groups outcome.now.analyser.recording) }
-    ensures hang { IfOk result (λ verdict. (verdict ≡ Verdict.Hang) ↔ SomeRankIsStuck outcome.now.analyser.groups outcome.now.analyser.recording) }
-    ensures written { OnOk result (Appends (O.written out.old) (O.written out.new) (report_of format outcome.now.analyser.groups outcome.now.analyser.recording)) }
+    ensures value { IfOk result (λ verdict. verdict ≡ verdict_of outcome.now.analyser.reading outcome.now.analyser.groups outcome.now.analyser.recording) }
+    ensures written { OnOk result (Appends (O.written out.old) (O.written out.new) (report_of format outcome.now.analyser.reading outcome.now.analyser.groups outcome.now.analyser.recording)) }
     ensures no_write_failed { OnOk result (O.failures out.new ≡ O.failures out.old) }
-    ensures fault { IfErr result (LeavesReport O.written O.failures out.old out.new (report_of format outcome.now.analyser.groups outcome.now.analyser.recording)) }
+    ensures fault { IfErr result (LeavesReport O.written O.failures out.old out.new (report_of format outcome.now.analyser.reading outcome.now.analyser.groups outcome.now.analyser.recording)) }
 {
     match write_report(alloc, outcome.analyser(), outcome.graph(), format, out) {
         Ok(()) => Ok(outcome.verdict()),
@@ -194,9 +199,9 @@ fn report<O: Output>(
 }
 
 /// Reads the sources of all ranks at once, in the way that is asked for and each to its end, and writes the report
-/// of the run: whether some rank can't reach its Finalize, whatever way the run goes, who waits for whom and
-/// why, and what else is wrong. The first fault of the lowest rank that has one is told instead, and then
-/// nothing is written.
+/// of the run by the given reading: whether some rank can't reach its Finalize, whatever way the run goes, who waits
+/// for whom and why, and what else is wrong. Where some list was left open it is whether some rank is held. The
+/// first fault of the lowest rank that has one is told instead, and then nothing is written.
 ///
 /// There is one source a rank, in rank order; none of them may have been asked before. At most `capacity`
 /// records of a rank that a thread reads wait to be judged. Before each record is read the gate is asked. All
@@ -204,6 +209,7 @@ fn report<O: Output>(
 pub fn run_by<I, G, O, R>(
     alloc: Global,
     head: Head,
+    reading: Reading,
     sources: Vec<Source<I>>,
     capacity: u16,
     gate: &G,
@@ -223,7 +229,7 @@ where
 
     // The answer is that of the traces which the sources' bytes hold, where the inputs tell them.
     ensures verdict { IfOk result (λ verdict. (traces : List TraceValue) →
-        Tells I.left sources.items traces → IsVerdictOver head traces verdict) }
+        Tells I.left sources.items traces → IsVerdictOver reading head traces verdict) }
     ensures refused { IfErr result (λ fault. (traces : List TraceValue) →
         Tells I.left sources.items traces → RefusesOver head traces fault) }
 
@@ -232,13 +238,13 @@ where
     ensures stopped { IfErr result (StopsWhereAllowed (G.may_stop gate.now)) }
 
     // What is written is the report of those traces, with that verdict.
-    ensures written { IfOk result (WritesReport I.left O.written O.failures sources.items head format out.old out.new) }
+    ensures written { IfOk result (WritesReport I.left O.written O.failures sources.items reading head format out.old out.new) }
 
     // A write that failed is told only where the device's count rose.
     ensures no_write_failed { OnOk result (O.failures out.new ≡ O.failures out.old) }
-    ensures output { IfErr result (LeavesOutput I.left O.written O.failures sources.items head format out.old out.new) }
+    ensures output { IfErr result (LeavesOutput I.left O.written O.failures sources.items reading head format out.old out.new) }
 {
-    match outcome_of(alloc, head, sources, capacity, gate, rt, by) {
+    match outcome_of(alloc, head, reading, sources, capacity, gate, rt, by) {
         Ok(outcome) => report(alloc, &outcome, format, out),
         Err(fault) => Err(fault_of_close(fault)),
     }
@@ -248,6 +254,7 @@ where
 pub fn run<I, G, O, R>(
     alloc: Global,
     head: Head,
+    reading: Reading,
     sources: Vec<Source<I>>,
     capacity: u16,
     gate: &G,
@@ -265,18 +272,20 @@ where
     requires fresh { AreFresh sources.items }
 
     ensures verdict { IfOk result (λ verdict. (traces : List TraceValue) →
-        Tells I.left sources.items traces → IsVerdictOver head traces verdict) }
+        Tells I.left sources.items traces → IsVerdictOver reading head traces verdict) }
     ensures refused { IfErr result (λ fault. (traces : List TraceValue) →
         Tells I.left sources.items traces → RefusesOver head traces fault) }
 
     ensures fed { IfErr result (RefusesFeeds I.left (G.may_stop gate.now) sources.items head) }
     ensures stopped { IfErr result (StopsWhereAllowed (G.may_stop gate.now)) }
 
-    ensures written { IfOk result (WritesReport I.left O.written O.failures sources.items head format out.old out.new) }
+    ensures written { IfOk result (WritesReport I.left O.written O.failures sources.items reading head format out.old out.new) }
 
     ensures no_write_failed { OnOk result (O.failures out.new ≡ O.failures out.old) }
-    ensures output { IfErr result (LeavesOutput I.left O.written O.failures sources.items head format out.old out.new) }
+    ensures output { IfErr result (LeavesOutput I.left O.written O.failures sources.items reading head format out.old out.new) }
 {
     let by = ReadBy::Threads { stack_size: None };
-    run_by(alloc, head, sources, capacity, gate, format, out, rt, by)
+    run_by(
+        alloc, head, reading, sources, capacity, gate, format, out, rt, by,
+    )
 }

@@ -145,9 +145,10 @@ pub(crate) fn read_in_turns<I: Input + Drop, G: Gate>(
 ) -> Ledger
     requires one_a_rank { length ledger.recording ≡ vec_len sources }
     requires fresh { AreFresh sources.items }
-    requires nothing_kept { ledger ≡ nothing_kept ledger.groups }
+    requires nothing_kept { ledger ≡ nothing_kept ledger.reading ledger.groups }
     requires none_begun { turns.items ≡ [] }
     requires room { vec_len sources ≤ vec_capacity turns }
+    ensures reading { result.reading ≡ ledger.reading }
     ensures groups { result.groups ≡ ledger.groups }
     ensures read { AreReadOf I.left (G.may_stop gate.now) sources.items result }
 {

@@ -9,6 +9,7 @@ use gather::collector::{Collector, Stepped};
 use gather::fault::{RankFault, Refusal};
 use gather::outcome::CloseFault;
 use gather::session::{OpenFault, Session};
+use moves::reading::Reading;
 use mpicall::fault::{LineFault, SourceFault};
 use mpicall::line::read_line;
 use mpicall::record::Record;
@@ -43,6 +44,22 @@ const HEAD_TO_HEAD: [Line; 6] = [
     (1, b"finalize\n"),
 ];
 
+const HEAD_TO_HEAD_IN_BYTES: [Line; 6] = [
+    (0, b"send 0 1 0 100\n"),
+    (0, b"recv 0 1 0\n"),
+    (0, b"finalize\n"),
+    (1, b"send 0 0 0 100\n"),
+    (1, b"recv 0 0 0\n"),
+    (1, b"finalize\n"),
+];
+
+const CUT_OFF: [Line; 4] = [
+    (0, b"send 0 1 0 100\n"),
+    (0, b"open\n"),
+    (1, b"send 0 0 0 100\n"),
+    (1, b"open\n"),
+];
+
 /// Puts a record on a rank's feed, where there is room.
 pub(crate) fn put_at(feeds: &mut Vec<Feed>, rank: u16, record: Record) -> bool
     requires { rank < length feeds.old.items }
@@ -69,7 +86,7 @@ fn deal(feeds: &mut Vec<Feed>, collector: &mut Collector, order: &[Line]) -> Res
     Ok(took)
 }
 
-/// Ends a feed: sealed behind its Finalize, else torn with the fault. The receipt may be lost.
+/// Ends a feed: sealed behind its end record, else torn with the fault. The receipt may be lost.
 fn end_feed(feed: Feed, fault: SourceFault, is_lost: bool) -> Option<Receipt>
     ensures { IfSome result (λ receipt. receipt_ring receipt ≡ feed_ring feed) }
 {
@@ -112,16 +129,17 @@ pub(crate) fn verdict_of_close(
 }
 
 /// How many records of the order are accepted at once, and what the session answers at its close. Each feed
-/// has one place. A feed without its Finalize is torn with the fault, and the receipt of one rank is lost.
+/// has one place. A feed without its end record is torn with the fault, and the receipt of one rank is lost.
 fn answer(
     alloc: Global,
+    reading: Reading,
     order: &[Line],
     fault: SourceFault,
     lost: Option<u16>,
     wait: &impl Wait,
 ) -> Result<(usize, Result<Verdict, CloseFault>), Fail> {
     let head = Head::read(alloc, b"ranks 2\n")?;
-    let (mut feeds, mut collector, _watches) = Session::open(alloc, head, 1, 0, wait)?;
+    let (mut feeds, mut collector, _watches) = Session::open(alloc, head, reading, 1, 0, wait)?;
     let took = deal(&mut feeds, &mut collector, order)?;
     let receipts = end_feeds(alloc, feeds, fault, lost)?;
     Ok((took, verdict_of_close(collector, receipts)))
@@ -143,7 +161,14 @@ fn ranks_by_turns(rt: HostRuntime) -> Result<(), Fail> {
         order.push(one_of_a_thousand(0, place))?;
         order.push(one_of_a_thousand(1, place))?;
     }
-    let answer = answer(rt.alloc(), &order, SourceFault::NoFinalize, None, &rt)?;
+    let answer = answer(
+        rt.alloc(),
+        Reading::Strict,
+        &order,
+        SourceFault::NoFinalize,
+        None,
+        &rt,
+    )?;
     assert_eq!(rt; answer, (2002, Ok(Verdict::Free)));
     Ok(())
 }
@@ -158,7 +183,14 @@ fn one_rank_wholly_first(rt: HostRuntime) -> Result<(), Fail> {
         for place in 0..=1000u32 {
             order.push(one_of_a_thousand(1 - first, place))?;
         }
-        let answer = answer(rt.alloc(), &order, SourceFault::NoFinalize, None, &rt)?;
+        let answer = answer(
+            rt.alloc(),
+            Reading::Strict,
+            &order,
+            SourceFault::NoFinalize,
+            None,
+            &rt,
+        )?;
         assert_eq!(rt; answer, (2002, Ok(Verdict::Free)));
     }
     Ok(())
@@ -207,7 +239,27 @@ fn what_a_close_answers(rt: HostRuntime) -> Result<(), Fail> {
         ),
     ];
     for (order, fault, lost, expected) in rows {
-        assert_eq!(rt; answer(rt.alloc(), order, fault, lost, &rt)?, expected);
+        assert_eq!(rt;
+            answer(rt.alloc(), Reading::Strict, order, fault, lost, &rt)?,
+            expected
+        );
+    }
+    Ok(())
+}
+
+/// Feeds that end with `open` are sealed too.
+#[test]
+fn a_session_answers_by_its_reading(rt: HostRuntime) -> Result<(), Fail> {
+    let none = SourceFault::NoFinalize;
+    for (reading, whole, cut_off) in [
+        (Reading::Strict, Verdict::Hang, Verdict::Hang),
+        (Reading::Eager(99), Verdict::Hang, Verdict::Hang),
+        (Reading::Eager(100), Verdict::Free, Verdict::Unfinished),
+    ] {
+        let answered = answer(rt.alloc(), reading, &HEAD_TO_HEAD_IN_BYTES, none, None, &rt)?;
+        assert_eq!(rt; answered, (6, Ok(whole)));
+        let answered = answer(rt.alloc(), reading, &CUT_OFF, none, None, &rt)?;
+        assert_eq!(rt; answered, (4, Ok(cut_off)));
     }
     Ok(())
 }
@@ -346,7 +398,7 @@ impl TwoFeeds {
     fn open(alloc: Global, capacity: u16, wait: &impl Wait) -> Result<Option<TwoFeeds>, Fail> {
         let head = head_again(alloc, b"ranks 2\n")?;
         let receipts = room_for_two(alloc)?;
-        match Session::open(alloc, head, capacity.max(1), 0, wait) {
+        match Session::open(alloc, head, Reading::Strict, capacity.max(1), 0, wait) {
             Ok((feeds, collector, _watches)) => match paired(feeds, collector, receipts) {
                 Some(session) => Ok(Some(session)),
                 None => Err("not two feeds".into()),

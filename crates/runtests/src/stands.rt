@@ -2,6 +2,7 @@
 
 use crate::kept::Kept;
 use moves::analyser::{Analyser, OfferFault};
+use moves::reading::Reading;
 use mpicall::line::read_line;
 use mpigroup::head::Head;
 use std::alloc::Global;
@@ -27,7 +28,7 @@ fn offer_line(analyser: &mut Analyser, rank: u16, line: &str) -> Result<(), Fail
 fn run_again(alloc: Global, head: &str) -> Result<Kept<Analyser>, Fail> {
     for _ in 0..2u32 {
         if let Ok(head) = Head::read(alloc, head.as_bytes()) {
-            if let Ok(analyser) = Analyser::new(alloc, head) {
+            if let Ok(analyser) = Analyser::new(alloc, head, Reading::Strict) {
                 return Ok(Kept(analyser));
             }
         }

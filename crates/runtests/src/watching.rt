@@ -9,6 +9,7 @@ use crate::sessions::{end_feeds, head_again, one_of_a_thousand, put_at, verdict_
 use gather::collector::{Collector, Stepped};
 use gather::outcome::CloseFault;
 use gather::session::{OpenFault, Session};
+use moves::reading::Reading;
 use mpicall::fault::SourceFault;
 use mpicall::line::read_line;
 use mpigroup::head::Head;
@@ -66,7 +67,7 @@ impl Opened {
         wait: &impl Wait,
     ) -> Result<Option<Opened>, Fail> {
         let head = head_again(alloc, head)?;
-        match Session::open(alloc, head, 4, watches.min(2), wait) {
+        match Session::open(alloc, head, Reading::Strict, 4, watches.min(2), wait) {
             Ok((feeds, collector, watches)) => Ok(Some(Opened {
                 feeds,
                 collector,

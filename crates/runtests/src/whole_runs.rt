@@ -7,6 +7,7 @@ ghost use Rattle.runs.specs.Told.{AreFresh};
 
 use gather::fault::{RankFault, Refusal, RunFault};
 use gather::gate::{Gate, OpenGate};
+use moves::reading::Reading;
 use mpicall::counted::Counted;
 use mpicall::device::Input;
 use mpicall::fails_at::FailsAt;
@@ -53,7 +54,7 @@ fn answer_of<I, G, R>(
     sources: Vec<Source<I>>,
     gate: &G,
     rt: &R,
-    reading: ReadBy,
+    by: ReadBy,
 ) -> Result<(Result<Verdict, RunFault>, MemoryOutput), Fail>
 where
     I: Input + Drop + Send,
@@ -67,7 +68,18 @@ where
     }
     let mut out = MemoryOutput::new(alloc);
     let format = Format::Text;
-    let answer = run_by(alloc, head, sources, 1, gate, format, &mut out, rt, reading);
+    let answer = run_by(
+        alloc,
+        head,
+        Reading::Strict,
+        sources,
+        1,
+        gate,
+        format,
+        &mut out,
+        rt,
+        by,
+    );
     Ok((answer, out))
 }
 
@@ -76,10 +88,10 @@ fn answer<G: Gate + Sync, R: Threads + Wait + Sync>(
     alloc: Global,
     gate: &G,
     rt: &R,
-    reading: ReadBy,
+    by: ReadBy,
 ) -> Result<(Result<Verdict, RunFault>, MemoryOutput), Fail> {
     let sources = sources_of(alloc, &TEXTS)?;
-    answer_of(alloc, sources, gate, rt, reading)
+    answer_of(alloc, sources, gate, rt, by)
 }
 
 /// A gate at whose first question each of two ranks waits until the other one is asked as well.
@@ -139,7 +151,7 @@ fn a_gate_stops_a_rank(rt: HostRuntime) -> Result<(), Fail> {
 /// Asserts that the place at which a gate stops a rank is told, for each place.
 fn stops_at_each_question<R: Abort + AllocGlobal + Threads + Wait + Sync>(
     rt: &R,
-    reading: ReadBy,
+    by: ReadBy,
 ) -> Result<(), Fail> {
     for (rank, line) in [
         (0, 0),
@@ -151,7 +163,7 @@ fn stops_at_each_question<R: Abort + AllocGlobal + Threads + Wait + Sync>(
         (1, 2),
         (1, 3),
     ] {
-        let (answer, out) = answer(rt.alloc(), &StopsAt(rank, line), rt, reading)?;
+        let (answer, out) = answer(rt.alloc(), &StopsAt(rank, line), rt, by)?;
         let refusal = Refusal {
             rank,
             call: line,
@@ -202,10 +214,10 @@ fn answer_over<R: Threads + Wait + Sync>(
     first: Given<'_>,
     second: Given<'_>,
     rt: &R,
-    reading: ReadBy,
+    by: ReadBy,
 ) -> Result<Result<Verdict, RunFault>, Fail> {
     let sources = sources_given(alloc, first, second)?;
-    let (answer, out) = answer_of(alloc, sources, &OpenGate, rt, reading)?;
+    let (answer, out) = answer_of(alloc, sources, &OpenGate, rt, by)?;
     if answer.is_err() && !out.bytes().is_empty() {
         return Err("something was written".into());
     }
@@ -234,8 +246,8 @@ fn a_read_fails_behind_a_line(rt: HostRuntime) -> Result<(), Fail> {
             call,
             fault,
         };
-        for reading in [IN_THREADS, ReadBy::Turns] {
-            let answer = answer_over(rt.alloc(), first, second, &rt, reading)?;
+        for by in [IN_THREADS, ReadBy::Turns] {
+            let answer = answer_over(rt.alloc(), first, second, &rt, by)?;
             assert_eq!(rt; answer, Err(RunFault::Refused(refusal)));
         }
     }
@@ -262,9 +274,9 @@ fn a_read_fails_behind_ten_lines_of_a_thousand(rt: HostRuntime) -> Result<(), Fa
         call: 10,
         fault: RankFault::OfSource(SourceFault::ReadFailed),
     };
-    for reading in [IN_THREADS, ReadBy::Turns] {
+    for by in [IN_THREADS, ReadBy::Turns] {
         let given: (Given<'_>, Given<'_>) = ((&first, 110, 1), (&second, 0, NEVER));
-        let answer = answer_over(rt.alloc(), given.0, given.1, &rt, reading)?;
+        let answer = answer_over(rt.alloc(), given.0, given.1, &rt, by)?;
         assert_eq!(rt; answer, Err(RunFault::Refused(refusal)));
     }
     Ok(())
@@ -337,7 +349,17 @@ fn answer_to<R: Threads + Wait + Sync>(
         return Err("one source a rank".into());
     }
     let mut out = FailsAt::new(Counted::new(Writer(taken)), at);
-    Ok(run(alloc, head, sources, 1, &OpenGate, format, &mut out, rt))
+    Ok(run(
+        alloc,
+        head,
+        Reading::Strict,
+        sources,
+        1,
+        &OpenGate,
+        format,
+        &mut out,
+        rt,
+    ))
 }
 
 /// Asserts that a report which fails at one of its writes ends there, for each of these and for none.
@@ -371,10 +393,10 @@ fn each_write_of_a_report_fails(rt: HostRuntime) -> Result<(), Fail> {
 
 #[test]
 fn no_thread_starts(rt: HostRuntime) -> Result<(), Fail> {
-    let reading = ReadBy::Threads {
+    let by = ReadBy::Threads {
         stack_size: Some(usize::MAX),
     };
-    let (answer, out) = answer(rt.alloc(), &OpenGate, &rt, reading)?;
+    let (answer, out) = answer(rt.alloc(), &OpenGate, &rt, by)?;
     let refusal = Refusal {
         rank: 0,
         call: 0,

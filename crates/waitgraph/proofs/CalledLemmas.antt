@@ -1,4 +1,5 @@
 -- A need that a rank has reached a place names a call of that rank.
+use Rattle.moves.specs.declared.reading.Reading.{Reading}
 use Rattle.std.proofs.Common.{◌≡◌, ℕ, Bool, true, false, if◌then◌else◌, Option, Some, None, List, [], ◌∷◌, ◌++◌, length, map, flat_map, refl, ◌∙◌}
 use Rattle.std.specs.Prelude.{nat_lt, is_some}
 use Rattle.std.specs.List.{slice_get, list_all}
@@ -13,13 +14,14 @@ use Rattle.pairing.specs.declared.envelope.Message.{Message}
 use Rattle.pairing.specs.Recordings.{Lists, calls_of}
 use Rattle.pairing.specs.Envelopes.{message_of, has_envelope, other_half}
 use Rattle.pairing.specs.Partners.{partner_of, number_of}
+use Rattle.pairing.specs.Probed.{probed_message, probed_envelope_at, probed_by, probed_of}
 use Rattle.pairing.specs.Requests.{starts, completes, started_before}
 use Rattle.pairing.specs.Waves.{does_join, place_in_wave, wave_of}
-use Rattle.pairing.proofs.PartnerLemmas.{partner_parts}
+use Rattle.pairing.proofs.PartnerLemmas.{and_then_parts, numbered_parts, partner_parts}
 use Rattle.pairing.proofs.RequestLemmas.{place_within}
 use Rattle.moves.specs.declared.need.Need.{Need}
 use Rattle.moves.specs.declared.need.Need.TheVariants.{At, Lacking}
-use Rattle.moves.specs.Needs.{world_of, half_need, half_needs, member_need, wave_needs, is_buffered, operation_needs, operation_needs_at, request_needs, needs_of_call, needs_of}
+use Rattle.moves.specs.Needs.{world_of, half_need, half_needs, probe_need, probe_needs, member_need, wave_needs, sends_freely, operation_needs, operation_needs_at, request_needs, needs_of_call, needs_of}
 
 -- a need that names a place names one of a call
 abbrev pub is_call : Lists → Need → Bool
@@ -36,6 +38,18 @@ half_called groups recording rank place half m (Some (other, there)) is =
 halves_called : (groups : Groups) (recording : Lists) (rank place : ℕ) (half : Half) (message : Option Message) → list_all (is_call recording) (option_map_or (λ m. half_need groups recording rank place half m ∷ []) message []) ≡ true
 halves_called groups recording rank place half None = refl
 halves_called groups recording rank place half (Some m) = rw (half_called groups recording rank place half m (partner_of groups recording rank place half) refl) refl
+
+probe_called : (groups : Groups) (recording : Lists) (rank place : ℕ) (m : Message) (sent : Option (ℕ × ℕ)) → probed_of groups recording rank place ≡ sent → is_call recording (option_map_or (λ sent. At sent.0 sent.1) sent (Lacking (world_of groups m.comm m.peer))) ≡ true
+probe_called groups recording rank place m None is = refl
+probe_called groups recording rank place m (Some (other, there)) is =
+    let parts = and_then_parts (probed_by groups recording rank place) (probed_envelope_at groups recording rank place) (other, there) is in
+    let from = numbered_parts groups recording SendHalf parts.0 (number_of groups recording rank RecvHalf parts.0 place) other there parts.2 in
+    lt-ltb there (length (calls_of recording other))
+    (place_within (has_envelope groups other SendHalf parts.0) (calls_of recording other) (number_of groups recording rank RecvHalf parts.0 place) there from.1)
+
+probes_called : (groups : Groups) (recording : Lists) (rank place : ℕ) (message : Option Message) → list_all (is_call recording) (option_map_or (λ m. probe_need groups recording rank place m ∷ []) message []) ≡ true
+probes_called groups recording rank place None = refl
+probes_called groups recording rank place (Some m) = rw (probe_called groups recording rank place m (probed_of groups recording rank place) refl) refl
 
 member_called : (recording : Lists) (comm wave member : ℕ) (there : Option ℕ) → place_in_wave recording comm wave member ≡ there → is_call recording (option_map_or (At member) there (Lacking member)) ≡ true
 member_called recording comm wave member None is = refl
@@ -58,40 +72,42 @@ sends_called : (groups : Groups) (recording : Lists) (rank place : ℕ) (call : 
 sends_called groups recording rank place call true = refl
 sends_called groups recording rank place call false = halves_called groups recording rank place SendHalf (message_of SendHalf call)
 
-operation_called : (groups : Groups) (recording : Lists) (rank place : ℕ) (call : Call) → list_all (is_call recording) (operation_needs groups recording rank place call) ≡ true
-operation_called groups recording rank place call =
-    both_called (is_call recording) ((if is_buffered call then [] else half_needs groups recording rank place SendHalf call) ++ half_needs groups recording rank place RecvHalf call) (wave_needs groups recording rank place)
-    (both_called (is_call recording) (if is_buffered call then [] else half_needs groups recording rank place SendHalf call) (half_needs groups recording rank place RecvHalf call)
-    (sends_called groups recording rank place call (is_buffered call))
+operation_called : (reading : Reading) (groups : Groups) (recording : Lists) (rank place : ℕ) (call : Call) → list_all (is_call recording) (operation_needs reading groups recording rank place call) ≡ true
+operation_called reading groups recording rank place call =
+    both_called (is_call recording) ((if sends_freely reading call then [] else half_needs groups recording rank place SendHalf call) ++ half_needs groups recording rank place RecvHalf call ++ probe_needs groups recording rank place call) (wave_needs groups recording rank place)
+    (both_called (is_call recording) ((if sends_freely reading call then [] else half_needs groups recording rank place SendHalf call) ++ half_needs groups recording rank place RecvHalf call) (probe_needs groups recording rank place call)
+    (both_called (is_call recording) (if sends_freely reading call then [] else half_needs groups recording rank place SendHalf call) (half_needs groups recording rank place RecvHalf call)
+    (sends_called groups recording rank place call (sends_freely reading call))
     (halves_called groups recording rank place RecvHalf (message_of RecvHalf call)))
+    (probes_called groups recording rank place (probed_message call)))
     (wave_called groups recording (wave_of recording rank place))
 
-operation_there_called : (groups : Groups) (recording : Lists) (rank place : ℕ) (there : Option Call) → list_all (is_call recording) (option_map_or (operation_needs groups recording rank place) there []) ≡ true
-operation_there_called groups recording rank place None = refl
-operation_there_called groups recording rank place (Some call) = operation_called groups recording rank place call
+operation_there_called : (reading : Reading) (groups : Groups) (recording : Lists) (rank place : ℕ) (there : Option Call) → list_all (is_call recording) (option_map_or (operation_needs reading groups recording rank place) there []) ≡ true
+operation_there_called reading groups recording rank place None = refl
+operation_there_called reading groups recording rank place (Some call) = operation_called reading groups recording rank place call
 
-started_called : (groups : Groups) (recording : Lists) (rank : ℕ) (start : Option ℕ) → list_all (is_call recording) (option_map_or (operation_needs_at groups recording rank) start []) ≡ true
-started_called groups recording rank None = refl
-started_called groups recording rank (Some start) = operation_there_called groups recording rank start (slice_get (calls_of recording rank) start)
+started_called : (reading : Reading) (groups : Groups) (recording : Lists) (rank : ℕ) (start : Option ℕ) → list_all (is_call recording) (option_map_or (operation_needs_at reading groups recording rank) start []) ≡ true
+started_called reading groups recording rank None = refl
+started_called reading groups recording rank (Some start) = operation_there_called reading groups recording rank start (slice_get (calls_of recording rank) start)
 
-requests_called : (groups : Groups) (recording : Lists) (rank place : ℕ) (reqs : List ℕ) → list_all (is_call recording) (flat_map (request_needs groups recording rank place) reqs) ≡ true
-requests_called groups recording rank place [] = refl
-requests_called groups recording rank place (req ∷ reqs) =
-    both_called (is_call recording) (request_needs groups recording rank place req) (flat_map (request_needs groups recording rank place) reqs)
-    (started_called groups recording rank (started_before recording rank place req))
-    (requests_called groups recording rank place reqs)
+requests_called : (reading : Reading) (groups : Groups) (recording : Lists) (rank place : ℕ) (reqs : List ℕ) → list_all (is_call recording) (flat_map (request_needs reading groups recording rank place) reqs) ≡ true
+requests_called reading groups recording rank place [] = refl
+requests_called reading groups recording rank place (req ∷ reqs) =
+    both_called (is_call recording) (request_needs reading groups recording rank place req) (flat_map (request_needs reading groups recording rank place) reqs)
+    (started_called reading groups recording rank (started_before recording rank place req))
+    (requests_called reading groups recording rank place reqs)
 
-call_called : (groups : Groups) (recording : Lists) (rank place : ℕ) (call : Call) (starter : Bool) → list_all (is_call recording) (if starter then [] else operation_needs groups recording rank place call ++ flat_map (request_needs groups recording rank place) (completes call)) ≡ true
-call_called groups recording rank place call true = refl
-call_called groups recording rank place call false =
-    both_called (is_call recording) (operation_needs groups recording rank place call) (flat_map (request_needs groups recording rank place) (completes call))
-    (operation_called groups recording rank place call)
-    (requests_called groups recording rank place (completes call))
+call_called : (reading : Reading) (groups : Groups) (recording : Lists) (rank place : ℕ) (call : Call) (starter : Bool) → list_all (is_call recording) (if starter then [] else operation_needs reading groups recording rank place call ++ flat_map (request_needs reading groups recording rank place) (completes call)) ≡ true
+call_called reading groups recording rank place call true = refl
+call_called reading groups recording rank place call false =
+    both_called (is_call recording) (operation_needs reading groups recording rank place call) (flat_map (request_needs reading groups recording rank place) (completes call))
+    (operation_called reading groups recording rank place call)
+    (requests_called reading groups recording rank place (completes call))
 
-there_called : (groups : Groups) (recording : Lists) (rank place : ℕ) (there : Option Call) → list_all (is_call recording) (option_map_or (needs_of_call groups recording rank place) there []) ≡ true
-there_called groups recording rank place None = refl
-there_called groups recording rank place (Some call) = call_called groups recording rank place call (is_some (starts call))
+there_called : (reading : Reading) (groups : Groups) (recording : Lists) (rank place : ℕ) (there : Option Call) → list_all (is_call recording) (option_map_or (needs_of_call reading groups recording rank place) there []) ≡ true
+there_called reading groups recording rank place None = refl
+there_called reading groups recording rank place (Some call) = call_called reading groups recording rank place call (is_some (starts call))
 
 -- each need of a call names a call, or what a rank lacks
-pub needs_called : (groups : Groups) (recording : Lists) (rank place : ℕ) → list_all (is_call recording) (needs_of groups recording rank place) ≡ true
-needs_called groups recording rank place = there_called groups recording rank place (slice_get (calls_of recording rank) place)
+pub needs_called : (reading : Reading) (groups : Groups) (recording : Lists) (rank place : ℕ) → list_all (is_call recording) (needs_of reading groups recording rank place) ≡ true
+needs_called reading groups recording rank place = there_called reading groups recording rank place (slice_get (calls_of recording rank) place)

@@ -9,10 +9,16 @@ pub mod UnmetLemmas
 pub mod WalkLemmas
 pub mod PigeonLemmas
 pub mod CycleLemmas
+pub mod LeastLemmas
+pub mod SweepLemmas
+pub mod GoingLemmas
 pub mod WalkLaws
 pub mod ListedLemmas
 pub mod CalledLemmas
 pub mod StuckLemmas
+pub mod WalkingLemmas
 pub mod AlikeLemmas
 pub mod PlainLemmas
 pub mod VerdictLemmas
+pub mod OntoLemmas
+pub mod StaysLemmas

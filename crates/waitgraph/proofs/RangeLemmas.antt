@@ -1,8 +1,9 @@
 -- What is taken of the ranks one by one.
-use Rattle.std.proofs.Common.{◌≡◌, ℕ, zero, suc, ◌+◌, Bool, true, false, Option, Some, None, List, [], ◌∷◌, ◌++◌, refl, ap, ◌∙◌, append-nil, arith}
+use Rattle.std.proofs.Common.{◌≡◌, ℕ, map, sym, zero, suc, ◌+◌, Bool, true, false, Option, Some, None, List, [], ◌∷◌, ◌++◌, refl, ap, ◌∙◌, append-nil, arith}
 use Rattle.std.specs.List.{filter, filter_map, cons_option, range_with_len}
 use Rattle.std.specs.Option.{option_to_list}
 use Rattle.std.proofs.lemmas.List.Elements.{filter-append, filter_map-append}
+use Rattle.std.proofs.lemmas.List.FromFn.{map-range_with_len_more}
 
 pub range_more : (a n : ℕ) → range_with_len a (n + 1) ≡ range_with_len a n ++ (a + n) ∷ []
 range_more a zero = let e : a + 0 ≡ a = omega arith in rw e refl
@@ -32,3 +33,8 @@ given_more {X} h n =
     ap (λ (ns : List ℕ). filter_map h ns) (from_zero n)
     ∙ filter_map-append h (range_with_len 0 n) (n ∷ [])
     ∙ ap (λ (xs : List X). filter_map h (range_with_len 0 n) ++ xs) (one_option h n)
+
+-- a table over the ranks with one rank more
+pub one_rank_more : {X : Type 0} (f : ℕ → X) (rank : ℕ) (so_far later : List X) (here : X) → so_far ≡ map f (range_with_len 0 rank) → here ≡ f rank → later ≡ so_far ++ here ∷ [] → later ≡ map f (range_with_len 0 (rank + 1))
+one_rank_more f rank so_far later here are is pushed =
+    rw (pushed, are, is) (sym (map-range_with_len_more f 0 rank rank (omega arith)))

@@ -1,32 +1,28 @@
 -- Stuck ranks of a closed recording: each waits, and for a rank that is stuck.
-use Rattle.std.proofs.Common.{◌≡◌, ◌≢◌, ℕ, zero, suc, ◌+◌, ◌<◌, ◌≤◌, Bool, true, false, ◌&&◌, Option, Some, None, List, [], ◌∷◌, ◌++◌, length, map, get_or, refl, sym, ap, subst, ◌∙◌, ⊎_elim, arith, length-append}
-use Rattle.std.specs.Prelude.{nat_lt, option_map, option_and_then, unwrap_or, slice_index}
+use Rattle.moves.specs.declared.reading.Reading.{Reading}
+use Rattle.moves.specs.declared.reading.Reading.TheVariants.{Strict, Eager}
+use Rattle.std.proofs.Common.{◌≡◌, ◌≢◌, ℕ, zero, suc, ◌+◌, ◌<◌, ◌≤◌, Bool, true, false, ◌&&◌, Option, Some, List, [], ◌∷◌, ◌++◌, length, get_or, refl, sym, ap, ◌∙◌, ⊎_elim, arith, length-append}
+use Rattle.std.specs.Prelude.{nat_lt, slice_index}
 use Rattle.std.specs.List.{slice_get, list_all, list_any}
 use Rattle.std.specs.Option.{option_map_or}
-use Rattle.std.proofs.lemmas.List.{length-map}
-use Rattle.std.proofs.lemmas.List.FromFn.{length-map-range_with_len}
-use Rattle.std.proofs.lemmas.Option.{slice_get-map, none-some, same_Some, slice_get_past, slice_get-get_or}
-use Rattle.std.proofs.lemmas.Bool.{cases_lt, cases_eq, cases_Bool, false≢true, or_parts, ltb-true, leb-false, not_from_false, not-true, not-false}
+use Rattle.std.proofs.lemmas.Option.{none-some, same_Some, slice_get_past, slice_get-get_or}
+use Rattle.std.proofs.lemmas.Bool.{cases_lt, cases_eq, false≢true, or_parts, ltb-true, leb-false, not-true, not-false}
 use Rattle.mpicall.specs.Ending.{ends_list}
 use Rattle.mpicall.specs.declared.call.Call.{Call}
-use Rattle.mpicall.specs.declared.call.Call.TheVariants.{Finalize}
+use Rattle.mpicall.specs.declared.call.Call.TheVariants.{Finalize, Open}
 use Rattle.mpigroup.specs.Groups.{Groups}
 use Rattle.pairing.specs.Recordings.{Lists, calls_of, IsClosedList, IsClosed}
 use Rattle.pairing.proofs.PlaceLemmas.{slice_get-front}
 use Rattle.moves.specs.declared.need.Need.{Need}
-use Rattle.moves.specs.declared.need.Need.TheVariants.{At, Lacking}
+use Rattle.moves.specs.declared.need.Need.TheVariants.{At}
 use Rattle.moves.specs.Needs.{needs_of, is_met, may_pass, can_move}
 use Rattle.moves.specs.Stands.{stands_of, is_at_end, lowest_run_over}
 use Rattle.moves.proofs.RunLemmas.{reached_ranks}
 use Rattle.moves.proofs.StandLemmas.{EndsThere, end_there, every_maximal_run_ends_at_the_stands, no_call_behind_the_end_is_reached}
 use Rattle.waitgraph.specs.Stuck.{is_stuck, unmet_at, unmet_of, StuckRanksWaitForStuckRanks}
-use Rattle.waitgraph.specs.Causes.{waits_of, first_in, onward, onward_of, onward_in, to_of, walks_of, causes_of, WalksEndInTheCauses}
-use Rattle.waitgraph.specs.declared.onward.Onward.{Onward}
-use Rattle.waitgraph.proofs.AmongLemmas.{Among, among_in, in_among, among_all, one_fails}
-use Rattle.waitgraph.proofs.UnmetLemmas.{waits_are, unmet_from, unmet_all}
+use Rattle.waitgraph.proofs.AmongLemmas.{Among, in_among, among_all, one_fails}
+use Rattle.waitgraph.proofs.UnmetLemmas.{unmet_from, unmet_all}
 use Rattle.waitgraph.proofs.CalledLemmas.{is_call, needs_called}
-use Rattle.waitgraph.proofs.WalkLaws.{IsWaiting, GoesOn, waiting_is_rank, walk_ends}
-use Rattle.waitgraph.proofs.ListedLemmas.{each_is_an_end, none_twice}
 
 none_of : (p : Call → Bool) (calls : List Call) (index : ℕ) (call : Call) → list_any p calls ≡ false → slice_get calls index ≡ Some call → p call ≡ false
 none_of p [] index call none h = absurd (none-some call h)
@@ -61,106 +57,74 @@ ends_at calls closed = record {
 }
 
 -- no rank stands past its end
-not_past : (groups : Groups) (recording : Lists) (rank : ℕ) (ends : EndsAt (calls_of recording rank)) → slice_index (stands_of groups recording) rank ≤ ends.end
-not_past groups recording rank ends =
-    no_call_behind_the_end_is_reached groups recording rank ends.end ends.last (lowest_run_over groups recording) (every_maximal_run_ends_at_the_stands groups recording).0.is_run ends.is_there ends.ends
+pub not_past : (reading : Reading) (groups : Groups) (recording : Lists) (rank : ℕ) (ends : EndsAt (calls_of recording rank)) → slice_index (stands_of reading groups recording) rank ≤ ends.end
+not_past reading groups recording rank ends =
+    no_call_behind_the_end_is_reached reading groups recording rank ends.end ends.last (lowest_run_over reading groups recording) (every_maximal_run_ends_at_the_stands reading groups recording).0.is_run ends.is_there ends.ends
 
 -- the present call of a stuck rank
-pub record StandsBefore (groups : Groups) (recording : Lists) (rank : ℕ) : Type 0 where
+pub record StandsBefore (reading : Reading) (groups : Groups) (recording : Lists) (rank : ℕ) : Type 0 where
   pub call : Call
-  pub is_present : slice_get (calls_of recording rank) (slice_index (stands_of groups recording) rank) ≡ Some call
+  pub is_present : slice_get (calls_of recording rank) (slice_index (stands_of reading groups recording) rank) ≡ Some call
   pub is_no_end : ends_list call ≡ false
 
-stands_before : (groups : Groups) (recording : Lists) (rank : ℕ) (ends : EndsAt (calls_of recording rank)) → slice_index (stands_of groups recording) rank < ends.end → StandsBefore groups recording rank
-stands_before groups recording rank ends low =
-    let stand = slice_index (stands_of groups recording) rank in
+pub stands_before : (reading : Reading) (groups : Groups) (recording : Lists) (rank : ℕ) (ends : EndsAt (calls_of recording rank)) → slice_index (stands_of reading groups recording) rank < ends.end → StandsBefore reading groups recording rank
+stands_before reading groups recording rank ends low =
+    let stand = slice_index (stands_of reading groups recording) rank in
     let within : stand < length (calls_of recording rank) = omega (arith, ends.is_last) in
     let there = slice_get-get_or (calls_of recording rank) stand Finalize within in
     record {
-      call = get_or (calls_of recording rank) (slice_index (stands_of groups recording) rank) Finalize;
+      call = get_or (calls_of recording rank) (slice_index (stands_of reading groups recording) rank) Finalize;
       is_present = there;
-      is_no_end = ends.before stand (get_or (calls_of recording rank) (slice_index (stands_of groups recording) rank) Finalize) low there;
+      is_no_end = ends.before stand (get_or (calls_of recording rank) (slice_index (stands_of reading groups recording) rank) Finalize) low there;
     }
 
-stuck_low : (groups : Groups) (recording : Lists) (rank : ℕ) (ends : EndsAt (calls_of recording rank)) → is_stuck groups recording rank ≡ true → slice_index (stands_of groups recording) rank < ends.end
-stuck_low groups recording rank ends stuck =
-    let stand = slice_index (stands_of groups recording) rank in
-    let most = not_past groups recording rank ends in
+pub stuck_low : (reading : Reading) (groups : Groups) (recording : Lists) (rank : ℕ) (ends : EndsAt (calls_of recording rank)) → is_stuck reading groups recording rank ≡ true → slice_index (stands_of reading groups recording) rank < ends.end
+stuck_low reading groups recording rank ends stuck =
+    let stand = slice_index (stands_of reading groups recording) rank in
+    let most = not_past reading groups recording rank ends in
     ⊎_elim
     (λ (same : stand ≡ ends.end).
-    let there : is_at_end recording (stands_of groups recording) rank ≡ true =
+    let there : is_at_end recording (stands_of reading groups recording) rank ≡ true =
     ap (λ (o : Option Call). option_map_or ends_list o false) (ap (λ (place : ℕ). slice_get (calls_of recording rank) place) same ∙ ends.is_there) ∙ ends.ends in
-    absurd (false≢true (sym (not-true (is_at_end recording (stands_of groups recording) rank) stuck) ∙ there)))
+    absurd (false≢true (sym (not-true (is_at_end recording (stands_of reading groups recording) rank) stuck) ∙ there)))
     (λ (other : stand ≢ ends.end). omega arith)
     (cases_eq stand ends.end)
 
-pub stuck_from : (groups : Groups) (recording : Lists) (rank : ℕ) → StandsBefore groups recording rank → is_stuck groups recording rank ≡ true
-stuck_from groups recording rank present = rw (present.is_present, present.is_no_end) refl
+pub stuck_from : (reading : Reading) (groups : Groups) (recording : Lists) (rank : ℕ) → StandsBefore reading groups recording rank → is_stuck reading groups recording rank ≡ true
+stuck_from reading groups recording rank present = rw (present.is_present, present.is_no_end) refl
 
-rank_count : (groups : Groups) (recording : Lists) → length (stands_of groups recording) ≡ length recording
-rank_count groups recording =
-    reached_ranks (can_move groups recording) (length recording) (stands_of groups recording) (every_maximal_run_ends_at_the_stands groups recording).1.is_reached
+rank_count : (reading : Reading) (groups : Groups) (recording : Lists) → length (stands_of reading groups recording) ≡ length recording
+rank_count reading groups recording =
+    reached_ranks (can_move reading groups recording) (length recording) (stands_of reading groups recording) (every_maximal_run_ends_at_the_stands reading groups recording).1.is_reached
 
 first_of : (need : Need) (needs : List Need) → Among need needs → (first : Need) × (slice_get needs 0 ≡ Some first)
 first_of need [] h = absurd h
 first_of need (first ∷ rest) h = (first, refl)
 
--- how the walk goes on from a rank, by its first unmet need
-walk_is : (groups : Groups) (recording : Lists) (rank : ℕ) → onward_in (walks_of groups recording) rank ≡ option_map onward (first_in (waits_of groups recording) rank)
-walk_is groups recording rank =
-    ap (λ (step : Option (Option Onward)). option_and_then (λ there. there) step) (slice_get-map onward_of (waits_of groups recording) rank)
-    ∙ on_needs (slice_get (waits_of groups recording) rank)
-  where
-    on_needs : (needs : Option (List Need)) → option_and_then (λ there. there) (option_map onward_of needs) ≡ onward_of (unwrap_or needs [])
-    on_needs None = refl
-    on_needs (Some needs) = refl
-
--- the first unmet need of a rank that waits
-record FirstNeed (groups : Groups) (recording : Lists) (rank : ℕ) : Type 0 where
-  need : Need
-  is_first : first_in (waits_of groups recording) rank ≡ Some need
-
-need_of : (groups : Groups) (recording : Lists) (rank : ℕ) → IsWaiting (walks_of groups recording) rank → FirstNeed groups recording rank
-need_of groups recording rank waiting =
-    by_first groups recording rank waiting.there (first_in (waits_of groups recording) rank) refl (sym (walk_is groups recording rank) ∙ waiting.goes_there)
-  where
-    by_first : (groups : Groups) (recording : Lists) (rank : ℕ) (there : Onward) (o : Option Need) → first_in (waits_of groups recording) rank ≡ o → option_map onward o ≡ Some there → FirstNeed groups recording rank
-    by_first groups recording rank there None is h = absurd (none-some there h)
-    by_first groups recording rank there (Some need) is h = record { need = need; is_first = is }
+-- the first unmet need of a rank
+pub record FirstNeed (reading : Reading) (groups : Groups) (recording : Lists) (rank : ℕ) : Type 0 where
+  pub need : Need
+  pub is_first : slice_get (unmet_of reading groups recording rank) 0 ≡ Some need
 
 -- a rank that stands before its end has an unmet need
-needs_before : (groups : Groups) (recording : Lists) (rank : ℕ) → rank < length recording → StandsBefore groups recording rank → FirstNeed groups recording rank
-needs_before groups recording rank is_rank present =
-    let stands = stands_of groups recording in
-    let needs = needs_of groups recording rank (slice_index (stands_of groups recording) rank) in
-    let cannot = (every_maximal_run_ends_at_the_stands groups recording).1.is_stuck rank (omega (arith, rank_count groups recording)) in
-    let unmet : list_all (is_met (stands_of groups recording)) (needs_of groups recording rank (slice_index (stands_of groups recording) rank)) ≡ false =
-    not_all groups recording rank present.call (list_all (is_met (stands_of groups recording)) (needs_of groups recording rank (slice_index (stands_of groups recording) rank))) present.is_present present.is_no_end cannot in
-    let one = one_fails (is_met (stands_of groups recording)) (needs_of groups recording rank (slice_index (stands_of groups recording) rank)) unmet in
-    let first = first_of one.0 (unmet_at groups recording (stands_of groups recording) rank) (unmet_all groups recording (stands_of groups recording) rank one.0 one.1 one.2) in
+pub needs_before : (reading : Reading) (groups : Groups) (recording : Lists) (rank : ℕ) → rank < length recording → StandsBefore reading groups recording rank → FirstNeed reading groups recording rank
+needs_before reading groups recording rank is_rank present =
+    let stands = stands_of reading groups recording in
+    let needs = needs_of reading groups recording rank (slice_index (stands_of reading groups recording) rank) in
+    let cannot = (every_maximal_run_ends_at_the_stands reading groups recording).1.is_stuck rank (omega (arith, rank_count reading groups recording)) in
+    let unmet : list_all (is_met (stands_of reading groups recording)) (needs_of reading groups recording rank (slice_index (stands_of reading groups recording) rank)) ≡ false =
+    not_all groups recording rank present.call (list_all (is_met (stands_of reading groups recording)) (needs_of reading groups recording rank (slice_index (stands_of reading groups recording) rank))) present.is_present present.is_no_end cannot in
+    let one = one_fails (is_met (stands_of reading groups recording)) (needs_of reading groups recording rank (slice_index (stands_of reading groups recording) rank)) unmet in
+    let first = first_of one.0 (unmet_at reading groups recording (stands_of reading groups recording) rank) (unmet_all reading groups recording (stands_of reading groups recording) rank one.0 one.1 one.2) in
     record {
       need = first.0;
-      is_first = ap (λ (needs : List Need). slice_get needs 0) (waits_are groups recording (stands_of groups recording) rank) ∙ first.1;
+      is_first = first.1;
     }
   where
-    not_all : (groups : Groups) (recording : Lists) (rank : ℕ) (call : Call) (all : Bool) → slice_get (calls_of recording rank) (slice_index (stands_of groups recording) rank) ≡ Some call → ends_list call ≡ false → (may_pass (slice_get (calls_of recording rank) (slice_index (stands_of groups recording) rank)) && all) ≡ false → all ≡ false
+    not_all : (groups : Groups) (recording : Lists) (rank : ℕ) (call : Call) (all : Bool) → slice_get (calls_of recording rank) (slice_index (stands_of reading groups recording) rank) ≡ Some call → ends_list call ≡ false → (may_pass (slice_get (calls_of recording rank) (slice_index (stands_of reading groups recording) rank)) && all) ≡ false → all ≡ false
     not_all groups recording rank call all present not_finalize h = rw (present, not_finalize) at h
 
-waits_before : (groups : Groups) (recording : Lists) (rank : ℕ) → rank < length recording → StandsBefore groups recording rank → IsWaiting (walks_of groups recording) rank
-waits_before groups recording rank is_rank present =
-    let first = needs_before groups recording rank is_rank present in
-    record {
-      there = onward first.need;
-      goes_there = walk_is groups recording rank ∙ ap (λ (need : Option Need). option_map onward need) first.is_first;
-    }
-
--- the first unmet need of a rank that waits is one of its unmet needs
-first_among : (groups : Groups) (recording : Lists) (rank : ℕ) (need : Need) → first_in (waits_of groups recording) rank ≡ Some need → Among need (unmet_of groups recording rank)
-first_among groups recording rank need is =
-    in_among need (unmet_of groups recording rank)
-    (0, ap (λ (needs : List Need). slice_get needs 0) (sym (waits_are groups recording (stands_of groups recording) rank)) ∙ is)
-
-calls_past : (recording : Lists) (rank place : ℕ) → place < length (calls_of recording rank) → rank < length recording
+pub calls_past : (recording : Lists) (rank place : ℕ) → place < length (calls_of recording rank) → rank < length recording
 calls_past recording rank place within =
     ⊎_elim
     (λ (is_rank : rank < length recording). is_rank)
@@ -170,92 +134,46 @@ calls_past recording rank place within =
     (cases_lt rank (length recording))
 
 -- for whom a rank waits stands before its end
-record IsAwaited (groups : Groups) (recording : Lists) (peer : ℕ) : Type 0 where
-  is_rank : peer < length recording
-  stands : StandsBefore groups recording peer
+pub record IsAwaited (reading : Reading) (groups : Groups) (recording : Lists) (peer : ℕ) : Type 0 where
+  pub is_rank : peer < length recording
+  pub stands : StandsBefore reading groups recording peer
 
-awaited_stands : (groups : Groups) (recording : Lists) → IsClosed recording → (rank next place : ℕ) → Among (At next place) (unmet_of groups recording rank) → IsAwaited groups recording next
-awaited_stands groups recording closed rank next place h =
-    let parts = unmet_from groups recording (stands_of groups recording) rank (At next place) h in
+pub awaited_stands : (reading : Reading) (groups : Groups) (recording : Lists) → IsClosed recording → (rank next place : ℕ) → Among (At next place) (unmet_of reading groups recording rank) → IsAwaited reading groups recording next
+awaited_stands reading groups recording closed rank next place h =
+    let parts = unmet_from reading groups recording (stands_of reading groups recording) rank (At next place) h in
     let called : nat_lt place (length (calls_of recording next)) ≡ true =
-    among_all (At next place) (is_call recording) (needs_of groups recording rank (slice_index (stands_of groups recording) rank)) parts.0 (needs_called groups recording rank (slice_index (stands_of groups recording) rank)) in
+    among_all (At next place) (is_call recording) (needs_of reading groups recording rank (slice_index (stands_of reading groups recording) rank)) parts.0 (needs_called reading groups recording rank (slice_index (stands_of reading groups recording) rank)) in
     let within = ltb-true place (length (calls_of recording next)) called in
     let is_rank = calls_past recording next place within in
-    let behind = leb-false place (slice_index (stands_of groups recording) next) parts.1 in
+    let behind = leb-false place (slice_index (stands_of reading groups recording) next) parts.1 in
     let ends = ends_at (calls_of recording next) (closed next is_rank) in
-    record { is_rank = is_rank; stands = stands_before groups recording next ends (omega (arith, ends.is_last)) }
+    record { is_rank = is_rank; stands = stands_before reading groups recording next ends (omega (arith, ends.is_last)) }
 
-awaited_waits : (groups : Groups) (recording : Lists) → IsClosed recording → (rank next place : ℕ) → Among (At next place) (unmet_of groups recording rank) → IsWaiting (walks_of groups recording) next
-awaited_waits groups recording closed rank next place h =
-    let there = awaited_stands groups recording closed rank next place h in
-    waits_before groups recording next there.is_rank there.stands
+ends_without_needs : (reading : Reading) (groups : Groups) (recording : Lists) (rank place : ℕ) (call : Call) → slice_get (calls_of recording rank) place ≡ Some call → ends_list call ≡ true → needs_of reading groups recording rank place ≡ []
+ends_without_needs Strict groups recording rank place Finalize is_there ends = rw is_there (rw is_there refl)
+ends_without_needs Strict groups recording rank place Open is_there ends = rw is_there (rw is_there refl)
+ends_without_needs (Eager limit) groups recording rank place Finalize is_there ends = rw is_there (rw is_there refl)
+ends_without_needs (Eager limit) groups recording rank place Open is_there ends = rw is_there (rw is_there refl)
+ends_without_needs reading groups recording rank place _ is_there ends = absurd (false≢true ends)
 
-goes_on : (groups : Groups) (recording : Lists) → IsClosed recording → GoesOn (walks_of groups recording)
-goes_on groups recording closed =
-    record {
-      goes_on = λ rank next h.
-          by_first groups recording closed rank next (first_in (waits_of groups recording) rank) refl
-          (ap (λ (step : Option Onward). option_and_then to_of step) (sym (walk_is groups recording rank)) ∙ h);
-    }
-  where
-    by_first : (groups : Groups) (recording : Lists) → IsClosed recording → (rank next : ℕ) (o : Option Need) → first_in (waits_of groups recording) rank ≡ o → option_and_then to_of (option_map onward o) ≡ Some next → IsWaiting (walks_of groups recording) next
-    by_first groups recording closed rank next None is h = absurd (none-some next h)
-    by_first groups recording closed rank next (Some (At other place)) is h =
-        awaited_waits groups recording closed rank next place
-        (subst (λ (k : ℕ). Among (At k place) (unmet_of groups recording rank)) (same_Some other next h) (first_among groups recording rank (At other place) is))
-    by_first groups recording closed rank next (Some (Lacking other)) is h = absurd (none-some next h)
+no_needs : (reading : Reading) (groups : Groups) (recording : Lists) (rank place : ℕ) → EndsThere (slice_get (calls_of recording rank) place) → needs_of reading groups recording rank place ≡ []
+no_needs reading groups recording rank place there = ends_without_needs reading groups recording rank place there.end there.is_present there.ends
 
-ends_without_needs : (groups : Groups) (recording : Lists) (rank place : ℕ) (call : Call) → slice_get (calls_of recording rank) place ≡ Some call → ends_list call ≡ true → needs_of groups recording rank place ≡ []
-ends_without_needs groups recording rank place Finalize is_there ends = rw is_there (rw is_there refl)
-ends_without_needs groups recording rank place _ is_there ends = absurd (false≢true ends)
-
-no_needs : (groups : Groups) (recording : Lists) (rank place : ℕ) → EndsThere (slice_get (calls_of recording rank) place) → needs_of groups recording rank place ≡ []
-no_needs groups recording rank place there = ends_without_needs groups recording rank place there.end there.is_present there.ends
-
--- a rank that waits is stuck
-waiting_is_stuck : (groups : Groups) (recording : Lists) (rank : ℕ) → IsWaiting (walks_of groups recording) rank → is_stuck groups recording rank ≡ true
-waiting_is_stuck groups recording rank waiting =
-    let first = need_of groups recording rank waiting in
-    ⊎_elim
-    (λ (there : is_at_end recording (stands_of groups recording) rank ≡ true).
-    let there_is = end_there (slice_get (calls_of recording rank) (slice_index (stands_of groups recording) rank)) there in
-    let parts = unmet_from groups recording (stands_of groups recording) rank first.need (first_among groups recording rank first.need first.is_first) in
-    absurd (subst (λ (needs : List Need). Among first.need needs) (no_needs groups recording rank (slice_index (stands_of groups recording) rank) there_is) parts.0))
-    (λ (not_there : is_at_end recording (stands_of groups recording) rank ≡ false). not_from_false (is_at_end recording (stands_of groups recording) rank) not_there)
-    (cases_Bool (is_at_end recording (stands_of groups recording) rank))
-
--- and a rank that isn't stuck has no unmet need
-none_at_the_end : (groups : Groups) (recording : Lists) (rank : ℕ) → is_stuck groups recording rank ≡ false → unmet_of groups recording rank ≡ []
+-- a rank that isn't stuck has no unmet need
+none_at_the_end : (reading : Reading) (groups : Groups) (recording : Lists) (rank : ℕ) → is_stuck reading groups recording rank ≡ false → unmet_of reading groups recording rank ≡ []
 unfolding unmet_at
-none_at_the_end groups recording rank not_stuck =
-    let there_is = end_there (slice_get (calls_of recording rank) (slice_index (stands_of groups recording) rank)) (not-false (is_at_end recording (stands_of groups recording) rank) not_stuck) in
-    rw (no_needs groups recording rank (slice_index (stands_of groups recording) rank) there_is) refl
+none_at_the_end reading groups recording rank not_stuck =
+    let there_is = end_there (slice_get (calls_of recording rank) (slice_index (stands_of reading groups recording) rank)) (not-false (is_at_end recording (stands_of reading groups recording) rank) not_stuck) in
+    rw (no_needs reading groups recording rank (slice_index (stands_of reading groups recording) rank) there_is) refl
 
 pub stuck_ranks_wait_for_stuck_ranks : StuckRanksWaitForStuckRanks
-stuck_ranks_wait_for_stuck_ranks groups recording closed = record {
+stuck_ranks_wait_for_stuck_ranks reading groups recording closed = record {
   each_waits = λ rank is_rank stuck.
       let ends = ends_at (calls_of recording rank) (closed rank is_rank) in
-      let first = needs_before groups recording rank is_rank (stands_before groups recording rank ends (stuck_low groups recording rank ends stuck)) in
-      (first.need, among_in first.need (unmet_of groups recording rank) (first_among groups recording rank first.need first.is_first));
-  no_other_waits = λ rank not_stuck. none_at_the_end groups recording rank not_stuck;
+      let first = needs_before reading groups recording rank is_rank (stands_before reading groups recording rank ends (stuck_low reading groups recording rank ends stuck)) in
+      (first.need, (0, first.is_first));
+  no_other_waits = λ rank not_stuck. none_at_the_end reading groups recording rank not_stuck;
   for_stuck_ranks = λ rank peer place h.
-      let there = awaited_stands groups recording closed rank peer place (in_among (At peer place) (unmet_of groups recording rank) h) in
-      (there.is_rank, stuck_from groups recording peer there.stands);
-}
-
-walk_count : (groups : Groups) (recording : Lists) → length (walks_of groups recording) ≡ length recording
-walk_count groups recording = length-map (waits_of groups recording) onward_of ∙ length-map-range_with_len (unmet_at groups recording (stands_of groups recording)) 0 (length recording)
-
-pub walks_end_in_the_causes : WalksEndInTheCauses
-walks_end_in_the_causes groups recording closed = record {
-  each_walk_ends = λ rank is_rank stuck.
-      let ends = ends_at (calls_of recording rank) (closed rank is_rank) in
-      let waiting = waits_before groups recording rank is_rank (stands_before groups recording rank ends (stuck_low groups recording rank ends stuck)) in
-      let end = walk_ends (walks_of groups recording) (goes_on groups recording closed) rank waiting in
-      (end.cause, among_in end.cause (causes_of groups recording) end.is_listed, end.ends);
-  each_is_an_end = λ cause listed.
-      let start = each_is_an_end (walks_of groups recording) cause (in_among cause (causes_of groups recording) listed) in
-      let is_rank : start.rank < length recording = omega (arith, waiting_is_rank (walks_of groups recording) start.rank start.is_waiting, walk_count groups recording) in
-      (start.rank, is_rank, waiting_is_stuck groups recording start.rank start.is_waiting, start.ends);
-  none_twice = λ index other cause h k. none_twice (walks_of groups recording) index other cause h k;
+      let there = awaited_stands reading groups recording closed rank peer place (in_among (At peer place) (unmet_of reading groups recording rank) h) in
+      (there.is_rank, stuck_from reading groups recording peer there.stands);
 }

@@ -1,4 +1,5 @@
 -- What the unmet needs of a rank are.
+use Rattle.moves.specs.declared.reading.Reading.{Reading}
 use Rattle.std.proofs.Common.{true, false, ◌≡◌, ℕ, ◌<◌, ◌≤◌, Option, List, [], length, map, refl, sym, ap, ◌∙◌, ⊎_elim, arith}
 use Rattle.std.specs.Prelude.{unwrap_or, slice_index}
 use Rattle.std.specs.List.{filter, range_with_len}
@@ -12,18 +13,18 @@ use Rattle.moves.specs.Needs.{needs_of, is_met}
 use Rattle.moves.specs.Stands.{stands_of}
 use Rattle.moves.specs.declared.need.Need.{Need}
 use Rattle.waitgraph.specs.Stuck.{are_in_order, is_unmet, unmet_at, UnmetNeedsAreToldInOrder}
-use Rattle.waitgraph.specs.Causes.{waits_at, needs_in}
+use Rattle.waitgraph.specs.Waits.{waits_at, needs_in}
 use Rattle.waitgraph.proofs.AmongLemmas.{Among, among_in, in_among, kept_among, among_kept, with_needs_from, with_needs_new, with_needs_in_order}
 
 -- a rank that the recording lacks needs nothing
-pub none_past : (groups : Groups) (recording : Lists) (stands : State) (rank : ℕ) → length recording ≤ rank → unmet_at groups recording stands rank ≡ []
+pub none_past : (reading : Reading) (groups : Groups) (recording : Lists) (stands : State) (rank : ℕ) → length recording ≤ rank → unmet_at reading groups recording stands rank ≡ []
 unfolding unmet_at
-none_past groups recording stands rank past = rw (slice_get_past recording rank past) refl
+none_past reading groups recording stands rank past = rw (slice_get_past recording rank past) refl
 
 -- the waits of a rank are its unmet needs
-pub waits_are : (groups : Groups) (recording : Lists) (stands : State) (rank : ℕ) → needs_in (waits_at groups recording stands) rank ≡ unmet_at groups recording stands rank
-waits_are groups recording stands rank =
-    let f = unmet_at groups recording stands in
+pub waits_are : (reading : Reading) (groups : Groups) (recording : Lists) (stands : State) (rank : ℕ) → needs_in (waits_at reading groups recording stands) rank ≡ unmet_at reading groups recording stands rank
+waits_are reading groups recording stands rank =
+    let f = unmet_at reading groups recording stands in
     let n = length recording in
     let count : length (map f (range_with_len 0 n)) ≡ n = length-map-range_with_len f 0 n in
     ⊎_elim
@@ -32,14 +33,14 @@ waits_are groups recording stands rank =
     ∙ get_or-map-range_with_len f 0 n rank rank [] within (omega arith))
     (λ (past : n ≤ rank).
     ap (λ (needs : Option (List Need)). unwrap_or needs []) (slice_get_past (map f (range_with_len 0 n)) rank (omega (arith, count)))
-    ∙ sym (none_past groups recording stands rank past))
+    ∙ sym (none_past reading groups recording stands rank past))
     (cases_lt rank n)
 
 -- what is unmet is needed and not met
-pub unmet_from : (groups : Groups) (recording : Lists) (stands : State) (rank : ℕ) (need : Need) → Among need (unmet_at groups recording stands rank) → Among need (needs_of groups recording rank (slice_index stands rank)) × (is_met stands need ≡ false)
+pub unmet_from : (reading : Reading) (groups : Groups) (recording : Lists) (stands : State) (rank : ℕ) (need : Need) → Among need (unmet_at reading groups recording stands rank) → Among need (needs_of reading groups recording rank (slice_index stands rank)) × (is_met stands need ≡ false)
 unfolding unmet_at
-unmet_from groups recording stands rank need h =
-    let needs = needs_of groups recording rank (slice_index stands rank) in
+unmet_from reading groups recording stands rank need h =
+    let needs = needs_of reading groups recording rank (slice_index stands rank) in
     ⊎_elim
     (λ (none : ⊥). absurd none)
     (λ (kept : Among need (filter (is_unmet stands) needs)).
@@ -48,23 +49,23 @@ unmet_from groups recording stands rank need h =
     (with_needs_from need [] (filter (is_unmet stands) needs) h)
 
 -- and what is needed and not met is told
-pub unmet_all : (groups : Groups) (recording : Lists) (stands : State) (rank : ℕ) (need : Need) → Among need (needs_of groups recording rank (slice_index stands rank)) → is_met stands need ≡ false → Among need (unmet_at groups recording stands rank)
+pub unmet_all : (reading : Reading) (groups : Groups) (recording : Lists) (stands : State) (rank : ℕ) (need : Need) → Among need (needs_of reading groups recording rank (slice_index stands rank)) → is_met stands need ≡ false → Among need (unmet_at reading groups recording stands rank)
 unfolding unmet_at
-unmet_all groups recording stands rank need h unmet =
-    let needs = needs_of groups recording rank (slice_index stands rank) in
+unmet_all reading groups recording stands rank need h unmet =
+    let needs = needs_of reading groups recording rank (slice_index stands rank) in
     with_needs_new need [] (filter (is_unmet stands) needs) (among_kept need (is_unmet stands) needs h (not_from_false (is_met stands need) unmet))
 
-pub unmet_in_order : (groups : Groups) (recording : Lists) (stands : State) (rank : ℕ) → are_in_order (unmet_at groups recording stands rank) ≡ true
+pub unmet_in_order : (reading : Reading) (groups : Groups) (recording : Lists) (stands : State) (rank : ℕ) → are_in_order (unmet_at reading groups recording stands rank) ≡ true
 unfolding unmet_at
-unmet_in_order groups recording stands rank = with_needs_in_order [] (filter (is_unmet stands) (needs_of groups recording rank (slice_index stands rank))) refl
+unmet_in_order reading groups recording stands rank = with_needs_in_order [] (filter (is_unmet stands) (needs_of reading groups recording rank (slice_index stands rank))) refl
 
 pub unmet_needs_are_told_in_order : UnmetNeedsAreToldInOrder
-unmet_needs_are_told_in_order groups recording rank =
-    let stands = stands_of groups recording in
-    let needs = needs_of groups recording rank (slice_index stands rank) in
+unmet_needs_are_told_in_order reading groups recording rank =
+    let stands = stands_of reading groups recording in
+    let needs = needs_of reading groups recording rank (slice_index stands rank) in
     record {
-      stand_in_order = unmet_in_order groups recording stands rank;
-      are_needs = λ need h. among_in need needs (unmet_from groups recording stands rank need (in_among need (unmet_at groups recording stands rank) h)).0;
-      are_unmet = λ need h. (unmet_from groups recording stands rank need (in_among need (unmet_at groups recording stands rank) h)).1;
-      are_all = λ need h unmet. among_in need (unmet_at groups recording stands rank) (unmet_all groups recording stands rank need (in_among need needs h) unmet);
+      stand_in_order = unmet_in_order reading groups recording stands rank;
+      are_needs = λ need h. among_in need needs (unmet_from reading groups recording stands rank need (in_among need (unmet_at reading groups recording stands rank) h)).0;
+      are_unmet = λ need h. (unmet_from reading groups recording stands rank need (in_among need (unmet_at reading groups recording stands rank) h)).1;
+      are_all = λ need h unmet. among_in need (unmet_at reading groups recording stands rank) (unmet_all reading groups recording stands rank need (in_among need needs h) unmet);
     }

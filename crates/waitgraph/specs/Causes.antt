@@ -1,15 +1,18 @@
--- Why ranks are stuck. A stuck rank waits by its first unmet need alone, for another rank or for a call that
--- another rank lacks. The walk from rank to rank by these needs comes to a cycle of ranks or to a call that
--- is missing: that is the cause.
-use Rattle.std.specs.Prelude.{◌≡◌, ℕ, zero, suc, ◌+◌, ◌-◌, ◌<◌, ◌≤◌, ◌==◌, true, nat_le, if◌then◌else◌, Option, Some, None, option_map, option_and_then, unwrap_or, List, [], ◌∷◌, ◌++◌, length, map, slice_get}
+-- Why ranks are held. A held rank waits by the first of its unmet needs that is on a held rank, or for a call that
+-- is lacking for good. The walk from rank to rank by these needs comes to a cycle of ranks or to a call that is
+-- missing: that is the cause. Where no list was left open, each stuck rank is held, and this is its first unmet need.
+use Rattle.moves.specs.declared.reading.Reading.{Reading}
+use Rattle.std.specs.Prelude.{◌≡◌, ℕ, zero, suc, ◌+◌, ◌-◌, ◌<◌, ◌≤◌, ◌==◌, true, nat_le, if◌then◌else◌, Option, Some, None, option_map, option_and_then, List, [], ◌∷◌, ◌++◌, length, map, slice_get}
 use Rattle.std.specs.List.{list_all, filter_map, range_with_len}
 use Rattle.mpigroup.specs.Groups.{Groups}
 use Rattle.pairing.specs.Recordings.{Lists, IsClosed}
 use Rattle.moves.specs.Runs.{State}
 use Rattle.moves.specs.Stands.{stands_of}
-use Rattle.moves.specs.declared.need.Need.{Need}
-use Rattle.moves.specs.declared.need.Need.TheVariants.{At, Lacking}
-use Rattle.waitgraph.specs.Stuck.{is_stuck, unmet_at}
+use Rattle.waitgraph.specs.Held.{opened_of, standings_at, is_held}
+use Rattle.waitgraph.specs.Least.{Set}
+use Rattle.waitgraph.specs.Loose.{onward_of}
+use Rattle.waitgraph.specs.Waits.{Waits, waits_at}
+use Rattle.waitgraph.specs.declared.standing.Standing.{Standing}
 use Rattle.waitgraph.specs.declared.cause.Cause.{Cause}
 use Rattle.waitgraph.specs.declared.cause.Cause.TheVariants.{Cycle, Missing}
 use Rattle.waitgraph.specs.declared.onward.Onward.{Onward}
@@ -24,45 +27,20 @@ abbrev pub view_of : Cause → CauseView
 view_of (Cycle ranks) = CycleOf ranks.items
 view_of (Missing rank peer) = MissingOf rank peer
 
--- what each rank waits for: its unmet needs
-abbrev pub Waits : Type 0
-Waits = List (List Need)
-
--- the unmet needs of each rank in a state
-abbrev pub waits_at : Groups → Lists → State → Waits
-waits_at groups recording stands = map (unmet_at groups recording stands) (range_with_len 0 (length recording))
-
--- and at the stands
-abbrev pub waits_of : Groups → Lists → Waits
-waits_of groups recording = waits_at groups recording (stands_of groups recording)
-
--- the unmet needs of a rank; none where there is no such rank
-abbrev pub needs_in : Waits → ℕ → List Need
-needs_in waits rank = unwrap_or (slice_get waits rank) []
-
--- the first of a rank's unmet needs
-abbrev pub first_in : Waits → ℕ → Option Need
-first_in waits rank = slice_get (needs_in waits rank) 0
-
--- how the walk goes on by a need: to the rank that is waited for, or not, where a rank lacks the call
-abbrev pub onward : Need → Onward
-onward (At rank place) = To rank
-onward (Lacking rank) = Lacks rank
-
--- by the first of some needs
-abbrev pub onward_of : List Need → Option Onward
-onward_of needs = option_map onward (slice_get needs 0)
-
--- how the walk goes on from each rank; None where the rank waits for nothing
+-- how the walk goes on from each rank; None where the rank isn't held
 abbrev pub Walks : Type 0
 Walks = List (Option Onward)
 
-abbrev pub walks_in : Waits → Walks
-walks_in waits = map onward_of waits
+abbrev pub walks_in : Set → List Standing → Waits → Walks
+walks_in opened standings waits = map (onward_of opened standings waits) (range_with_len 0 (length standings))
 
--- how it does over a recording
-abbrev pub walks_of : Groups → Lists → Walks
-walks_of groups recording = walks_in (waits_of groups recording)
+-- how it does in a state
+abbrev pub walks_at : Reading → Groups → Lists → State → Walks
+walks_at reading groups recording stands = walks_in (opened_of recording) (standings_at recording stands) (waits_at reading groups recording stands)
+
+-- and at the stands
+abbrev pub walks_of : Reading → Groups → Lists → Walks
+walks_of reading groups recording = walks_at reading groups recording (stands_of reading groups recording)
 
 -- how it goes on from a rank
 abbrev pub onward_in : Walks → ℕ → Option Onward
@@ -100,7 +78,7 @@ cycle_by rank ranks = if list_all (nat_le rank) ranks then Some (CycleOf ranks) 
 abbrev pub cycle_at : Walks → ℕ → Option CauseView
 cycle_at walks rank = option_and_then (cycle_by rank) (way_home walks (length walks) rank rank)
 
--- the missing call for which the rank waits by its first unmet need
+-- the missing call for which the rank waits
 abbrev pub missing_at : Walks → ℕ → Option CauseView
 missing_at walks rank = option_map (MissingOf rank) (lacks_in walks rank)
 
@@ -110,8 +88,8 @@ causes_in walks =
     filter_map (cycle_at walks) (range_with_len 0 (length walks)) ++ filter_map (missing_at walks) (range_with_len 0 (length walks))
 
 -- the causes of a recording
-abbrev pub causes_of : Groups → Lists → List CauseView
-causes_of groups recording = causes_in (walks_of groups recording)
+abbrev pub causes_of : Reading → Groups → Lists → List CauseView
+causes_of reading groups recording = causes_in (walks_of reading groups recording)
 
 -- the rank to which the walk from a rank comes after so many steps
 abbrev pub after : Walks → ℕ → ℕ → Option ℕ
@@ -143,16 +121,16 @@ pub record EndsWith (walks : Walks) (rank : ℕ) (cause : CauseView) : Type 0 wh
 abbrev pub IsListed : CauseView → List CauseView → Type 0
 IsListed cause causes = (index : ℕ) × (slice_get causes index ≡ Some cause)
 
--- the causes of a recording are those to which the walks from its stuck ranks come, each listed once
-pub record TellsCauses (groups : Groups) (recording : Lists) : Type 0 where
-  pub each_walk_ends : (rank : ℕ) → rank < length recording → is_stuck groups recording rank ≡ true →
-      (cause : CauseView) × IsListed cause (causes_of groups recording) × EndsWith (walks_of groups recording) rank cause
-  pub each_is_an_end : (cause : CauseView) → IsListed cause (causes_of groups recording) →
-      (rank : ℕ) × (rank < length recording) × (is_stuck groups recording rank ≡ true) × EndsWith (walks_of groups recording) rank cause
+-- the causes of a recording are those to which the walks from its held ranks come, each listed once
+pub record TellsCauses (reading : Reading) (groups : Groups) (recording : Lists) : Type 0 where
+  pub each_walk_ends : (rank : ℕ) → rank < length recording → is_held reading groups recording rank ≡ true →
+      (cause : CauseView) × IsListed cause (causes_of reading groups recording) × EndsWith (walks_of reading groups recording) rank cause
+  pub each_is_an_end : (cause : CauseView) → IsListed cause (causes_of reading groups recording) →
+      (rank : ℕ) × (rank < length recording) × (is_held reading groups recording rank ≡ true) × EndsWith (walks_of reading groups recording) rank cause
   pub none_twice : (index other : ℕ) (cause : CauseView) →
-      slice_get (causes_of groups recording) index ≡ Some cause → slice_get (causes_of groups recording) other ≡ Some cause → index ≡ other
+      slice_get (causes_of reading groups recording) index ≡ Some cause → slice_get (causes_of reading groups recording) other ≡ Some cause → index ≡ other
 
--- Law: over every closed recording, the walk from each stuck rank comes to a cause that is listed, and each
--- cause that is listed is one to which the walk from some stuck rank comes.
+-- Law: over every closed recording, the walk from each held rank comes to a cause that is listed, and each
+-- cause that is listed is one to which the walk from some held rank comes.
 abbrev pub WalksEndInTheCauses : Type 0
-WalksEndInTheCauses = (groups : Groups) (recording : Lists) → IsClosed recording → TellsCauses groups recording
+WalksEndInTheCauses = (reading : Reading) (groups : Groups) (recording : Lists) → IsClosed recording → TellsCauses reading groups recording

@@ -18,6 +18,7 @@ use Rattle.pairing.specs.Partners.{partner_of}
 use Rattle.pairing.specs.Requests.{starts, does_complete, started_before}
 use Rattle.pairing.specs.Communicators.{does_make}
 use Rattle.pairing.specs.Waves.{does_join, wave_of}
+use Rattle.waitgraph.specs.Held.{is_left_open}
 use Rattle.waitgraph.specs.Places.{call_at, call_of_member, over_ranks}
 use Rattle.waitgraph.specs.declared.finding.Finding.{Finding}
 use Rattle.waitgraph.specs.declared.finding.Finding.TheVariants.{Kind, Root, Unreceived, Request, Group}
@@ -96,6 +97,15 @@ roots_of groups recording = found_in_waves root_found groups recording
 
 -- Messages that nobody receives (MPI 4.0, section 11.2.2: each has its receive before MPI_Finalize).
 
+-- the rank to which the call at the place sends
+abbrev pub receiver_of : Groups → Lists → ℕ → ℕ → Option ℕ
+receiver_of groups recording rank place =
+    option_and_then (λ message. world_rank_of groups message.comm message.peer) (option_and_then (message_of SendHalf) (call_at recording rank place))
+
+-- its list was left open, so that the receive may yet come
+abbrev pub may_yet_receive : Groups → Lists → ℕ → ℕ → Bool
+may_yet_receive groups recording rank place = option_map_or (is_left_open recording) (receiver_of groups recording rank place) false
+
 -- the call sends a message, and that half has no partner
 abbrev pub is_unreceived : Groups → Lists → ℕ → ℕ → Bool
 is_unreceived groups recording rank place =
@@ -103,7 +113,7 @@ is_unreceived groups recording rank place =
     && is_none (partner_of groups recording rank place SendHalf)
 
 unfoldable pub unreceived_at : Groups → Lists → ℕ → ℕ → List Finding
-unreceived_at groups recording rank place = where_so (is_unreceived groups recording rank place) (Unreceived rank place)
+unreceived_at groups recording rank place = where_so (is_unreceived groups recording rank place && not (may_yet_receive groups recording rank place)) (Unreceived rank place)
 
 unfoldable pub unreceived_of : Groups → Lists → List Finding
 unreceived_of groups recording = over_ranks (unreceived_at groups recording) recording
@@ -122,9 +132,13 @@ abbrev pub is_completed : Lists → ℕ → ℕ → ℕ → Bool
 is_completed recording rank req start =
     list_any (completes_start recording rank req start) (range_with_len 0 (length (calls_of recording rank)))
 
+-- none does, and none can come behind the rank's list
+abbrev pub is_lost : Lists → ℕ → ℕ → ℕ → Bool
+is_lost recording rank req start = not (is_completed recording rank req start) && not (is_left_open recording rank)
+
 unfoldable pub request_at : Lists → ℕ → ℕ → List Finding
 request_at recording rank place =
-    option_map_or (λ req. where_so (not (is_completed recording rank req place)) (Request rank place req))
+    option_map_or (λ req. where_so (is_lost recording rank req place) (Request rank place req))
     (option_and_then starts (call_at recording rank place)) []
 
 unfoldable pub requests_of : Lists → List Finding

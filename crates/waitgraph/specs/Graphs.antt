@@ -1,22 +1,30 @@
 -- What contracts see of a wait graph.
-use Rattle.std.specs.Prelude.{◌≡◌, ℕ, List}
+use Rattle.moves.specs.declared.reading.Reading.{Reading}
+use Rattle.std.specs.Prelude.{◌≡◌, ℕ, Bool, List}
 use Rattle.mpigroup.specs.Groups.{Groups}
 use Rattle.pairing.specs.Recordings.{Lists}
-use Rattle.waitgraph.specs.Causes.{Waits, CauseView, needs_in, causes_of}
+use Rattle.waitgraph.specs.Causes.{CauseView, causes_of}
+use Rattle.waitgraph.specs.Held.{held_of, is_some_left_open}
+use Rattle.waitgraph.specs.Waits.{Waits, needs_in}
 use Rattle.waitgraph.specs.Findings.{findings_of}
 use Rattle.waitgraph.specs.Stuck.{stuck_of, unmet_of}
 use Rattle.waitgraph.specs.declared.finding.Finding.{Finding}
 
--- the stuck ranks, the unmet needs of each rank, the causes and the findings
+-- the stuck ranks, the held ones, whether some list was left open, the unmet needs of each rank, the causes and the
+-- findings
 pub record Waiting : Type 0 where
   pub stuck : List ℕ
+  pub held : List ℕ
+  pub left_open : Bool
   pub waits : Waits
   pub causes : List CauseView
   pub findings : List Finding
 
 -- the graph is that of the recording
-pub record IsGraphOf (groups : Groups) (recording : Lists) (graph : Waiting) : Type 0 where
-  pub stuck : graph.stuck ≡ stuck_of groups recording
-  pub unmet : (rank : ℕ) → needs_in graph.waits rank ≡ unmet_of groups recording rank
-  pub causes : graph.causes ≡ causes_of groups recording
+pub record IsGraphOf (reading : Reading) (groups : Groups) (recording : Lists) (graph : Waiting) : Type 0 where
+  pub stuck : graph.stuck ≡ stuck_of reading groups recording
+  pub held : graph.held ≡ held_of reading groups recording
+  pub left_open : graph.left_open ≡ is_some_left_open recording
+  pub unmet : (rank : ℕ) → needs_in graph.waits rank ≡ unmet_of reading groups recording rank
+  pub causes : graph.causes ≡ causes_of reading groups recording
   pub findings : graph.findings ≡ findings_of groups recording

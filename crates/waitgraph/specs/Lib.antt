@@ -1,8 +1,13 @@
 pub mod Places
-pub mod Findings
-pub mod Comparisons
 pub mod Marks
 pub mod Stuck
+pub mod Waits
+pub mod Least
+pub mod Loose
+pub mod Held
+pub mod Findings
+pub mod Comparisons
 pub mod Causes
 pub mod Graphs
 pub mod Verdicts
+pub mod Stays

@@ -1,4 +1,5 @@
--- Ranks that do not come to their Finalize, and what each still waits for where it stands.
+-- Ranks that do not come to the end of their lists, and what each still waits for where it stands.
+use Rattle.moves.specs.declared.reading.Reading.{Reading}
 use Rattle.std.specs.Prelude.{◌≡◌, ℕ, ◌<◌, Bool, true, false, not, ◌&&◌, ◌||◌, ◌==◌, nat_lt, Some, List, [], ◌∷◌, ◌++◌, length, slice_get, slice_index}
 use Rattle.std.specs.List.{filter, list_all, range_with_len}
 use Rattle.mpigroup.specs.Groups.{Groups}
@@ -9,21 +10,21 @@ use Rattle.moves.specs.Stands.{stands_of, is_at_end}
 use Rattle.moves.specs.declared.need.Need.{Need}
 use Rattle.moves.specs.declared.need.Need.TheVariants.{At, Lacking}
 
--- a rank is stuck in a state if its present call is not its Finalize
+-- a rank is stuck in a state if its present call is not the one that ends its list
 abbrev pub is_stuck_at : Lists → State → ℕ → Bool
 is_stuck_at recording stands rank = not (is_at_end recording stands rank)
 
 -- a rank is stuck if it is so at the stands
-abbrev pub is_stuck : Groups → Lists → ℕ → Bool
-is_stuck groups recording = is_stuck_at recording (stands_of groups recording)
+abbrev pub is_stuck : Reading → Groups → Lists → ℕ → Bool
+is_stuck reading groups recording = is_stuck_at recording (stands_of reading groups recording)
 
 -- the stuck ranks in a state, the lowest first
 abbrev pub stuck_at : Lists → State → List ℕ
 stuck_at recording stands = filter (is_stuck_at recording stands) (range_with_len 0 (length recording))
 
 -- the stuck ranks
-abbrev pub stuck_of : Groups → Lists → List ℕ
-stuck_of groups recording = stuck_at recording (stands_of groups recording)
+abbrev pub stuck_of : Reading → Groups → Lists → List ℕ
+stuck_of reading groups recording = stuck_at recording (stands_of reading groups recording)
 
 -- the rank that a need names
 abbrev pub rank_of : Need → ℕ
@@ -57,12 +58,12 @@ abbrev pub is_unmet : State → Need → Bool
 is_unmet stands need = not (is_met stands need)
 
 -- what the rank's present call in a state needs and is not met there, in order and each once
-unfoldable pub unmet_at : Groups → Lists → State → ℕ → List Need
-unmet_at groups recording stands rank = in_order (filter (is_unmet stands) (needs_of groups recording rank (slice_index stands rank)))
+unfoldable pub unmet_at : Reading → Groups → Lists → State → ℕ → List Need
+unmet_at reading groups recording stands rank = in_order (filter (is_unmet stands) (needs_of reading groups recording rank (slice_index stands rank)))
 
 -- the same at the stands
-abbrev pub unmet_of : Groups → Lists → ℕ → List Need
-unmet_of groups recording = unmet_at groups recording (stands_of groups recording)
+abbrev pub unmet_of : Reading → Groups → Lists → ℕ → List Need
+unmet_of reading groups recording = unmet_at reading groups recording (stands_of reading groups recording)
 
 -- the need stands in the list
 abbrev pub IsIn : Need → List Need → Type 0
@@ -74,24 +75,24 @@ are_in_order [] = true
 are_in_order (need ∷ needs) = list_all (comes_before need) needs && are_in_order needs
 
 -- what a rank still needs at the stands: each unmet need of its present call and no other, in order
-pub record TellsUnmet (groups : Groups) (recording : Lists) (rank : ℕ) : Type 0 where
-  pub stand_in_order : are_in_order (unmet_of groups recording rank) ≡ true
-  pub are_needs : (need : Need) → IsIn need (unmet_of groups recording rank) → IsIn need (needs_of groups recording rank (slice_index (stands_of groups recording) rank))
-  pub are_unmet : (need : Need) → IsIn need (unmet_of groups recording rank) → is_met (stands_of groups recording) need ≡ false
-  pub are_all : (need : Need) → IsIn need (needs_of groups recording rank (slice_index (stands_of groups recording) rank)) → is_met (stands_of groups recording) need ≡ false → IsIn need (unmet_of groups recording rank)
+pub record TellsUnmet (reading : Reading) (groups : Groups) (recording : Lists) (rank : ℕ) : Type 0 where
+  pub stand_in_order : are_in_order (unmet_of reading groups recording rank) ≡ true
+  pub are_needs : (need : Need) → IsIn need (unmet_of reading groups recording rank) → IsIn need (needs_of reading groups recording rank (slice_index (stands_of reading groups recording) rank))
+  pub are_unmet : (need : Need) → IsIn need (unmet_of reading groups recording rank) → is_met (stands_of reading groups recording) need ≡ false
+  pub are_all : (need : Need) → IsIn need (needs_of reading groups recording rank (slice_index (stands_of reading groups recording) rank)) → is_met (stands_of reading groups recording) need ≡ false → IsIn need (unmet_of reading groups recording rank)
 
 -- Law: over every recording, the unmet needs of a rank are those needs of its present call that are not
 -- met at the stands, and each comes before those behind it, so that none is listed twice.
 abbrev pub UnmetNeedsAreToldInOrder : Type 0
-UnmetNeedsAreToldInOrder = (groups : Groups) (recording : Lists) (rank : ℕ) → TellsUnmet groups recording rank
+UnmetNeedsAreToldInOrder = (reading : Reading) (groups : Groups) (recording : Lists) (rank : ℕ) → TellsUnmet reading groups recording rank
 
 -- who waits: each stuck rank, no other, and for stuck ranks
-pub record TellsWaiting (groups : Groups) (recording : Lists) : Type 0 where
-  pub each_waits : (rank : ℕ) → rank < length recording → is_stuck groups recording rank ≡ true → (need : Need) × IsIn need (unmet_of groups recording rank)
-  pub no_other_waits : (rank : ℕ) → is_stuck groups recording rank ≡ false → unmet_of groups recording rank ≡ []
-  pub for_stuck_ranks : (rank peer place : ℕ) → IsIn (At peer place) (unmet_of groups recording rank) → (peer < length recording) × (is_stuck groups recording peer ≡ true)
+pub record TellsWaiting (reading : Reading) (groups : Groups) (recording : Lists) : Type 0 where
+  pub each_waits : (rank : ℕ) → rank < length recording → is_stuck reading groups recording rank ≡ true → (need : Need) × IsIn need (unmet_of reading groups recording rank)
+  pub no_other_waits : (rank : ℕ) → is_stuck reading groups recording rank ≡ false → unmet_of reading groups recording rank ≡ []
+  pub for_stuck_ranks : (rank peer place : ℕ) → IsIn (At peer place) (unmet_of reading groups recording rank) → (peer < length recording) × (is_stuck reading groups recording peer ≡ true)
 
 -- Law: over every closed recording, a stuck rank has an unmet need, a rank that is not stuck has none, and a
 -- rank whose call is needed and not reached is stuck itself.
 abbrev pub StuckRanksWaitForStuckRanks : Type 0
-StuckRanksWaitForStuckRanks = (groups : Groups) (recording : Lists) → IsClosed recording → TellsWaiting groups recording
+StuckRanksWaitForStuckRanks = (reading : Reading) (groups : Groups) (recording : Lists) → IsClosed recording → TellsWaiting reading groups recording

@@ -1,28 +1,39 @@
 //! Who waits for whom where the ranks stand, and why.
 
 ghost use Rattle.std.specs.Prelude.{◌≡◌, ◌<◌, ℕ, length, map, IfOk, OnOk};
+ghost use Rattle.std.specs.List.{filter, range_with_len};
 ghost use Rattle.pairing.specs.Recordings.{IsClosed};
 ghost use Rattle.moves.specs.Stands.{stands_of};
 ghost use Rattle.waitgraph.specs.Stuck.{is_stuck_at, stuck_at, stuck_of, unmet_of};
-ghost use Rattle.waitgraph.specs.Causes.{view_of, waits_at, needs_in, walks_in, causes_in, causes_of};
+ghost use Rattle.waitgraph.specs.Causes.{view_of, walks_in, walks_at, causes_in, causes_of};
+ghost use Rattle.waitgraph.specs.Held.{held_at, held_of, is_some_left_open, opened_of};
+ghost use Rattle.waitgraph.specs.Loose.{are_held};
+ghost use Rattle.waitgraph.specs.Stays.{StayPut};
+ghost use Rattle.waitgraph.specs.Waits.{waits_at, needs_in};
 ghost use Rattle.waitgraph.specs.Findings.{findings_of};
 ghost use Rattle.waitgraph.specs.Verdicts.{verdict_by};
 
 use crate::cause::Cause;
 use crate::finding::{Finding, findings};
+use crate::loose::{held, loose, walks_in};
+use crate::standing::{Standing, is_some, left_open_in, standings_at};
 use crate::unmet::{Unmet, stand_of, unmet_at};
 use crate::verdict::Verdict;
-use crate::walk::{causes_in, walks_in};
+use crate::walk::causes_in;
 use moves::analyser::Analyser;
 use moves::need::Need;
+use moves::reading::Reading;
 use pairing::pairs::Pairs;
 use std::alloc::{AllocError, Global};
 use std::marker::Model;
 
 /// Who waits for whom where the ranks of a run stand, and why, and what else is wrong with the run. Contracts see
-/// the stuck ranks, each rank's unmet needs, the causes and the findings.
+/// the stuck ranks, the held ones, whether some list was left open, each rank's unmet needs, the causes and the
+/// findings.
 pub struct Graph {
     stuck: Vec<u16>,
+    held: Vec<u16>,
+    left_open: bool,
     waits: Vec<Unmet>,
     causes: Vec<Cause>,
     findings: Vec<Finding>,
@@ -32,6 +43,8 @@ impl Drop for Graph {
     fn drop(self) {
         let Graph {
             stuck: _,
+            held: _,
+            left_open: _,
             waits: _,
             causes: _,
             findings: _,
@@ -46,7 +59,7 @@ impl Model for Graph {
 
     ghost Value = { Waiting };
 
-    ghost view = { λ g. record { stuck = g.stuck.items; waits = g.waits.items; causes = map view_of g.causes.items; findings = g.findings.items } };
+    ghost view = { λ g. record { stuck = g.stuck.items; held = g.held.items; left_open = g.left_open; waits = g.waits.items; causes = map view_of g.causes.items; findings = g.findings.items } };
 }
 
 /// Whether the rank's present call isn't the one that ends its list.
@@ -71,30 +84,80 @@ fn stuck_at(alloc: Global, pairs: &Pairs, stands: &[u32]) -> Result<Vec<u16>, Al
     Ok(stuck)
 }
 
-fn waits_at(alloc: Global, pairs: &Pairs, stands: &[u32]) -> Result<Vec<Unmet>, AllocError>
-    ensures value { IfOk result (λ waits. waits.items ≡ waits_at pairs.now.groups pairs.now.recording stands.now) }
+fn waits_at(
+    alloc: Global,
+    reading: Reading,
+    pairs: &Pairs,
+    stands: &[u32],
+) -> Result<Vec<Unmet>, AllocError>
+    ensures value { IfOk result (λ waits. waits.items ≡ waits_at reading pairs.now.groups pairs.now.recording stands.now) }
     ensures few { IfOk result (λ waits. length waits.items < 65536) }
 {
     let mut waits = Vec::new(alloc);
     for rank in 0..pairs.head().ranks() {
-        waits.push(unmet_at(alloc, pairs, stands, rank)?)?;
+        waits.push(unmet_at(alloc, reading, pairs, stands, rank)?)?;
     }
     Ok(waits)
 }
 
-fn graph_at(alloc: Global, pairs: &Pairs, stands: &[u32]) -> Result<Graph, AllocError>
+/// What the needs of all ranks come to: who is held, how the walk goes on from each rank, and why.
+struct Found {
+    held: Vec<u16>,
+    causes: Vec<Cause>,
+    left_open: bool,
+}
+
+/// Finds the held ranks and the causes, by what each rank waits for and where it stands.
+fn who_is_held(
+    alloc: Global,
+    pairs: &Pairs,
+    standings: &[Standing],
+    waits: &[Unmet],
+) -> Result<Found, AllocError>
+    requires few { length standings.now < 65536 }
+    ensures held { IfOk result (λ found. found.held.items ≡ filter (are_held (opened_of pairs.now.recording) standings.now waits.now) (range_with_len 0 (length standings.now))) }
+    ensures causes { IfOk result (λ found. map view_of found.causes.items ≡ causes_in (walks_in (opened_of pairs.now.recording) standings.now waits.now)) }
+    ensures left_open { IfOk result (λ found. found.left_open ≡ is_some_left_open pairs.now.recording) }
+{
+    let opened = left_open_in(alloc, pairs)?;
+    let loose = loose(alloc, &opened, standings, waits)?;
+    let held = held(alloc, &opened, standings, waits, &loose)?;
+    let walks = walks_in(alloc, &opened, standings, waits, &loose)?;
+    let causes = causes_in(alloc, &walks)?;
+    let left_open = is_some(&opened);
+    Ok(Found {
+        held,
+        causes,
+        left_open,
+    })
+}
+
+fn graph_at(
+    alloc: Global,
+    reading: Reading,
+    pairs: &Pairs,
+    stands: &[u32],
+) -> Result<Graph, AllocError>
     ensures stuck { IfOk result (λ graph. graph.stuck ≡ stuck_at pairs.now.recording stands.now) }
-    ensures waits { IfOk result (λ graph. graph.waits ≡ waits_at pairs.now.groups pairs.now.recording stands.now) }
-    ensures causes { IfOk result (λ graph. graph.causes ≡ causes_in (walks_in (waits_at pairs.now.groups pairs.now.recording stands.now))) }
+    ensures held { IfOk result (λ graph. graph.held ≡ held_at reading pairs.now.groups pairs.now.recording stands.now) }
+    ensures left_open { IfOk result (λ graph. graph.left_open ≡ is_some_left_open pairs.now.recording) }
+    ensures waits { IfOk result (λ graph. graph.waits ≡ waits_at reading pairs.now.groups pairs.now.recording stands.now) }
+    ensures causes { IfOk result (λ graph. graph.causes ≡ causes_in (walks_at reading pairs.now.groups pairs.now.recording stands.now)) }
     ensures findings { IfOk result (λ graph. graph.findings ≡ findings_of pairs.now.groups pairs.now.recording) }
 {
     let stuck = stuck_at(alloc, pairs, stands)?;
-    let waits = waits_at(alloc, pairs, stands)?;
-    let walks = walks_in(alloc, &waits)?;
-    let causes = causes_in(alloc, &walks)?;
+    let waits = waits_at(alloc, reading, pairs, stands)?;
+    let standings = standings_at(alloc, pairs, stands)?;
+    let Found {
+        held,
+        causes,
+        left_open,
+    } = who_is_held(alloc, pairs, &standings, &waits)?;
     let findings = findings(alloc, pairs)?;
     Ok(Graph {
         stuck,
+        held,
+        left_open,
         waits,
         causes,
         findings,
@@ -103,7 +166,7 @@ fn graph_at(alloc: Global, pairs: &Pairs, stands: &[u32]) -> Result<Graph, Alloc
 
 /// The ranks' stands.
 fn stands_of(alloc: Global, analyser: &Analyser) -> Result<Vec<u32>, AllocError>
-    ensures { IfOk result (λ stands. stands.items ≡ stands_of analyser.now.groups analyser.now.recording) }
+    ensures { IfOk result (λ stands. stands.items ≡ stands_of analyser.now.reading analyser.now.groups analyser.now.recording) }
 {
     let mut stands = Vec::new(alloc);
     for rank in 0..analyser.head().ranks() {
@@ -121,13 +184,16 @@ impl Graph {
     /// the way: the stands, the marks of calls, the walks and the groups.
     pub fn of(alloc: Global, analyser: &Analyser) -> Result<Graph, AllocError>
         requires { IsClosed analyser.now.recording }
-        ensures stuck { IfOk result (λ graph. graph.stuck ≡ stuck_of analyser.now.groups analyser.now.recording) }
-        ensures unmet { IfOk result (λ graph. (rank : ℕ) → needs_in graph.waits rank ≡ unmet_of analyser.now.groups analyser.now.recording rank) }
-        ensures causes { IfOk result (λ graph. graph.causes ≡ causes_of analyser.now.groups analyser.now.recording) }
+        ensures stuck { IfOk result (λ graph. graph.stuck ≡ stuck_of analyser.now.reading analyser.now.groups analyser.now.recording) }
+        ensures held { IfOk result (λ graph. graph.held ≡ held_of analyser.now.reading analyser.now.groups analyser.now.recording) }
+        ensures stays { IfOk result (λ graph. StayPut analyser.now.reading analyser.now.groups analyser.now.recording graph.held) }
+        ensures left_open { IfOk result (λ graph. graph.left_open ≡ is_some_left_open analyser.now.recording) }
+        ensures unmet { IfOk result (λ graph. (rank : ℕ) → needs_in graph.waits rank ≡ unmet_of analyser.now.reading analyser.now.groups analyser.now.recording rank) }
+        ensures causes { IfOk result (λ graph. graph.causes ≡ causes_of analyser.now.reading analyser.now.groups analyser.now.recording) }
         ensures findings { IfOk result (λ graph. graph.findings ≡ findings_of analyser.now.groups analyser.now.recording) }
     {
         let stands = stands_of(alloc, analyser)?;
-        let graph = graph_at(alloc, analyser.pairs(), &stands)?;
+        let graph = graph_at(alloc, analyser.reading(), analyser.pairs(), &stands)?;
         Ok(graph)
     }
 
@@ -138,12 +204,21 @@ impl Graph {
         self.stuck.as_slice()
     }
 
-    /// Whether the run can hang: exactly if some rank is stuck.
-    pub fn verdict(&self) -> Verdict
-        ensures { result ≡ verdict_by self.now.stuck }
+    /// The held ranks, rising: each stays where it stands whatever calls stand in the place of an open. Where no list
+    /// was left open they are the stuck ranks.
+    pub fn held(&self) -> &[u16]
+        ensures { result.now ≡ self.now.held }
     {
-        match self.stuck.as_slice() {
-            [] => Verdict::Free,
+        self.held.as_slice()
+    }
+
+    /// Whether the run can hang: exactly if some rank is held.
+    pub fn verdict(&self) -> Verdict
+        ensures { result ≡ verdict_by self.now.held self.now.left_open }
+    {
+        match (self.held.as_slice(), self.left_open) {
+            ([], false) => Verdict::Free,
+            ([], true) => Verdict::Unfinished,
             _ => Verdict::Hang,
         }
     }
@@ -159,7 +234,7 @@ impl Graph {
         }
     }
 
-    /// Why ranks are stuck: the cycles by their lowest rank, and then the missing calls by the rank that
+    /// Why ranks are held: the cycles by their lowest rank, and then the missing calls by the rank that
     /// waits.
     pub fn causes(&self) -> &[Cause]
         ensures { map view_of result.now ≡ self.now.causes }

@@ -3,15 +3,18 @@
 //! What it promises, as contracts that are proved, by definitions of `specs/`:
 //!
 //! - `graph::Graph::of` answers the stuck ranks of a closed recording, for each rank the needs of its present
-//!   call that aren't met where the ranks stand, by rank and place and each once (`Stuck`), and the causes:
-//!   the cycles of ranks that wait for each other, and the calls that a rank waits for and its peer lacks
-//!   (`Causes`).
-//! - `Graph::verdict` answers the verdict: `Hang` exactly if some rank is stuck (`Verdicts`).
+//!   call that aren't met where the ranks stand, by rank and place and each once (`Stuck`), the held ranks,
+//!   which are the stuck ones that aren't loose, where a loose rank stands at an `open` or waits for loose ranks
+//!   alone (`Loose`, `Held`), and the causes: the cycles of held ranks that wait for each other, and the calls
+//!   that a held rank waits for and its peer lacks for good (`Causes`).
+//! - Each held rank stands where it does, whatever calls stand in the place of an `open` (`Stays`).
+//! - `Graph::verdict` answers the verdict: `Hang` exactly if some rank is held, else `Unfinished` if some list
+//!   was left open (`Verdicts`). Where none was, exactly the stuck ranks are held.
 //! - Its findings are what else is wrong with the recording, over all calls, reached or not (`Findings`).
 //! - Laws, each on a function that does nothing: the unmet needs are those needs of the present call that
 //!   aren't met and no others; each stuck rank has one, no other rank has, and who is waited for at a place is
-//!   stuck too; the walk from each stuck rank by its first unmet need comes to a listed cause, each listed
-//!   cause is the end of such a walk, and none is listed twice.
+//!   stuck too; the loose ranks are the least set that has each rank which it makes loose; the walk from each
+//!   held rank comes to a listed cause, each listed cause is the end of such a walk, and none is listed twice.
 //!
 //! ```text
 //! // rank 0: send 0 1 0 / recv 0 1 0 / finalize      rank 1: send 0 0 0 / recv 0 0 0 / finalize
@@ -25,7 +28,9 @@
 pub mod cause;
 pub mod finding;
 pub mod graph;
+pub mod loose;
 pub mod onward;
+pub mod standing;
 pub mod unmet;
 pub mod verdict;
 pub mod walk;

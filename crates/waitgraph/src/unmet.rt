@@ -7,11 +7,11 @@ ghost use Rattle.mpigroup.specs.Groups.{group_of};
 ghost use Rattle.pairing.specs.Recordings.{calls_of};
 ghost use Rattle.pairing.specs.Requests.{completes};
 ghost use Rattle.pairing.specs.Pairs.{completed_of};
-ghost use Rattle.moves.specs.Needs.{world_of, half_need, half_needs, member_need, wave_needs, is_buffered, operation_needs, operation_needs_at, request_needs, needs_of_call, needs_of};
+ghost use Rattle.moves.specs.Needs.{world_of, half_need, half_needs, probe_need, probe_needs, member_need, wave_needs, operation_needs, operation_needs_at, request_needs, needs_of_call, needs_of};
 ghost use Rattle.waitgraph.specs.Stuck.{comes_before, with_need, with_needs, is_unmet, unmet_at, UnmetNeedsAreToldInOrder, StuckRanksWaitForStuckRanks};
 
 use moves::need::{Need, is_met};
-use mpicall::call::Mode;
+use moves::reading::{Reading, sends_freely};
 use mpigroup::head::Head;
 use pairing::envelope::{Half, Message};
 use pairing::pairs::Pairs;
@@ -157,6 +157,40 @@ fn add_half_needs(
     }
 }
 
+/// What a probe needs for its message.
+fn probe_need(pairs: &Pairs, rank: u16, place: u32, message: &Message) -> Need
+    ensures { result ≡ probe_need pairs.now.groups pairs.now.recording rank place message.now }
+{
+    match pairs.probed(rank, place) {
+        Some((other, there)) => Need::At {
+            rank: other,
+            place: there,
+        },
+        None => Need::Lacking {
+            rank: world_of(pairs.head(), message.comm, message.peer),
+        },
+    }
+}
+
+fn add_probe_needs(
+    unmet: &mut Unmet,
+    pairs: &Pairs,
+    stands: &[u32],
+    rank: u16,
+    place: u32,
+    call: &StoredCall<'_>,
+) -> Result<(), AllocError>
+    ensures { OnOk result (unmet.new ≡ with_needs unmet.old (filter (is_unmet stands.now) (probe_needs pairs.now.groups pairs.now.recording rank place call.now))) }
+{
+    match call.probed() {
+        Some(message) => {
+            let need = probe_need(pairs, rank, place, &message);
+            add_unmet(unmet, stands, need)
+        }
+        None => Ok(()),
+    }
+}
+
 /// What a wave needs of a member, by its rank in the group and its rank of the world.
 fn member_need(pairs: &Pairs, comm: u16, wave: u32, g: u16, member: u16) -> Need
     requires { slice_get (group_of pairs.now.groups comm) g ≡ Some member }
@@ -212,42 +246,39 @@ fn add_wave_needs(
     }
 }
 
-fn is_buffered(call: &StoredCall<'_>) -> bool
-    ensures { result ≡ is_buffered call.now }
-{
-    matches!(call.mode(), Some(Mode::Buffered))
-}
-
 /// Adds what the operation of the call at the place still needs before it is done.
 fn add_operation_needs(
     unmet: &mut Unmet,
+    reading: Reading,
     pairs: &Pairs,
     stands: &[u32],
     rank: u16,
     place: u32,
     call: &StoredCall<'_>,
 ) -> Result<(), AllocError>
-    ensures { OnOk result (unmet.new ≡ with_needs unmet.old (filter (is_unmet stands.now) (operation_needs pairs.now.groups pairs.now.recording rank place call.now))) }
+    ensures { OnOk result (unmet.new ≡ with_needs unmet.old (filter (is_unmet stands.now) (operation_needs reading pairs.now.groups pairs.now.recording rank place call.now))) }
 {
-    if !is_buffered(call) {
+    if !sends_freely(reading, call) {
         add_half_needs(unmet, pairs, stands, rank, place, Half::Send, call)?;
     }
     add_half_needs(unmet, pairs, stands, rank, place, Half::Recv, call)?;
+    add_probe_needs(unmet, pairs, stands, rank, place, call)?;
     add_wave_needs(unmet, pairs, stands, rank, place)
 }
 
 /// Adds the same of the call that started a request.
 fn add_start_needs(
     unmet: &mut Unmet,
+    reading: Reading,
     pairs: &Pairs,
     stands: &[u32],
     rank: u16,
     start: u32,
 ) -> Result<(), AllocError>
-    ensures { OnOk result (unmet.new ≡ with_needs unmet.old (filter (is_unmet stands.now) (operation_needs_at pairs.now.groups pairs.now.recording rank start))) }
+    ensures { OnOk result (unmet.new ≡ with_needs unmet.old (filter (is_unmet stands.now) (operation_needs_at reading pairs.now.groups pairs.now.recording rank start))) }
 {
     match pairs.call(rank, start) {
-        Some(call) => add_operation_needs(unmet, pairs, stands, rank, start, &call),
+        Some(call) => add_operation_needs(unmet, reading, pairs, stands, rank, start, &call),
         None => Ok(()),
     }
 }
@@ -255,16 +286,17 @@ fn add_start_needs(
 /// Adds the same of the request with that index among those that the wait at the place completes.
 fn add_request_needs(
     unmet: &mut Unmet,
+    reading: Reading,
     pairs: &Pairs,
     stands: &[u32],
     rank: u16,
     place: u32,
     index: usize,
 ) -> Result<(), AllocError>
-    ensures { OnOk result (unmet.new ≡ with_needs unmet.old (filter (is_unmet stands.now) (option_map_or (operation_needs_at pairs.now.groups pairs.now.recording rank) (completed_of pairs.now.recording rank place index) []))) }
+    ensures { OnOk result (unmet.new ≡ with_needs unmet.old (filter (is_unmet stands.now) (option_map_or (operation_needs_at reading pairs.now.groups pairs.now.recording rank) (completed_of pairs.now.recording rank place index) []))) }
 {
     match pairs.completed(rank, place, index) {
-        Some(start) => add_start_needs(unmet, pairs, stands, rank, start),
+        Some(start) => add_start_needs(unmet, reading, pairs, stands, rank, start),
         None => Ok(()),
     }
 }
@@ -272,6 +304,7 @@ fn add_request_needs(
 /// Adds the same of each request that the call at the place completes.
 fn add_completed_needs(
     unmet: &mut Unmet,
+    reading: Reading,
     pairs: &Pairs,
     stands: &[u32],
     rank: u16,
@@ -279,10 +312,10 @@ fn add_completed_needs(
     call: &StoredCall<'_>,
 ) -> Result<(), AllocError>
     requires { slice_get (calls_of pairs.now.recording rank) place ≡ Some call.now }
-    ensures { OnOk result (unmet.new ≡ with_needs unmet.old (filter (is_unmet stands.now) (flat_map (request_needs pairs.now.groups pairs.now.recording rank place) (completes call.now)))) }
+    ensures { OnOk result (unmet.new ≡ with_needs unmet.old (filter (is_unmet stands.now) (flat_map (request_needs reading pairs.now.groups pairs.now.recording rank place) (completes call.now)))) }
 {
     for index in 0..call.completed_count() {
-        add_request_needs(unmet, pairs, stands, rank, place, index)?;
+        add_request_needs(unmet, reading, pairs, stands, rank, place, index)?;
     }
     Ok(())
 }
@@ -290,6 +323,7 @@ fn add_completed_needs(
 /// Adds what the call at the place still needs: a call that starts a request needs nothing.
 fn add_needs_of_call(
     unmet: &mut Unmet,
+    reading: Reading,
     pairs: &Pairs,
     stands: &[u32],
     rank: u16,
@@ -297,27 +331,28 @@ fn add_needs_of_call(
     call: &StoredCall<'_>,
 ) -> Result<(), AllocError>
     requires { slice_get (calls_of pairs.now.recording rank) place ≡ Some call.now }
-    ensures { OnOk result (unmet.new ≡ with_needs unmet.old (filter (is_unmet stands.now) (needs_of_call pairs.now.groups pairs.now.recording rank place call.now))) }
+    ensures { OnOk result (unmet.new ≡ with_needs unmet.old (filter (is_unmet stands.now) (needs_of_call reading pairs.now.groups pairs.now.recording rank place call.now))) }
 {
     if call.starts().is_some() {
         return Ok(());
     }
-    add_operation_needs(unmet, pairs, stands, rank, place, call)?;
-    add_completed_needs(unmet, pairs, stands, rank, place, call)
+    add_operation_needs(unmet, reading, pairs, stands, rank, place, call)?;
+    add_completed_needs(unmet, reading, pairs, stands, rank, place, call)
 }
 
 /// Adds what the rank's call at the place still needs; nothing where there is no such call.
 fn add_needs(
     unmet: &mut Unmet,
+    reading: Reading,
     pairs: &Pairs,
     stands: &[u32],
     rank: u16,
     place: u32,
 ) -> Result<(), AllocError>
-    ensures { OnOk result (unmet.new ≡ with_needs unmet.old (filter (is_unmet stands.now) (needs_of pairs.now.groups pairs.now.recording rank place))) }
+    ensures { OnOk result (unmet.new ≡ with_needs unmet.old (filter (is_unmet stands.now) (needs_of reading pairs.now.groups pairs.now.recording rank place))) }
 {
     match pairs.call(rank, place) {
-        Some(call) => add_needs_of_call(unmet, pairs, stands, rank, place, &call),
+        Some(call) => add_needs_of_call(unmet, reading, pairs, stands, rank, place, &call),
         None => Ok(()),
     }
 }
@@ -334,14 +369,22 @@ pub(crate) fn stand_of(stands: &[u32], rank: u16) -> u32
 /// The unmet needs of the rank's present call.
 pub(crate) fn unmet_at(
     alloc: Global,
+    reading: Reading,
     pairs: &Pairs,
     stands: &[u32],
     rank: u16,
 ) -> Result<Unmet, AllocError>
-    ensures { IfOk result (λ unmet. unmet ≡ unmet_at pairs.now.groups pairs.now.recording stands.now rank) }
+    ensures { IfOk result (λ unmet. unmet ≡ unmet_at reading pairs.now.groups pairs.now.recording stands.now rank) }
 {
     let mut unmet = Unmet::new(alloc);
-    add_needs(&mut unmet, pairs, stands, rank, stand_of(stands, rank))?;
+    add_needs(
+        &mut unmet,
+        reading,
+        pairs,
+        stands,
+        rank,
+        stand_of(stands, rank),
+    )?;
     Ok(unmet)
 }
 

@@ -1,17 +1,29 @@
 //! Whether a run can hang.
 
-ghost use Rattle.waitgraph.specs.Verdicts.{HangTellsOfAStuckRank};
+ghost use Rattle.waitgraph.specs.Verdicts.{HangTellsOfAHeldRank, HangTellsOfAStuckRank, WithoutOpenTheStuckAreHeld};
 
 /// What is said of a run.
 #[derive(Clone, Copy, Debug, PartialEq, Eq)]
 pub enum Verdict {
-    /// Each rank comes to its end, in every maximal run.
+    /// Each rank comes to its Finalize, in every maximal run.
     Free,
-    /// Some rank comes to its end in no run.
+    /// Some rank is held: it stays where it stands in every run, whatever calls stand in the place of an open.
     Hang,
+    /// No rank is held, and some list was left open.
+    Unfinished,
 }
 
-/// Over every recording, the verdict is `Hang` exactly where some rank is stuck.
+/// Over every recording, the verdict is `Hang` exactly where some rank is held.
+pub fn hang_tells_of_a_held_rank()
+    ensures { HangTellsOfAHeldRank }
+{}
+
+/// Over every closed recording of which no list was left open, a rank is held exactly if it is stuck.
+pub fn without_open_the_stuck_are_held()
+    ensures { WithoutOpenTheStuckAreHeld }
+{}
+
+/// Over every closed recording of which no list was left open, the verdict is `Hang` exactly where some rank is stuck.
 pub fn hang_tells_of_a_stuck_rank()
     ensures { HangTellsOfAStuckRank }
 {}

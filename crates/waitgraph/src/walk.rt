@@ -1,33 +1,13 @@
-//! Walks from rank to rank, each by the first of the unmet needs of a rank.
+//! Walks from held rank to held rank, and the causes at which they end.
 
 ghost use Rattle.std.specs.Prelude.{◌≡◌, ◌<◌, ◌++◌, nat_le, length, map, option_map, IfOk, OnOk};
 ghost use Rattle.std.specs.Option.{option_to_list};
 ghost use Rattle.std.specs.List.{filter_map, range_with_len, list_all};
-ghost use Rattle.waitgraph.specs.Causes.{view_of, onward_of, walks_in, next_in, lacks_in, way_home, cycle_at, missing_at, causes_in, WalksEndInTheCauses};
+ghost use Rattle.waitgraph.specs.Causes.{view_of, next_in, lacks_in, way_home, cycle_at, missing_at, causes_in, WalksEndInTheCauses};
 
 use crate::cause::Cause;
 use crate::onward::Onward;
-use crate::unmet::Unmet;
-use moves::need::Need;
 use std::alloc::{AllocError, Global};
-
-/// How the walk goes on from a rank with these unmet needs.
-fn onward_of(unmet: &Unmet) -> Option<Onward>
-    ensures { result ≡ onward_of unmet.now }
-{
-    match unmet.needs().first() {
-        Some(Need::At { rank, .. }) => Some(Onward::To { rank: *rank }),
-        Some(Need::Lacking { rank }) => Some(Onward::Lacks { rank: *rank }),
-        None => None,
-    }
-}
-
-/// How the walk goes on from each rank.
-pub(crate) fn walks_in(alloc: Global, waits: &[Unmet]) -> Result<Vec<Option<Onward>>, AllocError>
-    ensures { IfOk result (λ walks. walks.items ≡ walks_in waits.now) }
-{
-    waits.iter().map(onward_of).collect(alloc)
-}
 
 /// The rank to which the walk goes on from a rank.
 fn next_in(walks: &[Option<Onward>], rank: u16) -> Option<u16>
@@ -143,8 +123,8 @@ pub(crate) fn causes_in(alloc: Global, walks: &[Option<Onward>]) -> Result<Vec<C
     Ok(causes)
 }
 
-/// The walk from each stuck rank of a closed recording comes to a cause that is listed, and each cause that
-/// is listed is one to which the walk from some stuck rank comes. None is listed twice.
+/// The walk from each held rank of a closed recording comes to a cause that is listed, and each cause that
+/// is listed is one to which the walk from some held rank comes. None is listed twice.
 pub fn walks_end_in_the_causes()
     ensures { WalksEndInTheCauses }
 {}

@@ -1,5 +1,6 @@
 -- A state that some run over a recording passes is passed by a run over each longer one; and the first publication,
 -- and those that follow it, are passed.
+use Rattle.moves.specs.declared.reading.Reading.{Reading}
 use Rattle.std.proofs.Common.{◌≡◌, ◌⊎◌, ℕ, ◌<◌, Some, Result, Ok, Err, OnOk, OnErr, List, [], ◌∷◌, ◌++◌, length, get_or, All, inl, inr, refl, sym, ap, subst, ◌∙◌, ⊎_elim, arith}
 use Rattle.std.proofs.Math.Logic.{∥∥₁_map}
 use Rattle.std.proofs.lemmas.Grind.{merely}
@@ -18,24 +19,24 @@ use Rattle.watches.specs.Stands.{places_of, Passes, IsPassed, PassedStatesStayPa
 use Rattle.watches.specs.Publications.{ArePassed, Publishes, at_start, last_of}
 use Rattle.watches.specs.declared.stands.Stands.{Stands}
 
-passes_on : (groups : Groups) (recording longer : Lists) (places : List ℕ) → GoesOn recording longer → Passes groups recording places → Passes groups longer places
-passes_on groups recording longer places more p = record {
+passes_on : (reading : Reading) (groups : Groups) (recording longer : Lists) (places : List ℕ) → GoesOn recording longer → Passes reading groups recording places → Passes reading groups longer places
+passes_on reading groups recording longer places more p = record {
   state = p.state;
-  is_reached = reached_on groups recording longer p.state more p.is_reached;
+  is_reached = reached_on reading groups recording longer p.state more p.is_reached;
   are_its_places = p.are_its_places;
 }
 
 pub passed_states_stay_passed : PassedStatesStayPassed
-passed_states_stay_passed groups recording longer places more is = ∥∥₁_map is (passes_on groups recording longer places more)
+passed_states_stay_passed reading groups recording longer places more is = ∥∥₁_map is (passes_on reading groups recording longer places more)
 
-pub passed_on : (groups : Groups) (recording longer : Lists) (list : List Stands) → GoesOn recording longer → ArePassed groups recording list → ArePassed groups longer list
-passed_on groups recording longer list more are = λ k d below. passed_states_stay_passed groups recording longer _ more (are k d below)
+pub passed_on : (reading : Reading) (groups : Groups) (recording longer : Lists) (list : List Stands) → GoesOn recording longer → ArePassed reading groups recording list → ArePassed reading groups longer list
+passed_on reading groups recording longer list more are = λ k d below. passed_states_stay_passed reading groups recording longer _ more (are k d below)
 
 -- some run passes the stands of now: each maximal one ends there
-stands_passed : (groups : Groups) (recording : Lists) (places : List ℕ) → places ≡ places_of (stands_of groups recording) → Passes groups recording places
-stands_passed groups recording places are = record {
-  state = stands_of groups recording;
-  is_reached = (every_maximal_run_ends_at_the_stands groups recording).1.is_reached;
+stands_passed : (reading : Reading) (groups : Groups) (recording : Lists) (places : List ℕ) → places ≡ places_of (stands_of reading groups recording) → Passes reading groups recording places
+stands_passed reading groups recording places are = record {
+  state = stands_of reading groups recording;
+  is_reached = (every_maximal_run_ends_at_the_stands reading groups recording).1.is_reached;
   are_its_places = are;
 }
 
@@ -44,10 +45,10 @@ either_way : {A E : Type 0} (answer : Result A E) (stands : Stands) (old new : L
 either_way (Ok told) stands old new done failed = ⊎_elim (λ (more : new ≡ old ++ stands ∷ []). inl more) (λ (same : (new ≡ old) × (last_of old ≡ Some stands)). inr same.0) done
 either_way (Err fault) stands old new done failed = inr failed
 
-pub still_passed : {A E : Type 0} (groups : Groups) (recording : Lists) (answer : Result A E) (stands : Stands) (old new : List Stands) → stands.places ≡ places_of (stands_of groups recording) → OnOk answer (Publishes stands old new) → OnErr answer (new ≡ old) → ArePassed groups recording old → ArePassed groups recording new
-still_passed groups recording answer stands old new are done failed were =
+pub still_passed : {A E : Type 0} (reading : Reading) (groups : Groups) (recording : Lists) (answer : Result A E) (stands : Stands) (old new : List Stands) → stands.places ≡ places_of (stands_of reading groups recording) → OnOk answer (Publishes stands old new) → OnErr answer (new ≡ old) → ArePassed reading groups recording old → ArePassed reading groups recording new
+still_passed reading groups recording answer stands old new are done failed were =
     ⊎_elim
-    (λ (more : new ≡ old ++ stands ∷ []). rw more (All-push (λ (s : Stands). IsPassed groups recording s.places) old stands were (merely (stands_passed groups recording stands.places are))))
+    (λ (more : new ≡ old ++ stands ∷ []). rw more (All-push (λ (s : Stands). IsPassed reading groups recording s.places) old stands were (merely (stands_passed reading groups recording stands.places are))))
     (λ (same : new ≡ old). rw same were)
     (either_way answer stands old new done failed)
 
@@ -57,13 +58,13 @@ start_places : (ranks : ℕ) → at_start.places ≡ places_of (start ranks)
 unfolding places_of
 start_places ranks = fill_by_all (λ k. get_or (start ranks) k 0) at_start.places MOST_RANKS 0 (length-replicate {A = ℕ} MOST_RANKS 0) (λ k below. get_start MOST_RANKS k ∙ sym (get_start ranks k))
 
-start_passed : (groups : Groups) (recording : Lists) → Passes groups recording at_start.places
-start_passed groups recording = record {
+start_passed : (reading : Reading) (groups : Groups) (recording : Lists) → Passes reading groups recording at_start.places
+start_passed reading groups recording = record {
   state = start (length recording);
-  is_reached = reached_start (can_move groups recording) (length recording);
+  is_reached = reached_start (can_move reading groups recording) (length recording);
   are_its_places = start_places (length recording);
 }
 
-pub first_passed : (groups : Groups) (recording : Lists) (list : List Stands) → list ≡ at_start ∷ [] → ArePassed groups recording list
-first_passed groups recording list is =
-    rw is (All-push (λ (s : Stands). IsPassed groups recording s.places) [] at_start (λ k d below. absurd (omega (arith, below))) (merely (start_passed groups recording)))
+pub first_passed : (reading : Reading) (groups : Groups) (recording : Lists) (list : List Stands) → list ≡ at_start ∷ [] → ArePassed reading groups recording list
+first_passed reading groups recording list is =
+    rw is (All-push (λ (s : Stands). IsPassed reading groups recording s.places) [] at_start (λ k d below. absurd (omega (arith, below))) (merely (start_passed reading groups recording)))

@@ -1,4 +1,5 @@
 -- The list of publications: what each shows, and how one more is written behind it.
+use Rattle.moves.specs.declared.reading.Reading.{Reading}
 use Rattle.std.specs.Prelude.{◌≡◌, ◌⊎◌, ℕ, ◌==◌, Bool, true, false, List, [], ◌∷◌, ◌++◌, length, replicate, if◌then◌else◌, Option, Some, None, IfSome, MatchBool, All}
 use Rattle.logbook.specs.Pages.{Book, Cell, Named, Step, View}
 use Rattle.mpigroup.specs.Groups.{Groups}
@@ -32,8 +33,8 @@ abbrev pub Publishes : Stands → List Stands → List Stands → Type 0
 Publishes stands old new = (new ≡ old ++ stands ∷ []) ⊎ ((new ≡ old) × (last_of old ≡ Some stands))
 
 -- each is a state that some run over the recording passes
-abbrev pub ArePassed : Groups → Lists → List Stands → Type 0
-ArePassed groups recording list = All (λ stands. IsPassed groups recording stands.places) list
+abbrev pub ArePassed : Reading → Groups → Lists → List Stands → Type 0
+ArePassed reading groups recording list = All (λ stands. IsPassed reading groups recording stands.places) list
 
 -- Below is how the list is kept: a book that only grows, and a shared number, which is the list's length.
 

@@ -1,5 +1,6 @@
 -- Stands as they are published: a place for each rank that a run may have. They are this project's own; MPI says
 -- nothing of them.
+use Rattle.moves.specs.declared.reading.Reading.{Reading}
 use Rattle.std.specs.Prelude.{◌≡◌, ℕ, Bool, ◌&&◌, nat_le, nat_lt, List, [], length, map, sum, slice_index}
 use Rattle.std.specs.List.{list_all, range_with_len}
 use Rattle.mpigroup.specs.Groups.{Groups}
@@ -21,17 +22,17 @@ abbrev pub is_further : List ℕ → List ℕ → Bool
 is_further xs ys = is_no_lower xs ys && nat_lt (sum xs) (sum ys)
 
 -- a state that some run over the recording passes: the run up to it ends there
-pub record Passes (groups : Groups) (recording : Lists) (places : List ℕ) : Type 0 where
+pub record Passes (reading : Reading) (groups : Groups) (recording : Lists) (places : List ℕ) : Type 0 where
   pub state : State
-  pub is_reached : IsReached (can_move groups recording) (length recording) state
+  pub is_reached : IsReached (can_move reading groups recording) (length recording) state
   pub are_its_places : places ≡ places_of state
 
 -- there is a state with these places that some run over the recording passes
-abbrev pub IsPassed : Groups → Lists → List ℕ → Type 0
-IsPassed groups recording places = ∥ Passes groups recording places ∥₁
+abbrev pub IsPassed : Reading → Groups → Lists → List ℕ → Type 0
+IsPassed reading groups recording places = ∥ Passes reading groups recording places ∥₁
 
 -- Law: a state that some run over a recording passes is passed by a run over each recording that goes on from it.
 abbrev pub PassedStatesStayPassed : Type 0
 PassedStatesStayPassed =
-    (groups : Groups) (recording longer : Lists) (places : List ℕ) → GoesOn recording longer →
-    IsPassed groups recording places → IsPassed groups longer places
+    (reading : Reading) (groups : Groups) (recording longer : Lists) (places : List ℕ) → GoesOn recording longer →
+    IsPassed reading groups recording places → IsPassed reading groups longer places

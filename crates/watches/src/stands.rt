@@ -32,7 +32,7 @@ impl Stands {
     /// Becomes the stands of now: each rank's place is where the rank stands over the calls that were accepted,
     /// by definition.
     pub fn set(&mut self, analyser: &Analyser)
-        ensures { self.new.places ≡ places_of (stands_of analyser.now.groups analyser.now.recording) }
+        ensures { self.new.places ≡ places_of (stands_of analyser.now.reading analyser.now.groups analyser.now.recording) }
     {
         let mut places = [0; PLACES];
         for rank in 0..MOST_RANKS {

@@ -19,14 +19,14 @@ use std::alloc::{AllocError, Global};
 use waitgraph::graph::Graph;
 
 fn stand_of(analyser: &Analyser, rank: u16) -> u32
-    ensures { result ≡ slice_index (stands_of analyser.now.groups analyser.now.recording) rank }
+    ensures { result ≡ slice_index (stands_of analyser.now.reading analyser.now.groups analyser.now.recording) rank }
 {
     analyser.stand(rank).unwrap_or(0)
 }
 
 /// The call at which a rank stands; no text where its list is at its end.
 fn present_text(alloc: Global, analyser: &Analyser, rank: u16) -> Result<String, AllocError>
-    ensures { IfOk result (λ text. string_bytes text ≡ join_with_byte space (present_fields analyser.now.groups analyser.now.recording rank)) }
+    ensures { IfOk result (λ text. string_bytes text ≡ join_with_byte space (present_fields analyser.now.reading analyser.now.groups analyser.now.recording rank)) }
 {
     match analyser.record(rank, stand_of(analyser, rank)) {
         Some(record) => line_text(alloc, &record),
@@ -41,8 +41,8 @@ fn rank_value(
     rank: u16,
     needs: &[Need],
 ) -> Result<Value, AllocError>
-    requires { needs.now ≡ unmet_of analyser.now.groups analyser.now.recording rank }
-    ensures { IfOk result (λ value. view value ≡ rank_data analyser.now.groups analyser.now.recording rank) }
+    requires { needs.now ≡ unmet_of analyser.now.reading analyser.now.groups analyser.now.recording rank }
+    ensures { IfOk result (λ value. view value ≡ rank_data analyser.now.reading analyser.now.groups analyser.now.recording rank) }
 {
     let stand = stand_of(analyser, rank);
     let call = present_text(alloc, analyser, rank)?;
@@ -56,8 +56,8 @@ pub(crate) fn ranks_value(
     analyser: &Analyser,
     graph: &Graph,
 ) -> Result<Value, AllocError>
-    requires { IsGraphOf analyser.now.groups analyser.now.recording graph.now }
-    ensures { IfOk result (λ value. view value ≡ each (rank_data analyser.now.groups analyser.now.recording) (stuck_of analyser.now.groups analyser.now.recording)) }
+    requires { IsGraphOf analyser.now.reading analyser.now.groups analyser.now.recording graph.now }
+    ensures { IfOk result (λ value. view value ≡ each (rank_data analyser.now.reading analyser.now.groups analyser.now.recording) (stuck_of analyser.now.reading analyser.now.groups analyser.now.recording)) }
 {
     let stuck = graph.stuck();
     let mut list = Vec::new(alloc);

@@ -130,7 +130,9 @@ impl Page {
             Word::Waitany => self.push_field(b"waitany"),
             Word::Dup => self.push_field(b"dup"),
             Word::Split => self.push_field(b"split"),
+            Word::Probe => self.push_field(b"probe"),
             Word::Finalize => self.push_field(b"finalize"),
+            Word::Open => self.push_field(b"open"),
         }
     }
 

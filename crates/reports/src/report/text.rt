@@ -32,6 +32,7 @@ fn push_verdict(page: &mut Page, verdict: Verdict)
     match verdict {
         Verdict::Free => page.push_field(b"free"),
         Verdict::Hang => page.push_field(b"hang"),
+        Verdict::Unfinished => page.push_field(b"unfinished"),
     }
     page.push(b'\n');
 }
@@ -67,7 +68,7 @@ fn push_need(page: &mut Page, need: &Need)
 }
 
 fn stand_of(analyser: &Analyser, rank: u16) -> u32
-    ensures { result ≡ slice_index (stands_of analyser.now.groups analyser.now.recording) rank }
+    ensures { result ≡ slice_index (stands_of analyser.now.reading analyser.now.groups analyser.now.recording) rank }
 {
     match analyser.stand(rank) {
         Some(stand) => stand,
@@ -78,7 +79,7 @@ fn stand_of(analyser: &Analyser, rank: u16) -> u32
 /// Adds the line of one unmet need of a rank.
 fn push_unmet(page: &mut Page, analyser: &Analyser, rank: u16, need: &Need)
     requires { length page.old + ROOM_BYTES ≤ PAGE_BYTES }
-    ensures { page.new ≡ page.old ++ unmet_line analyser.now.groups analyser.now.recording rank need.now }
+    ensures { page.new ≡ page.old ++ unmet_line analyser.now.reading analyser.now.groups analyser.now.recording rank need.now }
 {
     let stand = stand_of(analyser, rank);
     page.push_all(b"rank");
@@ -98,8 +99,8 @@ fn write_unmet<O: Output>(
     rank: u16,
     need: &Need,
 ) -> Result<(), DeviceFault>
-    ensures ok { OnOk result (Tells (O.written out.old) page.old (O.written out.new) page.new (unmet_line analyser.now.groups analyser.now.recording rank need.now)) }
-    ensures fault { OnErr result (AppendsBeginning (O.written out.old) (O.written out.new) (page.old ++ unmet_line analyser.now.groups analyser.now.recording rank need.now)) }
+    ensures ok { OnOk result (Tells (O.written out.old) page.old (O.written out.new) page.new (unmet_line analyser.now.reading analyser.now.groups analyser.now.recording rank need.now)) }
+    ensures fault { OnErr result (AppendsBeginning (O.written out.old) (O.written out.new) (page.old ++ unmet_line analyser.now.reading analyser.now.groups analyser.now.recording rank need.now)) }
     ensures count { CountsFailure (O.failures out.old) (O.failures out.new) result }
 {
     page.make_room(out)?;
@@ -115,8 +116,8 @@ fn write_needs<O: Output>(
     rank: u16,
     needs: &[Need],
 ) -> Result<(), DeviceFault>
-    ensures ok { OnOk result (Tells (O.written out.old) page.old (O.written out.new) page.new (flat_map (unmet_line analyser.now.groups analyser.now.recording rank) needs.now)) }
-    ensures fault { OnErr result (AppendsBeginning (O.written out.old) (O.written out.new) (page.old ++ flat_map (unmet_line analyser.now.groups analyser.now.recording rank) needs.now)) }
+    ensures ok { OnOk result (Tells (O.written out.old) page.old (O.written out.new) page.new (flat_map (unmet_line analyser.now.reading analyser.now.groups analyser.now.recording rank) needs.now)) }
+    ensures fault { OnErr result (AppendsBeginning (O.written out.old) (O.written out.new) (page.old ++ flat_map (unmet_line analyser.now.reading analyser.now.groups analyser.now.recording rank) needs.now)) }
     ensures count { CountsFailure (O.failures out.old) (O.failures out.new) result }
 {
     for need in needs {
@@ -133,9 +134,9 @@ fn write_rank<O: Output>(
     graph: &Graph,
     rank: u16,
 ) -> Result<(), DeviceFault>
-    requires { IsGraphOf analyser.now.groups analyser.now.recording graph.now }
-    ensures ok { OnOk result (Tells (O.written out.old) page.old (O.written out.new) page.new (rank_lines analyser.now.groups analyser.now.recording rank)) }
-    ensures fault { OnErr result (AppendsBeginning (O.written out.old) (O.written out.new) (page.old ++ rank_lines analyser.now.groups analyser.now.recording rank)) }
+    requires { IsGraphOf analyser.now.reading analyser.now.groups analyser.now.recording graph.now }
+    ensures ok { OnOk result (Tells (O.written out.old) page.old (O.written out.new) page.new (rank_lines analyser.now.reading analyser.now.groups analyser.now.recording rank)) }
+    ensures fault { OnErr result (AppendsBeginning (O.written out.old) (O.written out.new) (page.old ++ rank_lines analyser.now.reading analyser.now.groups analyser.now.recording rank)) }
     ensures count { CountsFailure (O.failures out.old) (O.failures out.new) result }
 {
     write_needs(page, out, analyser, rank, graph.unmet(rank))
@@ -149,9 +150,9 @@ fn write_ranks<O: Output>(
     graph: &Graph,
     ranks: &[u16],
 ) -> Result<(), DeviceFault>
-    requires { IsGraphOf analyser.now.groups analyser.now.recording graph.now }
-    ensures ok { OnOk result (Tells (O.written out.old) page.old (O.written out.new) page.new (flat_map (rank_lines analyser.now.groups analyser.now.recording) ranks.now)) }
-    ensures fault { OnErr result (AppendsBeginning (O.written out.old) (O.written out.new) (page.old ++ flat_map (rank_lines analyser.now.groups analyser.now.recording) ranks.now)) }
+    requires { IsGraphOf analyser.now.reading analyser.now.groups analyser.now.recording graph.now }
+    ensures ok { OnOk result (Tells (O.written out.old) page.old (O.written out.new) page.new (flat_map (rank_lines analyser.now.reading analyser.now.groups analyser.now.recording) ranks.now)) }
+    ensures fault { OnErr result (AppendsBeginning (O.written out.old) (O.written out.new) (page.old ++ flat_map (rank_lines analyser.now.reading analyser.now.groups analyser.now.recording) ranks.now)) }
     ensures count { CountsFailure (O.failures out.old) (O.failures out.new) result }
 {
     for rank in ranks {
@@ -365,9 +366,9 @@ pub(crate) fn write_text<O: Output>(
     graph: &Graph,
     out: &mut O,
 ) -> Result<(), DeviceFault>
-    requires { IsGraphOf analyser.now.groups analyser.now.recording graph.now }
-    ensures ok { OnOk result (Appends (O.written out.old) (O.written out.new) (text_report analyser.now.groups analyser.now.recording)) }
-    ensures fault { OnErr result (AppendsBeginning (O.written out.old) (O.written out.new) (text_report analyser.now.groups analyser.now.recording)) }
+    requires { IsGraphOf analyser.now.reading analyser.now.groups analyser.now.recording graph.now }
+    ensures ok { OnOk result (Appends (O.written out.old) (O.written out.new) (text_report analyser.now.reading analyser.now.groups analyser.now.recording)) }
+    ensures fault { OnErr result (AppendsBeginning (O.written out.old) (O.written out.new) (text_report analyser.now.reading analyser.now.groups analyser.now.recording)) }
     ensures count { CountsFailure (O.failures out.old) (O.failures out.new) result }
 {
     let mut page = Page::new();

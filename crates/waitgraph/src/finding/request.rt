@@ -1,4 +1,4 @@
-//! Requests that are started and that no wait completes.
+//! Requests that are started and that no wait completes, nor can any more.
 
 ghost use Rattle.std.specs.Prelude.{◌≡◌, ℕ, ◌<◌, ◌++◌, ◌||◌, false, length, slice_index_or, option_and_then, IfOk, OnOk};
 ghost use Rattle.pairing.specs.Recordings.{calls_of};
@@ -9,6 +9,7 @@ ghost use Rattle.waitgraph.specs.Findings.{request_at, requests_of};
 
 use crate::finding::Finding;
 use crate::finding::extent::{calls, ranks};
+use crate::standing::is_left_open;
 use pairing::pairs::Pairs;
 use std::alloc::{AllocError, Global};
 
@@ -81,7 +82,7 @@ fn add_at(
 {
     match started_req(pairs, rank, place) {
         Some(req) => {
-            if !is_completed {
+            if !is_completed && !is_left_open(pairs, rank) {
                 findings.push(Finding::Request { rank, place, req })?;
             }
             Ok(())

@@ -1,12 +1,13 @@
-//! Messages that are sent and that nobody receives.
+//! Messages that are sent and that nobody receives, nor can any more.
 
 ghost use Rattle.std.specs.Prelude.{◌≡◌, ◌++◌, is_some, option_and_then, OnOk};
 ghost use Rattle.pairing.specs.Envelopes.{message_of};
 ghost use Rattle.waitgraph.specs.Places.{call_at, over_places};
-ghost use Rattle.waitgraph.specs.Findings.{is_unreceived, unreceived_at, unreceived_of};
+ghost use Rattle.waitgraph.specs.Findings.{is_unreceived, may_yet_receive, receiver_of, unreceived_at, unreceived_of};
 
 use crate::finding::Finding;
 use crate::finding::extent::{calls, ranks};
+use crate::standing::is_left_open;
 use pairing::envelope::Half;
 use pairing::pairs::Pairs;
 use std::alloc::AllocError;
@@ -20,10 +21,28 @@ fn sends(pairs: &Pairs, rank: u16, place: u32) -> bool
     }
 }
 
+/// The rank to which the call at the place sends.
+fn receiver_of(pairs: &Pairs, rank: u16, place: u32) -> Option<u16>
+    ensures { result ≡ receiver_of pairs.now.groups pairs.now.recording rank place }
+{
+    let message = pairs.call(rank, place)?.message(Half::Send)?;
+    pairs.head().world_rank(message.comm, message.peer)
+}
+
 fn is_unreceived(pairs: &Pairs, rank: u16, place: u32) -> bool
     ensures { result ≡ is_unreceived pairs.now.groups pairs.now.recording rank place }
 {
     sends(pairs, rank, place) && pairs.partner(rank, place, Half::Send).is_none()
+}
+
+/// Whether the receive of the message may yet come: the list of its receiver was left open.
+fn may_yet_receive(pairs: &Pairs, rank: u16, place: u32) -> bool
+    ensures { result ≡ may_yet_receive pairs.now.groups pairs.now.recording rank place }
+{
+    match receiver_of(pairs, rank, place) {
+        Some(receiver) => is_left_open(pairs, receiver),
+        None => false,
+    }
 }
 
 #[tactic(auto, unfolding(crate::specs::Findings::unreceived_at))]
@@ -35,7 +54,7 @@ fn add_at(
 ) -> Result<(), AllocError>
     ensures { OnOk result (findings.new.items ≡ findings.old.items ++ unreceived_at pairs.now.groups pairs.now.recording rank place) }
 {
-    if is_unreceived(pairs, rank, place) {
+    if is_unreceived(pairs, rank, place) && !may_yet_receive(pairs, rank, place) {
         findings.push(Finding::Unreceived { rank, place })?;
     }
     Ok(())

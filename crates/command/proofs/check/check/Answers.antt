@@ -16,7 +16,7 @@ pub returns-in-Ok-clause-written : goal.returns-in-Ok-clause-written
 returns-in-Ok-clause-written g c =
     let told = λ (file : Bor (List ℕ)). g.P.Opener.told c.args.opener.now file.now in (
       c.in-Ok.ensures.written.0,
-      report_says g.P.In.Input.left _ c.in_ok-head.head c.args.format c.in-Ok.verdict _ _ (map told c.args.files.now) c.in_ok-head.ensures.head
+      report_says g.P.In.Input.left _ c.args.reading c.in_ok-head.head c.args.format c.in-Ok.verdict _ _ (map told c.args.files.now) c.in_ok-head.ensures.head
           (λ texts files_are. tells_texts _ told c.args.files.now texts c.in_ok-sources.ensures.told files_are)
           c.in-Ok.ensures.written.1,
       c.in-Ok.ensures.written.2,

@@ -20,3 +20,6 @@ returns-in-Dup c = rw c.in-Dup.is (fixed_reads _ _ _ _ _ _ _ refl c.read_dup.ens
 
 pub returns-in-Split : goal.returns-in-Split
 returns-in-Split c = rw c.in-Split.is (fixed_reads _ _ _ _ _ _ _ refl c.read_split.ensures c.is_some-in-Split.ensures)
+
+pub returns-in-Probe : goal.returns-in-Probe
+returns-in-Probe c = rw c.in-Probe.is (fixed_reads _ _ _ _ _ _ _ refl c.read_probe.ensures c.is_some-in-Probe.ensures)

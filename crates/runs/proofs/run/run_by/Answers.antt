@@ -6,8 +6,8 @@ use Rattle.runs.proofs.run.run_by.Goals as goal
 
 pub returns-in-Ok-clause-verdict : goal.returns-in-Ok-clause-verdict
 returns-in-Ok-clause-verdict g c =
-    run_verdict g.I.Input.left c.args.head _ c.args.sources.items _ c.report.result c.requires.one_a_rank c.in-Ok.ensures.ok.over.same_groups
-    (accepts_all g.I.Input.left (g.G.Gate.may_stop c.args.gate.now) c.args.sources.items c.args.head c.in-Ok.outcome c.requires.one_a_rank c.in-Ok.ensures.ok) c.report.ensures.value c.report.ensures.hang
+    run_verdict g.I.Input.left c.args.reading _ c.args.head _ c.args.sources.items _ c.report.result c.requires.one_a_rank c.in-Ok.ensures.ok.over.same_reading c.in-Ok.ensures.ok.over.same_groups
+    (accepts_all g.I.Input.left (g.G.Gate.may_stop c.args.gate.now) c.args.sources.items c.args.reading c.args.head c.in-Ok.outcome c.requires.one_a_rank c.in-Ok.ensures.ok) c.report.ensures.value
 
 pub returns-in-Ok-clause-refused : goal.returns-in-Ok-clause-refused
 returns-in-Ok-clause-refused g c =
@@ -21,13 +21,13 @@ returns-in-Ok-clause-stopped g c = report_stops g.O.Output.written g.O.Output.fa
 
 pub returns-in-Ok-clause-written : goal.returns-in-Ok-clause-written
 returns-in-Ok-clause-written g c =
-    run_written g.I.Input.left g.O.Output.written g.O.Output.failures c.args.head _ c.args.sources.items _ c.args.format _ _ c.report.result c.requires.one_a_rank c.in-Ok.ensures.ok.over.same_groups
-    (accepts_all g.I.Input.left (g.G.Gate.may_stop c.args.gate.now) c.args.sources.items c.args.head c.in-Ok.outcome c.requires.one_a_rank c.in-Ok.ensures.ok) c.report.ensures.value c.report.ensures.written
+    run_written g.I.Input.left g.O.Output.written g.O.Output.failures c.args.reading _ c.args.head _ c.args.sources.items _ c.args.format _ _ c.report.result c.requires.one_a_rank c.in-Ok.ensures.ok.over.same_reading c.in-Ok.ensures.ok.over.same_groups
+    (accepts_all g.I.Input.left (g.G.Gate.may_stop c.args.gate.now) c.args.sources.items c.args.reading c.args.head c.in-Ok.outcome c.requires.one_a_rank c.in-Ok.ensures.ok) c.report.ensures.value c.report.ensures.written
 
 pub returns-in-Ok-clause-output : goal.returns-in-Ok-clause-output
 returns-in-Ok-clause-output g c =
-    run_output g.I.Input.left g.O.Output.written g.O.Output.failures c.args.head _ c.args.sources.items _ c.args.format _ _ c.report.result c.requires.one_a_rank c.in-Ok.ensures.ok.over.same_groups
-    (accepts_all g.I.Input.left (g.G.Gate.may_stop c.args.gate.now) c.args.sources.items c.args.head c.in-Ok.outcome c.requires.one_a_rank c.in-Ok.ensures.ok) c.report.ensures.fault
+    run_output g.I.Input.left g.O.Output.written g.O.Output.failures c.args.reading _ c.args.head _ c.args.sources.items _ c.args.format _ _ c.report.result c.requires.one_a_rank c.in-Ok.ensures.ok.over.same_reading c.in-Ok.ensures.ok.over.same_groups
+    (accepts_all g.I.Input.left (g.G.Gate.may_stop c.args.gate.now) c.args.sources.items c.args.reading c.args.head c.in-Ok.outcome c.requires.one_a_rank c.in-Ok.ensures.ok) c.report.ensures.fault
 
 pub returns-in-Err-clause-refused : goal.returns-in-Err-clause-refused
 returns-in-Err-clause-refused g c traces tells =
@@ -35,4 +35,4 @@ returns-in-Err-clause-refused g c traces tells =
 
 pub returns-in-Err-clause-output : goal.returns-in-Err-clause-output
 returns-in-Err-clause-output g c =
-    close_output g.I.Input.left g.O.Output.written g.O.Output.failures c.args.head c.args.sources.items c.args.format c.args.out.now c.in-Err.fault c.fault_of_close.result c.fault_of_close.ensures
+    close_output g.I.Input.left g.O.Output.written g.O.Output.failures c.args.reading c.args.head c.args.sources.items c.args.format c.args.out.now c.in-Err.fault c.fault_of_close.result c.fault_of_close.ensures

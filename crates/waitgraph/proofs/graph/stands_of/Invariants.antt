@@ -6,5 +6,5 @@ use Rattle.waitgraph.proofs.graph.stands_of.Given as goal
 abbrev pub invariant-loop-rank : goal.invariant-loop-rank
 invariant-loop-rank l = record {
   so_far : l.stands.items ≡ take l.rank l.analyser.stands;
-  told : 0 < l.rank → l.analyser.stands ≡ stands_of l.analyser.groups l.analyser.recording;
+  told : 0 < l.rank → l.analyser.stands ≡ stands_of l.analyser.reading l.analyser.groups l.analyser.recording;
 }

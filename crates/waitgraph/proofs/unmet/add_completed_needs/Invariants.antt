@@ -7,4 +7,4 @@ use Rattle.waitgraph.proofs.unmet.add_completed_needs.Given as goal
 
 -- what each request so far still needs
 abbrev pub invariant-loop-index : goal.invariant-loop-index
-invariant-loop-index l = l.unmet ≡ with_needs l.fn.unmet (filter (is_unmet l.stands) (flat_map (request_needs l.pairs.groups l.pairs.recording l.rank l.place) (take l.index (completes l.call))))
+invariant-loop-index l = l.unmet ≡ with_needs l.fn.unmet (filter (is_unmet l.stands) (flat_map (request_needs l.reading l.pairs.groups l.pairs.recording l.rank l.place) (take l.index (completes l.call))))

@@ -10,5 +10,5 @@ unfolding unmet_at
 returns c =
     let p = c.args.pairs.now in
     c.in_ok-add_needs.ensures
-    ∙ ap (λ (needs : List Need). with_needs needs (filter (is_unmet c.args.stands.now) (needs_of p.groups p.recording c.args.rank c.stand_of.result))) c.new-unmet.ensures
-    ∙ ap (λ (stand : ℕ). with_needs [] (filter (is_unmet c.args.stands.now) (needs_of p.groups p.recording c.args.rank stand))) c.stand_of.ensures
+    ∙ ap (λ (needs : List Need). with_needs needs (filter (is_unmet c.args.stands.now) (needs_of c.args.reading p.groups p.recording c.args.rank c.stand_of.result))) c.new-unmet.ensures
+    ∙ ap (λ (stand : ℕ). with_needs [] (filter (is_unmet c.args.stands.now) (needs_of c.args.reading p.groups p.recording c.args.rank stand))) c.stand_of.ensures

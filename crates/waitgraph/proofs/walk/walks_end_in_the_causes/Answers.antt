@@ -1,4 +1,4 @@
-use Rattle.waitgraph.proofs.StuckLemmas.{walks_end_in_the_causes}
+use Rattle.waitgraph.proofs.WalkingLemmas.{walks_end_in_the_causes}
 use Rattle.waitgraph.proofs.walk.walks_end_in_the_causes.Goals as goal
 
 pub returns : goal.returns

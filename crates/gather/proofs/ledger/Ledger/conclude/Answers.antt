@@ -14,4 +14,4 @@ returns-in-None c =
     let told = c.fault.ensures in
     let calm = told.calm c.in-None.is in
     let none = told.none c.in-None.is in
-    of_outcome c.args.self c.into_analyser.result c.of.result calm none (c.requires calm none told.lawful) c.into_analyser.ensures.groups c.into_analyser.ensures.recording c.of.ensures.ok c.of.ensures.fault
+    of_outcome c.args.self c.into_analyser.result c.of.result calm none (c.requires calm none told.lawful) c.into_analyser.ensures.reading c.into_analyser.ensures.groups c.into_analyser.ensures.recording c.of.ensures.ok c.of.ensures.fault

@@ -1,13 +1,46 @@
-use Rattle.std.proofs.Common.{◌≡◌, ◌↔◌, sym, ap, subst, ◌∙◌}
-use Rattle.waitgraph.specs.Verdicts.{verdict_by, verdict_of, SomeRankIsStuck}
+-- The verdict of the graph is that of the recording.
+use Rattle.std.proofs.Common.{◌≡◌, ◌↔◌, ◌<◌, ℕ, false, length, sym, ap₂, subst, ◌∙◌}
+use mathlib.Core.Bool.{Bool-set}
+use Rattle.std.proofs.Math.Logic.{∥∥₁_elim}
+use Rattle.mpigroup.specs.Groups.{Groups}
+use Rattle.moves.specs.declared.reading.Reading.{Reading}
+use Rattle.pairing.specs.Recordings.{Lists, IsClosed}
+use Rattle.waitgraph.specs.Held.{is_held, is_some_left_open}
+use Rattle.waitgraph.specs.Stuck.{is_stuck}
+use Rattle.waitgraph.specs.Verdicts.{verdict_by, verdict_of, SomeRankIsHeld, SomeRankIsStuck}
 use Rattle.waitgraph.specs.declared.verdict.Verdict.{Verdict}
 use Rattle.waitgraph.specs.declared.verdict.Verdict.TheVariants.{Hang}
-use Rattle.waitgraph.proofs.VerdictLemmas.{hang_tells_of_a_stuck_rank}
+use Rattle.waitgraph.proofs.VerdictLemmas.{hang_tells_of_a_held_rank, without_open_the_stuck_are_held}
 use Rattle.gather.proofs.outcome.Outcome.verdict.Goals as goal
+
+-- without an open list the held ranks are the stuck ones
+hang_by_stuck : (reading : Reading) (groups : Groups) (recording : Lists) → ∥ IsClosed recording ∥₁ → is_some_left_open recording ≡ false → (verdict_of reading groups recording ≡ Hang) ↔ SomeRankIsStuck reading groups recording
+hang_by_stuck reading groups recording closed none =
+    let both = hang_tells_of_a_held_rank reading groups recording in
+    let same : (rank : ℕ) → rank < length recording → is_held reading groups recording rank ≡ is_stuck reading groups recording rank =
+    λ rank within. ∥∥₁_elim closed (Bool-set _ _) (λ are. without_open_the_stuck_are_held reading groups recording are none rank within) in (
+      λ hang.
+          let held = both.0 hang in
+          record { rank = held.rank; is_rank = held.is_rank; stays = sym (same held.rank held.is_rank) ∙ held.stays },
+      λ stuck.
+          both.1 (record { rank = stuck.rank; is_rank = stuck.is_rank; stays = same stuck.rank stuck.is_rank ∙ stuck.stays }),
+    )
+
+pub returns-clause-value : goal.returns-clause-value
+returns-clause-value c = c.verdict.ensures ∙ ap₂ verdict_by c.args.self.now.waits.held c.args.self.now.waits.left_open
 
 pub returns-clause-hang : goal.returns-clause-hang
 returns-clause-hang c =
+    let reading = c.args.self.now.analyser.reading in
     let groups = c.args.self.now.analyser.groups in
     let recording = c.args.self.now.analyser.recording in
-    let same : c.verdict.result ≡ verdict_of groups recording = c.verdict.ensures ∙ ap verdict_by c.args.self.now.waits.stuck in
-    subst (λ (verdict : Verdict). (verdict ≡ Hang) ↔ SomeRankIsStuck groups recording) (sym same) (hang_tells_of_a_stuck_rank groups recording)
+    let same = c.verdict.ensures ∙ ap₂ verdict_by c.args.self.now.waits.held c.args.self.now.waits.left_open in
+    subst (λ (verdict : Verdict). (verdict ≡ Hang) ↔ SomeRankIsHeld reading groups recording) (sym same) (hang_tells_of_a_held_rank reading groups recording)
+
+pub returns-clause-closed : goal.returns-clause-closed
+returns-clause-closed c none =
+    let reading = c.args.self.now.analyser.reading in
+    let groups = c.args.self.now.analyser.groups in
+    let recording = c.args.self.now.analyser.recording in
+    let same = c.verdict.ensures ∙ ap₂ verdict_by c.args.self.now.waits.held c.args.self.now.waits.left_open in
+    subst (λ (verdict : Verdict). (verdict ≡ Hang) ↔ SomeRankIsStuck reading groups recording) (sym same) (hang_by_stuck reading groups recording c.args.self.now.closed none)

@@ -8,6 +8,6 @@ pub returns-clause-most : goal.returns-clause-most
 returns-clause-most c =
     let a = c.self.inside in
     let is : touches_of a.waves a.waiters ≡ c.saturating_add.result = search rules in
-    let within = touches_within a.pairs.groups a.pairs.recording a.stands.items a.waves a.waiters c.self.invariant in
+    let within = touches_within a.reading a.pairs.groups a.pairs.recording a.stands.items a.waves a.waiters c.self.invariant in
     subst (λ n. n ≤ most_touches c.args.self.now.recording) is
     (subst (λ (b : Analysed). touches_of a.waves a.waiters ≤ most_touches b.recording) c.self.view_is within)

@@ -10,9 +10,9 @@ use Rattle.reports.proofs.report.text.push_unmet.Goals as goal
 
 pub returns : goal.returns
 returns c =
-    let stands = stands_of c.args.analyser.now.groups c.args.analyser.now.recording in
+    let stands = stands_of c.args.analyser.now.reading c.args.analyser.now.groups c.args.analyser.now.recording in
     let page = c.args.page.now in
-    let present = present_fields c.args.analyser.now.groups c.args.analyser.now.recording c.args.rank in
+    let present = present_fields c.args.analyser.now.reading c.args.analyser.now.groups c.args.analyser.now.recording c.args.rank in
     let need = need_fields c.args.need.now in
     let first : List (List ℕ) = decimal c.args.rank ∷ codes "at" ∷ decimal (slice_index stands c.args.rank) ∷ present in
     let so_far : c.push_call_at.new.page ≡ with_fields (page ++ codes "rank") first =

@@ -7,5 +7,5 @@ use Rattle.reports.proofs.report.text.stand_of.Goals as goal
 
 pub returns-in-None : goal.returns-in-None
 returns-in-None c =
-    let stands = stands_of c.args.analyser.now.groups c.args.analyser.now.recording in
+    let stands = stands_of c.args.analyser.now.reading c.args.analyser.now.groups c.args.analyser.now.recording in
     rw c.stand.ensures.stands at (ap (λ (stand : Option ℕ). unwrap_or stand 0) (sym c.in-None.is ∙ c.stand.ensures.value) ∙ unwrap_or-slice_get c.args.analyser.now.stands c.args.rank 0)

@@ -16,7 +16,7 @@ one_more stands places rank at stand here is below len so_far =
 
 pub loop-rank-preserved : goal.loop-rank-preserved
 loop-rank-preserved c =
-    let stands = stands_of c.args.analyser.now.groups c.args.analyser.now.recording in
+    let stands = stands_of c.args.analyser.now.reading c.args.analyser.now.groups c.args.analyser.now.recording in
     let stand : c.unwrap_or.result ≡ get_or stands c.loop-rank.rank 0 =
     c.unwrap_or.ensures ∙ ap (λ found. unwrap_or found 0) c.stand.ensures.value
     ∙ unwrap_or-slice_get c.args.analyser.now.stands c.loop-rank.rank 0
@@ -27,4 +27,4 @@ loop-rank-preserved c =
 
 pub returns : goal.returns
 unfolding places_of
-returns c = fill_by_all (λ k. get_or (stands_of c.args.analyser.now.groups c.args.analyser.now.recording) k 0) c.loop-rank.places MOST_RANKS 0 c.loop-rank.invariant.len (λ k below. c.loop-rank.invariant.stands k (omega (arith, below, c.loop-rank-test.false)))
+returns c = fill_by_all (λ k. get_or (stands_of c.args.analyser.now.reading c.args.analyser.now.groups c.args.analyser.now.recording) k 0) c.loop-rank.places MOST_RANKS 0 c.loop-rank.invariant.len (λ k below. c.loop-rank.invariant.stands k (omega (arith, below, c.loop-rank-test.false)))

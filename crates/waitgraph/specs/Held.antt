@@ -1,0 +1,66 @@
+-- Over recordings: lists that were left open, where the ranks of a run stand, and the held ranks.
+use Rattle.moves.specs.declared.reading.Reading.{Reading}
+use Rattle.std.specs.Prelude.{ℕ, ◌-◌, Bool, true, false, Option, Some, List, length, map, slice_get, slice_index}
+use Rattle.std.specs.List.{filter, list_any, range_with_len}
+use Rattle.std.specs.Option.{option_map_or}
+use Rattle.mpicall.specs.declared.call.Call.{Call}
+use Rattle.mpicall.specs.declared.call.Call.TheVariants.{Finalize, Open}
+use Rattle.mpigroup.specs.Groups.{Groups}
+use Rattle.pairing.specs.Recordings.{Lists, calls_of}
+use Rattle.moves.specs.Runs.{State}
+use Rattle.moves.specs.Stands.{stands_of}
+use Rattle.waitgraph.specs.Least.{Set}
+use Rattle.waitgraph.specs.Loose.{set_of, are_held}
+use Rattle.waitgraph.specs.Waits.{waits_at}
+use Rattle.waitgraph.specs.declared.standing.Standing.{Standing}
+use Rattle.waitgraph.specs.declared.standing.Standing.TheVariants.{AtFinalize, AtOpen, Stuck}
+
+-- the call says that its rank's list was left open
+abbrev pub leaves_open : Call → Bool
+leaves_open Open = true
+leaves_open _ = false
+
+-- the last call of the rank's list says so
+abbrev pub is_left_open : Lists → ℕ → Bool
+is_left_open recording rank = option_map_or leaves_open (slice_get (calls_of recording rank) (length (calls_of recording rank) - 1)) false
+
+-- of each rank, whether its list was left open
+abbrev pub left_open_in : Lists → List Bool
+left_open_in recording = map (is_left_open recording) (range_with_len 0 (length recording))
+
+-- the ranks whose lists were left open
+abbrev pub opened_of : Lists → Set
+opened_of recording = set_of (left_open_in recording)
+
+-- some list was left open
+abbrev pub is_some_left_open : Lists → Bool
+is_some_left_open recording = list_any (λ open_list. open_list) (left_open_in recording)
+
+-- where a rank with this present call stands
+abbrev pub standing_by : Option Call → Standing
+standing_by (Some Finalize) = AtFinalize
+standing_by (Some Open) = AtOpen
+standing_by _ = Stuck
+
+abbrev pub standing_at : Lists → State → ℕ → Standing
+standing_at recording stands rank = standing_by (slice_get (calls_of recording rank) (slice_index stands rank))
+
+-- and each rank
+abbrev pub standings_at : Lists → State → List Standing
+standings_at recording stands = map (standing_at recording stands) (range_with_len 0 (length recording))
+
+-- a rank is held in a state
+abbrev pub is_held_in : Reading → Groups → Lists → State → ℕ → Bool
+is_held_in reading groups recording stands = are_held (opened_of recording) (standings_at recording stands) (waits_at reading groups recording stands)
+
+-- the held ranks in a state, the lowest first
+abbrev pub held_at : Reading → Groups → Lists → State → List ℕ
+held_at reading groups recording stands = filter (is_held_in reading groups recording stands) (range_with_len 0 (length recording))
+
+-- a rank is held if it is so at the stands
+abbrev pub is_held : Reading → Groups → Lists → ℕ → Bool
+is_held reading groups recording = is_held_in reading groups recording (stands_of reading groups recording)
+
+-- the held ranks
+abbrev pub held_of : Reading → Groups → Lists → List ℕ
+held_of reading groups recording = held_at reading groups recording (stands_of reading groups recording)

@@ -1,0 +1,26 @@
+-- What each rank waits for where it stands: the needs of its present call that aren't met there.
+use Rattle.moves.specs.declared.reading.Reading.{Reading}
+use Rattle.std.specs.Prelude.{ℕ, unwrap_or, List, [], length, map, slice_get}
+use Rattle.std.specs.List.{range_with_len}
+use Rattle.mpigroup.specs.Groups.{Groups}
+use Rattle.pairing.specs.Recordings.{Lists}
+use Rattle.moves.specs.Runs.{State}
+use Rattle.moves.specs.Stands.{stands_of}
+use Rattle.moves.specs.declared.need.Need.{Need}
+use Rattle.waitgraph.specs.Stuck.{unmet_at}
+
+-- what each rank waits for: its unmet needs
+abbrev pub Waits : Type 0
+Waits = List (List Need)
+
+-- the unmet needs of each rank in a state
+abbrev pub waits_at : Reading → Groups → Lists → State → Waits
+waits_at reading groups recording stands = map (unmet_at reading groups recording stands) (range_with_len 0 (length recording))
+
+-- and at the stands
+abbrev pub waits_of : Reading → Groups → Lists → Waits
+waits_of reading groups recording = waits_at reading groups recording (stands_of reading groups recording)
+
+-- the unmet needs of a rank; none where there is no such rank
+abbrev pub needs_in : Waits → ℕ → List Need
+needs_in waits rank = unwrap_or (slice_get waits rank) []

@@ -1,0 +1,89 @@
+//! Where ranks stand, and which lists were left open.
+
+ghost use Rattle.std.specs.Prelude.{◌≡◌, ◌<◌, IfOk, length};
+ghost use Rattle.std.specs.List.{list_any};
+ghost use Rattle.waitgraph.specs.Held.{is_left_open, left_open_in, leaves_open, standing_at, standings_at};
+
+use crate::unmet::stand_of;
+use mpicall::call::Call;
+use pairing::pairs::Pairs;
+use pairing::stored::StoredCall;
+use std::alloc::{AllocError, Global};
+
+/// Where a rank of a run comes to stand.
+#[derive(Clone, Copy, PartialEq, Eq)]
+pub enum Standing {
+    /// At its Finalize.
+    AtFinalize,
+    /// At the end of its list, which was left open.
+    AtOpen,
+    /// At a call that it doesn't complete.
+    Stuck,
+}
+
+/// Whether the call says that its rank's list was left open.
+fn leaves_open(call: &StoredCall<'_>) -> bool
+    ensures { result ≡ leaves_open call.now }
+{
+    matches!(call.record().as_call(), Call::Open)
+}
+
+/// Whether the rank's list was left open.
+pub(crate) fn is_left_open(pairs: &Pairs, rank: u16) -> bool
+    ensures { result ≡ is_left_open pairs.now.recording rank }
+{
+    let count = pairs.accepted(rank).unwrap_or(0);
+    if count == 0 {
+        return false;
+    }
+    match pairs.call(rank, count - 1) {
+        Some(call) => leaves_open(&call),
+        None => false,
+    }
+}
+
+/// Of each rank, whether its list was left open.
+pub(crate) fn left_open_in(alloc: Global, pairs: &Pairs) -> Result<Vec<bool>, AllocError>
+    ensures { IfOk result (λ marks. marks.items ≡ left_open_in pairs.now.recording) }
+{
+    let mut marks = Vec::new(alloc);
+    for rank in 0..pairs.head().ranks() {
+        marks.push(is_left_open(pairs, rank))?;
+    }
+    Ok(marks)
+}
+
+/// Whether one of the lists was.
+pub(crate) fn is_some(marks: &[bool]) -> bool
+    ensures { result ≡ list_any (λ open_list. open_list) marks.now }
+{
+    marks.iter().any(|mark| *mark)
+}
+
+/// Where the rank stands.
+fn standing_at(pairs: &Pairs, stands: &[u32], rank: u16) -> Standing
+    ensures { result ≡ standing_at pairs.now.recording stands.now rank }
+{
+    match pairs.call(rank, stand_of(stands, rank)) {
+        Some(call) if !call.ends_list() => Standing::Stuck,
+        Some(call) if leaves_open(&call) => Standing::AtOpen,
+        Some(_) => Standing::AtFinalize,
+        None => Standing::Stuck,
+    }
+}
+
+/// And each rank.
+pub(crate) fn standings_at(
+    alloc: Global,
+    pairs: &Pairs,
+    stands: &[u32],
+) -> Result<Vec<Standing>, AllocError>
+    ensures value { IfOk result (λ standings. standings.items ≡ standings_at pairs.now.recording stands.now) }
+    ensures few { IfOk result (λ standings. length standings.items < 65536) }
+{
+    let mut standings = Vec::new(alloc);
+    for rank in 0..pairs.head().ranks() {
+        standings.push(standing_at(pairs, stands, rank))?;
+    }
+    Ok(standings)
+}
