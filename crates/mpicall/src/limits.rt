@@ -1,10 +1,10 @@
 //! The limits of a trace, each standing here once; definitions cite these constants.
 
 /// The greatest communicator number; 0 is the world.
-pub const GREATEST_COMM: u16 = 255;
+pub const GREATEST_COMM: u16 = 4095;
 
 /// The greatest rank of a run.
-pub const GREATEST_RANK: u16 = 63;
+pub const GREATEST_RANK: u16 = 1023;
 
 /// The greatest tag of a message.
 pub const GREATEST_TAG: u32 = 2_147_483_647;

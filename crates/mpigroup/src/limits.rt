@@ -9,7 +9,7 @@ pub const MOST_RANKS: u16 = GREATEST_RANK + 1;
 pub const MOST_COMMS: u16 = GREATEST_COMM + 1;
 
 /// The most bytes of a head's line, its line feed counted.
-pub const MOST_HEAD_LINE_BYTES: usize = 1024;
+pub const MOST_HEAD_LINE_BYTES: usize = 4096;
 
 /// So many bytes of a text decide what it says, or all where it has fewer: all lines that a head may
 /// have, at their greatest length, and one byte that shows whether there is a further one.
