@@ -1,6 +1,7 @@
 """The program mpiwait, as the companions here run it. An unproved companion of mpiwait, as all of tools/."""
 
 import os
+import resource
 import subprocess
 import sys
 import tempfile
@@ -22,6 +23,9 @@ class Checker:
     def __init__(self):
         self.path = os.environ.get("MPIWAIT") or str(Path(__file__).resolve().parent.parent / "mpiwait")
         self._known = {}
+        # A check has a file open for each rank.
+        most = resource.getrlimit(resource.RLIMIT_NOFILE)[1]
+        resource.setrlimit(resource.RLIMIT_NOFILE, (most, most))
 
     def run(self, *words):
         try:

@@ -134,22 +134,38 @@ class Places:
 
 
 def look_up(frame):
-    """`FILE:LINE` for a frame `MODULE+0xOFFSET`, where that is known; else itself, and the symbol before it.
-    The offset is that of the return, which may lie behind the line of the call."""
+    """`FILE:LINE` for a frame `MODULE+0xOFFSET`, where that is known; else the function, where one has a symbol, and
+    the frame. The offset is that of the return, which may lie behind the line of the call."""
     module, plus, offset = frame.rpartition("+0x")
     if not plus:
         return short(frame)
-    try:
-        said = subprocess.run(
-            ["addr2line", "-f", "-C", "-e", module, hex(int(offset, 16) - 1)], capture_output=True, text=True, check=False
-        ).stdout.splitlines()
-    except OSError:
-        said = []
-    function, line = said if len(said) == 2 else ("??", "??:0")
-    if not line.startswith("??"):
+    place = int(offset, 16) - 1
+    line = said_by("addr2line", "-e", module, hex(place)).strip()
+    if line and not line.startswith("??"):
         return short(line.split(" (")[0])
     name = f"{Path(module).name}+0x{offset}"
-    return f"{name} (behind the symbol {function[:60]})" if function != "??" else name
+    function = next((function for start, end, function in functions(module) if start <= place < end), None)
+    return f"{shortened(function)} ({name})" if function else name
+
+
+@cache
+def functions(module):
+    """The functions that a module's tables of symbols tell: beginning, end and name."""
+    lines = [line.split(" ", 3) for table in ("-a", "-D") for line in said_by("nm", table, "-CS", module).splitlines()]
+    sized = [line for line in lines if len(line) == 4 and line[2] in set("tTwW")]
+    return [(int(start, 16), int(start, 16) + int(size, 16), name) for start, size, _, name in sized]
+
+
+def said_by(*words):
+    """What a tool of binutils says; nothing where it isn't there or fails."""
+    try:
+        return subprocess.run(words, capture_output=True, text=True, errors="replace", check=False).stdout
+    except OSError:
+        return ""
+
+
+def shortened(name):
+    return name if len(name) <= 60 else name[:58] + ".."
 
 
 def short(line):

@@ -49,6 +49,9 @@ bool begins(void *caller);
 int ended(int result);
 #define CALL(Name, args) ended((inside++, REAL(Name) args))
 
+/* The list within a pair of brackets, so that a macro can take it as one word. */
+#define UNPACK(...) __VA_ARGS__
+
 #define FIELDS(...) sizeof((Field[]){__VA_ARGS__}) / sizeof(Field), (Field[]){__VA_ARGS__}
 #define PUT(word, ...) journal_call(word, FIELDS(__VA_ARGS__), here)
 #define TOLD(word, ...) journal_told(word, FIELDS(__VA_ARGS__))

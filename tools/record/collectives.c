@@ -2,8 +2,6 @@
 #define _GNU_SOURCE
 #include "calls.h"
 
-#define UNPACK(...) __VA_ARGS__
-
 /* Both forms of a collective: names, words, root, parameters and arguments without the last. */
 #define COLLECTIVE(Name, Iname, word, root, params, args) \
     int MPI_##Name(UNPACK params MPI_Comm comm) { \

@@ -62,19 +62,25 @@ ISEND(Issend, "issend")
 ISEND(Ibsend, "ibsend")
 ISEND(Irsend, "irsend")
 
-int MPI_Recv(void *data, int count, MPI_Datatype type, int source, int tag, MPI_Comm comm, MPI_Status *status) {
-    MPI_Status mine, *told = status;
-    int number = BEGINS ? numbered(comm, unnumbered) : UNNUMBERED;
-    bool wild = number != UNNUMBERED && is_wild(source, tag);
-    if (number != UNNUMBERED)
-        PUT("recv", number, peer(source), tag_from(source, tag));
-    if (wild && status == MPI_STATUS_IGNORE)
-        told = &mine;
-    int result = CALL(Recv, (data, count, type, source, tag, comm, told));
-    tell_message(wild, result, told);
-    return result;
-}
-ALSO_PMPI(Recv)
+/* Calls that come back with a message, with what stands before the source: the status tells whose it was, if
+ * the call left that open. */
+#define RECEIVE(Name, word, params, args) \
+    int MPI_##Name(UNPACK params int source, int tag, MPI_Comm comm, MPI_Status *status) { \
+        MPI_Status mine, *told = status; \
+        int number = BEGINS ? numbered(comm, unnumbered) : UNNUMBERED; \
+        bool wild = number != UNNUMBERED && is_wild(source, tag); \
+        if (number != UNNUMBERED) \
+            PUT(word, number, peer(source), tag_from(source, tag)); \
+        if (wild && status == MPI_STATUS_IGNORE) \
+            told = &mine; \
+        int result = CALL(Name, (UNPACK args source, tag, comm, told)); \
+        tell_message(wild, result, told); \
+        return result; \
+    } \
+    ALSO_PMPI(Name)
+
+RECEIVE(Recv, "recv", (void *data, int count, MPI_Datatype type, ), (data, count, type, ))
+RECEIVE(Probe, "probe", (), ())
 
 int MPI_Irecv(void *data, int count, MPI_Datatype type, int source, int tag, MPI_Comm comm, MPI_Request *handle) {
     int number = BEGINS ? numbered(comm, unnumbered) : UNNUMBERED, request = next_request;
@@ -87,38 +93,29 @@ int MPI_Irecv(void *data, int count, MPI_Datatype type, int source, int tag, MPI
 }
 ALSO_PMPI(Irecv)
 
-int MPI_Sendrecv(const void *out, int out_count, MPI_Datatype out_type, int dest, int out_tag, void *in,
-                 int in_count, MPI_Datatype in_type, int source, int in_tag, MPI_Comm comm, MPI_Status *status) {
-    MPI_Status mine, *told = status;
-    int number = BEGINS ? numbered(comm, unnumbered) : UNNUMBERED;
-    bool wild = number != UNNUMBERED && is_wild(source, in_tag);
-    if (number != UNNUMBERED)
-        PUT("sendrecv", number, peer(dest), out_tag, peer(source), tag_from(source, in_tag),
-            bytes(out_count, out_type));
-    if (wild && status == MPI_STATUS_IGNORE)
-        told = &mine;
-    int result = CALL(Sendrecv, (out, out_count, out_type, dest, out_tag, in, in_count, in_type, source, in_tag,
-                                 comm, told));
-    tell_message(wild, result, told);
-    return result;
-}
-ALSO_PMPI(Sendrecv)
+/* The count and the type are those of what is sent. */
+#define EXCHANGE(Name, word, params, args) \
+    int MPI_##Name(UNPACK params MPI_Comm comm, MPI_Status *status) { \
+        MPI_Status mine, *told = status; \
+        int number = BEGINS ? numbered(comm, unnumbered) : UNNUMBERED; \
+        bool wild = number != UNNUMBERED && is_wild(source, in_tag); \
+        if (number != UNNUMBERED) \
+            PUT(word, number, peer(dest), out_tag, peer(source), tag_from(source, in_tag), bytes(count, type)); \
+        if (wild && status == MPI_STATUS_IGNORE) \
+            told = &mine; \
+        int result = CALL(Name, (UNPACK args comm, told)); \
+        tell_message(wild, result, told); \
+        return result; \
+    } \
+    ALSO_PMPI(Name)
 
-int MPI_Sendrecv_replace(void *data, int count, MPI_Datatype type, int dest, int out_tag, int source, int in_tag,
-                         MPI_Comm comm, MPI_Status *status) {
-    MPI_Status mine, *told = status;
-    int number = BEGINS ? numbered(comm, unnumbered) : UNNUMBERED;
-    bool wild = number != UNNUMBERED && is_wild(source, in_tag);
-    if (number != UNNUMBERED)
-        PUT("sendrecv_replace", number, peer(dest), out_tag, peer(source), tag_from(source, in_tag),
-            bytes(count, type));
-    if (wild && status == MPI_STATUS_IGNORE)
-        told = &mine;
-    int result = CALL(Sendrecv_replace, (data, count, type, dest, out_tag, source, in_tag, comm, told));
-    tell_message(wild, result, told);
-    return result;
-}
-ALSO_PMPI(Sendrecv_replace)
+EXCHANGE(Sendrecv, "sendrecv",
+         (const void *data, int count, MPI_Datatype type, int dest, int out_tag, void *in, int in_count,
+          MPI_Datatype in_type, int source, int in_tag, ),
+         (data, count, type, dest, out_tag, in, in_count, in_type, source, in_tag, ))
+EXCHANGE(Sendrecv_replace, "sendrecv_replace",
+         (void *data, int count, MPI_Datatype type, int dest, int out_tag, int source, int in_tag, ),
+         (data, count, type, dest, out_tag, source, in_tag, ))
 
 /* ---- Persistent sends and receives ------------------------------------------------------------- */
 
@@ -218,20 +215,6 @@ static bool take_message(MPI_Message handle, Field fields[3]) {
         left_out(PARTNERS, "MPI_Mrecv of messages that aren't recorded");
     return false;
 }
-
-int MPI_Probe(int source, int tag, MPI_Comm comm, MPI_Status *status) {
-    MPI_Status mine, *told = status;
-    int number = BEGINS ? numbered(comm, unnumbered) : UNNUMBERED;
-    bool wild = number != UNNUMBERED && is_wild(source, tag);
-    if (number != UNNUMBERED)
-        PUT("probe", number, peer(source), tag_from(source, tag));
-    if (wild && status == MPI_STATUS_IGNORE)
-        told = &mine;
-    int result = CALL(Probe, (source, tag, comm, told));
-    tell_message(wild, result, told);
-    return result;
-}
-ALSO_PMPI(Probe)
 
 int MPI_Mprobe(int source, int tag, MPI_Comm comm, MPI_Message *message, MPI_Status *status) {
     MPI_Status mine, *told = status == MPI_STATUS_IGNORE ? &mine : status;

@@ -121,27 +121,23 @@ static void start(void) {
 }
 
 /* What MPI calls for itself while it begins isn't recorded, as nothing is before `start`. */
-int MPI_Init(int *argc, char ***argv) {
-    void *caller = __builtin_return_address(0);
-    refuse_other_library();
-    int result = CALL(Init, (argc, argv));
+static int begun(int result, void *caller) {
     if (result == MPI_SUCCESS)
         start();
     if (begins(caller))
         journal_call("init", 0, NULL, here);
     return result;
 }
+
+int MPI_Init(int *argc, char ***argv) {
+    refuse_other_library();
+    return begun(CALL(Init, (argc, argv)), __builtin_return_address(0));
+}
 ALSO_PMPI(Init)
 
 int MPI_Init_thread(int *argc, char ***argv, int required, int *provided) {
-    void *caller = __builtin_return_address(0);
     refuse_other_library();
-    int result = CALL(Init_thread, (argc, argv, required, provided));
-    if (result == MPI_SUCCESS)
-        start();
-    if (begins(caller))
-        journal_call("init", 0, NULL, here);
-    return result;
+    return begun(CALL(Init_thread, (argc, argv, required, provided)), __builtin_return_address(0));
 }
 ALSO_PMPI(Init_thread)
 
