@@ -12,8 +12,8 @@ TEXTS = {
     "bytes": "send 0 0 0 8\nfinalize\n",
     "probe": "probe 0 0 0\nfinalize\n",
     "open": "open\n",
-    "1024 ranks": "send 0 64 0\nfinalize\n",
-    "4096 communicators": "send 256 0 0\nfinalize\n",
+    "1024-ranks": "send 0 64 0\nfinalize\n",
+    "4096-communicators": "send 256 0 0\nfinalize\n",
 }
 
 
@@ -47,12 +47,12 @@ class Checker:
 
     @property
     def most_ranks(self):
-        return 1024 if self.knows("1024 ranks") else 64
+        return 1024 if self.knows("1024-ranks") else 64
 
     @property
     def most_communicators(self):
         """How many a head may name, the world not counted."""
-        return 4095 if self.knows("4096 communicators") else 255
+        return 4095 if self.knows("4096-communicators") else 255
 
 
 if __name__ == "__main__":
