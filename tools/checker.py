@@ -33,6 +33,10 @@ class Checker:
         except OSError as fault:
             sys.exit(f"tools: the checker can't be run: {fault}")
 
+    def start(self, *words):
+        """The same without waiting for its end."""
+        return subprocess.Popen([self.path, *map(str, words)], stdout=subprocess.PIPE, text=True)
+
     def knows(self, what):
         """Whether it knows a word or a limit of TEXTS; it is asked once, by a small trace."""
         if what not in self._known:

@@ -49,10 +49,13 @@ class Scan:
         self.used = set()
         self._waves = {}
         for place, line in enumerate(journal.lines):
-            if line.startswith("="):
-                self._told(place, line)
-            else:
-                self._called(place, line)
+            self.take(place, line)
+
+    def take(self, place, line):
+        if line.startswith("="):
+            self._told(place, line)
+        else:
+            self._called(place, line)
 
     def _called(self, place, line):
         word, fields, _ = split_line(line)
@@ -114,6 +117,10 @@ class Communicators:
         """The number in the head of a rank's communicator, or None."""
         comm = self._of_rank[rank].get(local)
         return comm.number if comm else None
+
+    def size(self, rank, local):
+        """How many members a rank's communicator has."""
+        return len(self._of_rank[rank][local].group) if local in self._of_rank[rank] else float("inf")
 
     def head(self):
         """The groups in the order of their numbers, from 1."""
