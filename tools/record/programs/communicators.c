@@ -1,7 +1,6 @@
-/* Communicators are made and freed so many times as its word says; others are MPI_COMM_SELF, its duplicate, a
- * half made by MPI_Comm_split and one made by MPI_Comm_create. */
+/* Communicators are made and freed 300 times; others are MPI_COMM_SELF, its duplicate, a half made by
+ * MPI_Comm_split and one made by MPI_Comm_create. */
 #include <mpi.h>
-#include <stdlib.h>
 
 static void talk_to_oneself(MPI_Comm comm) {
     int out = 1, in;
@@ -29,7 +28,7 @@ static MPI_Comm make_others(void) {
 }
 
 int main(int argc, char **argv) {
-    int rank, times = argc > 1 ? atoi(argv[1]) : 300;
+    int rank;
     MPI_Comm comm, half, others;
     MPI_Init(&argc, &argv);
     MPI_Comm_rank(MPI_COMM_WORLD, &rank);
@@ -39,7 +38,7 @@ int main(int argc, char **argv) {
     MPI_Comm_free(&comm);
     MPI_Comm_split(MPI_COMM_WORLD, rank % 2, -rank, &half);
     others = make_others();
-    for (int i = 0; i < times; i++) {
+    for (int i = 0; i < 300; i++) {
         MPI_Comm_dup(i % 2 ? MPI_COMM_WORLD : half, &comm);
         pass_round(comm, i);
         MPI_Comm_free(&comm);
