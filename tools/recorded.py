@@ -92,6 +92,15 @@ class Run:
         path = self.folder / "report.json"
         return json.loads(path.read_text()) if path.exists() else None
 
+    @property
+    def is_whole(self):
+        """Whether each rank came to its MPI_Finalize."""
+        return all(rank["end"] == "finalize" for rank in self.recording["ranks"])
+
+    def files(self):
+        """The head and the traces, as a check wants them."""
+        return [self.folder / "head", *(self.folder / f"r{rank}" for rank in range(self.ranks))]
+
     def group(self, comm):
         return self._groups[comm]
 
