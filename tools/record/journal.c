@@ -12,7 +12,8 @@
 #include <unistd.h>
 
 enum {
-    WINDOW = 1 << 20,     /* so much of the journal is mapped at a time */
+    FIRST_WINDOW = 1 << 16, /* so much of the journal is mapped at first, */
+    WINDOW = 1 << 20,       /* and at most at a time */
     LONGEST_LINE = 1 << 15,
     MOST_CALLS = 1000000, /* a trace has no more */
     COUNTS = 1 << 14,     /* bytes of the counts */
@@ -24,6 +25,7 @@ static struct {
     bool open, full;
     long calls;
     off_t start; /* of the window, in the file */
+    size_t size; /* of the window */
     char *window, *at;
 } journal;
 
@@ -79,17 +81,19 @@ static char *put_field(char *at, Field field) {
     }
 }
 
-/* The next window begins on the page on which the next line does. */
+/* The next window begins on the page on which the next line does. It is larger, since the run is longer. */
 static bool move_window(void) {
     long page = sysconf(_SC_PAGESIZE);
     off_t place = journal.start + (journal.at - journal.window), start = place - place % page;
-    char *window = map(journal.file, start, WINDOW);
+    size_t size = !journal.window ? FIRST_WINDOW : journal.size < WINDOW ? 2 * journal.size : WINDOW;
+    char *window = map(journal.file, start, size);
     if (!window)
         return false;
     if (journal.window)
-        munmap(journal.window, WINDOW);
+        munmap(journal.window, journal.size);
     journal.window = window;
     journal.start = start;
+    journal.size = size;
     journal.at = window + (place - start);
     return true;
 }
@@ -101,7 +105,7 @@ static bool has_room(int fields) {
         journal_stop("a call names more ranks or requests than a line of the journal holds");
         return false;
     }
-    if (journal.window + WINDOW - journal.at >= LONGEST_LINE || move_window())
+    if (journal.window + journal.size - journal.at >= LONGEST_LINE || move_window())
         return true;
     journal.open = false;
     say("it stops recording, since there is no room for its journal");
