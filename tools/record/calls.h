@@ -23,7 +23,7 @@ enum { WORLD = 0, SELF = 1, UNNUMBERED = -1, MOST_NAMED = 64, NO_ROOT = -1 };
     ({ \
         static __typeof__(&MPI_##Name) found_; \
         if (!found_) \
-            *(void **)&found_ = dlsym(RTLD_NEXT, "PMPI_" #Name); \
+            *(void **)&found_ = found_in_library("PMPI_" #Name); \
         found_; \
     })
 
@@ -33,6 +33,8 @@ enum { WORLD = 0, SELF = 1, UNNUMBERED = -1, MOST_NAMED = 64, NO_ROOT = -1 };
 
 /* None of these is seen by the program. */
 #pragma GCC visibility push(hidden)
+
+void *found_in_library(const char *name);
 
 extern bool recording;
 extern int here;         /* the site of the call that is recorded */

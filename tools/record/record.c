@@ -22,6 +22,15 @@ static bool any_thread; /* the library or the program lets one thread call at a 
 static pthread_t thread;
 __thread int inside __attribute__((tls_model("initial-exec")));
 
+void *found_in_library(const char *name) {
+    void *found = dlsym(RTLD_NEXT, name);
+    if (!found) {
+        fprintf(stderr, "mpiwait-record: there is no %s behind the recorder: it can't be run with this program\n", name);
+        exit(3);
+    }
+    return found;
+}
+
 bool begins(void *caller) {
     if (!recording || inside > 0)
         return false;
