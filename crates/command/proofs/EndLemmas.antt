@@ -1,10 +1,14 @@
 -- How the end of the program follows from the ends of its parts.
-use Rattle.std.proofs.Common.{ℕ, Option, Result, Ok, Err, List, sym, subst, true, false, inl, inr}
-use Rattle.reports.specs.declared.report.Format.{Format}
-use Rattle.moves.specs.declared.reading.Reading.{Reading}
-use Rattle.command.specs.Answer.{AnswerEnds, CheckEnds}
-use Rattle.command.specs.Ends.{Ends, EndsBy, EndsCheck, EndsLint, EndsOutput, EndsText}
+use Rattle.std.proofs.Common.{◌≡◌, ◌≢◌, ◌⊎◌, ◌∙◌, ℕ, Option, Result, Ok, Err, List, refl, sym, ap, subst, false, inl, inr, Global, String, string_bytes}
+use Rattle.clap.specs.Walk.{Text}
+use Rattle.command.specs.Answer.{Complains, IsAnswered, IsOfError, Refuses, Shows}
+use Rattle.command.specs.Asked.{Answers}
+use Rattle.command.specs.Ends.{Ends, IsDone, IsFaultOf, IsLeftAt, IsTried, TellsLine}
 use Rattle.command.specs.Faults.{status_of}
+use Rattle.command.specs.FaultTexts.{line_of_fault}
+use Rattle.command.specs.Outputs.{Written, Nothing, Whole, Broken, Becomes, FailsToWrite, LeavesOutput, Tries, Writes}
+use Rattle.command.specs.declared.fault.Fault.{Fault}
+use Rattle.command.specs.declared.fault.Fault.TheVariants.{Open, ReadHead, Head, FileCount, Refused, Failed, LintRefused, LintFailed, Memory, Unproved, Write}
 use Rattle.command.specs.declared.program.Complaint.{Complaint}
 use Rattle.command.specs.declared.program.Complaint.TheVariants as complaint
 use Rattle.command.specs.declared.status.Status.{Status}
@@ -12,45 +16,141 @@ use Rattle.command.specs.declared.status.Status.TheVariants as status
 use Rattle.command.specs.declared.words.Words.{Words}
 use Rattle.command.specs.declared.words.Words.TheVariants.{Check, Lint, Said, NoMemory}
 
-module _ {O : Type 0} (written : O → Option (List ℕ)) (failures : O → ℕ) where
-  -- an answer ends as the words want it, where a check does
-  pub check_answers : (told : List ℕ → Option (List ℕ)) (old new : O) (words : Words) (head : Option (List ℕ)) (files : List (Option (List ℕ))) (reading : Reading) (format : Format) (answer : Result Status Complaint) →
-      ((ended : Status) → EndsCheck written failures told old new head files reading format ended → EndsBy written failures told old new words ended) → CheckEnds written failures told old new head files reading format answer → AnswerEnds written failures told old new words answer
-  check_answers told old new words head files reading format (Ok ended) wants ends = (ends.0, wants ended ends.1)
-  check_answers told old new words head files reading format (Err (complaint.Usage said)) wants ends = absurd ends
-  check_answers told old new words head files reading format (Err (complaint.Fault fault)) wants ends = (ends.0, wants (status_of fault) ends.1, wants status.Fault ends.2)
+-- with the status of standard error a fault's line is told there
+tells_line : (ended : Status) (fault : Fault) (out err : Written) → IsOfError ended → IsLeftAt fault out → IsTried (line_of_fault fault) err → TellsLine ended fault out err
+tells_line status.Free fault out err wants left tried = absurd wants
+tells_line status.Hang fault out err wants left tried = absurd wants
+tells_line status.Refused fault out err wants left tried = absurd wants
+tells_line status.Usage fault out err wants left tried = (left, tried)
+tells_line status.Fault fault out err wants left tried = (left, tried)
+tells_line status.Unfinished fault out err wants left tried = absurd wants
 
-  -- standard output by the status alone
-  pub check_output : (told : List ℕ → Option (List ℕ)) (old new : O) (head : Option (List ℕ)) (files : List (Option (List ℕ))) (reading : Reading) (format : Format) (ended : Status) → EndsCheck written failures told old new head files reading format ended → EndsOutput written failures old new ended
-  check_output told old new head files reading format status.Free ends = (ends.0.0, (ends.0.2, ends.1))
-  check_output told old new head files reading format status.Hang ends = (ends.0.0, (ends.0.2, ends.1))
-  check_output told old new head files reading format status.Unfinished ends = (ends.0.0, (ends.0.2, ends.1))
-  check_output told old new head files reading format status.Refused ends = ends
-  check_output told old new head files reading format status.Usage ends = ends
-  check_output told old new head files reading format status.Fault ends = ends
+-- where memory is wanted for a fault's line, that may be told of the same words
+memory_may_be : (told : Text → Option Text) (asked : Words) (fault : Fault) → IsFaultOf told asked fault → fault ≢ Write → IsFaultOf told asked Memory
+memory_may_be told (Check head files reading format capacity) fault is_fault other = tt
+memory_may_be told (Lint file) fault is_fault other = tt
+memory_may_be told (Said text is_error) fault is_fault other = absurd (other is_fault.0)
+memory_may_be told NoMemory fault is_fault other = refl
 
-  pub lint_output : (told : List ℕ → Option (List ℕ)) (old new : O) (text : Option (List ℕ)) (ended : Status) → EndsLint written failures told old new text ended → EndsOutput written failures old new ended
-  lint_output told old new text status.Free ends = (_, ends.2)
-  lint_output told old new text status.Hang ends = absurd ends
-  lint_output told old new text status.Unfinished ends = absurd ends
-  lint_output told old new text status.Refused ends = ends
-  lint_output told old new text status.Usage ends = absurd ends
-  lint_output told old new text status.Fault ends = ends
+module _ {O : Type 0} (written : O → Option Text) (failures : O → ℕ) (old new : O) where
+  -- what a fault leaves on standard output
+  of_left : (fault : Fault) → LeavesOutput written failures old new fault → (out : Written) × Becomes written failures old new out × IsLeftAt fault out
+  of_left (Open path) left = (Nothing, left, refl)
+  of_left ReadHead left = (Nothing, left, refl)
+  of_left (Head fault) left = (Nothing, left, refl)
+  of_left (FileCount ranks files) left = (Nothing, left, refl)
+  of_left (Refused refusal) left = (Nothing, left, refl)
+  of_left (Failed refusal) left = (Nothing, left, refl)
+  of_left (LintRefused fault) left = (Nothing, left, refl)
+  of_left (LintFailed fault) left = (Nothing, left, refl)
+  of_left Memory left = (Nothing, left, refl)
+  of_left (Unproved rank) left = (Nothing, left, refl)
+  of_left Write left = (Broken left.0, left.1, (left.0, refl))
 
-  pub text_output : (told : List ℕ → Option (List ℕ)) (old new : O) (text : List ℕ) (ended : Status) → EndsText written failures told old new text ended → EndsOutput written failures old new ended
-  text_output told old new text status.Free ends = (text, ends)
-  text_output told old new text status.Hang ends = absurd ends
-  text_output told old new text status.Unfinished ends = absurd ends
-  text_output told old new text status.Refused ends = absurd ends
-  text_output told old new text status.Usage ends = absurd ends
-  text_output told old new text status.Fault ends = inr ends
+  unless_write : (fault : Fault) → fault ≢ Write → LeavesOutput written failures old new fault → new ≡ old
+  unless_write (Open path) other left = left
+  unless_write ReadHead other left = left
+  unless_write (Head fault) other left = left
+  unless_write (FileCount ranks files) other left = left
+  unless_write (Refused refusal) other left = left
+  unless_write (Failed refusal) other left = left
+  unless_write (LintRefused fault) other left = left
+  unless_write (LintFailed fault) other left = left
+  unless_write Memory other left = left
+  unless_write (Unproved rank) other left = left
+  unless_write Write other left = absurd (other refl)
 
-  pub asked_output : (told : List ℕ → Option (List ℕ)) (old new : O) (asked : Words) (ended : Status) → EndsBy written failures told old new asked ended → EndsOutput written failures old new ended
-  asked_output told old new (Check head files reading format capacity) ended ends = check_output told old new _ _ reading format ended ends
-  asked_output told old new (Lint file) ended ends = lint_output told old new _ ended ends
-  asked_output told old new (Said text false) ended ends = text_output told old new _ ended ends
-  asked_output told old new (Said text true) ended ends = subst (λ (s : Status). EndsOutput written failures old new s) (sym ends.0) ends.1
-  asked_output told old new NoMemory ended ends = subst (λ (s : Status). EndsOutput written failures old new s) (sym ends.0) (inl ends.1)
+  -- a text that was to be written
+  of_tries : (text : Text) → Tries written failures old new text → (one : Written) × Becomes written failures old new one × IsTried text one
+  of_tries text (inl whole) = (Whole text, whole, inl refl)
+  of_tries text (inr broken) = (Broken text, broken, inr refl)
 
-  pub ends_output : (told : List ℕ → Option (List ℕ)) (old new : O) (words : List (List ℕ)) (ended : Status) → Ends written failures told old new words ended → EndsOutput written failures old new ended
-  ends_output told old new words ended ends = asked_output told old new ends.0 ended ends.2
+no_refusal_writes : (fault : Fault) → status_of fault ≡ status.Refused → fault ≢ Write
+no_refusal_writes fault is write = let other : status.Fault ≡ status.Refused = sym (ap status_of write) ∙ is in cc
+
+-- a fault that standard output may tell, over an output as the fault left it
+pub refused : {O : Type 0} (written : O → Option Text) (failures : O → ℕ) (is_done : Status → Written → Written → Type 0) (may_end_in : Fault → Type 0) (old mid new : O) (fault : Fault) (answer : Result Status Complaint) →
+    may_end_in Memory → may_end_in Write → may_end_in fault → LeavesOutput written failures old mid fault → Refuses written failures mid new fault answer → IsAnswered written failures is_done may_end_in old new answer
+refused {O} written failures is_done may_end_in old mid new fault (Ok ended) memory write may left refuses =
+    let same : mid ≡ old = unless_write written failures old mid fault (no_refusal_writes fault refuses.1) left in (
+      Whole (line_of_fault fault),
+      subst (λ (o : O). Writes written failures o new (line_of_fault fault)) same refuses.2,
+      inr (fault, may, (refuses.0 ∙ sym refuses.1, subst (λ (s : Status). TellsLine s fault (Whole (line_of_fault fault)) Nothing) (sym refuses.0) (refl, refl))),
+    )
+refused written failures is_done may_end_in old mid new fault (Err (complaint.Usage said)) memory write may left refuses = absurd refuses
+refused {O} written failures is_done may_end_in old mid new fault (Err (complaint.Fault told)) memory write may left refuses = let told_is = by_case refuses.1 in (refuses.0, told_is.0, told_is.1)
+  where
+    by_case : ((told ≡ fault) × (new ≡ mid))
+        ⊎ ((status_of fault ≡ status.Refused) × (((told ≡ Memory) × (new ≡ mid)) ⊎ ((told ≡ Write) × FailsToWrite written failures mid new (line_of_fault fault)))) →
+        may_end_in told × LeavesOutput written failures old new told
+    by_case (inl as_it_is) =
+        subst (λ (f : Fault). may_end_in f × LeavesOutput written failures old new f) (sym as_it_is.0)
+        (may, subst (λ (o : O). LeavesOutput written failures old o fault) (sym as_it_is.1) left)
+    by_case (inr (refusal, inl wanted)) =
+        let same : mid ≡ old = unless_write written failures old mid fault (no_refusal_writes fault refusal) left in
+        subst (λ (f : Fault). may_end_in f × LeavesOutput written failures old new f) (sym wanted.0) (memory, wanted.1 ∙ same)
+    by_case (inr (refusal, inr broken)) =
+        let same : mid ≡ old = unless_write written failures old mid fault (no_refusal_writes fault refusal) left in
+        subst (λ (f : Fault). may_end_in f × LeavesOutput written failures old new f) (sym broken.0)
+        (write, (line_of_fault fault, subst (λ (o : O). FailsToWrite written failures o new (line_of_fault fault)) same broken.1))
+
+-- a text that was asked for
+pub shown : {O : Type 0} (written : O → Option Text) (failures : O → ℕ) (told : Text → Option Text) (old new : O) (text : String Global) (answer : Result Status Complaint) →
+    Shows written failures old new (string_bytes text) status.Free answer → IsAnswered written failures (IsDone told (Said text false)) (IsFaultOf told (Said text false)) old new answer
+shown written failures told old new text (Ok ended) shows = (Whole (string_bytes text), shows.1, inl (shows.0, refl, refl))
+shown written failures told old new text (Err (complaint.Usage said)) shows = absurd shows
+shown written failures told old new text (Err (complaint.Fault fault)) shows = (
+  subst (λ (f : Fault). IsOfError (status_of f)) (sym shows.0) tt,
+  (shows.0, refl),
+  subst (λ (f : Fault). LeavesOutput written failures old new f) (sym shows.0) (string_bytes text, shows.1),
+)
+
+-- the end of the program
+module _ {O E : Type 0} (written : O → Option Text) (failures : O → ℕ) (written_errors : E → Option Text) (failed_errors : E → ℕ) (told : Text → Option Text) (old new : O) where
+  pub ends_at_once : (errors errors_after : E) (words : List Text) (asked : Words) (ended : Status) → Answers words asked → IsAnswered written failures (IsDone told asked) (IsFaultOf told asked) old new (Ok ended) → errors_after ≡ errors → Ends written failures written_errors failed_errors told old new errors errors_after words ended
+  ends_at_once errors errors_after words asked ended answers is same = record {
+    asked = asked;
+    answers = answers;
+    out = is.0;
+    err = Nothing;
+    by = is.2;
+    output = is.1;
+    errors = same;
+  }
+
+  ends_in_fault : (errors errors_after : E) (words : List Text) (asked : Words) (ended : Status) (fault : Fault) → Answers words asked → IsOfError (status_of fault) → IsFaultOf told asked fault → LeavesOutput written failures old new fault → ended ≡ status_of fault → Tries written_errors failed_errors errors errors_after (line_of_fault fault) →
+      Ends written failures written_errors failed_errors told old new errors errors_after words ended
+  ends_in_fault errors errors_after words asked ended fault answers wants is_fault left is tries =
+      let out = of_left written failures old new fault left in
+      let err = of_tries written_errors failed_errors errors errors_after (line_of_fault fault) tries in
+      record {
+        asked = asked;
+        answers = answers;
+        out = out.0;
+        err = err.0;
+        by = inr (fault, is_fault, (is, subst (λ (s : Status). TellsLine s fault out.0 err.0) (sym is) (tells_line (status_of fault) fault out.0 err.0 wants out.2 err.2)));
+        output = out.1;
+        errors = err.1;
+      }
+
+  pub ends_in_complaint : (errors errors_after : E) (words : List Text) (asked : Words) (ended : Status) (complaint : Complaint) → Answers words asked → IsAnswered written failures (IsDone told asked) (IsFaultOf told asked) old new (Err complaint) → Complains written_errors failed_errors errors errors_after complaint ended → Ends written failures written_errors failed_errors told old new errors errors_after words ended
+  ends_in_complaint errors errors_after words asked ended (complaint.Usage said) answers is complains =
+      let err = of_tries written_errors failed_errors errors errors_after _ complains.1 in
+      record {
+        asked = asked;
+        answers = answers;
+        out = Nothing;
+        err = err.0;
+        by = inl (subst (λ (s : Status). IsDone told asked s Nothing err.0) (sym complains.0) (is.1 err.0 err.2));
+        output = is.0;
+        errors = err.1;
+      }
+  ends_in_complaint errors errors_after words asked ended (complaint.Fault fault) answers is complains = by_case complains.1
+    where
+      by_case : (complains.0 ≡ fault) ⊎ ((complains.0 ≡ Memory) × (fault ≢ Write)) → Ends written failures written_errors failed_errors told old new errors errors_after words ended
+      by_case (inl same) =
+          ends_in_fault errors errors_after words asked ended fault answers is.0 is.1 is.2 (complains.2 ∙ ap status_of same)
+          (subst (λ (f : Fault). Tries written_errors failed_errors errors errors_after (line_of_fault f)) same complains.3)
+      by_case (inr (memory, other)) =
+          ends_in_fault errors errors_after words asked ended Memory answers tt (memory_may_be told asked fault is.1 other) (unless_write written failures old new fault other is.2) (complains.2 ∙ ap status_of memory)
+          (subst (λ (f : Fault). Tries written_errors failed_errors errors errors_after (line_of_fault f)) memory complains.3)

@@ -1,4 +1,4 @@
-pub mod CapacityLemmas
+pub mod NumberLemmas
 pub mod AskedLemmas
 pub mod FrontLemmas
 pub mod TextLemmas

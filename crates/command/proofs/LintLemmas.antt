@@ -15,11 +15,11 @@ told_is (Some text) known answer is tells = subst (λ k. TellsTrace k answer) is
 pub count_is : (told left : Option (List ℕ)) (known : Option Trace) (count : ℕ) → left ≡ told → known ≡ option_map trace_of left → TellsTrace known (Ok count) → IsCountOf told count
 count_is told left known count same is tells = told_is told known (Ok count) (subst (λ l. known ≡ option_map trace_of l) same is) tells
 
-by_failure : (told : Option (List ℕ)) (fault : LintFault) (failure : Bool) → is_source_failure fault.fault ≡ failure → IsTraceFault told fault → IsFaultOfTrace told (cond failure (LintFailed fault) (LintRefused fault))
-by_failure told fault true is says = (says, is)
-by_failure told fault false is says = (says, is)
+by_failure : (told : List ℕ → Option (List ℕ)) (file : List ℕ) (fault : LintFault) (failure : Bool) → is_source_failure fault.fault ≡ failure → IsTraceFault (told file) fault → IsFaultOfTrace told file (cond failure (LintFailed fault) (LintRefused fault))
+by_failure told file fault true is says = (says, is)
+by_failure told file fault false is says = (says, is)
 
-pub fault_is : (told left : Option (List ℕ)) (known : Option Trace) (fault : LintFault) (answer : Fault) → left ≡ told → known ≡ option_map trace_of left → TellsTrace known (Err fault) → answer ≡ of_lint fault → IsFaultOfTrace told answer
-fault_is told left known fault answer same is tells of =
-    subst (λ f. IsFaultOfTrace told f) (sym of)
-    (by_failure told fault (is_source_failure fault.fault) refl (told_is told known (Err fault) (subst (λ l. known ≡ option_map trace_of l) same is) tells))
+pub fault_is : (told : List ℕ → Option (List ℕ)) (file : List ℕ) (left : Option (List ℕ)) (known : Option Trace) (fault : LintFault) (answer : Fault) → left ≡ told file → known ≡ option_map trace_of left → TellsTrace known (Err fault) → answer ≡ of_lint fault → IsFaultOfTrace told file answer
+fault_is told file left known fault answer same is tells of =
+    subst (λ f. IsFaultOfTrace told file f) (sym of)
+    (by_failure told file fault (is_source_failure fault.fault) refl (told_is (told file) known (Err fault) (subst (λ l. known ≡ option_map trace_of l) same is) tells))

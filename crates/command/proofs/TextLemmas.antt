@@ -1,13 +1,13 @@
 -- How the answers over a check's sources follow for the texts of its files.
 use Rattle.moves.specs.declared.reading.Reading.{Reading}
-use Rattle.std.proofs.Common.{◌≡◌, ◌<◌, ℕ, length, Option, Some, None, List, [], ◌∷◌, map, option_map, ap, ◌∙◌, sym, refl, subst, arith, Result, Ok, Err, IfSome, take, Bool, true, false, if◌then◌else◌}
+use Rattle.std.proofs.Common.{◌≡◌, ◌<◌, ℕ, length, Option, Some, None, List, [], ◌∷◌, map, option_map, ap, ◌∙◌, sym, refl, subst, arith, Result, Ok, Err, IfSome, take, Bool, true, false, if◌then◌else◌, Bor}
 use Rattle.std.proofs.lemmas.List.{length-map}
 use Rattle.mpicall.specs.Trace.{Trace, trace_of}
 use Rattle.mpicall.specs.declared.source.Source.{Source}
 use Rattle.waitgraph.specs.declared.verdict.Verdict.{Verdict}
 use Rattle.reports.specs.declared.report.Format.{Format}
 use Rattle.mpigroup.proofs.FrontLemmas.{read_head-front}
-use Rattle.mpigroup.specs.Groups.{Groups, ranks_of}
+use Rattle.mpigroup.specs.Groups.{Groups}
 use Rattle.mpigroup.specs.HeadText.{read_head}
 use Rattle.mpigroup.specs.declared.fault.HeadFault.{HeadFault}
 use Rattle.runs.specs.Runs.{RefusesFeeds}
@@ -17,7 +17,7 @@ use Rattle.gather.specs.declared.fault.Refusal.{Refusal}
 use Rattle.gather.specs.declared.fault.RunFault.{RunFault}
 use Rattle.gather.specs.declared.fault.RunFault.TheVariants as run
 use Rattle.command.specs.Faults.{is_failure, of_run}
-use Rattle.command.specs.Texts.{IsFaultOfHead, IsFaultOfTexts, IsHeadOf, IsRefusalOfTexts, IsReportOf}
+use Rattle.command.specs.Texts.{IsCounted, IsFaultOfCheck, IsFaultOfFront, IsFaultOfHead, IsHeadOf, IsRefusalOfRun, IsReportOf}
 use Rattle.command.specs.declared.fault.Fault.{Fault}
 use Rattle.command.specs.declared.fault.Fault.TheVariants.{Open, ReadHead, Head, FileCount, Refused, Failed, LintRefused, LintFailed, Memory, Unproved, Write}
 use Rattle.command.specs.Front.{IsFrontOf, deciding_bytes}
@@ -71,28 +71,30 @@ head_says (Some text) left front answer is of_left says =
     let decided : read_head (take deciding_bytes text) ≡ read_head text = read_head-front text deciding_bytes (omega arith) in
     sym decided ∙ sym (ap read_head of_text) ∙ says
 
-pub fault_says : (told left : Option Text) (front : Text) (fault : Fault) → left ≡ told → IsFrontOf left front → IsFaultOfHead (Some front) fault → IsFaultOfHead told fault
-fault_says told left front (Head fault) is of_left says = head_says told left front (Err fault) is of_left says
-fault_says told left front (Open path) is of_left says = tt
-fault_says told left front ReadHead is of_left says = tt
-fault_says told left front Memory is of_left says = tt
-fault_says told left front (FileCount ranks files) is of_left says = absurd says
-fault_says told left front (Refused refusal) is of_left says = absurd says
-fault_says told left front (Failed refusal) is of_left says = absurd says
-fault_says told left front (LintRefused lint) is of_left says = absurd says
-fault_says told left front (LintFailed lint) is of_left says = absurd says
-fault_says told left front (Unproved rank) is of_left says = absurd says
-fault_says told left front Write is of_left says = absurd says
+pub fault_says : (told : Text → Option Text) (path : Text) (left : Option Text) (front : Text) (fault : Fault) → left ≡ told path → IsFrontOf left front → IsFaultOfFront front fault → IsFaultOfHead told path fault
+fault_says told path left front (Head fault) is of_left says = head_says (told path) left front (Err fault) is of_left says
+fault_says told path left front (Open other) is of_left says = absurd says
+fault_says told path left front ReadHead is of_left says = absurd says
+fault_says told path left front Memory is of_left says = tt
+fault_says told path left front (FileCount ranks files) is of_left says = absurd says
+fault_says told path left front (Refused refusal) is of_left says = absurd says
+fault_says told path left front (Failed refusal) is of_left says = absurd says
+fault_says told path left front (LintRefused lint) is of_left says = absurd says
+fault_says told path left front (LintFailed lint) is of_left says = absurd says
+fault_says told path left front (Unproved rank) is of_left says = absurd says
+fault_says told path left front Write is of_left says = absurd says
 
-by_failure : (head : Text) (texts : List Text) (refusal : Refusal) (fails : Bool) → IsRefusalOfTexts head texts refusal → is_failure refusal.fault ≡ fails → IsFaultOfTexts head texts (if fails then Failed refusal else Refused refusal)
-by_failure head texts refusal true of_texts is = (of_texts, is)
-by_failure head texts refusal false of_texts is = (of_texts, is)
+-- the faults of a check, by its steps
+module _ (told : Text → Option Text) (head : Text) (files : List (Bor Text)) where
+  by_failure : (refusal : Refusal) (fails : Bool) → IsRefusalOfRun told head files refusal → is_failure refusal.fault ≡ fails → IsFaultOfCheck told head files (if fails then Failed refusal else Refused refusal)
+  by_failure refusal true of_run is = (of_run, is)
+  by_failure refusal false of_run is = (of_run, is)
 
--- the fault of a run over the sources is that of the texts
-pub run_fault_says : {I : Type 0} (left : I → Option Text) (may_stop : ℕ → ℕ → Type 0) (sources : List (Source I)) (groups : Groups) (head : Text) (texts : List Text) (fault : RunFault) →
-    read_head head ≡ Ok groups → ranks_of groups ≡ length texts → RefusesFeeds left may_stop sources groups fault → RefusesOver groups (map trace_of texts) fault → IsFaultOfTexts head texts (of_run fault)
-run_fault_says left may_stop sources groups head texts run.Memory is one_a_rank fed refuses = tt
-run_fault_says left may_stop sources groups head texts (run.Unproved rank) is one_a_rank fed refuses = subst (λ n. rank < n) one_a_rank fed
-run_fault_says left may_stop sources groups head texts run.Write is one_a_rank fed refuses = tt
-run_fault_says left may_stop sources groups head texts (run.Refused refusal) is one_a_rank fed refuses =
-    by_failure head texts refusal (is_failure refusal.fault) (record { groups = groups; is_head = is; of_traces = refuses }) refl
+  -- the fault of a run over the files' sources
+  pub run_fault_says : {I : Type 0} (left : I → Option Text) (may_stop : ℕ → ℕ → Type 0) (sources : List (Source I)) (groups : Groups) (fault : RunFault) →
+      IsCounted told head files groups → RefusesFeeds left may_stop sources groups fault → ((texts : List Text) → map (λ file. told file.now) files ≡ map Some texts → RefusesOver groups (map trace_of texts) fault) → IsFaultOfCheck told head files (of_run fault)
+  run_fault_says left may_stop sources groups run.Memory counted fed refuses = tt
+  run_fault_says left may_stop sources groups (run.Unproved rank) counted fed refuses = (subst (λ n. rank < n) (sym counted.one_a_rank) fed, (groups, counted))
+  run_fault_says left may_stop sources groups run.Write counted fed refuses = tt
+  run_fault_says left may_stop sources groups (run.Refused refusal) counted fed refuses =
+      by_failure refusal (is_failure refusal.fault) (record { groups = groups; counted = counted; of_traces = refuses }) refl

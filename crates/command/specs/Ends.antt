@@ -1,16 +1,20 @@
--- What stands on the two outputs at the end of the program, by what its words ask for.
+-- How the program ends, by what its words ask for: its status, and what is written on the two outputs.
 use Rattle.std.specs.Prelude.{◌≡◌, ◌⊎◌, ℕ, true, false, Option, Some, List, map, string_bytes}
 use Rattle.clap.specs.Walk.{Text}
 use Rattle.waitgraph.specs.declared.verdict.Verdict.{Verdict}
-use Rattle.waitgraph.specs.declared.verdict.Verdict.TheVariants as verdict
 use Rattle.command.specs.Asked.{Answers}
-use Rattle.command.specs.Outputs.{Writes, WritesSome, WritesNone, FailsToWrite, lint_report}
-use Rattle.command.specs.Lints.{IsCountOf}
-use Rattle.command.specs.Texts.{IsVerdictOfTexts, WritesReport}
+use Rattle.command.specs.Faults.{status_of}
+use Rattle.command.specs.FaultTexts.{line_of_fault}
+use Rattle.command.specs.Outputs.{Written, Nothing, Whole, Broken, Becomes, lint_report}
+use Rattle.command.specs.Lints.{IsCountOf, IsFaultOfLint}
+use Rattle.command.specs.Statuses.{status_of as status_of_verdict}
+use Rattle.command.specs.Texts.{IsFaultOfCheck, IsReportOf, IsVerdictOfTexts}
 use Rattle.reports.specs.declared.report.Format.{Format}
 use Rattle.moves.specs.declared.reading.Reading.{Reading}
+use Rattle.command.specs.declared.fault.Fault.{Fault as FaultOf}
+use Rattle.command.specs.declared.fault.Fault.TheVariants.{Memory, Write}
 use Rattle.command.specs.declared.status.Status.{Status}
-use Rattle.command.specs.declared.status.Status.TheVariants.{Free, Hang, Refused, Usage, Fault, Unfinished}
+use Rattle.command.specs.declared.status.Status.TheVariants.{Free, Refused, Usage}
 use Rattle.command.specs.declared.words.Words.{Words}
 use Rattle.command.specs.declared.words.Words.TheVariants.{Check, Lint, Said, NoMemory}
 
@@ -19,67 +23,78 @@ abbrev pub IsVerdictWhereTold : Reading → Option Text → List (Option Text) �
 IsVerdictWhereTold reading head files verdict =
     (text : Text) (texts : List Text) → head ≡ Some text → files ≡ map Some texts → IsVerdictOfTexts reading text texts verdict
 
--- standard output by the status alone: a text for 0 to 2 and 5, nothing for 3, and nothing but for a failed write
--- for 4
-module _ {O : Type 0} (written : O → Option (List ℕ)) (failures : O → ℕ) where
-  abbrev pub EndsOutput : O → O → Status → Type 0
-  EndsOutput old new Usage = new ≡ old
-  EndsOutput old new Fault = WritesNone written failures old new
-  EndsOutput old new _ = WritesSome written failures old new
+-- a run was checked: its report stands on standard output alone, in its format; report and verdict are those of
+-- the files' texts, and the status tells the verdict
+pub record EndsInReport (reading : Reading) (format : Format) (head : Option Text) (files : List (Option Text)) (status : Status) (out err : Written) : Type 0 where
+  pub verdict : Verdict
+  pub report : Text
+  pub is_report : IsReportOf reading format head files verdict report
+  pub is_verdict : IsVerdictWhereTold reading head files verdict
+  pub status_is : status ≡ status_of_verdict verdict
+  pub output : out ≡ Whole report
+  pub errors : err ≡ Nothing
 
--- an output, the texts that files have where they are told, and the output as it was and as it is
-module _ {O : Type 0} (written : O → Option (List ℕ)) (failures : O → ℕ) (told : Text → Option Text) (old new : O) where
-  -- the report of a run, in its format, stands behind what was there, no write failed, and the report and the
-  -- verdict are those of the files' texts
-  abbrev pub Reports : Option Text → List (Option Text) → Reading → Format → Verdict → Type 0
-  Reports head files reading format verdict =
-      WritesReport written old new reading format head files verdict × (failures new ≡ failures old) × IsVerdictWhereTold reading head files verdict
+-- a trace was read alone: the number of its calls stands on standard output alone
+pub record EndsInCount (text : Option Text) (status : Status) (out err : Written) : Type 0 where
+  pub count : ℕ
+  pub is_count : IsCountOf text count
+  pub status_is : status ≡ Free
+  pub output : out ≡ Whole (lint_report count)
+  pub errors : err ≡ Nothing
 
-  -- a run was to be checked: its report stands there; or a refusal; or nothing, but for a failed write
-  abbrev pub EndsCheck : Option Text → List (Option Text) → Reading → Format → Status → Type 0
-  EndsCheck head files reading format Free = Reports head files reading format verdict.Free
-  EndsCheck head files reading format Hang = Reports head files reading format verdict.Hang
-  EndsCheck head files reading format Unfinished = Reports head files reading format verdict.Unfinished
-  EndsCheck head files reading format Refused = WritesSome written failures old new
-  EndsCheck head files reading format Usage = new ≡ old
-  EndsCheck head files reading format Fault = WritesNone written failures old new
+-- the text was written, whole unless a write failed
+abbrev pub IsTried : Text → Written → Type 0
+IsTried text written = (written ≡ Whole text) ⊎ (written ≡ Broken text)
 
-  -- a trace was to be read alone: the number of its calls stands there, by its text where that is told; or
-  -- a refusal; or nothing, but for a failed write
-  abbrev pub EndsLint : Option Text → Status → Type 0
-  EndsLint text Free = (count : ℕ) × IsCountOf text count × Writes written failures old new (lint_report count)
-  EndsLint text Refused = WritesSome written failures old new
-  EndsLint text Fault = WritesNone written failures old new
-  EndsLint text _ = ⊥
+-- a text was asked for, and stands on standard output alone; or the words were wrong, which standard error says alone
+abbrev pub EndsInText : Text → Status → Written → Written → Type 0
+EndsInText text status out err = (status ≡ Free) × (out ≡ Whole text) × (err ≡ Nothing)
 
-  -- a text was asked for: it stands there, or a write failed
-  abbrev pub EndsText : Text → Status → Type 0
-  EndsText text Free = Writes written failures old new text
-  EndsText text Fault = FailsToWrite written failures old new
-  EndsText text _ = ⊥
+abbrev pub EndsInUsage : Text → Status → Written → Written → Type 0
+EndsInUsage text status out err = (status ≡ Usage) × (out ≡ Nothing) × IsTried text err
 
-  -- the words were wrong, or couldn't be read: nothing stands there
-  abbrev pub EndsAs : Status → Status → Type 0
-  EndsAs wanted status = (status ≡ wanted) × (new ≡ old)
+-- standard output at a fault that it doesn't tell: only a write that failed left anything there
+abbrev pub IsLeftAt : FaultOf → Written → Type 0
+IsLeftAt Write out = (text : Text) × (out ≡ Broken text)
+IsLeftAt fault out = out ≡ Nothing
 
-  -- the end of the program, by what its words ask for
-  abbrev pub EndsBy : Words → Status → Type 0
-  EndsBy (Check head files reading format capacity) status = EndsCheck (told head.now) (map (λ file. told file.now) files.items) reading format status
-  EndsBy (Lint file) status = EndsLint (told file.now) status
-  EndsBy (Said text false) status = EndsText (string_bytes text) status
-  EndsBy (Said text true) status = EndsAs Usage status
-  EndsBy NoMemory status = EndsAs Fault status
+-- with this status the line of a fault is told: a refusal's on standard output alone, any other's on standard error
+abbrev pub TellsLine : Status → FaultOf → Written → Written → Type 0
+TellsLine Refused fault out err = (out ≡ Whole (line_of_fault fault)) × (err ≡ Nothing)
+TellsLine _ fault out err = IsLeftAt fault out × IsTried (line_of_fault fault) err
 
+-- a fault was told, by its status and its line
+abbrev pub EndsInFault : FaultOf → Status → Written → Written → Type 0
+EndsInFault fault status out err = (status ≡ status_of fault) × TellsLine status fault out err
+
+-- what the words ask for was done, and told
+abbrev pub IsDone : (Text → Option Text) → Words → Status → Written → Written → Type 0
+IsDone told (Check head files reading format capacity) = EndsInReport reading format (told head.now) (map (λ file. told file.now) files.items)
+IsDone told (Lint file) = EndsInCount (told file.now)
+IsDone told (Said text false) = EndsInText (string_bytes text)
+IsDone told (Said text true) = EndsInUsage (string_bytes text)
+IsDone told NoMemory = λ status out err. ⊥
+
+-- the faults with which that may end
+abbrev pub IsFaultOf : (Text → Option Text) → Words → FaultOf → Type 0
+IsFaultOf told (Check head files reading format capacity) fault = IsFaultOfCheck told head.now files.items fault
+IsFaultOf told (Lint file) fault = IsFaultOfLint told file.now fault
+IsFaultOf told (Said text is_error) fault = (fault ≡ Write) × (is_error ≡ false)
+IsFaultOf told NoMemory fault = fault ≡ Memory
+
+-- what the words ask for was done, or a fault was told
+abbrev pub EndsBy : (Text → Option Text) → Words → Status → Written → Written → Type 0
+EndsBy told words status out err = IsDone told words status out err ⊎ ((fault : FaultOf) × IsFaultOf told words fault × EndsInFault fault status out err)
+
+-- standard output and standard error, each by what was written to it and how many writes failed, and as it was
+-- and as it is; and the texts that files have, where they are told
+module _ {O E : Type 0} (written : O → Option Text) (failures : O → ℕ) (written_errors : E → Option Text) (failed_errors : E → ℕ) (told : Text → Option Text) (old new : O) (old_errors new_errors : E) where
   -- the words ask for something, and the program ends by that
-  abbrev pub Ends : List Text → Status → Type 0
-  Ends words status = (asked : Words) × Answers words asked × EndsBy asked status
-
--- standard error has a text where the status is usage or a fault, or that write failed too; else nothing
-module _ {E : Type 0} (written : E → Option (List ℕ)) (failures : E → ℕ) where
-  abbrev pub Complains : E → E → Type 0
-  Complains old new = WritesSome written failures old new ⊎ FailsToWrite written failures old new
-
-  abbrev pub EndsError : E → E → Status → Type 0
-  EndsError old new Usage = Complains old new
-  EndsError old new Fault = Complains old new
-  EndsError old new _ = new ≡ old
+  pub record Ends (words : List Text) (status : Status) : Type 0 where
+    pub asked : Words
+    pub answers : Answers words asked
+    pub out : Written
+    pub err : Written
+    pub by : EndsBy told asked status out err
+    pub output : Becomes written failures old new out
+    pub errors : Becomes written_errors failed_errors old_errors new_errors err

@@ -1,4 +1,8 @@
--- The end of the process: the status that it hands on, and that of words that can't be read.
+-- The end of the process: the status that it hands on, and what stands on the two outputs then.
+use Rattle.std.specs.Prelude.{◌≡◌, ◌⊎◌, ℕ, Option, List, codes}
+use Rattle.clap.specs.Walk.{Text}
+use Rattle.command.specs.Ends.{Ends}
+use Rattle.command.specs.Outputs.{Tries}
 use Rattle.command.specs.declared.given.Ended.{Ended}
 use Rattle.command.specs.declared.given.WordsFault.{WordsFault}
 use Rattle.command.specs.declared.given.WordsFault.TheVariants.{NoText, NoMemory}
@@ -8,6 +12,24 @@ use Rattle.command.specs.declared.status.Status.TheVariants.{Usage, Fault}
 abbrev pub status_in : Ended → Status
 status_in ended = ended.status
 
+-- how words that can't be read are told
 abbrev pub status_of : WordsFault → Status
 status_of NoText = Usage
 status_of NoMemory = Fault
+
+abbrev pub text_of : WordsFault → Text
+text_of NoText = codes "usage: the words must be text in UTF-8\n"
+text_of NoMemory = codes "fault memory\n"
+
+-- the two outputs, and the texts of files, as for the end of the program
+module _ {O E : Type 0} (written : O → Option Text) (failures : O → ℕ) (written_errors : E → Option Text) (failed_errors : E → ℕ) (told : Text → Option Text) (old new : O) (old_errors new_errors : E) where
+  -- the program ended by some words
+  abbrev pub EndsBySome : Status → Type 0
+  EndsBySome status = (words : List Text) × Ends written failures written_errors failed_errors told old new old_errors new_errors words status
+
+  -- the words of the process were read, and the program ended by them; or they couldn't be, which standard error
+  -- says alone
+  abbrev pub EndsGiven : Status → Type 0
+  EndsGiven status =
+      EndsBySome status
+      ⊎ ((fault : WordsFault) × (status ≡ status_of fault) × (new ≡ old) × Tries written_errors failed_errors old_errors new_errors (text_of fault))

@@ -1,9 +1,11 @@
+pub mod Numbers
 pub mod Capacities
 pub mod Limits
 pub mod Asked
 pub mod Front
 pub mod Statuses
 pub mod Faults
+pub mod FaultTexts
 pub mod Outputs
 pub mod Ends
 pub mod Answer

@@ -4,6 +4,7 @@ use Rattle.mpicall.specs.Trace.{trace_of}
 use Rattle.mpicall.specs.Lint.{TellsTrace}
 use Rattle.mpicall.specs.declared.lint.LintFault.{LintFault}
 use Rattle.command.specs.Faults.{is_source_failure}
+use Rattle.command.specs.Texts.{IsUnopened}
 use Rattle.command.specs.declared.fault.Fault.{Fault}
 use Rattle.command.specs.declared.fault.Fault.TheVariants.{Open, LintRefused, LintFailed, Memory, Write}
 
@@ -16,14 +17,14 @@ abbrev pub IsTraceFault : Option (List ℕ) → LintFault → Type 0
 IsTraceFault told fault = IfSome told (λ text. TellsTrace (Some (trace_of text)) (Err fault))
 
 -- the file couldn't be opened, or its trace has a fault
-abbrev pub IsFaultOfTrace : Option (List ℕ) → Fault → Type 0
-IsFaultOfTrace told (Open path) = ⊤
-IsFaultOfTrace told (LintRefused fault) = IsTraceFault told fault × (is_source_failure fault.fault ≡ false)
-IsFaultOfTrace told (LintFailed fault) = IsTraceFault told fault × (is_source_failure fault.fault ≡ true)
-IsFaultOfTrace told fault = ⊥
+abbrev pub IsFaultOfTrace : (List ℕ → Option (List ℕ)) → List ℕ → Fault → Type 0
+IsFaultOfTrace told file (Open path) = (path.now ≡ file) × IsUnopened told file
+IsFaultOfTrace told file (LintRefused fault) = IsTraceFault (told file) fault × (is_source_failure fault.fault ≡ false)
+IsFaultOfTrace told file (LintFailed fault) = IsTraceFault (told file) fault × (is_source_failure fault.fault ≡ true)
+IsFaultOfTrace told file fault = ⊥
 
 -- the same, or memory was wanted, or the answer couldn't be written
-abbrev pub IsFaultOfLint : Option (List ℕ) → Fault → Type 0
-IsFaultOfLint told Memory = ⊤
-IsFaultOfLint told Write = ⊤
-IsFaultOfLint told fault = IsFaultOfTrace told fault
+abbrev pub IsFaultOfLint : (List ℕ → Option (List ℕ)) → List ℕ → Fault → Type 0
+IsFaultOfLint told file Memory = ⊤
+IsFaultOfLint told file Write = ⊤
+IsFaultOfLint told file fault = IsFaultOfTrace told file fault

@@ -10,25 +10,33 @@ use Rattle.command.specs.declared.fault.Fault.TheVariants.{Write}
 abbrev pub lint_report : ℕ → List ℕ
 lint_report count = codes "lint ok " ++ decimal count ++ codes "\n"
 
+-- what becomes of an output: it is left alone; a text is written, whole; or a beginning of one is, and a write fails
+pub data Written : Type 0 where
+  Nothing : Written
+  Whole : List ℕ → Written
+  Broken : List ℕ → Written
+
 -- an output of which is known what was written to it, and how many writes have failed
 module _ {O : Type 0} (written : O → Option (List ℕ)) (failures : O → ℕ) where
   -- the text stands behind what was there, and no write failed
   abbrev pub Writes : O → O → List ℕ → Type 0
   Writes old new text = Appends (written old) (written new) text × (failures new ≡ failures old)
 
-  -- some text stands behind what was there, and no write failed
-  abbrev pub WritesSome : O → O → Type 0
-  WritesSome old new = (text : List ℕ) × Writes old new text
+  -- a write failed, and a beginning of the text stands behind what was there
+  abbrev pub FailsToWrite : O → O → List ℕ → Type 0
+  FailsToWrite old new text = AppendsBeginning (written old) (written new) text × (failures new ≡ one_more (failures old))
 
-  -- a write failed, and a beginning of some text stands behind what was there
-  abbrev pub FailsToWrite : O → O → Type 0
-  FailsToWrite old new = (text : List ℕ) × AppendsBeginning (written old) (written new) text × (failures new ≡ one_more (failures old))
+  -- the text was written, whole unless a write failed
+  abbrev pub Tries : O → O → List ℕ → Type 0
+  Tries old new text = Writes old new text ⊎ FailsToWrite old new text
 
-  -- the output is as it was, but for a write that failed
-  abbrev pub WritesNone : O → O → Type 0
-  WritesNone old new = (new ≡ old) ⊎ FailsToWrite old new
+  -- this became of the output
+  abbrev pub Becomes : O → O → Written → Type 0
+  Becomes old new Nothing = new ≡ old
+  Becomes old new (Whole text) = Writes old new text
+  Becomes old new (Broken text) = FailsToWrite old new text
 
   -- only a write that failed leaves the output other than it was
   abbrev pub LeavesOutput : O → O → Fault → Type 0
-  LeavesOutput old new Write = FailsToWrite old new
+  LeavesOutput old new Write = (text : List ℕ) × FailsToWrite old new text
   LeavesOutput old new fault = new ≡ old

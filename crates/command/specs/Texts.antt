@@ -1,5 +1,6 @@
 -- What a check says of the texts of its files.
-use Rattle.std.specs.Prelude.{◌≡◌, ◌≢◌, ◌<◌, ℕ, true, false, Option, Some, Ok, Err, IfSome, List, length, map, ⊤}
+use Rattle.std.specs.Prelude.{◌≡◌, ◌≢◌, ◌⊎◌, ◌<◌, ℕ, true, false, Option, Some, None, Ok, Err, IfSome, List, length, map, Contains, ⊤}
+use Rattle.std.specs.Borrow.{Bor}
 use Rattle.std.specs.Io.KnownBytes.{Appends}
 use Rattle.mpicall.specs.Trace.{trace_of}
 use Rattle.mpicall.specs.declared.fault.SourceFault.TheVariants.{GateStopped}
@@ -17,25 +18,35 @@ use Rattle.gather.specs.declared.fault.Refusal.{Refusal}
 use Rattle.runs.specs.Told.{IsRefusalOver, IsVerdictOver}
 use Rattle.command.specs.Faults.{is_failure}
 use Rattle.command.specs.declared.fault.Fault.{Fault}
-use Rattle.command.specs.declared.fault.Fault.TheVariants.{Open, ReadHead, Head, FileCount, Refused, Failed, LintRefused, LintFailed, Memory, Unproved}
+use Rattle.command.specs.declared.fault.Fault.TheVariants.{Open, ReadHead, Head, FileCount, Refused, Failed, LintRefused, LintFailed, Memory, Unproved, Write}
 
 -- the head is the one that the text gives, where it is told
 abbrev pub IsHeadOf : Option (List ℕ) → Groups → Type 0
 IsHeadOf told groups = IfSome told (λ text. read_head text ≡ Ok groups)
 
--- the fault is one of opening or of reading the head, or the first fault of its text, where that is told
-abbrev pub IsFaultOfHead : Option (List ℕ) → Fault → Type 0
-IsFaultOfHead told (Open path) = ⊤
-IsFaultOfHead told ReadHead = ⊤
-IsFaultOfHead told (Head fault) = IfSome told (λ text. read_head text ≡ Err fault)
-IsFaultOfHead told Memory = ⊤
-IsFaultOfHead told fault = ⊥
+-- the file couldn't be opened, since an opener opens each file whose text it tells
+abbrev pub IsUnopened : (List ℕ → Option (List ℕ)) → List ℕ → Type 0
+IsUnopened told path = told path ≡ None
 
--- a file couldn't be opened, or memory was wanted
-abbrev pub IsFaultOfOpening : Fault → Type 0
-IsFaultOfOpening (Open path) = ⊤
-IsFaultOfOpening Memory = ⊤
-IsFaultOfOpening fault = ⊥
+-- the fault is one of opening or of reading the head, or the first fault of its text, where that is told
+abbrev pub IsFaultOfHead : (List ℕ → Option (List ℕ)) → List ℕ → Fault → Type 0
+IsFaultOfHead told head (Open path) = (path.now ≡ head) × IsUnopened told head
+IsFaultOfHead told head ReadHead = ⊤
+IsFaultOfHead told head (Head fault) = IfSome (told head) (λ text. read_head text ≡ Err fault)
+IsFaultOfHead told head Memory = ⊤
+IsFaultOfHead told head fault = ⊥
+
+-- the same of the front that was read of it
+abbrev pub IsFaultOfFront : List ℕ → Fault → Type 0
+IsFaultOfFront front (Head fault) = read_head front ≡ Err fault
+IsFaultOfFront front Memory = ⊤
+IsFaultOfFront front fault = ⊥
+
+-- one of the files couldn't be opened, or memory was wanted
+abbrev pub IsFaultOfOpening : (List ℕ → Option (List ℕ)) → List (Bor (List ℕ)) → Fault → Type 0
+IsFaultOfOpening told files (Open path) = Contains files path × IsUnopened told path.now
+IsFaultOfOpening told files Memory = ⊤
+IsFaultOfOpening told files fault = ⊥
 
 -- the text of the head gives groups, and the verdict is that of the traces which the other texts hold, by the
 -- reading
@@ -65,30 +76,40 @@ abbrev pub WritesReport : {O : Type 0} → (O → Option (List ℕ)) → O → O
 WritesReport written old new reading format head files verdict =
     (report : List ℕ) × IsReportOf reading format head files verdict report × Appends (written old) (written new) report
 
--- the text of the head gives groups, and the number of the texts is another than that of their ranks
-pub record IsWrongCount (head : List ℕ) (texts : List (List ℕ)) (ranks files : ℕ) : Type 0 where
+-- the head was read and gives groups, and the number of the files is another than that of their ranks
+pub record IsWrongCount (told : List ℕ → Option (List ℕ)) (head : List ℕ) (ranks count : ℕ) (files : List (Bor (List ℕ))) : Type 0 where
   pub groups : Groups
-  pub is_head : read_head head ≡ Ok groups
+  pub is_head : IsHeadOf (told head) groups
   pub ranks_are : ranks ≡ ranks_of groups
-  pub files_are : files ≡ length texts
-  pub differ : files ≢ ranks
+  pub files_are : count ≡ length files
+  pub differ : count ≢ ranks
 
--- the text of the head gives groups, and the refusal is that of the traces which the other texts hold
-pub record IsRefusalOfTexts (head : List ℕ) (texts : List (List ℕ)) (refusal : Refusal) : Type 0 where
+-- the head was read and gives the groups, and there is one file a rank
+pub record IsCounted (told : List ℕ → Option (List ℕ)) (head : List ℕ) (files : List (Bor (List ℕ))) (groups : Groups) : Type 0 where
+  pub is_head : IsHeadOf (told head) groups
+  pub one_a_rank : length files ≡ ranks_of groups
+
+-- there is one file a rank; and where their texts are told, the refusal is that of the traces which these hold
+pub record IsRefusalOfRun (told : List ℕ → Option (List ℕ)) (head : List ℕ) (files : List (Bor (List ℕ))) (refusal : Refusal) : Type 0 where
   pub groups : Groups
-  pub is_head : read_head head ≡ Ok groups
-  pub of_traces : IsRefusalOver groups (map trace_of texts) refusal
+  pub counted : IsCounted told head files groups
+  pub of_traces : (texts : List (List ℕ)) → map (λ file. told file.now) files ≡ map Some texts → IsRefusalOver groups (map trace_of texts) refusal
 
--- the fault is that of the texts; of the machine's faults it is said only that a rank which they name is one
-abbrev pub IsFaultOfTexts : List ℕ → List (List ℕ) → Fault → Type 0
-IsFaultOfTexts head texts (Head fault) = read_head head ≡ Err fault
-IsFaultOfTexts head texts (FileCount ranks files) = IsWrongCount head texts ranks files
-IsFaultOfTexts head texts (Refused refusal) = IsRefusalOfTexts head texts refusal × (is_failure refusal.fault ≡ false)
-IsFaultOfTexts head texts (Failed refusal) = IsRefusalOfTexts head texts refusal × (is_failure refusal.fault ≡ true)
-IsFaultOfTexts head texts (LintRefused fault) = ⊥
-IsFaultOfTexts head texts (LintFailed fault) = ⊥
-IsFaultOfTexts head texts (Unproved rank) = rank < length texts
-IsFaultOfTexts head texts fault = ⊤
+-- Which fault a check tells: of the head, before its ranks are counted; of their number, before a file of theirs is
+-- opened; of opening these, before one is read; of the run.
+abbrev pub IsFaultOfCheck : (List ℕ → Option (List ℕ)) → List ℕ → List (Bor (List ℕ)) → Fault → Type 0
+IsFaultOfCheck told head files (Open path) =
+    IsUnopened told path.now × ((path.now ≡ head) ⊎ (Contains files path × ((groups : Groups) × IsCounted told head files groups)))
+IsFaultOfCheck told head files ReadHead = ⊤
+IsFaultOfCheck told head files (Head fault) = IfSome (told head) (λ text. read_head text ≡ Err fault)
+IsFaultOfCheck told head files (FileCount ranks count) = IsWrongCount told head ranks count files
+IsFaultOfCheck told head files (Refused refusal) = IsRefusalOfRun told head files refusal × (is_failure refusal.fault ≡ false)
+IsFaultOfCheck told head files (Failed refusal) = IsRefusalOfRun told head files refusal × (is_failure refusal.fault ≡ true)
+IsFaultOfCheck told head files (LintRefused fault) = ⊥
+IsFaultOfCheck told head files (LintFailed fault) = ⊥
+IsFaultOfCheck told head files Memory = ⊤
+IsFaultOfCheck told head files (Unproved rank) = (rank < length files) × ((groups : Groups) × IsCounted told head files groups)
+IsFaultOfCheck told head files Write = ⊤
 
 -- the fault isn't that a gate stopped the reading
 abbrev pub IsOfNoGate : Fault → Type 0

@@ -3,6 +3,7 @@
 ghost use Rattle.std.specs.Prelude.{◌≡◌, ◌<◌, ◌≤◌};
 ghost use Rattle.command.specs.Capacities.{capacity_in};
 
+use crate::number::number_within;
 use std::marker::Model;
 
 /// The fewest records that may be asked for.
@@ -34,10 +35,10 @@ impl Capacity {
     pub fn read(text: &str) -> Option<Capacity>
         ensures { result ≡ capacity_in text.now }
     {
-        match text.parse() {
-            Ok(records) if LEAST <= records && records <= MOST => Some(Capacity { records }),
-            _ => None,
-        }
+        let records = number_within(u32::from(LEAST), u32::from(MOST), text)?;
+        Some(Capacity {
+            records: records as u16,
+        })
     }
 
     /// The number of records.

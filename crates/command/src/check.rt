@@ -8,7 +8,7 @@ ghost use Rattle.mpigroup.specs.HeadText.{read_head};
 ghost use Rattle.runs.specs.Told.{AreFresh};
 ghost use Rattle.command.specs.Front.{IsFrontFault, IsFrontOf};
 ghost use Rattle.command.specs.Outputs.{LeavesOutput};
-ghost use Rattle.command.specs.Texts.{IsFaultOfHead, IsFaultOfOpening, IsFaultOfTexts, IsHeadOf, IsOfNoGate, IsVerdictOfTexts, WritesReport};
+ghost use Rattle.command.specs.Texts.{IsFaultOfCheck, IsFaultOfFront, IsFaultOfHead, IsFaultOfOpening, IsHeadOf, IsOfNoGate, IsVerdictOfTexts, WritesReport};
 
 use crate::capacity::Capacity;
 use crate::fault::Fault;
@@ -55,7 +55,7 @@ fn read_front<'a, I: Input>(alloc: Global, input: &mut I) -> Result<Vec<u8>, Fau
 /// The head that the front of its text gives.
 fn head_of_front<'a>(alloc: Global, front: &[u8]) -> Result<Head, Fault<'a>>
     ensures head { IfOk result (λ head. read_head front.now ≡ Ok head) }
-    ensures fault { IfErr result (IsFaultOfHead (Some front.now)) }
+    ensures fault { IfErr result (IsFaultOfFront front.now) }
 {
     match Head::read(alloc, front) {
         Ok(head) => Ok(head),
@@ -67,9 +67,11 @@ fn head_of_front<'a>(alloc: Global, front: &[u8]) -> Result<Head, Fault<'a>>
 /// The head of the run, from the file that the path names.
 fn open_head<'a, P: Opener>(alloc: Global, opener: &P, path: &'a str) -> Result<Head, Fault<'a>>
     ensures head { IfOk result (IsHeadOf (P.told opener.now path.now)) }
-    ensures fault { IfErr result (IsFaultOfHead (P.told opener.now path.now)) }
+    ensures fault { IfErr result (IsFaultOfHead (P.told opener.now) path.now) }
 {
-    let mut input = opener.open_input(path).ok_or(Fault::Open(path))?;
+    let Some(mut input) = opener.open_input(path) else {
+        return Err(Fault::Open(path));
+    };
     let front = read_front(alloc, &mut input)?;
     head_of_front(alloc, &front)
 }
@@ -83,11 +85,13 @@ fn open_sources<'a, P: Opener>(
     ensures fresh { IfOk result (λ sources. AreFresh sources.items) }
     ensures told { IfOk result (λ sources. map (coming P.In.left) sources.items
         ≡ map (λ path. option_map trace_of (P.told opener.now path.now)) paths.now) }
-    ensures fault { IfErr result IsFaultOfOpening }
+    ensures fault { IfErr result (IsFaultOfOpening (P.told opener.now) paths.now) }
 {
     let mut sources = Vec::new(alloc);
     for path in paths {
-        let input = opener.open_input(path).ok_or(Fault::Open(path))?;
+        let Some(input) = opener.open_input(path) else {
+            return Err(Fault::Open(path));
+        };
         sources.push(Source::new(input))?;
     }
     Ok(sources)
@@ -122,10 +126,9 @@ pub fn check<'a, P: Opener, O: Output, R: Threads + Wait + Sync>(
         P.told opener.now head.now ≡ Some text →
         map (λ file. P.told opener.now file.now) files.now ≡ map Some texts →
         IsVerdictOfTexts reading text texts verdict) }
-    ensures fault { IfErr result (λ fault. (text : List ℕ) (texts : List (List ℕ)) →
-        P.told opener.now head.now ≡ Some text →
-        map (λ file. P.told opener.now file.now) files.now ≡ map Some texts →
-        IsFaultOfTexts text texts fault) }
+
+    // Which fault is told, by what came before it.
+    ensures fault { IfErr result (IsFaultOfCheck (P.told opener.now) head.now files.now) }
 
     ensures written { IfOk result (WritesReport O.written out.old out.new reading format (P.told opener.now head.now) (map (λ file. P.told opener.now file.now) files.now)) }
     ensures no_write_failed { OnOk result (O.failures out.new ≡ O.failures out.old) }

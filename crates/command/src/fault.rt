@@ -1,43 +1,74 @@
 //! Why the program has no answer.
 
-ghost use Rattle.std.specs.Prelude.{◌≡◌};
+ghost use Rattle.std.specs.Prelude.{◌≡◌, Some};
+ghost use Rattle.command.specs.FaultTexts.{text_of_fault};
 ghost use Rattle.command.specs.Faults.{is_failure, is_source_failure, of_head, of_lint, of_run, status_of};
 ghost use Rattle.command.specs.declared.fault.Fault.TheVariants.{Memory};
 
 use crate::status::Status;
+use crate::text::{words_of_head, words_of_rank, words_of_source};
 use gather::fault::{RankFault, Refusal, RunFault};
 use mpicall::fault::SourceFault;
 use mpicall::lint::LintFault;
 use mpigroup::fault::HeadFault;
 use std::alloc::{AllocError, AllocFailed};
-use thiserror::Error;
+use std::error::Error;
+use std::fmt;
 
 /// Why a run or a trace has no answer. Its text is what the program says.
-#[derive(Clone, Copy, Debug, PartialEq, Eq, Error)]
+#[derive(Clone, Copy, Debug, PartialEq, Eq)]
 pub enum Fault<'a> {
-    #[error("fault open {0}")]
     Open(&'a str),
-    #[error("fault read head")]
     ReadHead,
-    #[error("refused head {0}")]
     Head(HeadFault),
-    #[error("usage: head has {ranks} ranks, {files} files given")]
     FileCount { ranks: u16, files: usize },
-    #[error("refused {0}")]
     Refused(Refusal),
-    #[error("fault {0}")]
     Failed(Refusal),
-    #[error("lint refused call {} {} {}", .0.call, .0.fault.code(), .0.fault)]
     LintRefused(LintFault),
-    #[error("fault lint call {} {} {}", .0.call, .0.fault.code(), .0.fault)]
     LintFailed(LintFault),
-    #[error("fault memory")]
     Memory,
-    #[error("fault seal {0}")]
     Unproved(u16),
-    #[error("fault write")]
     Write,
 }
+
+impl fmt::Display for Fault<'_> {
+    ghost output = { λ fault. Some (text_of_fault fault) };
+
+    fn fmt<W: fmt::Write>(&self, f: &mut fmt::Formatter<W>) -> fmt::Result {
+        match *self {
+            Fault::Open(path) => write!(f, "fault open {path}"),
+            Fault::ReadHead => write!(f, "fault read head"),
+            Fault::Head(HeadFault { line, kind }) => {
+                let (code, words) = (kind.code(), words_of_head(kind));
+                write!(f, "refused head line {line} {code} {words}")
+            }
+            Fault::FileCount { ranks, files } => {
+                write!(f, "usage: head has {ranks} ranks, {files} files given")
+            }
+            Fault::Refused(Refusal { rank, call, fault }) => {
+                let (code, words) = (fault.code(), words_of_rank(fault));
+                write!(f, "refused rank {rank} call {call} {code} {words}")
+            }
+            Fault::Failed(Refusal { rank, call, fault }) => {
+                let (code, words) = (fault.code(), words_of_rank(fault));
+                write!(f, "fault rank {rank} call {call} {code} {words}")
+            }
+            Fault::LintRefused(LintFault { call, fault }) => {
+                let (code, words) = (fault.code(), words_of_source(fault));
+                write!(f, "lint refused call {call} {code} {words}")
+            }
+            Fault::LintFailed(LintFault { call, fault }) => {
+                let (code, words) = (fault.code(), words_of_source(fault));
+                write!(f, "fault lint call {call} {code} {words}")
+            }
+            Fault::Memory => write!(f, "fault memory"),
+            Fault::Unproved(rank) => write!(f, "fault seal {rank}"),
+            Fault::Write => write!(f, "fault write"),
+        }
+    }
+}
+
+impl Error for Fault<'_> {}
 
 impl Fault<'_> {
     /// The exit status that tells the fault.

@@ -2,15 +2,14 @@
 
 ghost use Rattle.std.specs.Prelude.{◌≡◌, IfOk, OnErr, map, string_bytes};
 ghost use Rattle.std.specs.Process.{exit_status};
-ghost use Rattle.command.specs.Ends.{EndsError, EndsOutput};
-ghost use Rattle.command.specs.Given.{status_in, status_of};
+ghost use Rattle.command.specs.Given.{EndsBySome, EndsGiven, status_in, status_of, text_of};
 ghost use Rattle.command.specs.Statuses.{code_of};
 ghost use Rattle.command.specs.declared.given.WordsFault.TheVariants.{NoMemory};
 
 use crate::opener::Opener;
-use crate::program::program;
+use crate::program::{program, write_error};
 use crate::status::Status;
-use mpicall::device::{Output, write_all};
+use mpicall::device::Output;
 use std::alloc::{AllocError, Global};
 use std::env::Env;
 use std::process::{ExitCode, Termination};
@@ -37,7 +36,9 @@ impl WordsFault {
     }
 
     /// What the program says of it.
-    pub fn text(self) -> &'static str {
+    pub fn text(self) -> &'static str
+        ensures { result.now ≡ text_of self }
+    {
         match self {
             WordsFault::NoText => "usage: the words must be text in UTF-8\n",
             WordsFault::NoMemory => "fault memory\n",
@@ -109,8 +110,7 @@ where
     O: Output,
     E: Output,
     R: Threads + Wait + Sync,
-    ensures output { IfOk result (EndsOutput O.written O.failures out.old out.new) }
-    ensures errors { IfOk result (EndsError E.written E.failures err.old err.new) }
+    ensures ended { IfOk result (EndsBySome O.written O.failures E.written E.failures (P.told opener.now) out.old out.new err.old err.new) }
     ensures untouched { OnErr result ((out.new ≡ out.old) × (err.new ≡ err.old)) }
 {
     let words = words_given(given)?;
@@ -127,13 +127,12 @@ where
     O: Output,
     E: Output,
     R: Threads + Wait + Sync,
-    ensures output { EndsOutput O.written O.failures out.old out.new (status_in result) }
-    ensures errors { EndsError E.written E.failures err.old err.new (status_in result) }
+    ensures { EndsGiven O.written O.failures E.written E.failures (P.told opener.now) out.old out.new err.old err.new (status_in result) }
 {
     let status = match status_on(given, opener, rt, out, err) {
         Ok(status) => status,
         Err(fault) => {
-            let _ = write_all(err, fault.text().as_bytes());
+            write_error(fault.text(), err);
             fault.status()
         }
     };

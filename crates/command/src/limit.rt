@@ -3,9 +3,9 @@
 ghost use Rattle.std.specs.Prelude.{◌≡◌, option_map};
 ghost use Rattle.command.specs.Limits.{reading_in};
 
+use crate::number::number_within;
 use moves::reading::Reading;
 use mpicall::limits::GREATEST_BYTES;
-use mpicall::number::read_number;
 
 /// The reading with the limit that a text spells, or None where that is no number of bytes. Without a text it
 /// is the strict one.
@@ -14,7 +14,7 @@ pub fn read_reading(text: Option<&str>) -> Option<Reading>
 {
     match text {
         Some(text) => {
-            let limit = read_number(GREATEST_BYTES, text.as_bytes())?;
+            let limit = number_within(0, GREATEST_BYTES, text)?;
             Some(Reading::Eager(limit))
         }
         None => Some(Reading::Strict),

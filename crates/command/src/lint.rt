@@ -17,9 +17,11 @@ use std::sync::Wait;
 #[tactic(auto, using(crate::proofs::LintLemmas::count_is, crate::proofs::LintLemmas::fault_is))]
 fn lint_opened<'a, P: Opener>(file: &'a str, opener: &P, wait: &impl Wait) -> Result<u64, Fault<'a>>
     ensures count { IfOk result (IsCountOf (P.told opener.now file.now)) }
-    ensures fault { IfErr result (IsFaultOfTrace (P.told opener.now file.now)) }
+    ensures fault { IfErr result (IsFaultOfTrace (P.told opener.now) file.now) }
 {
-    let input = opener.open_input(file).ok_or(Fault::Open(file))?;
+    let Some(input) = opener.open_input(file) else {
+        return Err(Fault::Open(file));
+    };
     let mut source = Source::new(input);
     match lint(&mut source, wait) {
         Ok(count) => Ok(count),
@@ -38,7 +40,7 @@ pub fn lint_file<'a, P: Opener, O: Output>(
     ensures count { IfOk result (IsCountOf (P.told opener.now file.now)) }
     ensures written { IfOk result (λ count. Appends (O.written out.old) (O.written out.new) (lint_report count)) }
     ensures no_write_failed { OnOk result (O.failures out.new ≡ O.failures out.old) }
-    ensures fault { IfErr result (IsFaultOfLint (P.told opener.now file.now)) }
+    ensures fault { IfErr result (IsFaultOfLint (P.told opener.now) file.now) }
     ensures output { IfErr result (LeavesOutput O.written O.failures out.old out.new) }
 {
     let count = lint_opened(file, opener, wait)?;

@@ -1,6 +1,6 @@
 //! Opening the files that the command line names.
 
-ghost use Rattle.std.specs.Prelude.{◌≡◌, ℕ, Option, None, List, IfSome};
+ghost use Rattle.std.specs.Prelude.{◌≡◌, ℕ, Option, None, List, IfNone, IfSome};
 
 use mpicall::counted::Counted;
 use mpicall::device::Input;
@@ -14,9 +14,11 @@ pub trait Opener {
 
     ghost told: { Self → List ℕ → Option (List ℕ) };
 
-    /// The input that a path names, from its first byte on; None where it can't be opened.
+    /// The input that a path names, from its first byte on; None where it can't be opened. A file whose text is
+    /// told can be.
     fn open_input(&self, path: &str) -> Option<Self::In>
-        ensures { IfSome result (λ input. Self.In.left input ≡ told self.now path.now) };
+        ensures told { IfSome result (λ input. Self.In.left input ≡ told self.now path.now) }
+        ensures untold { IfNone result (told self.now path.now ≡ None) };
 
     /// Whether a read of the file with a path may wait for another program, as one of a pipe does. The answer
     /// decides how files are read, and nothing of what is said of them.

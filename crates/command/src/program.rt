@@ -1,9 +1,14 @@
 //! The whole program, over any files and outputs.
 
 ghost use Rattle.std.specs.Prelude.{◌≡◌, map};
-ghost use Rattle.command.specs.Answer.{AnswerEnds, CheckEnds, IsComplaint, LintEnds, Refuses, Shows, TellsComplaint};
-ghost use Rattle.command.specs.Ends.{Ends, EndsError};
+ghost use Rattle.command.specs.Answer.{Complains, IsAnswered, Refuses, Shows, TellsFault};
+ghost use Rattle.command.specs.Ends.{Ends, EndsInCount, EndsInReport, IsDone, IsFaultOf};
+ghost use Rattle.command.specs.FaultTexts.{line_of_fault};
+ghost use Rattle.command.specs.Faults.{status_of as status_of_fault};
+ghost use Rattle.command.specs.Lints.{IsFaultOfLint};
+ghost use Rattle.command.specs.Outputs.{Tries};
 ghost use Rattle.command.specs.Statuses.{status_of};
+ghost use Rattle.command.specs.Texts.{IsFaultOfCheck};
 
 use crate::capacity::Capacity;
 use crate::check::check;
@@ -60,7 +65,7 @@ fn refuse<'a, O: Output>(
         return Err(Complaint::Fault(fault));
     }
     match format!(in alloc; "{fault}\n") {
-        Ok(text) => show(&text, Status::Refused, out),
+        Ok(line) => show(&line, Status::Refused, out),
         Err(_) => Err(Complaint::Fault(Fault::Memory)),
     }
 }
@@ -77,7 +82,8 @@ fn answer_check<'a, P: Opener, O: Output, R: Threads + Wait + Sync>(
     rt: &R,
     out: &mut O,
 ) -> Result<Status, Complaint<'a>>
-    ensures { CheckEnds O.written O.failures (P.told opener.now) out.old out.new (P.told opener.now head.now) (map (λ file. P.told opener.now file.now) files.now) reading format result }
+    ensures { let told = P.told opener.now in
+        IsAnswered O.written O.failures (EndsInReport reading format (told head.now) (map (λ file. told file.now) files.now)) (IsFaultOfCheck told head.now files.now) out.old out.new result }
 {
     match check(
         alloc, head, files, reading, format, capacity, opener, rt, out,
@@ -95,7 +101,8 @@ fn answer_lint<'a, P: Opener, O: Output>(
     wait: &impl Wait,
     out: &mut O,
 ) -> Result<Status, Complaint<'a>>
-    ensures { LintEnds O.written O.failures (P.told opener.now) out.old out.new (P.told opener.now file.now) result }
+    ensures { let told = P.told opener.now in
+        IsAnswered O.written O.failures (EndsInCount (told file.now)) (IsFaultOfLint told file.now) out.old out.new result }
 {
     match lint_file(alloc, file, opener, wait, out) {
         Ok(_) => Ok(Status::Free),
@@ -111,7 +118,7 @@ fn answer<'a, P: Opener, O: Output, R: Threads + Wait + Sync>(
     rt: &R,
     out: &mut O,
 ) -> Result<Status, Complaint<'a>>
-    ensures { AnswerEnds O.written O.failures (P.told opener.now) out.old out.new words.entry result }
+    ensures { IsAnswered O.written O.failures (IsDone (P.told opener.now) words.entry) (IsFaultOf (P.told opener.now) words.entry) out.old out.new result }
 {
     match words {
         Words::Check {
@@ -136,29 +143,47 @@ fn answer<'a, P: Opener, O: Output, R: Threads + Wait + Sync>(
     }
 }
 
-/// Tells a complaint on standard error, and gives the exit status. Where that write fails too there is
-/// nobody left to tell.
-fn complain<E: Output>(alloc: Global, complaint: Complaint<'_>, err: &mut E) -> Status
-    requires { IsComplaint complaint }
-    ensures status { TellsComplaint complaint.entry result }
-    ensures told { EndsError E.written E.failures err.old err.new result }
+/// Writes a text on standard error. Where that fails there is nobody left to tell.
+pub(crate) fn write_error<E: Output>(text: &str, err: &mut E)
+    ensures { Tries E.written E.failures err.old err.new text.now }
 {
-    let fault = match complaint {
-        Complaint::Usage(text) => {
-            let _ = write_all(err, text.as_bytes());
-            return Status::Usage;
-        }
-        Complaint::Fault(fault) => fault,
-    };
+    let _ = write_all(err, text.as_bytes());
+}
+
+/// Tells a fault by its line on standard error, and gives the exit status.
+fn tell<E: Output>(fault: Fault<'_>, line: &str, err: &mut E) -> Status
+    requires { line.now ≡ line_of_fault fault }
+    ensures status { result ≡ status_of_fault fault.entry }
+    ensures told { Tries E.written E.failures err.old err.new (line_of_fault fault.entry) }
+{
+    write_error(line, err);
+    fault.status()
+}
+
+/// The same, also where there is no memory for the line: that is told then. The line of a failed write takes
+/// none, so that it stands for what became of the other output.
+fn tell_fault<E: Output>(alloc: Global, fault: Fault<'_>, err: &mut E) -> Status
+    ensures { TellsFault E.written E.failures err.old err.new fault.entry result }
+{
+    if fault == Fault::Write {
+        return tell(fault, "fault write\n", err);
+    }
     match format!(in alloc; "{fault}\n") {
-        Ok(text) => {
-            let _ = write_all(err, text.as_bytes());
-            fault.status()
+        Ok(line) => tell(fault, &line, err),
+        Err(_) => tell(Fault::Memory, "fault memory\n", err),
+    }
+}
+
+/// Tells a complaint on standard error, and gives the exit status.
+fn complain<E: Output>(alloc: Global, complaint: Complaint<'_>, err: &mut E) -> Status
+    ensures { Complains E.written E.failures err.old err.new complaint.entry result }
+{
+    match complaint {
+        Complaint::Usage(text) => {
+            write_error(&text, err);
+            Status::Usage
         }
-        Err(_) => {
-            let _ = write_all(err, b"fault memory\n");
-            Status::Fault
-        }
+        Complaint::Fault(fault) => tell_fault(alloc, fault, err),
     }
 }
 
@@ -172,8 +197,7 @@ pub fn program<P: Opener, O: Output, E: Output, R: Threads + Wait + Sync>(
     out: &mut O,
     err: &mut E,
 ) -> Status
-    ensures ends { Ends O.written O.failures (P.told opener.now) out.old out.new (map (λ word. word.now) words.now) result }
-    ensures errors { EndsError E.written E.failures err.old err.new result }
+    ensures { Ends O.written O.failures E.written E.failures (P.told opener.now) out.old out.new err.old err.new (map (λ word. word.now) words.now) result }
 {
     match answer(alloc, parse(alloc, words), opener, rt, out) {
         Ok(status) => status,

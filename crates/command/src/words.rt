@@ -70,6 +70,10 @@ Lines of the report:
       a request that isn't waited for, a new communicator with another group than its call gives it
 docs/FORMATS.md explains each.";
 
+const TRACES_HELP: &str = "\
+The traces of the ranks, one file a rank, in rank order. All are open at once: where `fault open`
+names a file that is there, `ulimit -n` lets a process have too few open files";
+
 const LINT_ABOUT: &str = "Reads one trace alone, and says whether it is in its format";
 
 const AFTER: &str = "\
@@ -88,9 +92,6 @@ Exit status:
 
 const USAGE: &str =
     "usage: mpiwait check [--json] [--capacity N] [--eager N] HEAD FILE.. or mpiwait lint FILE\n";
-
-const LIMIT_USAGE: &str =
-    "usage: --eager takes a number from 0 to 2147483647, with no sign and no zero before it\n";
 
 /// What clap is told of the head.
 fn head_argument<'a>(alloc: Global) -> Arg<'a>
@@ -111,6 +112,7 @@ fn traces_argument<'a>(alloc: Global) -> Arg<'a>
         .required(true)
         .num_args(1..)
         .help("The traces of the ranks, one file a rank, in rank order")
+        .long_help(TRACES_HELP)
 }
 
 /// What clap is told of the flag for JSON.
@@ -262,7 +264,7 @@ fn run_named<'a>(
         return say(alloc, USAGE, true);
     }
     let Some(reading) = reading else {
-        return say(alloc, LIMIT_USAGE, true);
+        return say(alloc, USAGE, true);
     };
     let Some(capacity) = capacity else {
         return say(alloc, USAGE, true);

@@ -1,7 +1,7 @@
 -- The answer over the sources is that of the files' texts.
-use Rattle.std.proofs.Common.{map, rules, ◌∙◌, ℕ, List, Bor}
+use Rattle.std.proofs.Common.{map, rules, ℕ, List, Bor}
 use Rattle.mpicall.specs.Trace.{trace_of}
-use Rattle.command.proofs.TextLemmas.{as_many, head_of_told, report_says, run_fault_says, tells_texts}
+use Rattle.command.proofs.TextLemmas.{head_of_told, report_says, run_fault_says, tells_texts}
 use Rattle.command.proofs.check.check.Goals as goal
 
 pub returns-in-Ok-clause-verdict : goal.returns-in-Ok-clause-verdict
@@ -23,10 +23,10 @@ returns-in-Ok-clause-written g c =
     )
 
 pub returns-in-Err-clause-fault : goal.returns-in-Err-clause-fault
-returns-in-Err-clause-fault g c = λ text texts head_is files_are.
-    let told = λ (file : Bor (List ℕ)). g.P.Opener.told c.args.opener.now file.now in
-    let says = run_fault_says g.P.In.Input.left _ _ c.in_ok-head.head text texts c.in-Err.fault (head_of_told _ text _ c.in_ok-head.ensures.head head_is)
-    (search rules ∙ as_many told c.args.files.now texts files_are)
+returns-in-Err-clause-fault g c =
+    let says = run_fault_says (g.P.Opener.told c.args.opener.now) c.args.head.now c.args.files.now g.P.In.Input.left _ _ c.in_ok-head.head c.in-Err.fault
+    (record { is_head = c.in_ok-head.ensures.head; one_a_rank = search rules })
     c.in-Err.ensures.fed
-    (c.in-Err.ensures.refused (map trace_of texts) (tells_texts _ told c.args.files.now texts c.in_ok-sources.ensures.told files_are)) in
+    (λ texts files_are. c.in-Err.ensures.refused (map trace_of texts)
+    (tells_texts _ (λ file. g.P.Opener.told c.args.opener.now file.now) c.args.files.now texts c.in_ok-sources.ensures.told files_are)) in
     rw (c.from-in-Err.ensures) says
