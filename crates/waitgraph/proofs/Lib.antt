@@ -4,6 +4,10 @@ pub mod MarkLemmas
 pub mod OrderLemmas
 pub mod AddingLemmas
 pub mod AmongLemmas
+pub mod SortLemmas
+pub mod KeptLemmas
+pub mod CallerLemmas
+pub mod MakingLemmas
 pub mod RangeLemmas
 pub mod UnmetLemmas
 pub mod WalkLemmas

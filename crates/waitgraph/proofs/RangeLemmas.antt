@@ -1,5 +1,5 @@
 -- What is taken of the ranks one by one.
-use Rattle.std.proofs.Common.{◌≡◌, ℕ, map, sym, zero, suc, ◌+◌, Bool, true, false, Option, Some, None, List, [], ◌∷◌, ◌++◌, refl, ap, ◌∙◌, append-nil, arith}
+use Rattle.std.proofs.Common.{◌≡◌, ℕ, map, sym, zero, suc, ◌+◌, ◌-◌, ◌≤◌, Bool, true, false, Option, Some, None, List, [], ◌∷◌, ◌++◌, refl, ap, ◌∙◌, append-nil, arith}
 use Rattle.std.specs.List.{filter, filter_map, cons_option, range_with_len}
 use Rattle.std.specs.Option.{option_to_list}
 use Rattle.std.proofs.lemmas.List.Elements.{filter-append, filter_map-append}
@@ -14,6 +14,13 @@ range_more a (suc n) =
 
 from_zero : (n : ℕ) → range_with_len 0 (n + 1) ≡ range_with_len 0 n ++ n ∷ []
 from_zero n = let e : 0 + n ≡ n = omega arith in range_more 0 n ∙ ap (λ (last : ℕ). range_with_len 0 n ++ last ∷ []) e
+
+-- one more of the numbers from 1 on
+pub from_one : (n : ℕ) → 1 ≤ n → range_with_len 1 (n + 1 - 1) ≡ range_with_len 1 (n - 1) ++ n ∷ []
+from_one n least =
+    let e : n + 1 - 1 ≡ n - 1 + 1 = omega arith in
+    let f : 1 + (n - 1) ≡ n = omega (arith, least) in
+    ap (λ (count : ℕ). range_with_len 1 count) e ∙ range_more 1 (n - 1) ∙ ap (λ (last : ℕ). range_with_len 1 (n - 1) ++ last ∷ []) f
 
 pub kept_more : (p : ℕ → Bool) (n : ℕ) → p n ≡ true → filter p (range_with_len 0 (n + 1)) ≡ filter p (range_with_len 0 n) ++ n ∷ []
 kept_more p n h = ap (λ (ns : List ℕ). filter p ns) (from_zero n) ∙ filter-append p (range_with_len 0 n) (n ∷ []) ∙ rw h refl

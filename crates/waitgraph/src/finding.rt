@@ -17,6 +17,7 @@ use std::alloc::{AllocError, Global};
 mod extent;
 pub mod group;
 pub mod kind;
+mod making;
 mod plain;
 pub mod request;
 pub mod root;

@@ -17,8 +17,9 @@ use crate::cause::Cause;
 use crate::finding::{Finding, findings};
 use crate::loose::{held, loose, walks_in};
 use crate::standing::{Standing, is_some, left_open_in, standings_at};
-use crate::unmet::{Unmet, stand_of, unmet_at};
+use crate::unmet::{stand_of, unmet_at};
 use crate::verdict::Verdict;
+use crate::waits::Waits;
 use crate::walk::causes_in;
 use moves::analyser::Analyser;
 use moves::need::Need;
@@ -34,7 +35,7 @@ pub struct Graph {
     stuck: Vec<u16>,
     held: Vec<u16>,
     left_open: bool,
-    waits: Vec<Unmet>,
+    waits: Waits,
     causes: Vec<Cause>,
     findings: Vec<Finding>,
 }
@@ -59,7 +60,7 @@ impl Model for Graph {
 
     ghost Value = { Waiting };
 
-    ghost view = { λ g. record { stuck = g.stuck.items; held = g.held.items; left_open = g.left_open; waits = g.waits.items; causes = map view_of g.causes.items; findings = g.findings.items } };
+    ghost view = { λ g. record { stuck = g.stuck.items; held = g.held.items; left_open = g.left_open; waits = g.waits; causes = map view_of g.causes.items; findings = g.findings.items } };
 }
 
 /// Whether the rank's present call isn't the one that ends its list.
@@ -89,13 +90,12 @@ fn waits_at(
     reading: Reading,
     pairs: &Pairs,
     stands: &[u32],
-) -> Result<Vec<Unmet>, AllocError>
-    ensures value { IfOk result (λ waits. waits.items ≡ waits_at reading pairs.now.groups pairs.now.recording stands.now) }
-    ensures few { IfOk result (λ waits. length waits.items < 65536) }
+) -> Result<Waits, AllocError>
+    ensures { IfOk result (λ waits. waits ≡ waits_at reading pairs.now.groups pairs.now.recording stands.now) }
 {
-    let mut waits = Vec::new(alloc);
+    let mut waits = Waits::new(alloc);
     for rank in 0..pairs.head().ranks() {
-        waits.push(unmet_at(alloc, reading, pairs, stands, rank)?)?;
+        waits.push(&unmet_at(alloc, reading, pairs, stands, rank)?)?;
     }
     Ok(waits)
 }
@@ -112,7 +112,7 @@ fn who_is_held(
     alloc: Global,
     pairs: &Pairs,
     standings: &[Standing],
-    waits: &[Unmet],
+    waits: &Waits,
 ) -> Result<Found, AllocError>
     requires few { length standings.now < 65536 }
     ensures held { IfOk result (λ found. found.held.items ≡ filter (are_held (opened_of pairs.now.recording) standings.now waits.now) (range_with_len 0 (length standings.now))) }
@@ -181,7 +181,7 @@ impl Graph {
     /// The wait graph of a run whose calls were all accepted. It asks for each rank what its present call
     /// needs and walks from each rank once, and then looks at each call for what is wrong. It takes memory
     /// for the stuck ranks, their unmet needs, the causes and the findings, and for what its search keeps on
-    /// the way: the stands, the marks of calls, the walks and the groups.
+    /// the way: the stands, the marks of calls, the walks, the groups and what was found of them.
     pub fn of(alloc: Global, analyser: &Analyser) -> Result<Graph, AllocError>
         requires { IsClosed analyser.now.recording }
         ensures stuck { IfOk result (λ graph. graph.stuck ≡ stuck_of analyser.now.reading analyser.now.groups analyser.now.recording) }
@@ -228,10 +228,7 @@ impl Graph {
     pub fn unmet(&self, rank: u16) -> &[Need]
         ensures { result.now ≡ needs_in self.now.waits rank }
     {
-        match self.waits.get(usize::from(rank)) {
-            Some(unmet) => unmet.needs(),
-            None => &[],
-        }
+        self.waits.get(rank)
     }
 
     /// Why ranks are held: the cycles by their lowest rank, and then the missing calls by the rank that

@@ -33,4 +33,5 @@ pub mod onward;
 pub mod standing;
 pub mod unmet;
 pub mod verdict;
+mod waits;
 pub mod walk;

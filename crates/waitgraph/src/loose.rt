@@ -2,14 +2,13 @@
 
 ghost use Rattle.std.specs.Prelude.{◌≡◌, ◌<◌, ℕ, true, false, length, replicate, slice_set, find, IfOk};
 ghost use Rattle.std.specs.List.{filter, list_all, range_with_len};
-ghost use Rattle.waitgraph.specs.Waits.{needs_in};
 ghost use Rattle.waitgraph.specs.Causes.{walks_in};
 ghost use Rattle.waitgraph.specs.Stays.{HeldRanksStay};
 ghost use Rattle.waitgraph.specs.Loose.{set_of, standing_of, is_on, loosens, are_loose, are_held, goes_on, onward, onward_by, onward_of, Sweeps, HeldRanksGoOn, TheLooseAreTheLeast};
 
 use crate::onward::Onward;
 use crate::standing::Standing;
-use crate::unmet::Unmet;
+use crate::waits::Waits;
 use moves::need::Need;
 use std::alloc::{AllocError, Global};
 
@@ -27,15 +26,6 @@ fn mark(marks: &mut Vec<bool>, rank: u16)
     ensures { marks.new.items ≡ slice_set marks.old.items rank true }
 {
     marks[usize::from(rank)] = true;
-}
-
-fn needs_in(waits: &[Unmet], rank: u16) -> &[Need]
-    ensures { result.now ≡ needs_in waits.now rank }
-{
-    match waits.get(usize::from(rank)) {
-        Some(unmet) => unmet.needs(),
-        None => &[],
-    }
 }
 
 fn standing_of(standings: &[Standing], rank: u16) -> Standing
@@ -66,7 +56,7 @@ fn are_on(opened: &[bool], marks: &[bool], needs: &[Need]) -> bool
 fn is_loose_by(
     opened: &[bool],
     standings: &[Standing],
-    waits: &[Unmet],
+    waits: &Waits,
     marks: &[bool],
     rank: u16,
 ) -> bool
@@ -75,7 +65,7 @@ fn is_loose_by(
     match standing_of(standings, rank) {
         Standing::AtFinalize => false,
         Standing::AtOpen => true,
-        Standing::Stuck => are_on(opened, marks, needs_in(waits, rank)),
+        Standing::Stuck => are_on(opened, marks, waits.get(rank)),
     }
 }
 
@@ -83,7 +73,7 @@ fn is_loose_by(
 fn is_next(
     opened: &[bool],
     standings: &[Standing],
-    waits: &[Unmet],
+    waits: &Waits,
     marks: &[bool],
     rank: u16,
 ) -> bool
@@ -95,7 +85,7 @@ fn is_next(
 }
 
 /// Marks each rank that those marked so far make loose, and answers whether there was one.
-fn sweep(opened: &[bool], standings: &[Standing], waits: &[Unmet], marks: &mut Vec<bool>) -> bool
+fn sweep(opened: &[bool], standings: &[Standing], waits: &Waits, marks: &mut Vec<bool>) -> bool
     requires few { length standings.now < 65536 }
     requires marks { length marks.old.items ≡ length standings.now }
     ensures len { length marks.new.items ≡ length standings.now }
@@ -122,7 +112,7 @@ pub(crate) fn loose(
     alloc: Global,
     opened: &[bool],
     standings: &[Standing],
-    waits: &[Unmet],
+    waits: &Waits,
 ) -> Result<Vec<bool>, AllocError>
     requires { length standings.now < 65536 }
     ensures { IfOk result (λ marks. (rank : ℕ) → set_of marks.items rank ≡ are_loose (set_of opened.now) standings.now waits.now rank) }
@@ -136,7 +126,7 @@ pub(crate) fn loose(
 fn is_held(
     opened: &[bool],
     standings: &[Standing],
-    waits: &[Unmet],
+    waits: &Waits,
     loose: &[bool],
     rank: u16,
 ) -> bool
@@ -154,7 +144,7 @@ pub(crate) fn held(
     alloc: Global,
     opened: &[bool],
     standings: &[Standing],
-    waits: &[Unmet],
+    waits: &Waits,
     loose: &[bool],
 ) -> Result<Vec<u16>, AllocError>
     requires few { length standings.now < 65536 }
@@ -174,7 +164,7 @@ pub(crate) fn held(
 fn goes_on(
     opened: &[bool],
     standings: &[Standing],
-    waits: &[Unmet],
+    waits: &Waits,
     loose: &[bool],
     need: &Need,
 ) -> bool
@@ -202,7 +192,7 @@ fn onward(opened: &[bool], need: &Need) -> Onward
 fn onward_by(
     opened: &[bool],
     standings: &[Standing],
-    waits: &[Unmet],
+    waits: &Waits,
     loose: &[bool],
     needs: &[Need],
 ) -> Option<Onward>
@@ -221,7 +211,7 @@ fn onward_by(
 fn onward_of(
     opened: &[bool],
     standings: &[Standing],
-    waits: &[Unmet],
+    waits: &Waits,
     loose: &[bool],
     rank: u16,
 ) -> Option<Onward>
@@ -231,7 +221,7 @@ fn onward_of(
     if !is_held(opened, standings, waits, loose, rank) {
         return None;
     }
-    onward_by(opened, standings, waits, loose, needs_in(waits, rank))
+    onward_by(opened, standings, waits, loose, waits.get(rank))
 }
 
 /// How the walk goes on from each rank.
@@ -239,7 +229,7 @@ pub(crate) fn walks_in(
     alloc: Global,
     opened: &[bool],
     standings: &[Standing],
-    waits: &[Unmet],
+    waits: &Waits,
     loose: &[bool],
 ) -> Result<Vec<Option<Onward>>, AllocError>
     requires few { length standings.now < 65536 }

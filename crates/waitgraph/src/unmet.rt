@@ -1,14 +1,15 @@
 //! Needs that aren't met where the ranks stand.
 
-ghost use Rattle.std.specs.Prelude.{◌≡◌, ◌≤◌, ◌<◌, [], ◌∷◌, Some, true, false, not, length, map, take, flat_map, slice_get, slice_index, IfOk, IfSome, OnOk};
-ghost use Rattle.std.specs.List.{filter, list_all};
+ghost use Rattle.std.specs.Prelude.{◌≡◌, [], ◌∷◌, ◌++◌, Some, length, map, flat_map, slice_get, slice_index, IfOk, OnOk};
+ghost use Rattle.std.specs.List.{filter};
 ghost use Rattle.std.specs.Option.{option_map_or};
+ghost use Rattle.std.specs.Ordering.{is_lt};
 ghost use Rattle.mpigroup.specs.Groups.{group_of};
 ghost use Rattle.pairing.specs.Recordings.{calls_of};
 ghost use Rattle.pairing.specs.Requests.{completes};
 ghost use Rattle.pairing.specs.Pairs.{completed_of};
 ghost use Rattle.moves.specs.Needs.{world_of, half_need, half_needs, probe_need, probe_needs, member_need, wave_needs, operation_needs, operation_needs_at, request_needs, needs_of_call, needs_of};
-ghost use Rattle.waitgraph.specs.Stuck.{comes_before, with_need, with_needs, is_unmet, unmet_at, UnmetNeedsAreToldInOrder, StuckRanksWaitForStuckRanks};
+ghost use Rattle.waitgraph.specs.Stuck.{comes_before, in_order, is_unmet, unmet_at, UnmetNeedsAreToldInOrder, StuckRanksWaitForStuckRanks};
 
 use moves::need::{Need, is_met};
 use moves::reading::{Reading, sends_freely};
@@ -17,7 +18,7 @@ use pairing::envelope::{Half, Message};
 use pairing::pairs::Pairs;
 use pairing::stored::StoredCall;
 use std::alloc::{AllocError, Global};
-use std::marker::Model;
+use std::cmp::Ordering;
 
 /// Whether the one need comes before the other: needs are ordered by rank and then by place, and what a
 /// rank lacks comes behind its calls.
@@ -33,87 +34,34 @@ fn comes_before(need: &Need, other: &Need) -> bool
     }
 }
 
-/// The place of the first of the needs that doesn't come before the need; their number where all do.
-fn place_among(needs: &[Need], need: &Need) -> usize
-    ensures most { result ≤ length needs.now }
-    ensures before { list_all (λ other. comes_before other need.now) (take result needs.now) ≡ true }
-    ensures next { IfSome (slice_get needs.now result) (λ other. comes_before other need.now ≡ false) }
+/// Which of two needs comes first.
+fn order_of(need: &Need, other: &Need) -> Ordering
+    ensures { is_lt result ≡ comes_before need.now other.now }
 {
-    for (place, other) in needs.iter().enumerate() {
-        if !comes_before(other, need) {
-            return place;
-        }
-    }
-    needs.len()
-}
-
-/// Whether the need at the place comes behind the need; so it is where there is none.
-fn is_behind(needs: &[Need], place: usize, need: &Need) -> bool
-    ensures { result ≡ option_map_or (comes_before need.now) (slice_get needs.now place) true }
-{
-    match needs.get(place) {
-        Some(other) => comes_before(need, other),
-        None => true,
-    }
-}
-
-/// Needs in order, each once. Contracts see their list.
-pub(crate) struct Unmet {
-    needs: Vec<Need>,
-}
-
-impl Drop for Unmet {
-    fn drop(self) {
-        let Unmet { needs: _ } = self;
-    }
-}
-
-impl Model for Unmet {
-    ghost use Rattle.std.specs.Prelude.{◌≡◌, true, List};
-    ghost use Rattle.moves.specs.declared.need.Need.{Need};
-    ghost use Rattle.waitgraph.specs.Stuck.{are_in_order};
-
-    ghost Value = { List Need };
-
-    ghost view = { λ u. u.needs.items };
-
-    ghost invariant = { λ u. are_in_order u.needs.items ≡ true };
-}
-
-impl Unmet {
-    pub(crate) fn new(alloc: Global) -> Unmet
-        ensures { result ≡ [] }
-    {
-        Unmet {
-            needs: Vec::new(alloc),
-        }
-    }
-
-    pub(crate) fn needs(&self) -> &[Need]
-        ensures { result.now ≡ self.now }
-    {
-        self.needs.as_slice()
-    }
-
-    fn add(&mut self, need: Need) -> Result<(), AllocError>
-        ensures { OnOk result (self.new ≡ with_need self.old need) }
-    {
-        let place = place_among(&self.needs, &need);
-        if is_behind(&self.needs, place, &need) {
-            self.needs.insert(place, need)?;
-        }
-        Ok(())
-    }
-}
-
-fn add_unmet(unmet: &mut Unmet, stands: &[u32], need: Need) -> Result<(), AllocError>
-    ensures { OnOk result (unmet.new ≡ with_needs unmet.old (filter (is_unmet stands.now) (need ∷ []))) }
-{
-    if is_met(stands, &need) {
-        Ok(())
+    if comes_before(need, other) {
+        Ordering::Less
+    } else if comes_before(other, need) {
+        Ordering::Greater
     } else {
-        unmet.add(need)
+        Ordering::Equal
     }
+}
+
+/// Puts needs in order, each once.
+fn put_in_order(needs: &mut Vec<Need>)
+    ensures { needs.new.items ≡ in_order needs.old.items }
+{
+    needs.sort_unstable_by(|need, other| order_of(need, other));
+    needs.dedup();
+}
+
+fn add_unmet(unmet: &mut Vec<Need>, stands: &[u32], need: Need) -> Result<(), AllocError>
+    ensures { OnOk result (unmet.new.items ≡ unmet.old.items ++ filter (is_unmet stands.now) (need ∷ [])) }
+{
+    if !is_met(stands, &need) {
+        unmet.push(need)?;
+    }
+    Ok(())
 }
 
 fn world_of(head: &Head, comm: u16, peer: u16) -> u16
@@ -138,7 +86,7 @@ fn half_need(pairs: &Pairs, rank: u16, place: u32, half: Half, message: &Message
 }
 
 fn add_half_needs(
-    unmet: &mut Unmet,
+    unmet: &mut Vec<Need>,
     pairs: &Pairs,
     stands: &[u32],
     rank: u16,
@@ -146,7 +94,7 @@ fn add_half_needs(
     half: Half,
     call: &StoredCall<'_>,
 ) -> Result<(), AllocError>
-    ensures { OnOk result (unmet.new ≡ with_needs unmet.old (filter (is_unmet stands.now) (half_needs pairs.now.groups pairs.now.recording rank place half call.now))) }
+    ensures { OnOk result (unmet.new.items ≡ unmet.old.items ++ filter (is_unmet stands.now) (half_needs pairs.now.groups pairs.now.recording rank place half call.now)) }
 {
     match call.message(half) {
         Some(message) => {
@@ -173,14 +121,14 @@ fn probe_need(pairs: &Pairs, rank: u16, place: u32, message: &Message) -> Need
 }
 
 fn add_probe_needs(
-    unmet: &mut Unmet,
+    unmet: &mut Vec<Need>,
     pairs: &Pairs,
     stands: &[u32],
     rank: u16,
     place: u32,
     call: &StoredCall<'_>,
 ) -> Result<(), AllocError>
-    ensures { OnOk result (unmet.new ≡ with_needs unmet.old (filter (is_unmet stands.now) (probe_needs pairs.now.groups pairs.now.recording rank place call.now))) }
+    ensures { OnOk result (unmet.new.items ≡ unmet.old.items ++ filter (is_unmet stands.now) (probe_needs pairs.now.groups pairs.now.recording rank place call.now)) }
 {
     match call.probed() {
         Some(message) => {
@@ -213,13 +161,13 @@ fn members(head: &Head, comm: u16) -> u16
 
 /// Adds what the wave still needs of each member of its communicator.
 fn add_member_needs(
-    unmet: &mut Unmet,
+    unmet: &mut Vec<Need>,
     pairs: &Pairs,
     stands: &[u32],
     comm: u16,
     wave: u32,
 ) -> Result<(), AllocError>
-    ensures { OnOk result (unmet.new ≡ with_needs unmet.old (filter (is_unmet stands.now) (map (member_need pairs.now.recording comm wave) (group_of pairs.now.groups comm)))) }
+    ensures { OnOk result (unmet.new.items ≡ unmet.old.items ++ filter (is_unmet stands.now) (map (member_need pairs.now.recording comm wave) (group_of pairs.now.groups comm))) }
 {
     let head = pairs.head();
     for g in 0..members(head, comm) {
@@ -232,13 +180,13 @@ fn add_member_needs(
 }
 
 fn add_wave_needs(
-    unmet: &mut Unmet,
+    unmet: &mut Vec<Need>,
     pairs: &Pairs,
     stands: &[u32],
     rank: u16,
     place: u32,
 ) -> Result<(), AllocError>
-    ensures { OnOk result (unmet.new ≡ with_needs unmet.old (filter (is_unmet stands.now) (wave_needs pairs.now.groups pairs.now.recording rank place))) }
+    ensures { OnOk result (unmet.new.items ≡ unmet.old.items ++ filter (is_unmet stands.now) (wave_needs pairs.now.groups pairs.now.recording rank place)) }
 {
     match pairs.wave_of(rank, place) {
         Some((comm, wave)) => add_member_needs(unmet, pairs, stands, comm, wave),
@@ -248,7 +196,7 @@ fn add_wave_needs(
 
 /// Adds what the operation of the call at the place still needs before it is done.
 fn add_operation_needs(
-    unmet: &mut Unmet,
+    unmet: &mut Vec<Need>,
     reading: Reading,
     pairs: &Pairs,
     stands: &[u32],
@@ -256,7 +204,7 @@ fn add_operation_needs(
     place: u32,
     call: &StoredCall<'_>,
 ) -> Result<(), AllocError>
-    ensures { OnOk result (unmet.new ≡ with_needs unmet.old (filter (is_unmet stands.now) (operation_needs reading pairs.now.groups pairs.now.recording rank place call.now))) }
+    ensures { OnOk result (unmet.new.items ≡ unmet.old.items ++ filter (is_unmet stands.now) (operation_needs reading pairs.now.groups pairs.now.recording rank place call.now)) }
 {
     if !sends_freely(reading, call) {
         add_half_needs(unmet, pairs, stands, rank, place, Half::Send, call)?;
@@ -268,14 +216,14 @@ fn add_operation_needs(
 
 /// Adds the same of the call that started a request.
 fn add_start_needs(
-    unmet: &mut Unmet,
+    unmet: &mut Vec<Need>,
     reading: Reading,
     pairs: &Pairs,
     stands: &[u32],
     rank: u16,
     start: u32,
 ) -> Result<(), AllocError>
-    ensures { OnOk result (unmet.new ≡ with_needs unmet.old (filter (is_unmet stands.now) (operation_needs_at reading pairs.now.groups pairs.now.recording rank start))) }
+    ensures { OnOk result (unmet.new.items ≡ unmet.old.items ++ filter (is_unmet stands.now) (operation_needs_at reading pairs.now.groups pairs.now.recording rank start)) }
 {
     match pairs.call(rank, start) {
         Some(call) => add_operation_needs(unmet, reading, pairs, stands, rank, start, &call),
@@ -285,7 +233,7 @@ fn add_start_needs(
 
 /// Adds the same of the request with that index among those that the wait at the place completes.
 fn add_request_needs(
-    unmet: &mut Unmet,
+    unmet: &mut Vec<Need>,
     reading: Reading,
     pairs: &Pairs,
     stands: &[u32],
@@ -293,7 +241,7 @@ fn add_request_needs(
     place: u32,
     index: usize,
 ) -> Result<(), AllocError>
-    ensures { OnOk result (unmet.new ≡ with_needs unmet.old (filter (is_unmet stands.now) (option_map_or (operation_needs_at reading pairs.now.groups pairs.now.recording rank) (completed_of pairs.now.recording rank place index) []))) }
+    ensures { OnOk result (unmet.new.items ≡ unmet.old.items ++ filter (is_unmet stands.now) (option_map_or (operation_needs_at reading pairs.now.groups pairs.now.recording rank) (completed_of pairs.now.recording rank place index) [])) }
 {
     match pairs.completed(rank, place, index) {
         Some(start) => add_start_needs(unmet, reading, pairs, stands, rank, start),
@@ -303,7 +251,7 @@ fn add_request_needs(
 
 /// Adds the same of each request that the call at the place completes.
 fn add_completed_needs(
-    unmet: &mut Unmet,
+    unmet: &mut Vec<Need>,
     reading: Reading,
     pairs: &Pairs,
     stands: &[u32],
@@ -312,7 +260,7 @@ fn add_completed_needs(
     call: &StoredCall<'_>,
 ) -> Result<(), AllocError>
     requires { slice_get (calls_of pairs.now.recording rank) place ≡ Some call.now }
-    ensures { OnOk result (unmet.new ≡ with_needs unmet.old (filter (is_unmet stands.now) (flat_map (request_needs reading pairs.now.groups pairs.now.recording rank place) (completes call.now)))) }
+    ensures { OnOk result (unmet.new.items ≡ unmet.old.items ++ filter (is_unmet stands.now) (flat_map (request_needs reading pairs.now.groups pairs.now.recording rank place) (completes call.now))) }
 {
     for index in 0..call.completed_count() {
         add_request_needs(unmet, reading, pairs, stands, rank, place, index)?;
@@ -322,7 +270,7 @@ fn add_completed_needs(
 
 /// Adds what the call at the place still needs: a call that starts a request needs nothing.
 fn add_needs_of_call(
-    unmet: &mut Unmet,
+    unmet: &mut Vec<Need>,
     reading: Reading,
     pairs: &Pairs,
     stands: &[u32],
@@ -331,7 +279,7 @@ fn add_needs_of_call(
     call: &StoredCall<'_>,
 ) -> Result<(), AllocError>
     requires { slice_get (calls_of pairs.now.recording rank) place ≡ Some call.now }
-    ensures { OnOk result (unmet.new ≡ with_needs unmet.old (filter (is_unmet stands.now) (needs_of_call reading pairs.now.groups pairs.now.recording rank place call.now))) }
+    ensures { OnOk result (unmet.new.items ≡ unmet.old.items ++ filter (is_unmet stands.now) (needs_of_call reading pairs.now.groups pairs.now.recording rank place call.now)) }
 {
     if call.starts().is_some() {
         return Ok(());
@@ -342,14 +290,14 @@ fn add_needs_of_call(
 
 /// Adds what the rank's call at the place still needs; nothing where there is no such call.
 fn add_needs(
-    unmet: &mut Unmet,
+    unmet: &mut Vec<Need>,
     reading: Reading,
     pairs: &Pairs,
     stands: &[u32],
     rank: u16,
     place: u32,
 ) -> Result<(), AllocError>
-    ensures { OnOk result (unmet.new ≡ with_needs unmet.old (filter (is_unmet stands.now) (needs_of reading pairs.now.groups pairs.now.recording rank place))) }
+    ensures { OnOk result (unmet.new.items ≡ unmet.old.items ++ filter (is_unmet stands.now) (needs_of reading pairs.now.groups pairs.now.recording rank place)) }
 {
     match pairs.call(rank, place) {
         Some(call) => add_needs_of_call(unmet, reading, pairs, stands, rank, place, &call),
@@ -366,17 +314,17 @@ pub(crate) fn stand_of(stands: &[u32], rank: u16) -> u32
     }
 }
 
-/// The unmet needs of the rank's present call.
+/// The unmet needs of the rank's present call, in order and each once. All are found, and then they are sorted.
 pub(crate) fn unmet_at(
     alloc: Global,
     reading: Reading,
     pairs: &Pairs,
     stands: &[u32],
     rank: u16,
-) -> Result<Unmet, AllocError>
-    ensures { IfOk result (λ unmet. unmet ≡ unmet_at reading pairs.now.groups pairs.now.recording stands.now rank) }
+) -> Result<Vec<Need>, AllocError>
+    ensures { IfOk result (λ unmet. unmet.items ≡ unmet_at reading pairs.now.groups pairs.now.recording stands.now rank) }
 {
-    let mut unmet = Unmet::new(alloc);
+    let mut unmet = Vec::new(alloc);
     add_needs(
         &mut unmet,
         reading,
@@ -385,6 +333,7 @@ pub(crate) fn unmet_at(
         rank,
         stand_of(stands, rank),
     )?;
+    put_in_order(&mut unmet);
     Ok(unmet)
 }
 

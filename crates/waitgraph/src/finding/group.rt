@@ -1,16 +1,20 @@
 //! New communicators whose groups aren't those that the calls give them.
 
-ghost use Rattle.std.specs.Prelude.{◌≡◌, ◌≤◌, ◌++◌, false, length, slice_get, slice_index, Some, IfOk, OnOk};
+ghost use Rattle.std.specs.Prelude.{◌≡◌, ◌≤◌, ◌++◌, if◌then◌else◌, false, length, slice_get, slice_index, Some, IfOk, OnOk};
 ghost use Rattle.std.specs.Str.{bytes_eq};
 ghost use Rattle.std.specs.Option.{option_map_or};
-ghost use Rattle.mpigroup.specs.Groups.{group_of};
+ghost use Rattle.mpigroup.specs.Groups.{Groups, group_of};
+ghost use Rattle.pairing.specs.Recordings.{Lists};
 ghost use Rattle.pairing.specs.Waves.{wave_of};
 ghost use Rattle.waitgraph.specs.Places.{call_of_member, over_places};
 ghost use Rattle.waitgraph.specs.Findings.{same_word, all_call_alike, choice_of, choices_in, split_ranks, in_world, member_makes, is_given, makes_given, is_wrong_group, is_wrong_at, group_at, wrong_groups_of};
+ghost use Rattle.waitgraph.specs.Makings.{is_wrong_making, is_same_making, known_of, IsKnown};
+ghost use Rattle.waitgraph.specs.declared.finding.making.Making.{Making};
 
 use crate::finding::Finding;
 use crate::finding::extent::{calls, members, ranks};
 use crate::finding::kind::is_same_word;
+use crate::finding::making::{Making, making_call, making_of};
 use crate::finding::wave::call_of_member;
 use mpicall::call::Call;
 use mpigroup::split::colour_group;
@@ -18,6 +22,7 @@ use pairing::comm::makes;
 use pairing::pairs::Pairs;
 use pairing::stored::StoredCall;
 use std::alloc::{AllocError, Global};
+use std::collections::HashMap;
 
 /// Whether a member has a call of the wave with the call's word.
 fn calls_alike(pairs: &Pairs, comm: u16, wave: u32, call: &Call, g: u16) -> bool
@@ -238,33 +243,117 @@ fn is_wrong_group(
     Ok(!makes_given(alloc, pairs, comm, wave, call)? && all_call_alike(pairs, comm, wave, call))
 }
 
+fn is_wrong_making(alloc: Global, pairs: &Pairs, making: &Making) -> Result<bool, AllocError>
+    ensures { IfOk result (λ is. is ≡ is_wrong_making pairs.now.groups pairs.now.recording making.now) }
+{
+    let call = making_call(making);
+    is_wrong_group(alloc, pairs, making.comm, making.wave, &call)
+}
+
+/// What was found of the communicators that waves make. A wave's group is made once for each of them, and not again
+/// for each member that names it.
+#[derive(Drop)]
+struct Known {
+    wrong: HashMap<Making, bool>,
+}
+
+impl Known {
+    /// Nothing yet, of whatever recording.
+    fn new(alloc: Global) -> Known
+        ensures { (groups : Groups) (recording : Lists) → IsKnown groups recording result }
+    {
+        Known {
+            wrong: HashMap::new(alloc),
+        }
+    }
+
+    fn get(&self, making: &Making) -> Option<bool>
+        ensures { result ≡ known_of self.now making.now }
+    {
+        self.wrong.get(making).copied()
+    }
+
+    fn put(&mut self, making: Making, is_wrong: bool) -> Result<(), AllocError>
+        ensures { OnOk result ((other : Making) → known_of self.new other ≡ (if is_same_making making other then Some is_wrong else known_of self.old other)) }
+    {
+        self.wrong.insert(making, is_wrong)?;
+        Ok(())
+    }
+
+    /// Whether the communicator has another group than the wave gives it, while all members make the same call there.
+    fn is_wrong(&mut self, alloc: Global, pairs: &Pairs, making: Making) -> Result<bool, AllocError>
+        requires { IsKnown pairs.now.groups pairs.now.recording self.old }
+        ensures value { IfOk result (λ is. is ≡ is_wrong_making pairs.now.groups pairs.now.recording making) }
+        ensures known { OnOk result (IsKnown pairs.now.groups pairs.now.recording self.new) }
+    {
+        if let Some(is_wrong) = self.get(&making) {
+            return Ok(is_wrong);
+        }
+        let is_wrong = is_wrong_making(alloc, pairs, &making)?;
+        self.put(making, is_wrong)?;
+        Ok(is_wrong)
+    }
+}
+
+/// Whether what the call makes in the wave is wrong so.
+fn is_wrong_call(
+    alloc: Global,
+    known: &mut Known,
+    pairs: &Pairs,
+    comm: u16,
+    wave: u32,
+    call: &Call,
+) -> Result<bool, AllocError>
+    requires { IsKnown pairs.now.groups pairs.now.recording known.old }
+    ensures value { IfOk result (λ is. is ≡ is_wrong_group pairs.now.groups pairs.now.recording call.now (comm, wave)) }
+    ensures known { OnOk result (IsKnown pairs.now.groups pairs.now.recording known.new) }
+{
+    match making_of(comm, wave, call) {
+        Some(making) => known.is_wrong(alloc, pairs, making),
+        None => Ok(false),
+    }
+}
+
 /// The same of a call that is kept, in the wave that it joins, if it joins one. A collective of a kind makes no
 /// communicator.
 #[tactic(auto, using(crate::proofs::AlikeLemmas::no_wave_is_wrong))]
 fn is_wrong_stored(
     alloc: Global,
+    known: &mut Known,
     pairs: &Pairs,
     rank: u16,
     place: u32,
     call: &StoredCall<'_>,
 ) -> Result<bool, AllocError>
-    ensures { IfOk result (λ is. is ≡ option_map_or (is_wrong_group pairs.now.groups pairs.now.recording call.now) (wave_of pairs.now.recording rank place) false) }
+    requires { IsKnown pairs.now.groups pairs.now.recording known.old }
+    ensures value { IfOk result (λ is. is ≡ option_map_or (is_wrong_group pairs.now.groups pairs.now.recording call.now) (wave_of pairs.now.recording rank place) false) }
+    ensures known { OnOk result (IsKnown pairs.now.groups pairs.now.recording known.new) }
 {
     if call.kind().is_some() {
         return Ok(false);
     }
     match pairs.wave_of(rank, place) {
-        Some((comm, wave)) => is_wrong_group(alloc, pairs, comm, wave, call.record().as_call()),
+        Some((comm, wave)) => {
+            is_wrong_call(alloc, known, pairs, comm, wave, call.record().as_call())
+        }
         None => Ok(false),
     }
 }
 
 /// Whether the call at the place has such a group.
-fn is_wrong_at(alloc: Global, pairs: &Pairs, rank: u16, place: u32) -> Result<bool, AllocError>
-    ensures { IfOk result (λ is. is ≡ is_wrong_at pairs.now.groups pairs.now.recording rank place) }
+fn is_wrong_at(
+    alloc: Global,
+    known: &mut Known,
+    pairs: &Pairs,
+    rank: u16,
+    place: u32,
+) -> Result<bool, AllocError>
+    requires { IsKnown pairs.now.groups pairs.now.recording known.old }
+    ensures value { IfOk result (λ is. is ≡ is_wrong_at pairs.now.groups pairs.now.recording rank place) }
+    ensures known { OnOk result (IsKnown pairs.now.groups pairs.now.recording known.new) }
 {
     match pairs.call(rank, place) {
-        Some(call) => is_wrong_stored(alloc, pairs, rank, place, &call),
+        Some(call) => is_wrong_stored(alloc, known, pairs, rank, place, &call),
         None => Ok(false),
     }
 }
@@ -273,13 +362,16 @@ fn is_wrong_at(alloc: Global, pairs: &Pairs, rank: u16, place: u32) -> Result<bo
 fn add_at(
     alloc: Global,
     findings: &mut Vec<Finding>,
+    known: &mut Known,
     pairs: &Pairs,
     rank: u16,
     place: u32,
 ) -> Result<(), AllocError>
-    ensures { OnOk result (findings.new.items ≡ findings.old.items ++ group_at pairs.now.groups pairs.now.recording rank place) }
+    requires { IsKnown pairs.now.groups pairs.now.recording known.old }
+    ensures value { OnOk result (findings.new.items ≡ findings.old.items ++ group_at pairs.now.groups pairs.now.recording rank place) }
+    ensures known { OnOk result (IsKnown pairs.now.groups pairs.now.recording known.new) }
 {
-    if is_wrong_at(alloc, pairs, rank, place)? {
+    if is_wrong_at(alloc, known, pairs, rank, place)? {
         findings.push(Finding::Group { rank, place })?;
     }
     Ok(())
@@ -289,14 +381,17 @@ fn add_at(
 fn add_of_rank(
     alloc: Global,
     findings: &mut Vec<Finding>,
+    known: &mut Known,
     pairs: &Pairs,
     rank: u16,
 ) -> Result<(), AllocError>
-    ensures { OnOk result (findings.new.items
+    requires { IsKnown pairs.now.groups pairs.now.recording known.old }
+    ensures value { OnOk result (findings.new.items
         ≡ findings.old.items ++ over_places (group_at pairs.now.groups pairs.now.recording rank) pairs.now.recording rank) }
+    ensures known { OnOk result (IsKnown pairs.now.groups pairs.now.recording known.new) }
 {
     for place in 0..calls(pairs, rank) {
-        add_at(alloc, findings, pairs, rank, place)?;
+        add_at(alloc, findings, known, pairs, rank, place)?;
     }
     Ok(())
 }
@@ -310,8 +405,9 @@ pub fn add_wrong_groups(
 ) -> Result<(), AllocError>
     ensures { OnOk result (findings.new.items ≡ findings.old.items ++ wrong_groups_of pairs.now.groups pairs.now.recording) }
 {
+    let mut known = Known::new(alloc);
     for rank in 0..ranks(pairs) {
-        add_of_rank(alloc, findings, pairs, rank)?;
+        add_of_rank(alloc, findings, &mut known, pairs, rank)?;
     }
     Ok(())
 }

@@ -1,9 +1,11 @@
 //! The calls of the members in each wave, compared with the first member's.
 
-ghost use Rattle.std.specs.Prelude.{◌≡◌, ◌<◌, ◌++◌, ℕ, [], length, option_to_list, IsTrue, OnOk};
+ghost use Rattle.std.specs.Prelude.{◌≡◌, ◌<◌, ◌-◌, ◌++◌, ℕ, [], length, flat_map, is_some, option_to_list, IsTrue, IfOk, OnOk};
+ghost use Rattle.std.specs.List.{filter, range_with_len};
 ghost use Rattle.mpigroup.specs.Groups.{group_of};
+ghost use Rattle.pairing.specs.Waves.{member_of};
 ghost use Rattle.waitgraph.specs.Places.{call_of_member};
-ghost use Rattle.waitgraph.specs.Findings.{found_of_member, found_in_wave, found_in_comm, found_in_waves};
+ghost use Rattle.waitgraph.specs.Findings.{found_of_member, found_in_comm, found_in_waves};
 ghost use Rattle.waitgraph.specs.Comparisons.{comparison_of};
 ghost use Rattle.waitgraph.specs.declared.finding.wave.Compared.{Compared};
 
@@ -15,7 +17,7 @@ use mpicall::call::Call;
 use mpicall::record::Record;
 use pairing::pairs::Pairs;
 use pairing::stored::StoredCall;
-use std::alloc::AllocError;
+use std::alloc::{AllocError, Global};
 
 /// What of two calls is compared.
 #[derive(Clone, Copy)]
@@ -123,22 +125,44 @@ pub(crate) fn are_all_alike(pairs: &Pairs) -> bool
     true
 }
 
+/// The other members of a communicator, by their ranks in its group.
+fn other_members(alloc: Global, pairs: &Pairs, comm: u16) -> Result<Vec<u16>, AllocError>
+    ensures { IfOk result (λ others. others.items ≡ range_with_len 1 (length (group_of pairs.now.groups comm) - 1)) }
+{
+    let mut others = Vec::new(alloc);
+    for g in 1..members(pairs, comm) {
+        others.push(g)?;
+    }
+    Ok(others)
+}
+
+/// Keeps those members that have a call in the wave. Who has none there has none in the waves behind it.
+fn keep_callers(others: &mut Vec<u16>, pairs: &Pairs, comm: u16, wave: u32)
+    ensures { others.new.items ≡ filter (λ g. is_some (member_of pairs.now.groups pairs.now.recording comm wave g)) others.old.items }
+{
+    others.retain(|g| pairs.member(comm, wave, *g).is_some());
+}
+
+/// What is found of a member, beside the first one's call in the wave.
 fn found_of_member(
     pairs: &Pairs,
     compared: Compared,
     comm: u16,
     wave: u32,
+    first: &Option<StoredCall<'_>>,
     g: u16,
 ) -> Option<Finding>
+    requires { first.now ≡ call_of_member pairs.now.groups pairs.now.recording comm wave 0 }
     ensures { option_to_list result ≡ found_of_member (comparison_of compared) pairs.now.groups pairs.now.recording comm wave g }
 {
-    let first = stored_of_member(pairs, comm, wave, 0)?;
     let call = stored_of_member(pairs, comm, wave, g)?;
-    if are_alike(&first, &call) {
-        return None;
+    match first {
+        Some(first) if !are_alike(first, &call) => {
+            let (first, call) = (first.record(), call.record());
+            difference(compared, comm, wave, g, first.as_call(), call.as_call())
+        }
+        _ => None,
     }
-    let (first, call) = (first.record(), call.record());
-    difference(compared, comm, wave, g, first.as_call(), call.as_call())
 }
 
 fn add_of_member(
@@ -147,12 +171,14 @@ fn add_of_member(
     compared: Compared,
     comm: u16,
     wave: u32,
+    first: &Option<StoredCall<'_>>,
     g: u16,
 ) -> Result<(), AllocError>
+    requires { first.now ≡ call_of_member pairs.now.groups pairs.now.recording comm wave 0 }
     ensures { OnOk result (findings.new.items
         ≡ findings.old.items ++ found_of_member (comparison_of compared) pairs.now.groups pairs.now.recording comm wave g) }
 {
-    match found_of_member(pairs, compared, comm, wave, g) {
+    match found_of_member(pairs, compared, comm, wave, first, g) {
         Some(finding) => {
             findings.push(finding)?;
             Ok(())
@@ -161,24 +187,27 @@ fn add_of_member(
     }
 }
 
-#[tactic(auto, using(crate::proofs::FindingLemmas::one_more))]
+/// Adds what is found of these members in a wave.
 fn add_in_wave(
     findings: &mut Vec<Finding>,
     pairs: &Pairs,
     compared: Compared,
     comm: u16,
     wave: u32,
+    others: &[u16],
 ) -> Result<(), AllocError>
     ensures { OnOk result (findings.new.items
-        ≡ findings.old.items ++ found_in_wave (comparison_of compared) pairs.now.groups pairs.now.recording comm wave) }
+        ≡ findings.old.items ++ flat_map (found_of_member (comparison_of compared) pairs.now.groups pairs.now.recording comm wave) others.now) }
 {
-    for g in 1..members(pairs, comm) {
-        add_of_member(findings, pairs, compared, comm, wave, g)?;
+    let first = stored_of_member(pairs, comm, wave, 0);
+    for g in others {
+        add_of_member(findings, pairs, compared, comm, wave, &first, *g)?;
     }
     Ok(())
 }
 
-#[tactic(auto, using(crate::proofs::FindingLemmas::one_more))]
+/// Adds what is found in the waves of a communicator. A member whose calls are over is asked no more, so that the
+/// cost follows the calls that there are.
 fn add_in_comm(
     findings: &mut Vec<Finding>,
     pairs: &Pairs,
@@ -188,8 +217,10 @@ fn add_in_comm(
     ensures { OnOk result (findings.new.items
         ≡ findings.old.items ++ found_in_comm (comparison_of compared) pairs.now.groups pairs.now.recording comm) }
 {
+    let mut others = other_members(*findings.allocator(), pairs, comm)?;
     for wave in 0..waves(pairs, comm) {
-        add_in_wave(findings, pairs, compared, comm, wave)?;
+        keep_callers(&mut others, pairs, comm, wave);
+        add_in_wave(findings, pairs, compared, comm, wave, &others)?;
     }
     Ok(())
 }

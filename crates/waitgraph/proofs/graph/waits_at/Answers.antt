@@ -1,6 +1,6 @@
-use Rattle.std.proofs.Common.{◌≡◌, ℕ, ◌+◌, List, [], ◌∷◌, ◌++◌, length, map, sym, ap, ◌∙◌, arith}
+use Rattle.std.proofs.Common.{◌≡◌, ℕ, ◌+◌, List, [], ◌∷◌, ◌++◌, map, sym, ◌∙◌, arith}
 use Rattle.std.specs.List.{range_with_len}
-use Rattle.std.proofs.lemmas.List.FromFn.{length-map-range_with_len, map-range_with_len_more}
+use Rattle.std.proofs.lemmas.List.FromFn.{map-range_with_len_more}
 use Rattle.moves.specs.declared.need.Need.{Need}
 use Rattle.waitgraph.specs.Stuck.{unmet_at}
 use Rattle.waitgraph.proofs.graph.waits_at.Goals as goal
@@ -12,10 +12,5 @@ one_more f rank waits later unmet so_far here pushed =
 
 pub loop-rank-preserved : goal.loop-rank-preserved
 loop-rank-preserved c =
-    one_more (unmet_at c.args.reading c.args.pairs.now.groups c.args.pairs.now.recording c.args.stands.now) c.loop-rank.rank c.loop-rank.waits.items _ _
-    c.loop-rank.invariant c.in_ok-unmet_at.ensures c.in_ok-push.ensures.items
-
-pub returns-clause-few : goal.returns-clause-few
-returns-clause-few c =
-    let f = unmet_at c.args.reading c.args.pairs.now.groups c.args.pairs.now.recording c.args.stands.now in
-    omega (arith, ap (λ (waits : List (List Need)). length waits) c.loop-rank.invariant ∙ length-map-range_with_len f 0 c.loop-rank.rank)
+    one_more (unmet_at c.args.reading c.args.pairs.now.groups c.args.pairs.now.recording c.args.stands.now) c.loop-rank.rank c.loop-rank.waits _ _
+    c.loop-rank.invariant (c.deref.ensures.value ∙ c.in_ok-unmet_at.ensures) c.in_ok-push.ensures

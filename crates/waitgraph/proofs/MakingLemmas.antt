@@ -1,0 +1,48 @@
+-- Communicators that waves make, by what is known of them.
+use Rattle.std.proofs.Common.{◌≡◌, ℕ, Bool, true, Option, Some, None, inl, inr, refl, ap, ◌∙◌, arith}
+use Rattle.std.specs.Prelude.{if◌then◌else◌}
+use Rattle.std.proofs.lemmas.Bool.{cases_Bool}
+use Rattle.std.proofs.lemmas.Bool.Decides.{nat_tests}
+use Rattle.mpigroup.specs.Groups.{Groups}
+use Rattle.pairing.specs.Recordings.{Lists}
+use Rattle.waitgraph.specs.Makings.{is_same_making, is_wrong_making, known_of, IsKnown}
+use Rattle.waitgraph.specs.declared.finding.group.Known.{Known}
+use Rattle.waitgraph.specs.declared.finding.making.Making.{Making}
+
+made : ℕ → ℕ → Option ℕ → ℕ → Making
+made comm wave colour new = record { comm = comm; wave = wave; colour = colour; new = new }
+
+same_made : (c d v w : ℕ) (o p : Option ℕ) (m n : ℕ) → is_same_making (made c v o m) (made d w p n) ≡ true → made c v o m ≡ made d w p n
+unfolding made
+same_made c d v w (Some a) (Some b) m n h =
+    let first : c ≡ d = grind (arith, nat_tests) in
+    let second : v ≡ w = grind (arith, nat_tests) in
+    let third : a ≡ b = grind (arith, nat_tests) in
+    let last : m ≡ n = grind (arith, nat_tests) in
+    cc
+same_made c d v w (Some a) None m n h = absurd (grind (arith, nat_tests))
+same_made c d v w None (Some b) m n h = absurd (grind (arith, nat_tests))
+same_made c d v w None None m n h =
+    let first : c ≡ d = grind (arith, nat_tests) in
+    let second : v ≡ w = grind (arith, nat_tests) in
+    let last : m ≡ n = grind (arith, nat_tests) in
+    cc
+
+same_making : (making other : Making) → is_same_making making other ≡ true → making ≡ other
+unfolding made
+same_making making other h = same_made making.comm other.comm making.wave other.wave making.colour other.colour making.new other.new h
+
+-- what is known stays so with one more
+pub known_more : (groups : Groups) (recording : Lists) (known later : Known) (making : Making) (is_wrong : Bool) →
+    IsKnown groups recording known → is_wrong ≡ is_wrong_making groups recording making →
+    ((other : Making) → known_of later other ≡ (if is_same_making making other then Some is_wrong else known_of known other)) →
+    IsKnown groups recording later
+known_more groups recording known later making is_wrong are is put other =
+    elim (cases_Bool (is_same_making making other)) [
+      | inl same ↦
+          let there : known_of later other ≡ Some is_wrong = put other ∙ rw same refl in
+          rw there (is ∙ ap (is_wrong_making groups recording) (same_making making other same))
+      | inr apart ↦
+          let there : known_of later other ≡ known_of known other = put other ∙ rw apart refl in
+          rw there (are other)
+    ]
