@@ -10,10 +10,9 @@ use Rattle.serde_json.specs.Data.{Data}
 use Rattle.serde_json.specs.View.{view, items_of}
 use Rattle.serde_json.specs.Written.{has_float, items_have_float}
 use Rattle.serde_json.specs.declared.value.Value.{Value}
-use Rattle.waitgraph.specs.Causes.{CauseView, CycleOf, MissingOf, causes_of, view_of}
-use Rattle.waitgraph.specs.Findings.{findings_of}
-use Rattle.reports.specs.JsonReport.{numeral, each, need_data, rank_data, cause_data, finding_data, report_data}
-use Rattle.waitgraph.specs.Stuck.{stuck_of, unmet_of}
+use Rattle.waitgraph.specs.Causes.{CauseView, CycleOf, MissingOf, view_of}
+use Rattle.reports.specs.JsonReport.{numeral, each, need_data, rank_data, cause_data}
+use Rattle.waitgraph.specs.Stuck.{unmet_of}
 use Rattle.waitgraph.specs.declared.cause.Cause.{Cause}
 
 -- one element more is told
@@ -42,19 +41,13 @@ no_float_need : (need : Need) → has_float (need_data need) ≡ false
 no_float_need (At rank place) = refl
 no_float_need (Lacking rank) = refl
 
-no_float_rank : (reading : Reading) (groups : Groups) (recording : Lists) (rank : ℕ) → has_float (rank_data reading groups recording rank) ≡ false
+pub no_float_rank : (reading : Reading) (groups : Groups) (recording : Lists) (rank : ℕ) → has_float (rank_data reading groups recording rank) ≡ false
 no_float_rank reading groups recording rank = rw (no_float_told need_data no_float_need (unmet_of reading groups recording rank)) refl
 
+-- so have the causes
 no_float_cause : (cause : CauseView) → has_float (cause_data cause) ≡ false
 no_float_cause (CycleOf ranks) = rw (no_float_told numeral (λ n. refl) ranks) refl
 no_float_cause (MissingOf rank peer) = refl
 
-pub no_float : (reading : Reading) (groups : Groups) (recording : Lists) → has_float (report_data reading groups recording) ≡ false
-unfolding report_data
-no_float reading groups recording =
-    rw (
-      no_float_told cause_data no_float_cause (causes_of reading groups recording),
-      no_float_told finding_data (λ finding. refl) (findings_of groups recording),
-      no_float_told (rank_data reading groups recording) (no_float_rank reading groups recording) (stuck_of reading groups recording),
-    )
-    refl
+pub no_float_causes : (causes : List CauseView) → has_float (each cause_data causes) ≡ false
+no_float_causes causes = no_float_told cause_data no_float_cause causes

@@ -1,4 +1,5 @@
 pub mod LineLemmas
 pub mod JsonLemmas
+pub mod ArrayLemmas
 pub mod SpelledLemmas
 pub mod TellingLemmas

@@ -3,4 +3,5 @@ pub mod TextReport
 pub mod Pages
 pub mod SpelledCalls
 pub mod JsonReport
+pub mod ArrayTexts
 pub mod Reports

@@ -1,12 +1,14 @@
 //! Findings as JSON.
 
-ghost use Rattle.std.specs.Prelude.{◌≡◌, IfOk, string_bytes};
+ghost use Rattle.std.specs.Prelude.{◌≡◌, ◌++◌, IfOk, OnOk, string_bytes};
 ghost use Rattle.std.specs.List.{join_with_byte};
 ghost use Rattle.serde_json.specs.View.{view};
 ghost use Rattle.mpicall.specs.Spelling.{space};
+ghost use Rattle.reports.specs.ArrayTexts.{elements_text};
 ghost use Rattle.reports.specs.FindingTexts.{finding_fields};
-ghost use Rattle.reports.specs.JsonReport.{each, finding_data};
+ghost use Rattle.reports.specs.JsonReport.{finding_data};
 
+use crate::json::element::push_element;
 use crate::word::push_word;
 use mpicall::word::Word;
 use serde_json::Value;
@@ -57,13 +59,23 @@ fn finding_text(alloc: Global, finding: &Finding) -> Result<String, AllocError>
     }
 }
 
-#[tactic(auto, using(crate::proofs::JsonLemmas::one_told))]
-pub(crate) fn findings_value(alloc: Global, findings: &[Finding]) -> Result<Value, AllocError>
-    ensures { IfOk result (λ value. view value ≡ each finding_data findings.now) }
+fn finding_value(alloc: Global, finding: &Finding) -> Result<Value, AllocError>
+    ensures { IfOk result (λ value. view value ≡ finding_data finding.now) }
 {
-    let mut list = Vec::new(alloc);
-    for finding in findings {
-        list.push(Value::from(finding_text(alloc, finding)?))?;
+    Ok(Value::from(finding_text(alloc, finding)?))
+}
+
+/// Puts the findings behind the text, as the elements of an array, one at a time.
+pub(crate) fn push_findings(
+    alloc: Global,
+    text: &mut String,
+    findings: &[Finding],
+) -> Result<(), AllocError>
+    ensures { OnOk result (string_bytes text.new ≡ string_bytes text.old ++ elements_text finding_data findings.now) }
+{
+    for (index, finding) in findings.iter().enumerate() {
+        let value = finding_value(alloc, finding)?;
+        push_element(alloc, text, index, &value)?;
     }
-    Ok(Value::from(list))
+    Ok(())
 }

@@ -1,15 +1,17 @@
 //! Stuck ranks as JSON.
 
-ghost use Rattle.std.specs.Prelude.{◌≡◌, slice_index, IfOk, string_bytes};
+ghost use Rattle.std.specs.Prelude.{◌≡◌, ◌++◌, slice_index, IfOk, OnOk, string_bytes};
 ghost use Rattle.std.specs.List.{join_with_byte};
 ghost use Rattle.serde_json.specs.View.{view};
 ghost use Rattle.mpicall.specs.Spelling.{space};
 ghost use Rattle.moves.specs.Stands.{stands_of};
 ghost use Rattle.waitgraph.specs.Graphs.{IsGraphOf};
-ghost use Rattle.reports.specs.JsonReport.{each, rank_data};
+ghost use Rattle.reports.specs.ArrayTexts.{elements_text};
+ghost use Rattle.reports.specs.JsonReport.{rank_data};
 ghost use Rattle.waitgraph.specs.Stuck.{stuck_of, unmet_of};
 ghost use Rattle.reports.specs.TextReport.{present_fields};
 
+use crate::json::element::push_element;
 use crate::json::line::line_text;
 use crate::json::need::needs_value;
 use moves::analyser::Analyser;
@@ -50,19 +52,21 @@ fn rank_value(
     json!(in alloc; {"at": stand, "call": call, "needs": needs, "rank": rank})
 }
 
-#[tactic(auto, using(crate::proofs::JsonLemmas::one_told))]
-pub(crate) fn ranks_value(
+/// Puts the stuck ranks behind the text, as the elements of an array. Each is written before the next is made, so
+/// that values of one rank's needs alone are there at a time.
+pub(crate) fn push_ranks(
     alloc: Global,
+    text: &mut String,
     analyser: &Analyser,
     graph: &Graph,
-) -> Result<Value, AllocError>
+) -> Result<(), AllocError>
     requires { IsGraphOf analyser.now.reading analyser.now.groups analyser.now.recording graph.now }
-    ensures { IfOk result (λ value. view value ≡ each (rank_data analyser.now.reading analyser.now.groups analyser.now.recording) (stuck_of analyser.now.reading analyser.now.groups analyser.now.recording)) }
+    ensures { OnOk result (string_bytes text.new ≡ string_bytes text.old ++ elements_text (rank_data analyser.now.reading analyser.now.groups analyser.now.recording) (stuck_of analyser.now.reading analyser.now.groups analyser.now.recording)) }
 {
     let stuck = graph.stuck();
-    let mut list = Vec::new(alloc);
-    for rank in stuck {
-        list.push(rank_value(alloc, analyser, *rank, graph.unmet(*rank))?)?;
+    for (index, rank) in stuck.iter().enumerate() {
+        let value = rank_value(alloc, analyser, *rank, graph.unmet(*rank))?;
+        push_element(alloc, text, index, &value)?;
     }
-    Ok(Value::from(list))
+    Ok(())
 }
