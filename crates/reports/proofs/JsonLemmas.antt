@@ -1,4 +1,4 @@
--- Lists of JSON values, told one value at a time, and that a report has no float.
+-- Lists of JSON values, told one value at a time, and that ranks and causes have no float.
 use Rattle.moves.specs.declared.reading.Reading.{Reading}
 use Rattle.std.proofs.Common.{◌≡◌, ℕ, ◌+◌, ◌<◌, Bool, false, ◌||◌, List, [], ◌∷◌, ◌++◌, length, map, take, get_or, refl, sym, ap}
 use Rattle.std.proofs.lemmas.List.{map-append, take_more}
