@@ -1,7 +1,10 @@
 //! A device that fails once, at one stated call.
 
-ghost use Rattle.std.specs.Prelude.{◌≡◌, ◌||◌, true, false, Some, is_none};
-ghost use Rattle.mpicall.specs.Device.{count_if};
+ghost use Rattle.std.specs.Prelude.{◌≡◌, Some};
+ghost use Rattle.std.specs.Io.{ReadsAtMost, WritesAtMost};
+ghost use Rattle.std.specs.Io.KnownBytes.{ReadConsumes, WriteAppends};
+ghost use Rattle.mpicall.specs.Device.{CountsFailure, MakesProgress};
+ghost use Rattle.mpicall.specs.Devices.{device_within, calls_before, is_stated, counted_down, all_failures, FailsAsStated};
 
 use crate::device::{DeviceFault, Input, Output};
 
@@ -15,8 +18,8 @@ pub struct FailsAt<D> {
 
 /// Whether this call is the stated one; counts the calls before it down.
 fn is_stated_call(before: &mut Option<u64>) -> bool
-    ensures come { is_none before.new ≡ (result || is_none before.old) }
-    ensures once { result ≡ true → is_none before.old ≡ false }
+    ensures stated { result ≡ is_stated before.old }
+    ensures counted { before.new ≡ counted_down before.old }
 {
     match *before {
         None => false,
@@ -32,8 +35,6 @@ fn is_stated_call(before: &mut Option<u64>) -> bool
 }
 
 impl<D> FailsAt<D> {
-    ghost use Rattle.mpicall.specs.Devices.{device_within, calls_before};
-
     /// The device, with a failure at call `at`.
     pub fn new(device: D, at: u64) -> FailsAt<D>
         ensures within { device_within result ≡ device }
@@ -56,9 +57,15 @@ impl<D> FailsAt<D> {
 impl<D: Input> Input for FailsAt<D> {
     ghost left = { λ f. D.left f.device };
 
-    ghost failures = { λ f. count_if (is_none f.before) (D.failures f.device) };
+    ghost failures = { λ f. all_failures D.failures f };
 
-    fn read_some(&mut self, into: &mut [u8]) -> Result<usize, DeviceFault> {
+    fn read_some(&mut self, into: &mut [u8]) -> Result<usize, DeviceFault>
+        ensures bound { ReadsAtMost result into.new }
+        ensures bytes { ReadConsumes (D.left (device_within self.old)) (D.left (device_within self.new)) result into.new }
+        ensures count { CountsFailure (all_failures D.failures self.old) (all_failures D.failures self.new) result }
+        ensures counted { calls_before self.new ≡ counted_down (calls_before self.old) }
+        ensures stated { FailsAsStated D.failures self.old self.new result }
+    {
         if is_stated_call(&mut self.before) {
             return Err(DeviceFault);
         }
@@ -69,9 +76,16 @@ impl<D: Input> Input for FailsAt<D> {
 impl<D: Output> Output for FailsAt<D> {
     ghost written = { λ f. D.written f.device };
 
-    ghost failures = { λ f. count_if (is_none f.before) (D.failures f.device) };
+    ghost failures = { λ f. all_failures D.failures f };
 
-    fn write_some(&mut self, from: &[u8]) -> Result<usize, DeviceFault> {
+    fn write_some(&mut self, from: &[u8]) -> Result<usize, DeviceFault>
+        ensures bound { WritesAtMost result from.now }
+        ensures bytes { WriteAppends (D.written (device_within self.old)) (D.written (device_within self.new)) result from.now }
+        ensures progress { MakesProgress result from.now }
+        ensures count { CountsFailure (all_failures D.failures self.old) (all_failures D.failures self.new) result }
+        ensures counted { calls_before self.new ≡ counted_down (calls_before self.old) }
+        ensures stated { FailsAsStated D.failures self.old self.new result }
+    {
         if is_stated_call(&mut self.before) {
             return Err(DeviceFault);
         }

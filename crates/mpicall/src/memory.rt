@@ -1,7 +1,9 @@
 //! Inputs and outputs over memory, which tell their bytes.
 
 ghost use Rattle.std.specs.Prelude.{◌≡◌, ◌+◌, ◌<◌, [], Some};
-ghost use Rattle.mpicall.specs.Device.{one_more};
+ghost use Rattle.std.specs.Io.{ReadsAtMost};
+ghost use Rattle.std.specs.Io.KnownBytes.{ReadConsumes};
+ghost use Rattle.mpicall.specs.Device.{one_more, CountsFailure};
 
 use crate::device::{DeviceFault, Input, Output};
 use std::alloc::Global;
@@ -17,11 +19,12 @@ pub struct MemoryInput<'a> {
 }
 
 impl<'a> MemoryInput<'a> {
-    ghost use Rattle.mpicall.specs.Devices.{bytes_left};
+    ghost use Rattle.mpicall.specs.Devices.{bytes_left, most_a_read};
 
     /// An input that gives as many of the bytes as a read has room for.
     pub fn new(bytes: &'a [u8]) -> MemoryInput<'a>
-        ensures { bytes_left result ≡ bytes.now }
+        ensures bytes { bytes_left result ≡ bytes.now }
+        ensures most { most_a_read result ≡ usize.MAX }
     {
         MemoryInput::in_pieces(bytes, usize::MAX)
     }
@@ -29,18 +32,27 @@ impl<'a> MemoryInput<'a> {
     /// An input that gives at most `most` bytes a read.
     pub fn in_pieces(bytes: &'a [u8], most: usize) -> MemoryInput<'a>
         requires { 0 < most }
-        ensures { bytes_left result ≡ bytes.now }
+        ensures bytes { bytes_left result ≡ bytes.now }
+        ensures most { most_a_read result ≡ most }
     {
         MemoryInput { left: bytes, most }
     }
 }
 
 impl<'a> Input for MemoryInput<'a> {
-    ghost left = { λ input. Some input.left.now };
+    ghost use Rattle.mpicall.specs.Devices.{bytes_left, most_a_read, GivesPiece};
+
+    ghost left = { λ input. Some (bytes_left input) };
 
     ghost failures = { λ _. 0 };
 
-    fn read_some(&mut self, into: &mut [u8]) -> Result<usize, DeviceFault> {
+    fn read_some(&mut self, into: &mut [u8]) -> Result<usize, DeviceFault>
+        ensures bound { ReadsAtMost result into.new }
+        ensures bytes { ReadConsumes (Some (bytes_left self.old)) (Some (bytes_left self.new)) result into.new }
+        ensures count { CountsFailure 0 0 result }
+        ensures piece { GivesPiece self.old result into.new }
+        ensures most { most_a_read self.new ≡ most_a_read self.old }
+    {
         let count = self.left.len().min(into.len()).min(self.most);
         let (given, left) = self.left.split_at(count);
         into[..count].copy_from_slice(given);
