@@ -15,7 +15,7 @@ use Rattle.mpicall.specs.Word.{text_of}
 use Rattle.mpicall.specs.declared.call.Call.{Call}
 
 -- no byte is a line feed
-abbrev WithoutFeed : List ℕ → Type 0
+abbrev pub WithoutFeed : List ℕ → Type 0
 WithoutFeed bytes = list_all (λ byte. not (byte == line_feed)) bytes ≡ true
 
 no_feed : (byte : ℕ) → above_space byte ≡ true → not (byte == line_feed) ≡ true
@@ -34,10 +34,10 @@ join_without_feed word (next ∷ fields) clean all =
     rw (list_all-append (λ byte. not (byte == line_feed)) word (space ∷ join_with_byte space (next ∷ fields)), clean_without_feed word clean)
     (join_without_feed next fields all.0.clean all.1)
 
-body_without_feed : (x : Call) → in_ranges x ≡ true → WithoutFeed (join_with_byte space (fields_of x))
+pub body_without_feed : (x : Call) → in_ranges x ≡ true → WithoutFeed (join_with_byte space (fields_of x))
 body_without_feed x h = join_without_feed (text_of (word_of_call x)) (map spell (arguments_of x)) (text_is (word_of_call x)).clean (call_fields x h)
 
-no_feed_here : (byte : ℕ) (bytes : List ℕ) → WithoutFeed (byte ∷ bytes) → byte ≡ line_feed → ⊥
+pub no_feed_here : (byte : ℕ) (bytes : List ℕ) → WithoutFeed (byte ∷ bytes) → byte ≡ line_feed → ⊥
 no_feed_here byte bytes h is =
     let parts = and_true (not (byte == line_feed)) (list_all (λ b. not (b == line_feed)) bytes) h in
     grind (arith, nat_tests, parts.0)

@@ -90,7 +90,7 @@ two_true true true e = (refl, refl)
 two_true true false e = cc
 two_true false b e = cc
 
-last_is_feed : (line : List ℕ) → has_line_feed line ≡ true → NoFeedBelow line (length line) → ⊥
+pub last_is_feed : (line : List ℕ) → has_line_feed line ≡ true → NoFeedBelow line (length line) → ⊥
 last_is_feed line ends none =
     let parts = two_true (nat_lt 0 (length line)) (get_or line (length line - 1) 0 == line_feed) ends in
     let some : 0 < length line = grind (arith, nat_tests, parts.0) in

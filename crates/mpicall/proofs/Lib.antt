@@ -21,3 +21,4 @@ pub mod GivesLemmas
 pub mod LintLemmas
 pub mod SpelledLemmas
 pub mod OneTraceLemmas
+pub mod CutLemmas

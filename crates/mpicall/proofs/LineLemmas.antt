@@ -198,3 +198,8 @@ read_has_feed line x e =
 pub too_long : (line : List ℕ) → most_bytes < length line → record_of_line line ≡ Err TooLong
 unfolding record_of_line fault_of_line
 too_long line h = rw (lt_true most_bytes (length line) h) refl
+
+-- a line that isn't too long lacks its line feed
+pub no_line_feed : (line : List ℕ) → length line ≤ most_bytes → has_line_feed line ≡ false → record_of_line line ≡ Err NoLineFeed
+unfolding record_of_line fault_of_line
+no_line_feed line short h = rw (lt_false most_bytes (length line) short, h) refl

@@ -1,13 +1,17 @@
 -- A source that is read record by record.
-use Rattle.std.proofs.Common.{◌≡◌, ℕ, ◌+◌, ◌-◌, ◌^◌, ◌≤◌, min, Bool, true, false, ◌&&◌, cond, List, ◌∷◌, length, sym, ap, ◌∙◌, refl, arith, Option, Some, None, is_none, Result, Ok, Err, IfSome}
+use Rattle.std.proofs.Common.{◌≡◌, ℕ, ◌+◌, ◌-◌, ◌^◌, ◌≤◌, min, Bool, true, false, ◌&&◌, cond, List, [], ◌∷◌, ◌++◌, length, length-append, append_assoc, append-nil, subst, sym, ap, ◌∙◌, refl, arith, Option, Some, None, is_none, Result, Ok, Err, IfSome}
+use Rattle.std.specs.Io.KnownBytes.{Consumes}
 use Rattle.mpicall.specs.Device.{one_more, count_if}
 use Rattle.mpicall.specs.Lint.{capped, TellsTrace, EndsWith}
-use Rattle.mpicall.specs.Source.{Gives, answer_of, is_read_failed, count_after}
+use Rattle.mpicall.specs.Source.{Gives, CutsOff, answer_of, is_read_failed, count_after, ended_at, trace_at}
+use Rattle.mpicall.specs.Spelling.{spelling}
 use Rattle.mpicall.specs.Trace.{Trace, End, Sealed, Torn, put_first, ends_here}
+use Rattle.mpicall.proofs.CutLemmas.{given_first}
 use Rattle.mpicall.specs.declared.call.Call.{Call}
 use Rattle.mpicall.specs.declared.fault.SourceFault.{SourceFault}
 use Rattle.mpicall.specs.declared.fault.SourceFault.TheVariants.{Line, TextAfterFinalize, NoFinalize, ReadFailed, GateStopped, ThreadNotStarted}
 use Rattle.mpicall.specs.declared.lint.LintFault.{LintFault}
+use Rattle.mpicall.specs.declared.source.Stage.{Stage}
 
 -- some records of a trace were given, and the others are to come
 pub record Given (old now : Trace) (count : ℕ) : Type 0 where
@@ -80,3 +84,28 @@ not_failed false count = refl
 
 pub counts_none : (end : Option End) (call : Call) (count : ℕ) → count_after end (Ok (Some call)) count ≡ count
 counts_none end call count = not_failed (is_none end) count
+
+-- Records that came before a read failed.
+
+-- so many records were given, and they are the first of those that came, where a read fails behind them
+abbrev pub FirstGiven : Stage → Option (List ℕ) → Stage → Option (List ℕ) → ℕ → Type 0
+FirstGiven old known now next count =
+    (given : List Call) × (count ≡ capped (length given))
+    × ((left : Option (List ℕ)) (calls : List Call) → CutsOff now next left calls → CutsOff old known left (given ++ calls))
+
+pub first_begins : (stage : Stage) (known : Option (List ℕ)) → FirstGiven stage known stage known 0
+first_begins stage known = ([], omega arith, λ left calls cut. cut)
+
+pub first_steps : (old now next : Stage) (known between left : Option (List ℕ)) (count : ℕ) (call : Call) → FirstGiven old known now between count → Gives (trace_at now between) (trace_at next left) (Ok (Some call)) → ended_at next ≡ None → Consumes between left (spelling call) → FirstGiven old known next left (min (count + 1) (2 ^ 64 - 1))
+first_steps old now next known between left count call first gives none consumed =
+    let is = first.1 in (
+      first.0 ++ call ∷ [],
+      omega (arith, length-append first.0 (call ∷ [])),
+      λ last calls cut.
+          let whole = first.2 last (call ∷ calls) (given_first now next between left last call calls gives none consumed cut) in
+          subst (CutsOff old known last) (sym (append_assoc first.0 (call ∷ []) calls)) whole,
+    )
+
+pub first_cut : (old now : Stage) (known between left : Option (List ℕ)) (count : ℕ) → FirstGiven old known now between count → CutsOff now between left [] → (calls : List Call) × (count ≡ capped (length calls)) × CutsOff old known left calls
+first_cut old now known between left count first cut =
+    (first.0, first.1, subst (CutsOff old known left) (append-nil first.0) (first.2 left [] cut))

@@ -1,13 +1,14 @@
 -- What a source of records still gives.
-use Rattle.std.specs.Prelude.{◌≡◌, ◌≢◌, ℕ, Bool, true, false, ◌&&◌, if◌then◌else◌, Option, Some, None, is_none, option_map, Result, Ok, Err, List, length, ⊤}
+use Rattle.std.specs.Prelude.{◌≡◌, ◌≢◌, ℕ, Bool, true, false, ◌&&◌, Option, Some, None, is_none, option_map, IfSome, Result, Ok, Err, List, ◌∷◌, ⊤}
 use Rattle.std.specs.Io.KnownBytes.{prepend_known, Consumes}
-use Rattle.mpicall.specs.Window.{NoFeedBelow}
 use Rattle.mpicall.specs.Device.{count_if}
 use Rattle.mpicall.specs.Trace.{Trace, End, Sealed, Torn, trace_of, end_with_behind, ends_here, put_first}
 use Rattle.mpicall.specs.Lines.{lines_of}
+use Rattle.mpicall.specs.Spelling.{spelling}
 use Rattle.mpicall.specs.declared.call.Call.{Call}
+use Rattle.mpicall.specs.declared.fault.LineFault.TheVariants.{NoLineFeed}
 use Rattle.mpicall.specs.declared.fault.SourceFault.{SourceFault}
-use Rattle.mpicall.specs.declared.fault.SourceFault.TheVariants.{ReadFailed, GateStopped, ThreadNotStarted}
+use Rattle.mpicall.specs.declared.fault.SourceFault.TheVariants.{Line, NoFinalize, ReadFailed, GateStopped, ThreadNotStarted}
 use Rattle.mpicall.specs.declared.source.Source.{Source}
 use Rattle.mpicall.specs.declared.source.Stage.{Stage}
 use Rattle.mpicall.specs.declared.source.Stage.TheVariants.{Reading, Ended, Done, Failed}
@@ -27,9 +28,9 @@ coming left source = trace_at source.stage (prepend_known source.window (left so
 abbrev pub unread : {I : Type 0} → (I → Option (List ℕ)) → Source I → Option (List ℕ)
 unread left source = prepend_known source.window (left source.input)
 
--- what was unread, but for what is left of the input, is no whole line
-abbrev pub IsCutOff : Option (List ℕ) → Option (List ℕ) → Type 0
-IsCutOff unread left = (part : List ℕ) × Consumes unread left part × NoFeedBelow part (length part)
+-- the trace of these bytes, where they are those that a source has not used
+abbrev pub trace_by : {I : Type 0} → Source I → List ℕ → Option Trace
+trace_by source bytes = trace_at source.stage (Some bytes)
 
 -- the end that a source has answered; None before
 abbrev pub ended_at : Stage → Option End
@@ -52,6 +53,30 @@ Gives (Some old) new (Ok (Some call)) = (rest : Trace) × (old ≡ put_first cal
 Gives (Some old) new (Ok None) = (old ≡ ends_here Sealed) × (new ≡ Some old)
 Gives (Some old) new (Err ReadFailed) = new ≡ Some (ends_here (Torn ReadFailed))
 Gives (Some old) new (Err fault) = (old ≡ ends_here (Torn fault)) × (new ≡ Some old)
+
+-- nothing is wrong with a text whose trace ends so, but that no more of it came: it has its end record, or it breaks
+-- off between two lines, or within one that is no longer than a line may be
+abbrev pub breaks_off : End → Bool
+breaks_off Sealed = true
+breaks_off (Torn NoFinalize) = true
+breaks_off (Torn (Line NoLineFeed)) = true
+breaks_off end = false
+
+-- these are the records of a trace, and nothing is wrong with it but that no more of it came
+abbrev pub BreaksOffBehind : List Call → Trace → Type 0
+BreaksOffBehind calls trace = (trace.records ≡ calls) × (breaks_off trace.end ≡ true)
+
+-- these are the records of what came of the bytes that were unread, which is all but those that are left; and nothing
+-- is wrong with it but that no more of it came
+abbrev pub CutsOff : Stage → Option (List ℕ) → Option (List ℕ) → List Call → Type 0
+CutsOff stage None left calls = ⊤
+CutsOff stage (Some text) left calls =
+    (came : List ℕ) × Consumes (Some text) left came × IfSome (trace_at stage (Some came)) (BreaksOffBehind calls)
+
+-- the same of a source whose input failed, where it tells its bytes: these are the records of what came of the bytes
+-- that the source had not used before. Behind them came less than a line, and nothing behind an end record
+abbrev pub IsCutOff : {I : Type 0} → (I → Option (List ℕ)) → Source I → Source I → List Call → Type 0
+IsCutOff left old new calls = CutsOff old.stage (unread left old) (left (input_of new)) calls
 
 -- the end that an answer tells
 abbrev pub end_of_answer : Result (Option Call) SourceFault → Option End
@@ -82,3 +107,11 @@ abbrev pub answer_into : Result Bool SourceFault → Call → Result (Option Cal
 answer_into (Ok true) call = Ok (Some call)
 answer_into (Ok false) call = Ok None
 answer_into (Err fault) call = Err fault
+
+-- a record that a source gave is the first of those that came, where a read fails behind it
+abbrev pub ComesBeforeTheCut : {I : Type 0} → (I → Option (List ℕ)) → Type 0
+ComesBeforeTheCut {I} left =
+    (old now failed : Source I) (call : Call) (calls : List Call)
+    → Gives (coming left old) (coming left now) (Ok (Some call)) → ended now ≡ None
+    → Consumes (unread left old) (unread left now) (spelling call)
+    → IsCutOff left now failed calls → IsCutOff left old failed (call ∷ calls)

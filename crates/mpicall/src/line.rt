@@ -53,7 +53,6 @@ pub(crate) fn read_into(line: &[u8], into: &mut Record) -> Result<(), LineFault>
 pub fn read_line(line: &[u8]) -> Result<Record, LineFault>
     ensures ok { (x : CallValue) → (result ≡ Ok x) ↔ (IsTrue (in_ranges x) × (line.now ≡ spelling x)) }
     ensures fault { (fault : FaultValue) → (result ≡ Err fault) ↔ (fault_of_line line.now ≡ Some fault) }
-    ensures value { result ≡ record_of_line line.now }
 {
     let mut record = Record::finalize();
     match read_into(line, &mut record) {

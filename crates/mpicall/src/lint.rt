@@ -1,8 +1,9 @@
 //! Reading a source to its end, for what is wrong with it alone.
 
-ghost use Rattle.std.specs.Prelude.{◌≡◌, Some, IfErr};
-ghost use Rattle.mpicall.specs.Lint.{TellsTrace, last_answer};
-ghost use Rattle.mpicall.specs.Source.{coming, ended, input_of, end_of_answer, count_after, IsOwnFault};
+ghost use Rattle.std.specs.Prelude.{◌≡◌, Some, None, IfErr};
+ghost use Rattle.mpicall.specs.Lint.{TellsTrace, last_answer, IsCutAt};
+ghost use Rattle.mpicall.specs.Source.{coming, ended, input_of, end_of_answer, count_after, IsOwnFault, ComesBeforeTheCut};
+ghost use Rattle.mpicall.specs.declared.fault.SourceFault.TheVariants.{ReadFailed};
 
 use crate::device::Input;
 use crate::fault::SourceFault;
@@ -25,6 +26,8 @@ pub fn lint<I: Input>(source: &mut Source<I>, wait: &impl Wait) -> Result<u64, L
     ensures count { I.failures (input_of source.new)
         ≡ count_after (ended source.old) (last_answer result) (I.failures (input_of source.old)) }
     ensures own { IfErr result (λ told. IsOwnFault told.fault) }
+    ensures cut { IfErr result (λ told. ended source.old ≡ None → told.fault ≡ ReadFailed
+        → IsCutAt I.left source.old source.new told.call) }
 {
     let mut count: u64 = 0;
     let mut record = Record::finalize();
@@ -37,3 +40,10 @@ pub fn lint<I: Input>(source: &mut Source<I>, wait: &impl Wait) -> Result<u64, L
     }
     unreachable!()
 }
+
+/// Where a read fails, a record that the source gave before is the first of those that came: so the records before
+/// a failed read are those of the whole lines that came. Its premises are what `Source::next` ensures where it gives
+/// a record.
+pub fn records_come_before_a_failed_read<I: Input>()
+    ensures { ComesBeforeTheCut I.left }
+{}

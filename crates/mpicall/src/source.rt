@@ -3,7 +3,7 @@
 ghost use Rattle.mpicall.specs.Stage.{is_own, stage_behind};
 ghost use Rattle.mpicall.specs.Lines.{lines_of};
 ghost use Rattle.mpicall.specs.Trace.{Trace, IsTraceOf, trace_of};
-ghost use Rattle.std.specs.Prelude.{◌≡◌, ◌↔◌, List, ◌≢◌, ℕ, true, Some, None, Ok, Err, option_map, IfErr, IfSome};
+ghost use Rattle.std.specs.Prelude.{◌≡◌, ◌↔◌, List, [], ◌≢◌, ℕ, true, Some, None, Ok, Err, option_map, IfErr, IfSome};
 
 use crate::device::Input;
 use crate::fault::SourceFault;
@@ -38,7 +38,7 @@ pub struct Source<I> {
 impl<I: Input> Source<I> {
     ghost use Rattle.mpicall.specs.declared.call.Call.{Call as CallValue};
     ghost use Rattle.mpicall.specs.declared.source.Stage.TheVariants.{Reading, Ended};
-    ghost use Rattle.mpicall.specs.Source.{coming, ended, input_of, Gives, end_of_answer, answer_of, answer_into, count_after, IsOwnFault, unread, IsCutOff};
+    ghost use Rattle.mpicall.specs.Source.{coming, ended, input_of, Gives, end_of_answer, answer_of, answer_into, count_after, IsOwnFault, unread, trace_by, IsCutOff};
     ghost use Rattle.mpicall.specs.Spelling.{spelling};
     ghost use Rattle.mpicall.specs.declared.fault.SourceFault.TheVariants.{ReadFailed};
     ghost use Rattle.std.specs.Io.KnownBytes.{Consumes};
@@ -49,6 +49,8 @@ impl<I: Input> Source<I> {
         ensures trace { coming I.left result ≡ option_map trace_of (I.left input) }
         ensures end { ended result ≡ None }
         ensures input { input_of result ≡ input }
+        ensures bytes { unread I.left result ≡ I.left input }
+        ensures reads { (bytes : List ℕ) → trace_by result bytes ≡ Some (trace_of bytes) }
     {
         Source {
             input,
@@ -69,7 +71,7 @@ impl<I: Input> Source<I> {
         ensures line { (x : CallValue) → result ≡ Ok (Some x)
             → Consumes (unread I.left self.old) (unread I.left self.new) (spelling x) }
         ensures cut { ended self.old ≡ None → result ≡ Err ReadFailed
-            → IsCutOff (unread I.left self.old) (I.left (input_of self.new)) }
+            → IsCutOff I.left self.old self.new [] }
     {
         let mut record = Record::finalize();
         match self.next_into(&mut record) {
@@ -93,7 +95,7 @@ impl<I: Input> Source<I> {
         ensures line { result ≡ Ok true
             → Consumes (unread I.left self.old) (unread I.left self.new) (spelling into.new) }
         ensures cut { ended self.old ≡ None → result ≡ Err ReadFailed
-            → IsCutOff (unread I.left self.old) (I.left (input_of self.new)) }
+            → IsCutOff I.left self.old self.new [] }
     {
         match self.stage {
             Stage::Reading => self.read_record(into),
@@ -115,7 +117,7 @@ impl<I: Input> Source<I> {
         ensures line { result ≡ Ok true
             → Consumes (unread I.left self.old) (unread I.left self.new) (spelling into.new) }
         ensures cut { result ≡ Err ReadFailed
-            → IsCutOff (unread I.left self.old) (I.left (input_of self.new)) }
+            → IsCutOff I.left self.old self.new [] }
     {
         let len = match line_end(&mut self.window, &mut self.input) {
             Ok(len) => len,
@@ -151,7 +153,7 @@ impl<I: Input> Source<I> {
         ensures own { IfErr result IsOwnFault }
         ensures no_record { result ≢ Ok true }
         ensures cut { result ≡ Err ReadFailed
-            → IsCutOff (unread I.left self.old) (I.left (input_of self.new)) }
+            → IsCutOff I.left self.old self.new [] }
     {
         match has_more(&mut self.window, &mut self.input) {
             Ok(false) => {

@@ -128,6 +128,7 @@ pub(crate) fn line_end<I: Input>(window: &mut Window, input: &mut I) -> Result<u
         (prepend_known window.new (I.left input.new)) }
     ensures ends { IfOk result (EndsLine window.new (I.left input.new)) }
     ensures cut { OnErr result (NoFeedBelow window.new (length window.new)) }
+    ensures short { OnErr result (length window.new ≤ MOST_LINE_BYTES) }
     ensures count { CountsFailure (I.failures input.old) (I.failures input.new) result }
 {
     let mut searched = 0;

@@ -2,7 +2,8 @@
 use Rattle.std.proofs.Common.{sym, ap, ◌∙◌, take, List, ℕ}
 use Rattle.mpicall.specs.Source.{coming}
 use Rattle.mpicall.specs.Reading.{record_of_line}
-use Rattle.mpicall.proofs.GivesLemmas.{held_left, gives_read_failed, gives_no_finalize, gives_record, gives_line_fault}
+use Rattle.mpicall.proofs.GivesLemmas.{gives_read_failed, gives_no_finalize, gives_record, gives_line_fault}
+use Rattle.mpicall.proofs.CutLemmas.{cut_in_line}
 use Rattle.mpicall.proofs.source.Source.read_record.Goals as goal
 
 pub returns-in-Err-clause-trace : goal.returns-in-Err-clause-trace
@@ -29,4 +30,4 @@ returns-in-Err-read_into-clause-trace g c =
     (gives_line_fault _ _ c.line_end.new.window c.in-Ok.len c.in-Err-read_into.fault c.in-Ok.ensures.known c.in-Ok.ensures.ends c.if-len-eq0.false read)
 
 pub returns-in-Err-clause-cut : goal.returns-in-Err-clause-cut
-returns-in-Err-clause-cut g c = λ failed. (c.line_end.new.window, held_left _ _ _ c.in-Err.ensures.known, c.in-Err.ensures.cut)
+returns-in-Err-clause-cut g c = λ failed. cut_in_line _ _ _ _ c.requires c.in-Err.ensures.known c.in-Err.ensures.cut c.in-Err.ensures.short
