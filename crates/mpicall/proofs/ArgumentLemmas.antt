@@ -1,8 +1,8 @@
 -- The field of an argument is read as that argument, and what is read as an argument was spelled so.
-use Rattle.std.proofs.Common.{◌≡◌, ℕ, ◌+◌, ◌-◌, ◌<◌, ◌≤◌, ◌^◌, ◌≢◌, ℤ, pos, negsuc, Bool, true, false, not, List, [], ◌∷◌, ◌++◌, length, get_or, sym, ap, ◌∙◌, refl, arith, Option, Some, None, cond, nat_le, nat_lt, ◌&&◌, ◌==◌, codes, option_map, suc, zero, map}
+use Rattle.std.proofs.Common.{◌≡◌, ℕ, ◌+◌, ◌<◌, ◌≤◌, ◌^◌, ◌≢◌, ℤ, pos, negsuc, Bool, true, false, List, [], ◌∷◌, length, get_or, sym, ap, ◌∙◌, refl, arith, Option, Some, None, cond, nat_le, nat_lt, ◌&&◌, ◌==◌, codes, option_map, suc, zero}
 use Rattle.std.specs.Fmt.{decimal, signed_decimal}
 use Rattle.std.specs.Int.{IsInRange}
-use Rattle.std.specs.List.{All, list_all}
+use Rattle.std.specs.List.{list_all}
 use Rattle.std.specs.Str.{bytes_eq}
 use Rattle.std.proofs.lemmas.Fmt.{decimal_is_IsNumeral, length-decimal-le, decimal_nonempty}
 use Rattle.std.proofs.lemmas.Str.Parse.{digit_at}

@@ -1,12 +1,12 @@
 -- A spelling has one line feed, at its end, so that no spelling begins another one.
-use Rattle.std.proofs.Common.{◌≡◌, ℕ, ◌<◌, Bool, true, false, not, List, [], ◌∷◌, ◌++◌, sym, ap, ◌∙◌, refl, arith, ◌&&◌, ◌==◌, append_assoc, map, nat_lt}
+use Rattle.std.proofs.Common.{◌≡◌, ℕ, true, not, List, [], ◌∷◌, ◌++◌, sym, ap, ◌∙◌, refl, arith, ◌==◌, append_assoc, map}
 use Rattle.std.specs.List.{join_with_byte, list_all}
 use Rattle.std.proofs.lemmas.Bool.Decides.{nat_tests}
 use Rattle.std.proofs.lemmas.List.Folds.{list_all-append}
-use Rattle.mpicall.proofs.ArgumentLemmas.{above_space, and_true, IsField}
+use Rattle.mpicall.proofs.ArgumentLemmas.{above_space, and_true}
 use Rattle.mpicall.proofs.CallLemmas.{AllFields, call_fields}
 use Rattle.mpicall.proofs.LineLemmas.{spelling_read}
-use Rattle.mpicall.proofs.WordLemmas.{text_is, IsText}
+use Rattle.mpicall.proofs.WordLemmas.{text_is}
 use Rattle.mpicall.specs.Argument.{spell}
 use Rattle.mpicall.specs.Limits.{in_ranges}
 use Rattle.mpicall.specs.Reading.{record_of_line}

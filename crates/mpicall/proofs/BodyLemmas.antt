@@ -18,7 +18,7 @@ use Rattle.mpicall.proofs.DecimalLemmas.{number-decimal}
 use Rattle.mpicall.proofs.ArgumentLemmas.{small_form, and_true, le_to, le_from, argument_spelled}
 use Rattle.mpicall.proofs.RowLemmas.{row_spelled, row_length, row_none}
 use Rattle.mpicall.specs.declared.call.Call.{Call}
-use Rattle.mpicall.specs.declared.call.Call.TheVariants.{Send, Recv, Isend, Irecv, Sendrecv, Wait, Waitall, Waitany, Coll, Icoll, Dup, Split, Probe, Finalize, Open}
+use Rattle.mpicall.specs.declared.call.Call.TheVariants.{Waitany}
 use Rattle.mpicall.specs.declared.word.Collective.TheVariants.{Barrier, Bcast, Gather, Scatter, Reduce, Allgather, Alltoall, Allreduce, Scan, Exscan}
 use Rattle.mpicall.specs.declared.word.Collective.{Collective}
 use Rattle.mpicall.specs.declared.call.Mode.TheVariants.{Standard, Synchronous, Buffered}

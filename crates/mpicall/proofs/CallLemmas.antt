@@ -1,13 +1,13 @@
 -- The fields of a call in its ranges fit its word, and are read as the call.
-use Rattle.std.proofs.Common.{◌≡◌, ℕ, ◌+◌, ◌-◌, ◌<◌, ◌≤◌, Bool, true, false, List, [], ◌∷◌, length, sym, ap, ◌∙◌, refl, arith, Some, None, ◌&&◌, ◌==◌, map, nat_le, get_or, suc}
+use Rattle.std.proofs.Common.{◌≡◌, ℕ, ◌-◌, ◌≤◌, Bool, true, false, List, [], ◌∷◌, length, ap, ◌∙◌, refl, arith, Some, None, ◌&&◌, ◌==◌, map, nat_le, get_or, suc}
 use Rattle.std.specs.Fmt.{decimal}
 use Rattle.std.specs.List.{list_all}
 use Rattle.std.proofs.lemmas.Bool.Decides.{nat_tests}
 use Rattle.std.proofs.lemmas.List.{length-map}
 use Rattle.mpicall.specs.Argument.{Argument, Number, spell, is_in_range, form_of, request_form, request_argument, index_argument, comm_form, is_in_form}
 use Rattle.mpicall.specs.Limits.{in_ranges, names_enough, few_enough}
-use Rattle.mpicall.specs.Line.{Shape, Fixed, shape_of, root_forms, each_in_form, all_requests, fits}
-use Rattle.mpicall.specs.Reading.{take_arguments, taken, arguments_in, call_of, kind_of, number_in, request_in}
+use Rattle.mpicall.specs.Line.{Fixed, shape_of, root_forms, all_requests, fits}
+use Rattle.mpicall.specs.Reading.{taken, arguments_in, call_of, kind_of, number_in, request_in}
 use Rattle.mpicall.specs.Spelling.{word_of_call, arguments_of, name_of, root_of, root_arguments}
 use Rattle.mpicall.proofs.ArgumentLemmas.{is_small, reads_back, argument_field, IsField, and_true, le_to, le_from}
 use Rattle.mpicall.proofs.DecimalLemmas.{value_decimal}

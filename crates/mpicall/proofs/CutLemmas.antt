@@ -1,17 +1,16 @@
 -- What came of a text before a read failed.
-use Rattle.std.proofs.Common.{◌≡◌, ℕ, ◌-◌, ◌≤◌, Bool, true, false, ◌==◌, not, nat_lt, cond, List, [], ◌∷◌, ◌++◌, length, sym, ap, ◌∙◌, refl, arith, append_assoc, append-nil, subst, Option, Some, None, IfSome, Result, Ok, Err, inl, inr, MatchBool}
+use Rattle.std.proofs.Common.{◌≡◌, ℕ, ◌≤◌, Bool, true, false, ◌==◌, not, cond, List, [], ◌∷◌, ◌++◌, length, sym, ap, ◌∙◌, refl, arith, append_assoc, append-nil, subst, Option, Some, None, IfSome, Result, Ok, Err, inl, inr}
 use Rattle.std.proofs.KnownBytes.{Consumes-trans}
 use Rattle.std.specs.Io.KnownBytes.{Keeps, prepend_known, Consumes}
-use Rattle.std.specs.List.{join_with_byte, onto_first}
+use Rattle.std.specs.List.{join_with_byte}
 use Rattle.std.proofs.lemmas.Bool.Decides.{nat_tests}
 use Rattle.mpicall.specs.Ending.{ends_list}
 use Rattle.mpicall.specs.Limits.{in_ranges}
-use Rattle.mpicall.specs.Line.{fault_of_line}
 use Rattle.mpicall.specs.Lines.{most_bytes, has_line_feed, lines_of}
 use Rattle.mpicall.specs.Reading.{record_of_line}
 use Rattle.mpicall.specs.Source.{Gives, CutsOff, BreaksOffBehind, breaks_off, ended_at, trace_at}
 use Rattle.mpicall.specs.Spelling.{space, line_feed, fields_of, spelling}
-use Rattle.mpicall.specs.Trace.{Trace, End, Sealed, Torn, IsTraceOf, trace_of, trace_of_lines, trace_with, ends_here, put_first, end_with_behind}
+use Rattle.mpicall.specs.Trace.{Trace, Torn, IsTraceOf, trace_of, trace_of_lines, trace_with, ends_here, put_first, end_with_behind}
 use Rattle.mpicall.specs.Window.{NoFeedBelow}
 use Rattle.mpicall.proofs.BeginningLemmas.{WithoutFeed, body_without_feed, no_feed_here}
 use Rattle.mpicall.proofs.ArgumentLemmas.{and_true}

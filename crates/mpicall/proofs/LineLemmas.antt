@@ -1,5 +1,5 @@
 -- A line is read as a call exactly where it is that call's spelling, and else its first fault is told.
-use Rattle.std.proofs.Common.{◌≡◌, ◌↔◌, ℕ, ◌+◌, ◌-◌, ◌*◌, ◌<◌, ◌≤◌, Bool, true, false, not, List, [], ◌∷◌, ◌++◌, length, get_or, drop, take, sym, ap, ◌∙◌, refl, arith, Option, Some, None, Result, Ok, Err, cond, nat_le, nat_lt, length-append, ◌||◌, ◌&&◌, drop-cons, ◌==◌, zero, suc, map}
+use Rattle.std.proofs.Common.{◌≡◌, ◌↔◌, ℕ, ◌+◌, ◌-◌, ◌*◌, ◌<◌, ◌≤◌, Bool, true, false, List, [], ◌∷◌, ◌++◌, length, get_or, drop, take, sym, ap, ◌∙◌, refl, arith, Option, Some, None, Result, Ok, Err, cond, nat_lt, length-append, ◌==◌, zero, suc, map}
 use Rattle.std.specs.List.{All, join_with_byte, list_any, list_all}
 use Rattle.std.proofs.lemmas.Bool.Decides.{nat_tests}
 use Rattle.std.proofs.lemmas.List.Sums.{AllPass-from_list_all, count_by-le-length}
@@ -8,18 +8,18 @@ use Rattle.std.proofs.Math.Seq.{take-append_seam}
 use Rattle.std.proofs.lemmas.List.{get_or_push, length-map}
 use Rattle.mpicall.specs.Argument.{spell}
 use Rattle.mpicall.specs.Limits.{in_ranges}
-use Rattle.mpicall.specs.Word.{word_of, text_of}
+use Rattle.mpicall.specs.Word.{text_of}
 use Rattle.mpicall.specs.Spelling.{space, line_feed, word_of_call, arguments_of, fields_of, spelling}
-use Rattle.mpicall.specs.Line.{is_any, wildcard_at, source_place, shape_of, takes_count, all_in_form, fits, fits_line, fault_behind, fault_by_word, fault_of_line, fault_of_fields}
+use Rattle.mpicall.specs.Line.{is_any, wildcard_at, source_place, shape_of, takes_count, all_in_form, fits, fault_behind, fault_of_line, fault_of_fields}
 use Rattle.mpicall.specs.Lines.{is_blank, most_bytes, has_line_feed, body_of, split_fields}
-use Rattle.mpicall.specs.Reading.{arguments_in, call_of, call_by_word, call_of_fields, call_unless, record_of_line, Spells, IsBody, ReadsFields}
-use Rattle.mpicall.proofs.ArgumentLemmas.{above_space, IsField, and_true}
-use Rattle.mpicall.proofs.WordLemmas.{word_found, text_is, IsText}
+use Rattle.mpicall.specs.Reading.{call_of_fields, call_unless, record_of_line, Spells, IsBody}
+use Rattle.mpicall.proofs.ArgumentLemmas.{above_space, and_true}
+use Rattle.mpicall.proofs.WordLemmas.{word_found, text_is}
 use Rattle.mpicall.proofs.CallLemmas.{known_call, call_fields, AllFields}
 use Rattle.mpicall.specs.declared.call.Call.{Call}
 use Rattle.mpicall.specs.declared.word.Word.{Word}
 use Rattle.mpicall.specs.declared.fault.LineFault.{LineFault}
-use Rattle.mpicall.specs.declared.fault.LineFault.TheVariants.{EmptyField, FieldCount, FieldForm, Wildcard, TooLong, NoLineFeed}
+use Rattle.mpicall.specs.declared.fault.LineFault.TheVariants.{TooLong, NoLineFeed}
 
 -- The fields of a spelled line are those of the call.
 

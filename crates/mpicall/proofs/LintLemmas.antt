@@ -1,16 +1,15 @@
 -- A source that is read record by record.
-use Rattle.std.proofs.Common.{◌≡◌, ℕ, ◌+◌, ◌-◌, ◌^◌, ◌≤◌, min, Bool, true, false, ◌&&◌, cond, List, [], ◌∷◌, ◌++◌, length, length-append, append_assoc, append-nil, subst, sym, ap, ◌∙◌, refl, arith, Option, Some, None, is_none, Result, Ok, Err, IfSome}
+use Rattle.std.proofs.Common.{◌≡◌, ℕ, ◌+◌, ◌-◌, ◌^◌, min, Bool, true, false, ◌&&◌, List, [], ◌∷◌, ◌++◌, length, length-append, append_assoc, append-nil, subst, sym, ap, ◌∙◌, refl, arith, Option, Some, None, is_none, Ok, Err, IfSome}
 use Rattle.std.specs.Io.KnownBytes.{Consumes}
-use Rattle.mpicall.specs.Device.{one_more, count_if}
+use Rattle.mpicall.specs.Device.{count_if}
 use Rattle.mpicall.specs.Lint.{capped, TellsTrace, EndsWith}
-use Rattle.mpicall.specs.Source.{Gives, CutsOff, answer_of, is_read_failed, count_after, ended_at, trace_at}
+use Rattle.mpicall.specs.Source.{Gives, CutsOff, answer_of, count_after, ended_at, trace_at}
 use Rattle.mpicall.specs.Spelling.{spelling}
-use Rattle.mpicall.specs.Trace.{Trace, End, Sealed, Torn, put_first, ends_here}
+use Rattle.mpicall.specs.Trace.{Trace, End, Sealed, Torn, ends_here}
 use Rattle.mpicall.proofs.CutLemmas.{given_first}
 use Rattle.mpicall.specs.declared.call.Call.{Call}
 use Rattle.mpicall.specs.declared.fault.SourceFault.{SourceFault}
 use Rattle.mpicall.specs.declared.fault.SourceFault.TheVariants.{Line, TextAfterFinalize, NoFinalize, ReadFailed, GateStopped, ThreadNotStarted}
-use Rattle.mpicall.specs.declared.lint.LintFault.{LintFault}
 use Rattle.mpicall.specs.declared.source.Stage.{Stage}
 
 -- some records of a trace were given, and the others are to come

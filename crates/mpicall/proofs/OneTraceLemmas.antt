@@ -1,16 +1,13 @@
 -- The trace of a text by spelling and first fault is the one that reading its lines gives.
-use Rattle.std.proofs.Common.{◌≡◌, ◌↔◌, ℕ, Bool, true, false, List, [], ◌∷◌, sym, ap, ◌∙◌, refl, Option, Some, None, Result, Ok, Err, cond, inl, inr, MatchBool, subst}
+use Rattle.std.proofs.Common.{◌≡◌, ◌↔◌, ℕ, Bool, true, false, List, [], ◌∷◌, sym, ap, ◌∙◌, refl, Option, Some, None, Ok, cond, inl, inr, MatchBool, subst}
 use Rattle.mpicall.specs.Ending.{ends_list}
-use Rattle.mpicall.specs.Limits.{in_ranges}
 use Rattle.mpicall.specs.Line.{fault_of_line}
 use Rattle.mpicall.specs.Lines.{body_of, split_fields}
-use Rattle.mpicall.specs.Reading.{record_of_line, call_of_fields, Spells}
-use Rattle.mpicall.specs.Trace.{Trace, Torn, IsTraceOf, trace_of_lines, trace_with, put_first, ends_here, end_with_behind}
+use Rattle.mpicall.specs.Reading.{record_of_line, call_of_fields}
+use Rattle.mpicall.specs.Trace.{Trace, IsTraceOf, trace_of_lines, trace_with, put_first, ends_here, end_with_behind}
 use Rattle.mpicall.proofs.LineLemmas.{fault_read, spells_read}
 use Rattle.mpicall.proofs.SpelledLemmas.{faultless_spelled}
-use Rattle.mpicall.specs.declared.call.Call.{Call}
 use Rattle.mpicall.specs.declared.fault.LineFault.{LineFault}
-use Rattle.mpicall.specs.declared.fault.SourceFault.TheVariants.{Line}
 
 rest_is : (ends : Bool) (behind : List (List ℕ)) (rest last others : Trace) → (IsTraceOf behind rest → rest ≡ others) → MatchBool ends (rest ≡ last) (IsTraceOf behind rest) → rest ≡ cond ends last others
 rest_is true behind rest last others deeper h = h

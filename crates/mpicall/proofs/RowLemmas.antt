@@ -1,10 +1,9 @@
 -- Rows of fields and the arguments that are read from them.
-use Rattle.std.proofs.Common.{◌≡◌, ℕ, ◌+◌, ◌<◌, ◌≤◌, Bool, true, false, List, [], ◌∷◌, ◌++◌, length, sym, ap, ◌∙◌, refl, arith, Option, Some, None, option_map, ◌&&◌, ◌==◌, map, is_some, add-one, suc}
+use Rattle.std.proofs.Common.{◌≡◌, ℕ, ◌+◌, true, false, List, [], ◌∷◌, ◌++◌, length, sym, ap, refl, arith, Option, Some, None, ◌&&◌, map, is_some}
 use Rattle.std.specs.List.{list_all}
-use Rattle.std.proofs.lemmas.Bool.Decides.{nat_tests}
-use Rattle.mpicall.specs.Argument.{Argument, Form, spell, is_in_range, form_of, read_argument, is_in_form}
+use Rattle.mpicall.specs.Argument.{Argument, Form, spell, is_in_range, form_of, read_argument}
 use Rattle.mpicall.specs.Line.{each_in_form}
-use Rattle.mpicall.specs.Reading.{with_behind, put_before, take_behind, next_argument, take_arguments, taken}
+use Rattle.mpicall.specs.Reading.{with_behind, put_before, take_behind, take_arguments, taken}
 use Rattle.mpicall.proofs.ArgumentLemmas.{small_form, is_small, reads_back, argument_spelled, and_true}
 
 -- One more field.

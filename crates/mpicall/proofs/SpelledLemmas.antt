@@ -1,13 +1,13 @@
 -- A line without a fault is the spelling of the call that is read of it.
-use Rattle.std.proofs.Common.{◌≡◌, ℕ, ◌+◌, ◌-◌, ◌<◌, ◌≤◌, Bool, true, false, List, [], ◌∷◌, ◌++◌, length, sym, ap, ◌∙◌, refl, arith, Option, Some, None, Result, Ok, Err, option_map, ◌&&◌, ◌==◌, map, is_some, nat_le, nat_lt, get_or, cond, append_assoc, suc, length-append, codes, ◌^◌, drop, take, drop-cons}
+use Rattle.std.proofs.Common.{◌≡◌, ℕ, ◌+◌, ◌-◌, ◌<◌, Bool, true, false, List, [], ◌∷◌, ◌++◌, length, sym, ap, ◌∙◌, refl, arith, Option, Some, None, option_map, ◌&&◌, ◌==◌, map, is_some, nat_le, nat_lt, get_or, cond, append_assoc, suc, length-append, codes, ◌^◌, drop, drop-cons}
 use Rattle.std.specs.Prelude.{if◌then◌else◌}
 use Rattle.std.specs.List.{slice_get}
 use Rattle.std.proofs.lemmas.Option.{slice_get_past, slice_get-get_or}
 use Rattle.std.specs.Fmt.{decimal}
 use Rattle.std.specs.List.{list_all, list_any}
 use Rattle.std.proofs.lemmas.Bool.Decides.{nat_tests}
-use Rattle.std.proofs.lemmas.List.{append-nil, length-map, drop_all, take-append-drop}
-use Rattle.mpicall.specs.Argument.{Argument, Number, PeerOf, Colour, Key, New, Form, NumberUpTo, PeerForm, ColourForm, KeyForm, NewForm, spell, is_in_range, form_of, read_argument, read_peer, read_number_or, is_in_form, comm_form, tag_form, bytes_form, request_form, request_argument, index_argument}
+use Rattle.std.proofs.lemmas.List.{length-map, drop_all, take-append-drop}
+use Rattle.mpicall.specs.Argument.{Argument, Number, PeerOf, Colour, Key, New, Form, NumberUpTo, PeerForm, ColourForm, KeyForm, NewForm, spell, is_in_range, form_of, read_argument, read_peer, read_number_or, is_in_form, comm_form, tag_form, bytes_form, request_form, request_argument}
 use Rattle.mpicall.specs.declared.limits.TheConstants.{GREATEST_COMM, GREATEST_COLOUR}
 use Rattle.mpicall.specs.declared.call.Call.{Call}
 use Rattle.mpicall.specs.Limits.{in_ranges, names_enough, few_enough}

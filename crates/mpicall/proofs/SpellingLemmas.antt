@@ -1,5 +1,5 @@
 -- A line that is put together argument by argument is the fields with a space between each two.
-use Rattle.std.proofs.Common.{◌≡◌, ℕ, List, [], ◌∷◌, ◌++◌, append_assoc, map, refl, ap, ◌∙◌, sym}
+use Rattle.std.proofs.Common.{◌≡◌, ℕ, List, [], ◌∷◌, ◌++◌, append_assoc, map, refl, ◌∙◌}
 use Rattle.std.specs.List.{join_with_byte}
 use Rattle.mpicall.specs.Argument.{Argument, spell}
 use Rattle.mpicall.specs.Draft.{line_with}

@@ -1,6 +1,6 @@
 -- The arguments of a call, each of which is one field of its line: how it is spelled, its range, and what
 -- a field says that is read as an argument of some form.
-use Rattle.std.specs.Prelude.{ℕ, ◌-◌, ◌+◌, ℤ, pos, negsuc, suc, zero, Bool, true, nat_le, Option, Some, None, is_some, option_map, if◌then◌else◌, List, [], ◌∷◌, codes}
+use Rattle.std.specs.Prelude.{ℕ, ◌-◌, ℤ, pos, negsuc, Bool, true, nat_le, Option, Some, None, is_some, option_map, if◌then◌else◌, List, codes}
 use Rattle.std.specs.Fmt.{decimal, signed_decimal}
 use Rattle.std.specs.Str.{bytes_eq}
 use Rattle.mpicall.specs.Number.{number_up_to, signed_of}

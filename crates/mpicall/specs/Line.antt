@@ -8,7 +8,7 @@ use Rattle.mpicall.specs.Word.{word_of}
 use Rattle.mpicall.specs.Lines.{is_blank, most_bytes, has_line_feed, split_fields, body_of}
 use Rattle.mpicall.specs.declared.limits.TheConstants.{MOST_REQUESTS}
 use Rattle.mpicall.specs.declared.word.Collective.{Collective}
-use Rattle.mpicall.specs.declared.word.Collective.TheVariants.{Barrier, Bcast, Gather, Scatter, Reduce, Allgather, Alltoall, Allreduce, Scan, Exscan}
+use Rattle.mpicall.specs.declared.word.Collective.TheVariants.{Bcast, Gather, Scatter, Reduce}
 use Rattle.mpicall.specs.declared.call.Mode.TheVariants.{Standard, Synchronous, Buffered}
 use Rattle.mpicall.specs.declared.word.Operation.{Operation}
 use Rattle.mpicall.specs.declared.word.Operation.TheVariants.{Send, Recv, Coll}

@@ -13,11 +13,15 @@
 //! - The records that `source::Source::next` gives, and its end, are those of the input's bytes, however
 //!   the input cuts them into pieces: each text has one trace, by the spellings and the first fault of its
 //!   lines. A fault is answered for good, and so is the end. Where a read fails, the bytes that came and
-//!   were given as no record hold no whole line. `Source::next_into` promises the same of a record that is
-//!   read into a place of the caller's, and changes that place only where it gives one.
+//!   were given as no record are less than a line, of at most 1,024 bytes, and none where the end record was
+//!   given. `Source::next_into` promises the same of a record that is read into a place of the caller's, and
+//!   changes that place only where it gives one.
 //! - `lint::lint` reads a source to its end and tells the number of its records, or the place and the
-//!   fault of that end.
+//!   fault of that end. The place of a read that failed is the number of the records of what came, and
+//!   `lint::records_come_before_a_failed_read` is the law by which others can add up what a source gave.
 //! - A device's fault is answered only where the device's count of failures rose.
+//! - `fails_at::FailsAt` fails at its stated call, and at no other unless the device within does;
+//!   `memory::MemoryInput` gives pieces of a stated size.
 //! - Every call returns, whatever the bytes are; `lint` does where the input ends.
 //!
 //! The definitions stand in `specs/`: `Number`, `Argument`, `Word` and `Spelling` say how a call is
