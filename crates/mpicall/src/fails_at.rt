@@ -61,8 +61,10 @@ impl<D: Input> Input for FailsAt<D> {
 
     fn read_some(&mut self, into: &mut [u8]) -> Result<usize, DeviceFault>
         ensures bound { ReadsAtMost result into.new }
-        ensures bytes { ReadConsumes (D.left (device_within self.old)) (D.left (device_within self.new)) result into.new }
-        ensures count { CountsFailure (all_failures D.failures self.old) (all_failures D.failures self.new) result }
+        ensures bytes { ReadConsumes
+            (D.left (device_within self.old)) (D.left (device_within self.new)) result into.new }
+        ensures count { CountsFailure
+            (all_failures D.failures self.old) (all_failures D.failures self.new) result }
         ensures counted { calls_before self.new ≡ counted_down (calls_before self.old) }
         ensures stated { FailsAsStated D.failures self.old self.new result }
     {
@@ -80,9 +82,11 @@ impl<D: Output> Output for FailsAt<D> {
 
     fn write_some(&mut self, from: &[u8]) -> Result<usize, DeviceFault>
         ensures bound { WritesAtMost result from.now }
-        ensures bytes { WriteAppends (D.written (device_within self.old)) (D.written (device_within self.new)) result from.now }
+        ensures bytes { WriteAppends
+            (D.written (device_within self.old)) (D.written (device_within self.new)) result from.now }
         ensures progress { MakesProgress result from.now }
-        ensures count { CountsFailure (all_failures D.failures self.old) (all_failures D.failures self.new) result }
+        ensures count { CountsFailure
+            (all_failures D.failures self.old) (all_failures D.failures self.new) result }
         ensures counted { calls_before self.new ≡ counted_down (calls_before self.old) }
         ensures stated { FailsAsStated D.failures self.old self.new result }
     {

@@ -48,7 +48,8 @@ impl<'a> Input for MemoryInput<'a> {
 
     fn read_some(&mut self, into: &mut [u8]) -> Result<usize, DeviceFault>
         ensures bound { ReadsAtMost result into.new }
-        ensures bytes { ReadConsumes (Some (bytes_left self.old)) (Some (bytes_left self.new)) result into.new }
+        ensures bytes { ReadConsumes
+            (Some (bytes_left self.old)) (Some (bytes_left self.new)) result into.new }
         ensures count { CountsFailure 0 0 result }
         ensures piece { GivesPiece self.old result into.new }
         ensures most { most_a_read self.new ≡ most_a_read self.old }
