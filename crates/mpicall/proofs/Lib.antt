@@ -22,3 +22,4 @@ pub mod LintLemmas
 pub mod SpelledLemmas
 pub mod OneTraceLemmas
 pub mod CutLemmas
+pub mod WholeLemmas

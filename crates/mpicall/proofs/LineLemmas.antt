@@ -176,7 +176,7 @@ unless_fault : (o : Option LineFault) (call : Call) (fault : LineFault) → call
 unless_fault None call fault e = cc
 unless_fault (Some f) call fault e = cc
 
-fault_told : (line : List ℕ) (fault : LineFault) → record_of_line line ≡ Err fault → fault_of_line line ≡ Some fault
+pub fault_told : (line : List ℕ) (fault : LineFault) → record_of_line line ≡ Err fault → fault_of_line line ≡ Some fault
 unfolding record_of_line
 fault_told line fault e = unless_fault (fault_of_line line) (call_of_fields (split_fields (body_of line))) fault e
 

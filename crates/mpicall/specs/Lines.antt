@@ -1,7 +1,7 @@
 -- The lines of a text and their fields. A line goes through its line feed; its body is its bytes without
 -- the last line feed, and its fields are what lies between single spaces.
 use Rattle.std.specs.Prelude.{ℕ, ◌-◌, Bool, true, false, ◌&&◌, ◌==◌, nat_lt, nat_le, Option, Some, None, if◌then◌else◌, List, [], ◌∷◌, length, slice_index, take}
-use Rattle.std.specs.List.{slice_split, onto_first}
+use Rattle.std.specs.List.{slice_split, onto_first, count_by}
 use Rattle.std.specs.Borrow.{Bor}
 use Rattle.mpicall.specs.declared.limits.TheConstants.{MOST_LINE_BYTES}
 use Rattle.mpicall.specs.Spelling.{space, line_feed}
@@ -44,3 +44,7 @@ is_whole line = nat_le (length line) most_bytes && has_line_feed line
 abbrev pub is_empty : List (List ℕ) → Bool
 is_empty [] = true
 is_empty (_ ∷ _) = false
+
+-- how many lines of a text have their line feed
+abbrev pub whole_lines : List ℕ → ℕ
+whole_lines bytes = count_by has_line_feed (lines_of bytes)

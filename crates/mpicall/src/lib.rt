@@ -17,8 +17,9 @@
 //!   given. `Source::next_into` promises the same of a record that is read into a place of the caller's, and
 //!   changes that place only where it gives one.
 //! - `lint::lint` reads a source to its end and tells the number of its records, or the place and the
-//!   fault of that end. The place of a read that failed is the number of the records of what came, and
-//!   `lint::records_come_before_a_failed_read` is the law by which others can add up what a source gave.
+//!   fault of that end. The place of a read that failed is the number of the whole lines that came, by
+//!   `lint::each_whole_line_that_came_is_a_record`; and `lint::records_come_before_a_failed_read` is the law by
+//!   which others can add up what a source gave.
 //! - A device's fault is answered only where the device's count of failures rose.
 //! - `fails_at::FailsAt` fails at its stated call, and at no other unless the device within does;
 //!   `memory::MemoryInput` gives pieces of a stated size.

@@ -1,8 +1,10 @@
 //! Reading a source to its end, for what is wrong with it alone.
 
-ghost use Rattle.std.specs.Prelude.{◌≡◌, Some, None, IfErr};
+ghost use Rattle.std.specs.Prelude.{◌≡◌, ℕ, true, Some, None, IfErr, List, length};
 ghost use Rattle.mpicall.specs.Lint.{TellsTrace, last_answer, IsCutAt};
-ghost use Rattle.mpicall.specs.Source.{coming, ended, input_of, end_of_answer, count_after, IsOwnFault, ComesBeforeTheCut};
+ghost use Rattle.mpicall.specs.Source.{coming, ended, input_of, end_of_answer, count_after, IsOwnFault, ComesBeforeTheCut, breaks_off};
+ghost use Rattle.mpicall.specs.Lines.{whole_lines};
+ghost use Rattle.mpicall.specs.Trace.{trace_of};
 ghost use Rattle.mpicall.specs.declared.fault.SourceFault.TheVariants.{ReadFailed};
 
 use crate::device::Input;
@@ -46,4 +48,12 @@ pub fn lint<I: Input>(source: &mut Source<I>, wait: &impl Wait) -> Result<u64, L
 /// a record.
 pub fn records_come_before_a_failed_read<I: Input>()
     ensures { ComesBeforeTheCut I.left }
+{}
+
+/// A text with which nothing is wrong but that no more of it came has a record for each of its whole lines: so the
+/// place of a failed read is the number of the whole lines that came.
+#[tactic(auto, using(crate::proofs::WholeLemmas::text_count))]
+pub fn each_whole_line_that_came_is_a_record()
+    ensures { (came : List ℕ) → breaks_off (trace_of came).end ≡ true
+        → length (trace_of came).records ≡ whole_lines came }
 {}
