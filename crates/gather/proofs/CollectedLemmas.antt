@@ -325,3 +325,11 @@ step_collects rank found answer old new before after is_rank takes so collects =
       one_fault_a_rank = count ∙ collects.one_fault_a_rank ∙ sym leaves.places;
       collected = step_keeps rank found answer old new before after (omega (arith, within, collects.one_a_rank)) (sym collects.one_fault_a_rank ∙ collects.one_a_rank) takes so collects.collected;
     }
+
+-- what is kept of a collector is what came
+pub keeps_what_came : (collector : Collector) → KeepsWhatCame collector
+keeps_what_came collector = record {
+  one_a_rank = sym collector.collects.one_a_rank ∙ sym (length-map collector.takers.items taker_ring);
+  one_fault_a_rank = sym collector.collects.one_fault_a_rank ∙ sym (length-map collector.takers.items taker_ring);
+  collected = collector.collects.collected;
+}

@@ -1,14 +1,16 @@
 -- What contracts see of a collector, and what a step with one rank's feed does.
-use Rattle.std.specs.Prelude.{◌≡◌, ◌≢◌, ℕ, Bool, true, List, map}
+use Rattle.std.specs.Prelude.{◌≡◌, ◌≢◌, ℕ, Bool, true, false, Option, List, length, map}
 use Rattle.logbook.specs.Pages.{Book}
 use Rattle.moves.specs.Stands.{stands_of}
 use Rattle.rankfeed.specs.Rings.{FeedName, taker_ring}
 use Rattle.rankfeed.specs.declared.answer.Took.{Took}
 use Rattle.rankfeed.specs.declared.item.Item.{Item}
-use Rattle.gather.specs.Collected.{Kept, Enters}
+use Rattle.rankfeed.specs.declared.ring.Receipt.{Receipt}
+use Rattle.gather.specs.Collected.{Kept, Enters, IsKeptIn}
 use Rattle.watches.specs.Publications.{ArePassed}
 use Rattle.watches.specs.Publishers.{published_by, book_published, is_watched, IsShown}
 use Rattle.watches.specs.Stands.{places_of}
+use Rattle.gather.specs.Receipts.{AreReceiptsOf, AllReceived, first_missing}
 use Rattle.gather.specs.Takers.{received_in, left_in, Takes}
 use Rattle.watches.specs.declared.stands.Stands.{Stands}
 use Rattle.gather.specs.declared.ledger.Stepped.{Stepped}
@@ -42,6 +44,19 @@ pub record ReceivesFrom (rank : ℕ) (old new : Collector) : Type 0 where
   pub groups : (kept new).groups ≡ (kept old).groups
   pub wanted : (kept old).wanted ≡ true → (kept new).wanted ≡ true
   pub others : (other : ℕ) → other ≢ rank → received_from new other ≡ received_from old other
+
+-- what is kept is what came: a list of records and a place for a fault for each feed; and, unless memory was wanted,
+-- of each rank its records before its first fault, and that fault
+pub record KeepsWhatCame (collector : Collector) : Type 0 where
+  pub one_a_rank : length (kept collector).recording ≡ length (rings collector)
+  pub one_fault_a_rank : length (kept collector).faults ≡ length (rings collector)
+  pub collected : (kept collector).wanted ≡ false → (rank : ℕ) → IsKeptIn rank (received_from collector rank) (kept collector)
+
+-- all was received of the ranks that have a receipt, and this is the lowest rank without one
+pub record IsFinished (collector : Collector) (receipts : List (Option Receipt)) (missing : Option ℕ) : Type 0 where
+  pub are : AreReceiptsOf (rings collector) receipts
+  pub lowest : missing ≡ first_missing receipts
+  pub all : AllReceived receipts (received_from collector)
 
 -- the publications of the session, in order
 abbrev pub published : Collector → List Stands

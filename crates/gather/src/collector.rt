@@ -16,7 +16,7 @@ use std::sync::Wait;
 pub use watches::publisher::PublishFault;
 use watches::publisher::Publisher;
 use watches::stands::Stands;
-use watches::watch::Told;
+use watches::watch::{Told, Watch};
 
 /// The takers of all ranks' feeds, and what is kept of the records that came.
 ///
@@ -80,17 +80,19 @@ fn unproved(ledger: &Ledger, missing: Option<u16>) -> Option<u16>
 }
 
 impl Collector {
-    ghost use Rattle.std.specs.Prelude.{◌++◌, true, Err};
+    ghost use Rattle.std.specs.Prelude.{◌++◌, true, Err, Option};
     ghost use Rattle.rankfeed.specs.Items.{are_ended, IsFeed};
     ghost use Rattle.gather.specs.Takers.{received_in};
     ghost use Rattle.gather.specs.Receipts.{AreAllOf, AreReceiptsOf, AllReceived, first_missing};
     ghost use Rattle.gather.specs.Closes.{Closes};
-    ghost use Rattle.gather.specs.declared.outcome.CloseFault.TheVariants.{Memory};
-    ghost use Rattle.std.specs.Prelude.{IfOk, OnOk, OnErr};
-    ghost use Rattle.gather.specs.Collectors.{rings, kept, received_from, left_from, Steps, ReceivesFrom};
+    ghost use Rattle.gather.specs.declared.outcome.CloseFault.TheVariants.{Memory, Unproved};
+    ghost use Rattle.rankfeed.specs.declared.ring.Receipt.{Receipt as ReceiptValue};
+    ghost use mathlib.Core.List.{IsPrefix};
+    ghost use Rattle.std.specs.Prelude.{List, IfOk, OnOk, OnErr};
+    ghost use Rattle.gather.specs.Collectors.{rings, kept, received_from, left_from, Steps, ReceivesFrom, KeepsWhatCame, IsFinished};
     ghost use Rattle.gather.specs.Collectors.{published, list_published, has_watches, stands_now, ShowsTheLast, PublishesRuns, TakesNothing, PublishesNothing};
-    ghost use Rattle.watches.specs.Publications.{Publishes};
-    ghost use Rattle.watches.specs.Watches.{told_by, list_told};
+    ghost use Rattle.watches.specs.Publications.{Publishes, IsRising};
+    ghost use Rattle.watches.specs.Watches.{told_by, list_told, seen_by, list_watched, AnswersBy};
 
     /// The collector of these takers, of which this much is kept, and of what publishes.
     pub(crate) fn of(
@@ -114,10 +116,12 @@ impl Collector {
         }
     }
 
-    /// Takes one item at most from the feed of a rank. It publishes nothing.
+    /// Takes one item at most from the feed of a rank. Then what is kept is what came so far. It publishes nothing.
+    #[tactic(auto, using(crate::proofs::CollectedLemmas::keeps_what_came))]
     pub fn step(&mut self, rank: u16) -> Stepped
         requires { rank < length (rings self.old) }
         ensures step { Steps rank self.old result self.new }
+        ensures collects { KeepsWhatCame self.new }
         ensures publishes { PublishesNothing self.old self.new }
         ensures passed { PublishesRuns self.new }
     {
@@ -131,6 +135,7 @@ impl Collector {
     pub fn publish(&mut self, wait: &impl Wait) -> Result<Told, PublishFault>
         ensures published { OnOk result (Publishes (stands_now self.old) (published self.old) (published self.new)) }
         ensures fault { OnErr result (published self.new ≡ published self.old) }
+        ensures rising { IsRising (published self.new) }
         ensures told { IfOk result (λ told. told_by told ≡ published self.new) }
         ensures list_told { IfOk result (λ told. list_told told ≡ list_published self.new) }
         ensures list { list_published self.new ≡ list_published self.old }
@@ -142,6 +147,17 @@ impl Collector {
         let mut stands = Stands::at_start();
         stands.set(self.ledger.analyser());
         self.publisher.publish(&stands, wait)
+    }
+
+    /// Whether what a watch of this session knows is a beginning of what was published, so that the watch answers by
+    /// a publication of this session. If not, what was published is a beginning of what the watch knows.
+    pub fn covers(&self, watch: &Watch) -> bool
+        requires { list_watched watch.now ≡ list_published self.now }
+        ensures within { result ≡ true → IsPrefix (seen_by watch.now) (published self.now) }
+        ensures answers { result ≡ true → AnswersBy (published self.now) watch.now }
+        ensures beyond { result ≡ false → IsPrefix (published self.now) (seen_by watch.now) }
+    {
+        self.publisher.covers(watch)
     }
 
     /// Shows nothing to watches from now on, and gives back what they read. It waits for those that are being
@@ -181,17 +197,19 @@ impl Collector {
         self.drain(rank);
     }
 
-    /// The number of ranks. At any time, what is kept is what the items give that were received.
+    /// The number of ranks. At any time what is kept is what came so far.
+    #[tactic(auto, using(crate::proofs::CollectedLemmas::keeps_what_came))]
     pub fn ranks(&self) -> u16
         ensures value { result ≡ length (rings self.now) }
-        ensures collects { Collects self.now.takers.items (kept self.now) }
+        ensures collects { KeepsWhatCame self.now }
     {
         self.ledger.ranks()
     }
 
     /// Takes all that was sent on the feeds that have a receipt, in rank order, and answers the lowest rank
-    /// without one.
-    fn finish_all(&mut self, receipts: Vec<Option<Receipt>>) -> Option<u16>
+    /// without one. That is the first half of `close`, for those who want to see what is kept then.
+    #[tactic(auto, using(crate::proofs::CollectedLemmas::keeps_what_came))]
+    pub fn finish_all(&mut self, receipts: Vec<Option<Receipt>>) -> Option<u16>
         requires { AreReceiptsOf (rings self.old) receipts.items }
         ensures names { rings self.new ≡ rings self.old }
         ensures missing { result ≡ first_missing receipts.items }
@@ -199,6 +217,7 @@ impl Collector {
         ensures groups { (kept self.new).groups ≡ (kept self.old).groups }
         ensures wanted { (kept self.old).wanted ≡ true → (kept self.new).wanted ≡ true }
         ensures all { AllReceived receipts.items (received_from self.new) }
+        ensures collects { KeepsWhatCame self.new }
     {
         let mut missing = None;
         let mut receipts = receipts.into_iter();
@@ -227,10 +246,27 @@ impl Collector {
         ledger
     }
 
-    /// Takes all that was sent, by the receipts of the ranks' feeds, and answers what comes of it. `Memory`
-    /// comes first, where memory was wanted; then `Unproved`, for the lowest rank without a receipt; then
-    /// `Refused`, for the lowest rank that has a fault. An outcome has each rank's calls once, in their order, and
-    /// none behind the rank's end record.
+    /// What comes of all that was taken by receipts, where this is the lowest rank without one: the second half of
+    /// `close`. `Memory` comes first, where memory was wanted; then `Unproved`, for that rank; then `Refused`, for
+    /// the lowest rank that has a fault.
+    pub fn conclude(self, missing: Option<u16>) -> Result<Outcome, CloseFault>
+        requires { (receipts : List (Option ReceiptValue)) × IsFinished self receipts missing }
+        ensures answer { (receipts : List (Option ReceiptValue)) → IsFinished self receipts missing → Closes (kept self).reading (kept self).groups receipts result }
+        ensures wanting { (kept self).wanted ≡ true → result ≡ Err Memory }
+        ensures unproved { (kept self).wanted ≡ false → IfSome missing (λ rank. result ≡ Err (Unproved rank)) }
+    {
+        let alloc = self.alloc;
+        let ledger = self.into_ledger();
+        match unproved(&ledger, missing) {
+            Some(rank) => Err(CloseFault::Unproved(rank)),
+            None => ledger.conclude(alloc),
+        }
+    }
+
+    /// Takes all that was sent, by the receipts of the ranks' feeds, and answers what comes of it, as `finish_all`
+    /// and `conclude` say: `Memory` first, where memory was wanted before or within this call; then `Unproved`, for
+    /// the lowest rank without a receipt; then `Refused`, for the lowest rank that has a fault. An outcome has each
+    /// rank's calls once, in their order, and none behind the rank's end record.
     pub fn close(self, receipts: Vec<Option<Receipt>>) -> Result<Outcome, CloseFault>
         requires { AreReceiptsOf (rings self) receipts.items }
         ensures answer { Closes (kept self).reading (kept self).groups receipts.items result }
@@ -238,11 +274,6 @@ impl Collector {
     {
         let mut collector = self;
         let missing = collector.finish_all(receipts);
-        let alloc = collector.alloc;
-        let ledger = collector.into_ledger();
-        match unproved(&ledger, missing) {
-            Some(rank) => Err(CloseFault::Unproved(rank)),
-            None => ledger.conclude(alloc),
-        }
+        collector.conclude(missing)
     }
 }

@@ -1,7 +1,7 @@
 -- A state that some run over a recording passes is passed by a run over each longer one; and the first publication,
 -- and those that follow it, are passed.
 use Rattle.moves.specs.declared.reading.Reading.{Reading}
-use Rattle.std.proofs.Common.{◌≡◌, ◌⊎◌, ℕ, ◌<◌, Some, Result, Ok, Err, OnOk, OnErr, List, [], ◌∷◌, ◌++◌, length, get_or, All, inl, inr, refl, sym, ap, subst, ◌∙◌, ⊎_elim, arith}
+use Rattle.std.proofs.Common.{◌≡◌, ◌⊎◌, ℕ, Some, Result, Ok, Err, OnOk, OnErr, List, [], ◌∷◌, ◌++◌, length, get_or, inl, inr, sym, ◌∙◌, ⊎_elim, arith}
 use Rattle.std.proofs.Math.Logic.{∥∥₁_map}
 use Rattle.std.proofs.lemmas.Grind.{merely}
 use Rattle.std.proofs.lemmas.List.{length-replicate}
@@ -55,7 +55,7 @@ still_passed reading groups recording answer stands old new are done failed were
 -- at the opening
 
 start_places : (ranks : ℕ) → at_start.places ≡ places_of (start ranks)
-unfolding places_of
+unfolding places_of at_start
 start_places ranks = fill_by_all (λ k. get_or (start ranks) k 0) at_start.places MOST_RANKS 0 (length-replicate {A = ℕ} MOST_RANKS 0) (λ k below. get_start MOST_RANKS k ∙ sym (get_start ranks k))
 
 start_passed : (reading : Reading) (groups : Groups) (recording : Lists) → Passes reading groups recording at_start.places

@@ -1,12 +1,13 @@
 -- No stand falls along the publications.
-use Rattle.std.proofs.Common.{◌≡◌, ℕ, ◌≤◌, ◌<◌, Bool, true, false, ◌&&◌, if◌then◌else◌, nat_le, nat_lt, List, [], ◌∷◌, ◌++◌, Option, Some, None, sum, refl, sym, ap, ◌∙◌, arith, slice_index, length}
-use Rattle.std.specs.List.{list_all, range_with_len}
+use Rattle.std.proofs.Common.{◌≡◌, ℕ, ◌<◌, Bool, true, false, ◌&&◌, if◌then◌else◌, nat_le, nat_lt, List, [], ◌∷◌, ◌++◌, Option, Some, None, sum, refl, arith, slice_index, slice_get, suc, IfSome}
+use Rattle.std.specs.List.{range_with_len}
 use Rattle.std.proofs.lemmas.Bool.Decides.{nat_tests}
 use Rattle.std.proofs.lemmas.List.Sums.{AllPass-from_list_all, list_all-from_AllPass}
 use Rattle.mpigroup.specs.declared.limits.TheConstants.{MOST_RANKS}
 use mathlib.Core.List.{IsPrefix}
 use Rattle.watches.specs.declared.stands.Stands.{Stands}
 use Rattle.watches.specs.Stands.{is_no_lower, is_further}
+use Rattle.watches.proofs.PrefixLemmas.{prefix_get}
 use Rattle.watches.specs.Publications.{last_of, is_rising, NeverFalls}
 
 then_of : (b r : Bool) → (if b then r else false) ≡ true → (b ≡ true) × (r ≡ true)
@@ -88,3 +89,14 @@ self_of (Some x) = no_lower_self x.places
 
 pub never_falls_self : (xs : List Stands) → NeverFalls (last_of xs) (last_of xs)
 never_falls_self xs = self_of (last_of xs)
+
+one_behind : (last : Option Stands) (y : Stands) (ys : List Stands) → IfSome last (λ stands. (place : ℕ) × (slice_get ys place ≡ Some stands)) → IfSome last (λ stands. (place : ℕ) × (slice_get (y ∷ ys) place ≡ Some stands))
+one_behind None y ys at = tt
+one_behind (Some stands) y ys at = (suc at.0, at.1)
+
+-- the last of a beginning stands in the whole
+pub last_among : (xs ys : List Stands) → IsPrefix xs ys → IfSome (last_of xs) (λ stands. (place : ℕ) × (slice_get ys place ≡ Some stands))
+last_among [] ys p = tt
+last_among (x ∷ []) ys p = (0, prefix_get (x ∷ []) ys 0 x p refl)
+last_among (x ∷ x' ∷ xs) [] p = absurd (cc p.1)
+last_among (x ∷ x' ∷ xs) (y ∷ ys) p = one_behind (last_of (x' ∷ xs)) y ys (last_among (x' ∷ xs) ys (p.0, cc p.1))

@@ -1,6 +1,6 @@
 -- The list of publications: what each shows, and how one more is written behind it.
 use Rattle.moves.specs.declared.reading.Reading.{Reading}
-use Rattle.std.specs.Prelude.{◌≡◌, ◌⊎◌, ℕ, ◌==◌, Bool, true, false, List, [], ◌∷◌, ◌++◌, length, replicate, if◌then◌else◌, Option, Some, None, IfSome, MatchBool, All}
+use Rattle.std.specs.Prelude.{◌≡◌, ◌⊎◌, ℕ, ◌==◌, Bool, true, false, List, [], ◌∷◌, ◌++◌, length, replicate, if◌then◌else◌, Option, Some, None, IfSome, MatchBool, All, slice_get}
 use Rattle.logbook.specs.Pages.{Book, Cell, Named, Step, View}
 use Rattle.mpigroup.specs.Groups.{Groups}
 use Rattle.mpigroup.specs.declared.limits.TheConstants.{MOST_RANKS}
@@ -9,7 +9,7 @@ use Rattle.watches.specs.Stands.{is_no_lower, is_further, IsPassed}
 use Rattle.watches.specs.declared.stands.Stands.{Stands}
 
 -- the stands 0 everywhere
-abbrev pub at_start : Stands
+unfoldable pub at_start : Stands
 at_start = record { places = replicate MOST_RANKS 0 }
 
 -- the last of a list, if it has one
@@ -23,6 +23,10 @@ abbrev pub is_rising : List Stands → Bool
 is_rising [] = true
 is_rising (x ∷ []) = true
 is_rising (x ∷ y ∷ ys) = if is_further x.places y.places then is_rising (y ∷ ys) else false
+
+-- the first are the stands 0, and each is further than the one before it
+abbrev pub IsRising : List Stands → Type 0
+IsRising list = (slice_get list 0 ≡ Some at_start) × (is_rising list ≡ true)
 
 -- no rank stands lower in the later stands, where there are any
 abbrev pub NeverFalls : Option Stands → Option Stands → Type 0

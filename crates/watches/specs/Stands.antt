@@ -1,7 +1,7 @@
 -- Stands as they are published: a place for each rank that a run may have. They are this project's own; MPI says
 -- nothing of them.
 use Rattle.moves.specs.declared.reading.Reading.{Reading}
-use Rattle.std.specs.Prelude.{◌≡◌, ℕ, Bool, ◌&&◌, nat_le, nat_lt, List, [], length, map, sum, slice_index}
+use Rattle.std.specs.Prelude.{◌≡◌, ℕ, Bool, ◌&&◌, nat_le, nat_lt, List, length, map, sum, slice_index}
 use Rattle.std.specs.List.{list_all, range_with_len}
 use Rattle.mpigroup.specs.Groups.{Groups}
 use Rattle.mpigroup.specs.declared.limits.TheConstants.{MOST_RANKS}

@@ -32,6 +32,10 @@ abbrev pub ReadsAt : ℕ → Watch → Option ℕ → Type 0
 ReadsAt rank watch (Some stand) = (rank < ranks_watched watch) × IfSome (last_of (seen_by watch)) (λ stands. slice_get stands.places rank ≡ Some stand)
 ReadsAt rank watch None = ranks_watched watch ≤ rank
 
+-- the watch answers by one of these publications
+abbrev pub AnswersBy : List Stands → Watch → Type 0
+AnswersBy list watch = IfSome (last_of (seen_by watch)) (λ stands. (place : ℕ) × (slice_get list place ≡ Some stands))
+
 -- the watch is of so many ranks, reads this list, and knows these publications of it
 pub record IsWatchOf (ranks : ℕ) (book : Book) (list : List Stands) (watch : Watch) : Type 0 where
   pub few : ranks_watched watch ≡ ranks

@@ -78,15 +78,15 @@ type BoardWriter = Writer<Publication, (), View, OneList>;
 
 /// Writes a publication of the same list over the copy that no watch reads, and turns the watches to it. It
 /// waits for those that still read that copy, and takes no memory.
-fn turn(writer: BoardWriter, next: Publication, wait: &impl Wait) -> BoardWriter
-    requires list { book_of next ≡ book_of writer.desk.shown.value }
+fn turn(writer: BoardWriter, next: &Publication, wait: &impl Wait) -> BoardWriter
+    requires list { book_of next.now ≡ book_of writer.desk.shown.value }
     requires names { (view writer.desk.place ≡ nobody) ⊎ (view writer.desk.place ≡ name_of writer.desk.shown.value) }
-    ensures shown { result.desk.shown.value ≡ next }
-    ensures names { view result.desk.place ≡ name_of next }
+    ensures shown { result.desk.shown.value ≡ next.now }
+    ensures names { view result.desk.place ≡ name_of next.now }
 {
     let mut writer = writer;
     let (open, mut spare) = writer.desk.open(wait);
-    *spare = next;
+    spare.copy_from(next);
     writer.desk = open.show_as::<Sees>(spare);
     writer
 }
@@ -114,14 +114,14 @@ impl Board {
         let places = usize::from(watches);
         let writer = Writer::new(alloc, first.again(), first.again(), places)?;
         Ok(Board {
-            writer: turn(writer, first.again(), wait),
+            writer: turn(writer, first, wait),
         })
     }
 
     /// Shows a publication of the same list.
-    pub(crate) fn show(self, next: Publication, wait: &impl Wait) -> Board
-        requires { book_of next ≡ book_of (shown self) }
-        ensures { shown result ≡ next }
+    pub(crate) fn show(self, next: &Publication, wait: &impl Wait) -> Board
+        requires { book_of next.now ≡ book_of (shown self) }
+        ensures { shown result ≡ next.now }
     {
         let Board { writer } = self;
         Board {

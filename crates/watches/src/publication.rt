@@ -1,6 +1,6 @@
 //! A publication of the stands, and what is known of those before it.
 
-ghost use Rattle.std.specs.Prelude.{◌≡◌, ◌≤◌, ◌+◌, [], ◌∷◌, ◌++◌, length, sum, true, Some};
+ghost use Rattle.std.specs.Prelude.{◌≡◌, ◌≤◌, ◌+◌, [], ◌∷◌, ◌++◌, length, slice_get, sum, true, false, Some};
 ghost use mathlib.Core.List.{IsPrefix};
 ghost use Rattle.watches.specs.Publications.{at_start, head_of, last_of, is_rising};
 
@@ -16,13 +16,13 @@ pub struct Publication {
     known: Known,
     ghost counts: { number ≡ length known.log },
     ghost last: { last_of known.log ≡ Some stands },
+    ghost first: { slice_get known.log 0 ≡ Some at_start },
     ghost rising: { is_rising known.log ≡ true },
     // Each publication is further than the one before it, so their number doesn't run out.
     ghost few: { number ≤ sum stands.places + 1 },
 }
 
 impl Publication {
-    ghost use Rattle.std.specs.Prelude.{IfSome};
     ghost use Rattle.watches.specs.Published.{list_of, book_of};
 
     /// The first one.
@@ -56,6 +56,27 @@ impl Publication {
         &self.stands
     }
 
+    /// Becomes the other one, of which nothing is left out.
+    pub(crate) fn copy_from(&mut self, other: &Publication)
+        ensures { self.new ≡ other.now }
+    {
+        self.stands = other.stands;
+        self.number = other.number;
+        self.known = other.known.again();
+    }
+
+    /// Whether the other one is no later. Of two publications of one list the list of the earlier one begins that
+    /// of the later one.
+    pub(crate) fn covers(&self, other: &Publication) -> bool
+        requires { book_of other.now ≡ book_of self.now }
+        ensures within { result ≡ true → IsPrefix (list_of other.now) (list_of self.now) }
+        ensures beyond { result ≡ false → IsPrefix (list_of self.now) (list_of other.now) }
+    {
+        let mut both = self.known.again();
+        both.learn(&other.known);
+        other.number <= self.number
+    }
+
     /// Becomes the other one, if that is the later of the two.
     pub(crate) fn become_newer(&mut self, other: &Publication)
         requires { book_of other.now ≡ book_of self.old }
@@ -63,26 +84,28 @@ impl Publication {
         ensures this { IsPrefix (list_of self.old) (list_of self.new) }
         ensures that { IsPrefix (list_of other.now) (list_of self.new) }
     {
-        let mut both = self.known.again();
-        both.learn(&other.known);
-        if self.number < other.number {
-            *self = other.again();
+        if !self.covers(other) {
+            self.copy_from(other);
         }
     }
 
-    /// The publication of these stands behind this one, which is the last. None where the ranks are no further.
-    pub(crate) fn followed_by(&self, count: &Count, stands: &Stands) -> Option<Publication>
-        requires { count.now ≡ head_of (book_of self.now) }
-        ensures { IfSome result (λ next. (list_of next ≡ list_of self.now ++ stands.now ∷ []) × (book_of next ≡ book_of self.now)) }
+    /// Becomes the publication of these stands behind this one, which is the last. It stays as it is where the ranks
+    /// are no further, and tells whether they are.
+    pub(crate) fn become_next(&mut self, count: &Count, stands: &Stands) -> bool
+        requires { count.now ≡ head_of (book_of self.old) }
+        ensures yes { result ≡ true → list_of self.new ≡ list_of self.old ++ stands.now ∷ [] }
+        ensures no { result ≡ false → self.new ≡ self.old }
+        ensures book { book_of self.new ≡ book_of self.old }
     {
         if !self.stands.is_behind(stands) {
-            return None;
+            return false;
         }
-        let known = append(count, self.known.again(), self.number, stands)?;
-        Some(Publication {
-            stands: *stands,
-            number: self.number + 1,
-            known,
-        })
+        let Some(known) = append(count, self.known.again(), self.number, stands) else {
+            return false;
+        };
+        self.stands = *stands;
+        self.number += 1;
+        self.known = known;
+        true
     }
 }

@@ -74,12 +74,13 @@ fn watch_all(board: &mut Board, watches: u16, ranks: u16, all: Vec<Watch>) -> Op
 }
 
 impl Publisher {
-    ghost use Rattle.std.specs.Prelude.{◌≢◌, Err, OnOk, OnErr, is_some, false};
+    ghost use mathlib.Core.List.{IsPrefix};
+    ghost use Rattle.std.specs.Prelude.{◌≢◌, Err, OnOk, OnErr, is_some, true, false};
     ghost use Rattle.watches.specs.declared.publisher.OpenFault.TheVariants.{Watch as WatchFault};
     ghost use Rattle.watches.specs.declared.stands.Stands.{Stands as StandsValue};
-    ghost use Rattle.watches.specs.Publications.{at_start, Publishes};
+    ghost use Rattle.watches.specs.Publications.{at_start, IsRising, Publishes};
     ghost use Rattle.watches.specs.Publishers.{published_by, book_published, is_watched, IsShown};
-    ghost use Rattle.watches.specs.Watches.{told_by, list_told};
+    ghost use Rattle.watches.specs.Watches.{told_by, list_told, seen_by, list_watched, AnswersBy};
 
     /// A new list, whose first publication are the stands 0 everywhere, and so many watches.
     pub fn open(
@@ -90,6 +91,7 @@ impl Publisher {
     ) -> Result<(Publisher, Vec<Watch>), OpenFault>
         requires { ranks ≤ MOST_RANKS }
         ensures published { IfOk result (λ ends. published_by ends.0 ≡ at_start ∷ []) }
+        ensures rising { IfOk result (λ ends. IsRising (published_by ends.0)) }
         ensures len { IfOk result (λ ends. vec_len ends.1 ≡ watches) }
         ensures watches { IfOk result (λ ends. All (IsWatchOf ranks (book_published ends.0) (at_start ∷ [])) ends.1.items) }
         ensures unwatched { watches ≡ 0 → result ≢ Err WatchFault }
@@ -126,6 +128,7 @@ impl Publisher {
     pub fn publish(&mut self, stands: &Stands, wait: &impl Wait) -> Result<Told, PublishFault>
         ensures ok { OnOk result (Publishes stands.now (published_by self.old) (published_by self.new)) }
         ensures err { OnErr result (published_by self.new ≡ published_by self.old) }
+        ensures rising { IsRising (published_by self.new) }
         ensures told { IfOk result (λ told. told_by told ≡ published_by self.new) }
         ensures list_told { IfOk result (λ told. list_told told ≡ book_published self.new) }
         ensures list { book_published self.new ≡ book_published self.old }
@@ -135,16 +138,25 @@ impl Publisher {
         if *stands == *self.last.stands() {
             return Ok(Told::of(&self.last));
         }
-        let Some(next) = self.last.followed_by(&self.count, stands) else {
+        if !self.last.become_next(&self.count, stands) {
             return Err(PublishFault::Memory);
-        };
-        let told = Told::of(&next);
+        }
         self.board = match self.board.take() {
-            Some(board) => Some(left_up(ManuallyDrop::into_inner(board).show(next.again(), wait))),
+            Some(board) => Some(left_up(ManuallyDrop::into_inner(board).show(&self.last, wait))),
             None => None,
         };
-        self.last = next;
-        Ok(told)
+        Ok(Told::of(&self.last))
+    }
+
+    /// Whether what a watch of these publications knows is a beginning of them, so that the watch answers by one of
+    /// them. If not, they are a beginning of what it knows.
+    pub fn covers(&self, watch: &Watch) -> bool
+        requires { list_watched watch.now ≡ book_published self.now }
+        ensures within { result ≡ true → IsPrefix (seen_by watch.now) (published_by self.now) }
+        ensures answers { result ≡ true → AnswersBy (published_by self.now) watch.now }
+        ensures beyond { result ≡ false → IsPrefix (published_by self.now) (seen_by watch.now) }
+    {
+        self.last.covers(watch.known())
     }
 
     /// Takes the board down. It waits for the watches that still read it.

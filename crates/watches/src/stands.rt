@@ -18,11 +18,12 @@ pub struct Stands {
 }
 
 impl Stands {
-    ghost use Rattle.std.specs.Prelude.{replicate};
+    ghost use Rattle.watches.specs.Publications.{at_start};
 
     /// Each rank stands at 0.
+    #[tactic(auto, unfolding(crate::specs::Publications::at_start))]
     pub fn at_start() -> Stands
-        ensures { result.places ≡ replicate MOST_RANKS 0 }
+        ensures { result ≡ at_start }
     {
         Stands {
             places: [0; PLACES],
@@ -34,11 +35,9 @@ impl Stands {
     pub fn set(&mut self, analyser: &Analyser)
         ensures { self.new.places ≡ places_of (stands_of analyser.now.reading analyser.now.groups analyser.now.recording) }
     {
-        let mut places = [0; PLACES];
         for rank in 0..MOST_RANKS {
-            places[usize::from(rank)] = analyser.stand(rank).unwrap_or(0);
+            self.places[usize::from(rank)] = analyser.stand(rank).unwrap_or(0);
         }
-        self.places = places;
     }
 
     /// The stand of a rank.

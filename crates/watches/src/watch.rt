@@ -21,7 +21,8 @@
 //! watch.learn(&told);
 //! ```
 
-ghost use Rattle.std.specs.Prelude.{◌≡◌, ◌≤◌, false, None, Ok, IfOk, OnErr};
+ghost use Rattle.std.specs.Prelude.{◌≡◌, ◌≤◌, true, false, is_some, None, Ok, IfOk, OnErr};
+ghost use Rattle.std.specs.Option.{ForSome};
 ghost use mathlib.Core.List.{IsPrefix};
 ghost use Rattle.left_right.specs.Sides.{view};
 ghost use Rattle.mpigroup.specs.declared.limits.TheConstants.{MOST_RANKS};
@@ -31,7 +32,6 @@ ghost use Rattle.watches.specs.Shown.{name_of};
 
 use crate::board::{OneList, Sees, View};
 use crate::publication::Publication;
-use core::mem::replace_with;
 use left_right::reader::Reader;
 use thiserror::Error;
 
@@ -46,10 +46,12 @@ type BoardReader = Reader<Publication, View, OneList>;
 #[derive(Drop)]
 pub struct Watch {
     ranks: u16,
-    reader: BoardReader,
+    /// It is away only within a look.
+    reader: Option<BoardReader>,
     known: Publication,
     ghost few: { ranks ≤ MOST_RANKS },
-    ghost same: { view reader.place ≡ name_of known },
+    ghost there: { is_some reader ≡ true },
+    ghost same: { ForSome reader (λ reader. view reader.place ≡ name_of known) },
 }
 
 /// What is told of a publication. Threads may share it.
@@ -99,7 +101,7 @@ impl Watch {
     {
         Watch {
             ranks,
-            reader,
+            reader: Some(reader),
             known,
         }
     }
@@ -119,33 +121,23 @@ impl Watch {
         if rank >= self.ranks {
             return Ok(None);
         }
-        if replace_with(self, (), |watch, ()| watch.looked()) {
+        let Some(reader) = self.reader.take() else {
+            unreachable!()
+        };
+        let (reader, is_there) = look(reader, &mut self.known);
+        self.reader = Some(reader);
+        if is_there {
             Ok(Some(self.known.stands().of(rank)))
         } else {
             Err(Gone)
         }
     }
 
-    fn looked(self) -> (Watch, bool)
-        ensures grows { IsPrefix (seen_by self) (seen_by result.0) }
-        ensures gone { result.1 ≡ false → seen_by result.0 ≡ seen_by self }
-        ensures list { list_watched result.0 ≡ list_watched self }
-        ensures ranks { ranks_watched result.0 ≡ ranks_watched self }
+    /// What it answers by.
+    pub(crate) fn known(&self) -> &Publication
+        ensures { result.now ≡ self.now.known }
     {
-        let Watch {
-            ranks,
-            reader,
-            mut known,
-        } = self;
-        let (reader, is_there) = look(reader, &mut known);
-        (
-            Watch {
-                ranks,
-                reader,
-                known,
-            },
-            is_there,
-        )
+        &self.known
     }
 
     /// Learns what was told. From then on no answer is below it.

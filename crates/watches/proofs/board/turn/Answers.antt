@@ -14,4 +14,4 @@ pub show_as-requires : goal.show_as-requires
 show_as-requires g c =
     let shown = c.open-open.result.0.shown.value in
     let still : c.args.writer.desk.shown.value ≡ shown = sym (ap (λ part. part.value) c.open-open.ensures.values.0) in
-    sees _ _ shown c.args.next (same_name shown c.args.next (c.requires.list ∙ ap book_of still))
+    sees _ _ shown c.copy_from.new.self (same_name shown c.copy_from.new.self (ap book_of c.copy_from.ensures ∙ c.requires.list ∙ ap book_of still))

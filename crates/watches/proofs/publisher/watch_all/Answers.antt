@@ -1,4 +1,4 @@
-use Rattle.std.proofs.Common.{◌≡◌, ◌∷◌, ◌++◌, [], All, subst, sym, rules, arith}
+use Rattle.std.proofs.Common.{◌≡◌, ◌∷◌, ◌++◌, [], subst, rules, arith}
 use Rattle.std.proofs.lemmas.List.Elements.{All-push}
 use Rattle.watches.specs.Boards.{shown}
 use Rattle.watches.specs.Published.{list_of, book_of}

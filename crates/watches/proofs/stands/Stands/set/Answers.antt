@@ -1,4 +1,4 @@
-use Rattle.std.proofs.Common.{◌≡◌, ℕ, ◌+◌, ◌<◌, get_or, set, length, length-set, sym, ap, subst, ◌∙◌, arith}
+use Rattle.std.proofs.Common.{◌≡◌, ℕ, ◌+◌, ◌<◌, get_or, set, length, length-set, ap, ◌∙◌, arith}
 use Rattle.std.proofs.lemmas.List.FromFn.{fill_by_all}
 use Rattle.std.proofs.lemmas.List.Edits.{fill_by_more}
 use Rattle.std.proofs.lemmas.Option.{unwrap_or-slice_get}
@@ -21,10 +21,10 @@ loop-rank-preserved c =
     c.unwrap_or.ensures ∙ ap (λ found. unwrap_or found 0) c.stand.ensures.value
     ∙ unwrap_or-slice_get c.args.analyser.now.stands c.loop-rank.rank 0
     ∙ ap (λ (s : State). get_or s c.loop-rank.rank 0) c.stand.ensures.stands in record {
-      len = length-set c.loop-rank.places c.from.result c.unwrap_or.result ∙ c.loop-rank.invariant.len;
-      stands = one_more stands c.loop-rank.places c.loop-rank.rank c.from.result c.unwrap_or.result c.from.ensures stand c.loop-rank-test.true c.loop-rank.invariant.len c.loop-rank.invariant.stands;
+      len = length-set c.loop-rank.self.places c.from.result c.unwrap_or.result ∙ c.loop-rank.invariant.len;
+      stands = one_more stands c.loop-rank.self.places c.loop-rank.rank c.from.result c.unwrap_or.result c.from.ensures stand c.loop-rank-test.true c.loop-rank.invariant.len c.loop-rank.invariant.stands;
     }
 
 pub returns : goal.returns
 unfolding places_of
-returns c = fill_by_all (λ k. get_or (stands_of c.args.analyser.now.reading c.args.analyser.now.groups c.args.analyser.now.recording) k 0) c.loop-rank.places MOST_RANKS 0 c.loop-rank.invariant.len (λ k below. c.loop-rank.invariant.stands k (omega (arith, below, c.loop-rank-test.false)))
+returns c = fill_by_all (λ k. get_or (stands_of c.args.analyser.now.reading c.args.analyser.now.groups c.args.analyser.now.recording) k 0) c.loop-rank.self.places MOST_RANKS 0 c.loop-rank.invariant.len (λ k below. c.loop-rank.invariant.stands k (omega (arith, below, c.loop-rank-test.false)))

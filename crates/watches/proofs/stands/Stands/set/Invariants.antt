@@ -6,6 +6,6 @@ use Rattle.watches.proofs.stands.Stands.set.Given as goal
 
 abbrev pub invariant-loop-rank : goal.invariant-loop-rank
 invariant-loop-rank l = record {
-  len : length l.places ≡ MOST_RANKS;
-  stands : (k : ℕ) → k < l.rank → get_or l.places k 0 ≡ get_or (stands_of l.analyser.reading l.analyser.groups l.analyser.recording) k 0;
+  len : length l.self.places ≡ MOST_RANKS;
+  stands : (k : ℕ) → k < l.rank → get_or l.self.places k 0 ≡ get_or (stands_of l.analyser.reading l.analyser.groups l.analyser.recording) k 0;
 }

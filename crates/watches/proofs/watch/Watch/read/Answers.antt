@@ -1,5 +1,5 @@
 use Rattle.watches.specs.Published.{list_of}
-use Rattle.watches.proofs.RisingLemmas.{never_falls, never_falls_self}
+use Rattle.watches.proofs.RisingLemmas.{never_falls_self}
 use Rattle.watches.proofs.watch.Watch.read.Goals as goal
 
 pub returns-then-rank-self-clause-never_falls : goal.returns-then-rank-self-clause-never_falls
