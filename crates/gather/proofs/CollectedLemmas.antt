@@ -25,6 +25,8 @@ use Rattle.gather.specs.declared.fault.RankFault.{RankFault}
 use Rattle.gather.specs.declared.fault.RankFault.TheVariants.{OfCall, OfSource}
 use Rattle.gather.specs.declared.ledger.Stepped.{Stepped}
 use Rattle.gather.specs.declared.ledger.Stepped.TheVariants.{Refused, Discarded, Empty, Ended}
+use Rattle.gather.specs.declared.collector.Collector.{Collector}
+use Rattle.gather.specs.Collectors.{KeepsWhatCame}
 use Rattle.gather.specs.Takers.{received_in, Takes, Collects}
 use Rattle.gather.proofs.TakerLemmas.{items_stay, takers_stay}
 use Rattle.gather.specs.Collected.{fault_in, fault_of_items, PlacedFault, IsKeptOf, Kept, fault_at, AreKeptOf, IsKeptIn, Leaves, is_open, with_record, with_fault, wanting, torn, EntersRecord, Enters}

@@ -1,5 +1,5 @@
 -- The answer is that of what is kept once all feeds were drained.
-use Rattle.std.proofs.Common.{◌≡◌, List, sym, subst}
+use Rattle.std.proofs.Common.{List, sym, subst}
 use Rattle.mpigroup.specs.Groups.{Groups}
 use Rattle.moves.specs.declared.reading.Reading.{Reading}
 use Rattle.rankfeed.specs.Rings.{FeedName}

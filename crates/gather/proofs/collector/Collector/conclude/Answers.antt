@@ -1,8 +1,6 @@
 -- The answer is that of what is kept, where all feeds were drained by a receipt for each.
-use Rattle.std.proofs.Common.{◌≡◌, false, Option, List, refl, sym, ap, subst, ◌∙◌}
-use Rattle.rankfeed.specs.declared.ring.Receipt.{Receipt}
+use Rattle.std.proofs.Common.{◌≡◌, false, refl, sym, ap, subst, ◌∙◌}
 use Rattle.gather.specs.Collected.{Kept}
-use Rattle.gather.specs.Collectors.{IsFinished}
 use Rattle.gather.proofs.CloseLemmas.{AreDrained, drained, recording_closed, concluded, memory_first}
 use Rattle.gather.proofs.collector.Collector.conclude.Goals as goal
 
