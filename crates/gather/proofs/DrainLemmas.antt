@@ -20,7 +20,7 @@ use Rattle.gather.specs.declared.ledger.Stepped.TheVariants.{Refused, Discarded,
 use Rattle.gather.specs.declared.collector.Collector.{Collector}
 use Rattle.gather.specs.Collected.{Kept, Enters}
 use Rattle.gather.specs.Receipts.{Meets}
-use Rattle.gather.specs.Collectors.{kept, received_from, left_from, Steps, ReceivesFrom}
+use Rattle.gather.specs.Collectors.{kept, received_from, left_from, Steps, ReceivesFrom, PublishesNothing}
 use Rattle.gather.proofs.TakerLemmas.{items_at, items_stay, get_replaced}
 use Rattle.gather.proofs.CollectedLemmas.{end_of-push, enters_leaves}
 
@@ -102,18 +102,21 @@ stays_wanted : (before after : Bool) → (after ≡ false → before ≡ false) 
 stays_wanted before true unwanted e = refl
 stays_wanted before false unwanted e = absurd (false≢true (sym (unwanted refl) ∙ e))
 
-step_receives : (rank : ℕ) (old new : Collector) (answer : Stepped) → Steps rank old answer new → ReceivesFrom rank old new
-step_receives rank old new answer steps =
+step_receives : (rank : ℕ) (old new : Collector) (answer : Stepped) → Steps rank old answer new → PublishesNothing old new → ReceivesFrom rank old new
+step_receives rank old new answer steps publishes =
     let leaves = enters_leaves rank (kept old) (kept new) steps.found answer steps.enters in record {
       names = steps.takes.names;
       reading = leaves.reading;
       groups = leaves.groups;
       wanted = stays_wanted (kept old).wanted (kept new).wanted leaves.unwanted;
       others = λ other differs. items_stay received_by old.takers.items new.takers.items other (steps.takes.others other differs);
+      list = publishes.list;
+      published = publishes.same;
+      watched = publishes.watched;
     }
 
 pub none_received : (rank : ℕ) (collector : Collector) → ReceivesFrom rank collector collector
-none_received rank collector = record { names = refl; reading = refl; groups = refl; wanted = λ e. e; others = λ other differs. refl }
+none_received rank collector = record { names = refl; reading = refl; groups = refl; wanted = λ e. e; others = λ other differs. refl; list = refl; published = refl; watched = refl }
 
 then_receives : (rank : ℕ) (first now next : Collector) → ReceivesFrom rank first now → ReceivesFrom rank now next → ReceivesFrom rank first next
 then_receives rank first now next a b = record {
@@ -122,10 +125,13 @@ then_receives rank first now next a b = record {
   groups = b.groups ∙ a.groups;
   wanted = λ e. b.wanted (a.wanted e);
   others = λ other differs. b.others other differs ∙ a.others other differs;
+  list = b.list ∙ a.list;
+  published = b.published ∙ a.published;
+  watched = b.watched ∙ a.watched;
 }
 
-pub drain_on : (rank : ℕ) (first now next : Collector) (answer : Stepped) → ReceivesFrom rank first now → Steps rank now answer next → ReceivesFrom rank first next
-drain_on rank first now next answer so steps = then_receives rank first now next so (step_receives rank now next answer steps)
+pub drain_on : (rank : ℕ) (first now next : Collector) (answer : Stepped) → ReceivesFrom rank first now → Steps rank now answer next → PublishesNothing now next → ReceivesFrom rank first next
+drain_on rank first now next answer so steps publishes = then_receives rank first now next so (step_receives rank now next answer steps publishes)
 
 abbrev pub all_known : Collector → ℕ → List Item
 all_known collector rank = received_from collector rank ++ left_from collector rank

@@ -7,7 +7,7 @@ use Rattle.rankfeed.specs.Rings.{FeedName, receipt_ring}
 use Rattle.rankfeed.specs.declared.ring.Receipt.{Receipt}
 use Rattle.gather.specs.declared.collector.Collector.{Collector}
 use Rattle.gather.specs.Receipts.{AreReceiptsOf, AreAllOf, AllReceived, missing_from, first_missing}
-use Rattle.gather.specs.Collectors.{rings, kept, received_from, ReceivesFrom}
+use Rattle.gather.specs.Collectors.{rings, kept, received_from, ReceivesFrom, list_published, published, has_watches}
 
 -- the front of what is left of a list
 
@@ -55,11 +55,14 @@ pub record Finishes (first now : Collector) (receipts : List (Option Receipt)) (
   pub reading : (kept now).reading ≡ (kept first).reading
   pub groups : (kept now).groups ≡ (kept first).groups
   pub wanted : (kept first).wanted ≡ true → (kept now).wanted ≡ true
+  pub list : list_published now ≡ list_published first
+  pub published : published now ≡ published first
+  pub watched : has_watches now ≡ has_watches first
   pub lowest : option_or missing (missing_from ranks (drop ranks receipts)) ≡ first_missing receipts
   pub all : (rank : ℕ) (receipt : Receipt) → rank < ranks → slice_get receipts rank ≡ Some (Some receipt) → AreAllOf receipt (received_from now rank)
 
 pub none_finished : (collector : Collector) (receipts : List (Option Receipt)) → Finishes collector collector receipts 0 None
-none_finished collector receipts = record { names = refl; reading = refl; groups = refl; wanted = λ e. e; lowest = refl; all = λ rank receipt below at. absurd (omega (arith, below)) }
+none_finished collector receipts = record { names = refl; reading = refl; groups = refl; wanted = λ e. e; list = refl; published = refl; watched = refl; lowest = refl; all = λ rank receipt below at. absurd (omega (arith, below)) }
 
 pub with_receipt : (first now next : Collector) (receipts rest : List (Option Receipt)) (ranks : ℕ) (missing : Option ℕ) (receipt : Receipt) → Finishes first now receipts ranks missing → drop ranks receipts ≡ Some receipt ∷ rest → ReceivesFrom ranks now next → AreAllOf receipt (received_from next ranks) → Finishes first next receipts (ranks + 1) missing
 with_receipt first now next receipts rest ranks missing receipt so front only own =
@@ -68,6 +71,9 @@ with_receipt first now next receipts rest ranks missing receipt so front only ow
       reading = only.reading ∙ so.reading;
       groups = only.groups ∙ so.groups;
       wanted = λ e. only.wanted (so.wanted e);
+      list = only.list ∙ so.list;
+      published = only.published ∙ so.published;
+      watched = only.watched ∙ so.watched;
       lowest = ap (λ (rs : List (Option Receipt)). option_or missing (missing_from (ranks + 1) rs)) (sym behind)
           ∙ ap (λ (rs : List (Option Receipt)). option_or missing (missing_from ranks rs)) (sym front) ∙ so.lowest;
       all = λ rank other below at.
@@ -92,6 +98,9 @@ without_receipt first now receipts rest ranks missing so front = record {
   reading = so.reading;
   groups = so.groups;
   wanted = so.wanted;
+  list = so.list;
+  published = so.published;
+  watched = so.watched;
   lowest = missing_here missing ranks _ ∙ ap (λ (rs : List (Option Receipt)). option_or missing (missing_from ranks rs)) (sym front) ∙ so.lowest;
   all = λ rank other below at.
       ⊎_elim

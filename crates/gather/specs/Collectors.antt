@@ -37,14 +37,6 @@ pub record Steps (rank : ℕ) (old : Collector) (answer : Stepped) (new : Collec
   pub takes : Takes rank found old.takers.items new.takers.items
   pub enters : Enters rank found (kept old) answer (kept new)
 
--- from one rank's feed alone more was received, and memory that was wanted is wanted still
-pub record ReceivesFrom (rank : ℕ) (old new : Collector) : Type 0 where
-  pub names : rings new ≡ rings old
-  pub reading : (kept new).reading ≡ (kept old).reading
-  pub groups : (kept new).groups ≡ (kept old).groups
-  pub wanted : (kept old).wanted ≡ true → (kept new).wanted ≡ true
-  pub others : (other : ℕ) → other ≢ rank → received_from new other ≡ received_from old other
-
 -- what is kept is what came: a list of records and a place for a fault for each feed; and, unless memory was wanted,
 -- of each rank its records before its first fault, and that fault
 pub record KeepsWhatCame (collector : Collector) : Type 0 where
@@ -69,6 +61,17 @@ list_published collector = book_published collector.publisher
 -- there are watches to which publications are shown
 abbrev pub has_watches : Collector → Bool
 has_watches collector = is_watched collector.publisher
+
+-- from one rank's feed alone more was received, memory that was wanted is wanted still, and nothing was published
+pub record ReceivesFrom (rank : ℕ) (old new : Collector) : Type 0 where
+  pub names : rings new ≡ rings old
+  pub reading : (kept new).reading ≡ (kept old).reading
+  pub groups : (kept new).groups ≡ (kept old).groups
+  pub wanted : (kept old).wanted ≡ true → (kept new).wanted ≡ true
+  pub others : (other : ℕ) → other ≢ rank → received_from new other ≡ received_from old other
+  pub list : list_published new ≡ list_published old
+  pub published : published new ≡ published old
+  pub watched : has_watches new ≡ has_watches old
 
 -- where there are watches, they are shown the last publication
 abbrev pub ShowsTheLast : Collector → Type 0

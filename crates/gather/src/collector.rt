@@ -217,6 +217,10 @@ impl Collector {
         ensures groups { (kept self.new).groups ≡ (kept self.old).groups }
         ensures wanted { (kept self.old).wanted ≡ true → (kept self.new).wanted ≡ true }
         ensures all { AllReceived receipts.items (received_from self.new) }
+        ensures list { list_published self.new ≡ list_published self.old }
+        ensures published { published self.new ≡ published self.old }
+        ensures watched { has_watches self.new ≡ has_watches self.old }
+        ensures passed { PublishesRuns self.new }
         ensures collects { KeepsWhatCame self.new }
     {
         let mut missing = None;

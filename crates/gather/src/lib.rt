@@ -3,14 +3,16 @@
 //! What it promises, as contracts that are proved:
 //!
 //! - `session::Session::open` opens a feed for each rank, and their collector.
-//! - `collector::Collector::step` takes one item of a rank's feed. Unless memory was wanted, the analyser has
-//!   of each rank the records received before its first fault, and that fault is kept.
+//! - `collector::Collector::step` takes one item of a rank's feed. After each step, unless memory was wanted, the
+//!   records received of each rank before its first fault are kept, and that fault.
 //! - `Collector::close` takes what is left, by a receipt for each rank, and answers what the traces that the
 //!   receipts hold give, whatever steps came before: each rank's calls once, in order, none behind its end record.
+//!   It is `finish_all` and then `conclude`, which say that want of memory is told before a missing receipt.
 //! - `outcome::Outcome::verdict` is `Hang` exactly if some rank is held; where no list was left open, exactly if
 //!   some rank is stuck.
-//! - `Collector::publish` publishes where the ranks stand over what is kept so far, and `watch::Watch` reads it: its
-//!   answers never wait and never fall, and each is a stand that some run over what is kept passes.
+//! - `Collector::publish` publishes where the ranks stand over what is kept so far, no rank lower than before, and
+//!   `watch::Watch` reads it: its answers never wait and never fall, and each is a stand that some run over what is
+//!   kept passes. `covers` says whether a watch answers by a publication of the session.
 //! - `feed::feed` puts the records of one source on a rank's feed and ends it.
 //!
 //! The definitions stand in `specs/`: `Answers` says which refusal or verdict some traces have, `Collected` and
