@@ -88,7 +88,7 @@ impl Collector {
     ghost use Rattle.gather.specs.declared.outcome.CloseFault.TheVariants.{Memory, Unproved};
     ghost use Rattle.rankfeed.specs.declared.ring.Receipt.{Receipt as ReceiptValue};
     ghost use mathlib.Core.List.{IsPrefix};
-    ghost use Rattle.std.specs.Prelude.{List, IfOk, OnOk, OnErr};
+    ghost use Rattle.std.specs.Prelude.{List, nat_le, IfOk, OnOk, OnErr};
     ghost use Rattle.gather.specs.Collectors.{rings, kept, received_from, left_from, Steps, ReceivesFrom, KeepsWhatCame, IsFinished};
     ghost use Rattle.gather.specs.Collectors.{published, list_published, has_watches, stands_now, ShowsTheLast, PublishesRuns, TakesNothing, PublishesNothing};
     ghost use Rattle.watches.specs.Publications.{Publishes, IsRising};
@@ -153,6 +153,7 @@ impl Collector {
     /// a publication of this session. If not, what was published is a beginning of what the watch knows.
     pub fn covers(&self, watch: &Watch) -> bool
         requires { list_watched watch.now ≡ list_published self.now }
+        ensures value { result ≡ nat_le (length (seen_by watch.now)) (length (published self.now)) }
         ensures within { result ≡ true → IsPrefix (seen_by watch.now) (published self.now) }
         ensures answers { result ≡ true → AnswersBy (published self.now) watch.now }
         ensures beyond { result ≡ false → IsPrefix (published self.now) (seen_by watch.now) }

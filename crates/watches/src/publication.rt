@@ -1,6 +1,6 @@
 //! A publication of the stands, and what is known of those before it.
 
-ghost use Rattle.std.specs.Prelude.{◌≡◌, ◌≤◌, ◌+◌, [], ◌∷◌, ◌++◌, length, slice_get, sum, true, false, Some};
+ghost use Rattle.std.specs.Prelude.{◌≡◌, ◌≤◌, ◌+◌, [], ◌∷◌, ◌++◌, length, nat_le, slice_get, sum, true, false, Some};
 ghost use mathlib.Core.List.{IsPrefix};
 ghost use Rattle.watches.specs.Publications.{at_start, head_of, last_of, is_rising};
 
@@ -69,6 +69,7 @@ impl Publication {
     /// of the later one.
     pub(crate) fn covers(&self, other: &Publication) -> bool
         requires { book_of other.now ≡ book_of self.now }
+        ensures value { result ≡ nat_le (length (list_of other.now)) (length (list_of self.now)) }
         ensures within { result ≡ true → IsPrefix (list_of other.now) (list_of self.now) }
         ensures beyond { result ≡ false → IsPrefix (list_of self.now) (list_of other.now) }
     {
@@ -89,8 +90,8 @@ impl Publication {
         }
     }
 
-    /// Becomes the publication of these stands behind this one, which is the last. It stays as it is where the ranks
-    /// are no further, and tells whether they are.
+    /// Becomes the publication of these stands behind this one, which is the last. It answers whether it did; where
+    /// the ranks are no further it stays as it is.
     pub(crate) fn become_next(&mut self, count: &Count, stands: &Stands) -> bool
         requires { count.now ≡ head_of (book_of self.old) }
         ensures yes { result ≡ true → list_of self.new ≡ list_of self.old ++ stands.now ∷ [] }

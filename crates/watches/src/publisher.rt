@@ -75,7 +75,7 @@ fn watch_all(board: &mut Board, watches: u16, ranks: u16, all: Vec<Watch>) -> Op
 
 impl Publisher {
     ghost use mathlib.Core.List.{IsPrefix};
-    ghost use Rattle.std.specs.Prelude.{◌≢◌, Err, OnOk, OnErr, is_some, true, false};
+    ghost use Rattle.std.specs.Prelude.{◌≢◌, Err, OnOk, OnErr, is_some, true, false, length, nat_le};
     ghost use Rattle.watches.specs.declared.publisher.OpenFault.TheVariants.{Watch as WatchFault};
     ghost use Rattle.watches.specs.declared.stands.Stands.{Stands as StandsValue};
     ghost use Rattle.watches.specs.Publications.{at_start, IsRising, Publishes};
@@ -152,6 +152,7 @@ impl Publisher {
     /// them. If not, they are a beginning of what it knows.
     pub fn covers(&self, watch: &Watch) -> bool
         requires { list_watched watch.now ≡ book_published self.now }
+        ensures value { result ≡ nat_le (length (seen_by watch.now)) (length (published_by self.now)) }
         ensures within { result ≡ true → IsPrefix (seen_by watch.now) (published_by self.now) }
         ensures answers { result ≡ true → AnswersBy (published_by self.now) watch.now }
         ensures beyond { result ≡ false → IsPrefix (published_by self.now) (seen_by watch.now) }
