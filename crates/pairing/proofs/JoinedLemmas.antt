@@ -1,137 +1,212 @@
 -- A table of the places of collectives is that of a recording, and stays so as it goes on.
-use Rattle.std.proofs.Common.{◌≡◌, ◌≢◌, ℕ, ◌<◌, Bool, true, false, Option, Some, None, List, [], ◌∷◌, ◌++◌, length, length-set, refl, sym, ap, subst, ◌∙◌, ⊎_elim, arith, get_or-set_same, get_or-set_other}
-use Rattle.std.specs.Prelude.{is_some, eqb}
-use Rattle.std.specs.List.{slice_get}
+use Rattle.std.proofs.Common.{◌≡◌, ◌≢◌, ℕ, ◌+◌, ◌<◌, ◌≤◌, ◌==◌, ◌&&◌, ◌⊎◌, inl, inr, Bool, true, false, Option, Some, None, List, [], ◌∷◌, ◌++◌, length, get_or, refl, sym, ap, subst, ◌∙◌, ⊎_elim, arith}
+use Rattle.std.specs.Prelude.{eqb, nat_lt, position, if◌then◌else◌}
+use Rattle.std.specs.List.{position_or_len, list_any}
 use Rattle.std.specs.Option.{option_map, option_map_or}
-use Rattle.std.proofs.lemmas.Bool.{cases_eq, eq-eqb, ne_eqb, true≢false}
-use Rattle.std.proofs.lemmas.Option.{unwrap_or-slice_get, slice_get_within, none-some}
+use Rattle.std.proofs.lemmas.Bool.{and_parts, cases_Bool, cases_eq, eq-eqb, ne_eqb, eqb-true, ltb-true}
+use Rattle.std.proofs.lemmas.List.Quantifiers.{position-Some}
+use Rattle.std.proofs.lemmas.Option.{none-some, same_Some}
+use Rattle.indexmap.specs.IndexSet.{insert_key}
 use Rattle.mpicall.specs.declared.call.Call.{Call}
-use Rattle.mpicall.specs.declared.call.Call.TheVariants.{Send, Recv, Isend, Irecv, Sendrecv, Wait, Waitall, Waitany, Coll, Icoll, Dup, Split, Probe, Finalize, Open}
-use Rattle.mpigroup.specs.Groups.{Groups, ranks_of}
-use Rattle.pairing.specs.Faults.{comm_of, is_comm, comm_exists}
-use Rattle.pairing.specs.Joined.{seats_of, IsJoined}
+use Rattle.pairing.specs.declared.held.Holding.{Holding}
+use Rattle.pairing.specs.Joined.{Joinings, is_key, number_of, list_of, IsJoined, IsListFor}
 use Rattle.pairing.specs.Places.{places}
 use Rattle.pairing.specs.Recordings.{Lists, calls_of, appended}
 use Rattle.pairing.specs.Seats.{Seats, list_in, with_place_in}
 use Rattle.pairing.specs.Waves.{joins, does_join}
+use Rattle.pairing.proofs.NumberLemmas.{position_cases, number_stays, number_past, number_next}
+use Rattle.pairing.proofs.PartnerLemmas.{map_parts}
 use Rattle.pairing.proofs.PlacesLemmas.{with_place, places_on}
 use Rattle.pairing.proofs.RecordingLemmas.{calls_of-appended, calls_of-appended_other}
-use Rattle.pairing.proofs.SeatLemmas.{one_more}
+use Rattle.pairing.proofs.SeatLemmas.{list_pushed, list_past, list_same, list_other}
 
--- tables that show the same
-pub joined_kept : (groups : Groups) (recording : Lists) (old new : List Seats) → length new ≡ length old → ((other : ℕ) → (seats_of new other).places ≡ (seats_of old other).places) → IsJoined groups recording old → IsJoined groups recording new
-joined_kept groups recording old new as_many same joined = record {
-  ranks = as_many ∙ joined.ranks;
-  comms = λ rank there. ap (λ (ps : List (List ℕ)). length ps) (same rank) ∙ joined.comms rank there;
-  places = λ comm rank. ap (λ (ps : List (List ℕ)). list_in ps comm) (same rank) ∙ joined.places comm rank;
-}
+-- two keys have the same fields
+abbrev pub same_fields : Holding → Holding → Bool
+same_fields key other = is_key key.rank key.comm other
 
--- a call that joins a wave names its communicator, which exists
-joins_named : (call : Call) (comm : ℕ) → joins call ≡ Some comm → comm_of call ≡ Some comm
-joins_named (Coll c kind) comm h = h
-joins_named (Icoll req c kind) comm h = h
-joins_named (Dup c new) comm h = h
-joins_named (Split c colour key new) comm h = h
-joins_named (Send mode c dest tag bytes) comm h = absurd (none-some comm h)
-joins_named (Recv c source tag) comm h = absurd (none-some comm h)
-joins_named (Isend req mode c dest tag bytes) comm h = absurd (none-some comm h)
-joins_named (Irecv req c source tag) comm h = absurd (none-some comm h)
-joins_named (Sendrecv c dest send_tag source recv_tag bytes) comm h = absurd (none-some comm h)
-joins_named (Wait req) comm h = absurd (none-some comm h)
-joins_named (Waitall reqs) comm h = absurd (none-some comm h)
-joins_named (Waitany chosen reqs) comm h = absurd (none-some comm h)
-joins_named (Probe c source tag) comm h = absurd (none-some comm h)
-joins_named Finalize comm h = absurd (none-some comm h)
-joins_named Open comm h = absurd (none-some comm h)
+-- the test for a list of the world
+at_world : (rank comm ranks : ℕ) → (comm == 0 && nat_lt rank ranks) ≡ true → (comm ≡ 0) × (rank < ranks)
+at_world rank comm ranks h =
+    let both = and_parts (comm == 0) (nat_lt rank ranks) h in
+    (eqb-true comm 0 both.0, ltb-true rank ranks both.1)
 
-has_size : (o : Option (List ℕ)) → is_some (option_map length o) ≡ true → (group : List ℕ) × (o ≡ Some group)
-has_size None h = absurd (true≢false (sym h))
-has_size (Some group) h = (group, refl)
+-- what has a number: a rank of the world, or a key
+abbrev IsOf : Joinings → ℕ → ℕ → ℕ → Type 0
+IsOf waves rank comm number = ((comm ≡ 0) × (rank ≡ number) × (number < waves.ranks)) ⊎ ((place : ℕ) × (position (is_key rank comm) waves.keys ≡ Some place) × (waves.ranks + place ≡ number))
 
-comm_within : (groups : Groups) (call : Call) (comm : ℕ) → joins call ≡ Some comm → comm_exists groups call ≡ true → comm < length groups
-comm_within groups call comm joined exists =
-    let named : is_comm groups comm ≡ true = sym (ap (λ (o : Option ℕ). option_map_or (is_comm groups) o true) (joins_named call comm joined)) ∙ exists in
-    let group = has_size (slice_get groups comm) named in
-    slice_get_within groups comm group.0 group.1
-
--- a list with one more place
-list_same : (lists : List (List ℕ)) (i place : ℕ) → i < length lists → list_in (with_place_in lists i place) i ≡ list_in lists i ++ place ∷ []
-list_same lists i place within = unwrap_or-slice_get (with_place_in lists i place) i [] ∙ get_or-set_same lists i (list_in lists i ++ place ∷ []) [] within
-
-list_other : (lists : List (List ℕ)) (i j place : ℕ) → j ≢ i → list_in (with_place_in lists i place) j ≡ list_in lists j
-list_other lists i j place differs =
-    unwrap_or-slice_get (with_place_in lists i place) j [] ∙ get_or-set_other lists i j (list_in lists i ++ place ∷ []) [] differs ∙ sym (unwrap_or-slice_get lists j [])
-
--- what the call joins
-abbrev does : Option ℕ → ℕ → Bool
-does o comm = option_map_or (λ joined. eqb joined comm) o false
-
-list_put : (lists : List (List ℕ)) (joined place comm : ℕ) → joined < length lists → list_in (with_place_in lists joined place) comm ≡ with_place (eqb joined comm) (list_in lists comm) place
-list_put lists joined place comm within =
+is_of : (waves : Joinings) (rank comm number : ℕ) → number_of waves rank comm ≡ Some number → IsOf waves rank comm number
+is_of waves rank comm number h =
     ⊎_elim
-    (λ (is : comm ≡ joined).
-    subst (λ (c : ℕ). list_in (with_place_in lists joined place) c ≡ with_place (eqb joined c) (list_in lists c) place) (sym is)
-    (list_same lists joined place within ∙ sym (ap (λ b. with_place b (list_in lists joined) place) (eq-eqb joined joined refl))))
-    (λ (differs : comm ≢ joined).
-    list_other lists joined comm place differs
-    ∙ sym (ap (λ b. with_place b (list_in lists comm) place) (ne_eqb joined comm (λ e. differs (sym e)))))
-    (cases_eq comm joined)
+    (λ (of_world : (comm == 0 && nat_lt rank waves.ranks) ≡ true).
+    let world = at_world rank comm waves.ranks of_world in
+    let own : rank ≡ number = same_Some rank number (rw of_world at h) in
+    inl (world.0, own, omega (arith, own, world.1)))
+    (λ (further : (comm == 0 && nat_lt rank waves.ranks) ≡ false).
+    inr (map_parts (λ place. waves.ranks + place) (position (is_key rank comm) waves.keys) number (rw further at h)))
+    (cases_Bool (comm == 0 && nat_lt rank waves.ranks))
 
--- the recording goes on by a call, whose place is put in where the call joins a wave
-pub joined_put : (groups : Groups) (recording : Lists) (rank place comm : ℕ) (call : Call) (old new : List Seats) → joins call ≡ Some comm → length new ≡ length old → ((other : ℕ) → (seats_of new other).places ≡ one_more (eqb other rank) (seats_of old other).places comm place) → IsJoined groups recording old → rank < length recording → rank < ranks_of groups → place ≡ length (calls_of recording rank) → comm_exists groups call ≡ true → IsJoined groups (appended recording rank call) new
-joined_put groups recording rank place comm call old new is_joined as_many put joined is_rank ranked next exists = record {
-  ranks = as_many ∙ joined.ranks;
-  comms = λ other there. ap (λ (ps : List (List ℕ)). length ps) (put other) ∙ kept_length (eqb other rank) (seats_of old other).places ∙ joined.comms other there;
-  places = of_rank;
-}
+-- there is a list of that number
+within_lists : (waves : Joinings) (rank comm number : ℕ) → length waves.lists.places ≡ waves.ranks + length waves.keys → number_of waves rank comm ≡ Some number → number < length waves.lists.places
+within_lists waves rank comm number many is =
+    ⊎_elim
+    (λ world. omega (arith, many, world.2))
+    (λ key. omega (arith, many, key.2, (position-Some (is_key rank comm) waves.keys key.0 (record { rank = rank; comm = comm }) key.1).0))
+    (is_of waves rank comm number is)
+
+-- no two ranks and communicators have one list
+one_list : (waves : Joinings) (rank comm rank' comm' number : ℕ) → number_of waves rank comm ≡ Some number → number_of waves rank' comm' ≡ Some number → (rank ≡ rank') × (comm ≡ comm')
+one_list waves rank comm rank' comm' number is is' =
+    ⊎_elim
+    (λ world. ⊎_elim
+    (λ world'. (world.1 ∙ sym world'.1, world.0 ∙ sym world'.0))
+    (λ key'. absurd (omega (arith, world.2, key'.2)))
+    (is_of waves rank' comm' number is'))
+    (λ key. ⊎_elim
+    (λ world'. absurd (omega (arith, world'.2, key.2)))
+    (λ key'. one_key key.0 key.1 (key'.1 ∙ ap (λ (m : ℕ). Some m) (omega (arith, key.2, key'.2))))
+    (is_of waves rank' comm' number is'))
+    (is_of waves rank comm number is)
   where
-    kept_length : (gets : Bool) (ps : List (List ℕ)) → length (one_more gets ps comm place) ≡ length ps
-    kept_length true ps = length-set ps comm (list_in ps comm ++ place ∷ [])
-    kept_length false ps = refl
+    one_key : (place : ℕ) → position (is_key rank comm) waves.keys ≡ Some place → position (is_key rank' comm') waves.keys ≡ Some place → (rank ≡ rank') × (comm ≡ comm')
+    one_key place own theirs =
+        let found : Holding = get_or waves.keys place (record { rank = rank; comm = comm }) in
+        let mine = and_parts (rank == found.rank) (comm == found.comm) (position-Some (is_key rank comm) waves.keys place (record { rank = rank; comm = comm }) own).1 in
+        let other = and_parts (rank' == found.rank) (comm' == found.comm) (position-Some (is_key rank' comm') waves.keys place (record { rank = rank; comm = comm }) theirs).1 in (
+          eqb-true _ _ mine.0 ∙ sym (eqb-true _ _ other.0),
+          eqb-true _ _ mine.1 ∙ sym (eqb-true _ _ other.1),
+        )
 
-    within : comm < length (seats_of old rank).places
-    within = omega (arith, joined.comms rank ranked, comm_within groups call comm is_joined exists)
+-- what has no number is not among the keys
+no_place : (waves : Joinings) (rank comm : ℕ) → number_of waves rank comm ≡ None → position (is_key rank comm) waves.keys ≡ None
+no_place waves rank comm none =
+    ⊎_elim
+    (λ (of_world : (comm == 0 && nat_lt rank waves.ranks) ≡ true). absurd (none-some rank (sym none ∙ rw of_world refl)))
+    (λ (further : (comm == 0 && nat_lt rank waves.ranks) ≡ false). was_none (position (is_key rank comm) waves.keys) (rw further at none))
+    (cases_Bool (comm == 0 && nat_lt rank waves.ranks))
+  where
+    was_none : (o : Option ℕ) → option_map (λ place. waves.ranks + place) o ≡ None → o ≡ None
+    was_none None h = refl
+    was_none (Some place) h = absurd (none-some (waves.ranks + place) (sym h))
 
-    own : (c : ℕ) → list_in (seats_of new rank).places c ≡ places (does_join c) (calls_of (appended recording rank call) rank)
-    own c =
-        ap (λ (ps : List (List ℕ)). list_in ps c) (put rank ∙ ap (λ b. one_more b (seats_of old rank).places comm place) (eq-eqb rank rank refl))
-        ∙ list_put (seats_of old rank).places comm place c within
-        ∙ ap (λ b. with_place b (list_in (seats_of old rank).places c) place) (sym (ap (λ o. does o c) is_joined))
-        ∙ ap (λ ns. with_place (does_join c call) ns place) (joined.places c rank)
-        ∙ ap (λ (m : ℕ). with_place (does_join c call) (places (does_join c) (calls_of recording rank)) m) next
-        ∙ sym (ap (λ calls. places (does_join c) calls) (calls_of-appended recording rank call is_rank)
-        ∙ places_on (does_join c) (calls_of recording rank) call)
+key_absent : (p : Holding → Bool) (keys : List Holding) → position p keys ≡ None → position_or_len p keys ≡ length keys
+key_absent p keys none =
+    ⊎_elim
+    (λ found. absurd (none-some found.0 (sym none ∙ found.1)))
+    (λ absent. absent.1)
+    (position_cases p keys)
 
-    others : (c other : ℕ) → other ≢ rank → list_in (seats_of new other).places c ≡ places (does_join c) (calls_of (appended recording rank call) other)
-    others c other differs =
-        ap (λ (ps : List (List ℕ)). list_in ps c) (put other ∙ ap (λ b. one_more b (seats_of old other).places comm place) (ne_eqb other rank differs))
-        ∙ joined.places c other
-        ∙ sym (ap (λ calls. places (does_join c) calls) (calls_of-appended_other recording rank other call differs))
+no_key : (p : Holding → Bool) (keys : List Holding) → position_or_len p keys ≡ length keys → list_any p keys ≡ false
+no_key p [] h = refl
+no_key p (key ∷ keys) h =
+    ⊎_elim
+    (λ (here : p key ≡ true). absurd (omega (arith, rw here at h)))
+    (λ (fails : p key ≡ false). rw fails (no_key p keys (omega (arith, rw fails at h))))
+    (cases_Bool (p key))
 
-    of_rank : (c other : ℕ) → list_in (seats_of new other).places c ≡ places (does_join c) (calls_of (appended recording rank call) other)
-    of_rank c other =
+-- what the keys are once one comes that has no number
+pub key_more : (waves : Joinings) (keys : List Holding) (rank comm : ℕ) → number_of waves rank comm ≡ None → keys ≡ insert_key same_fields waves.keys (record { rank = rank; comm = comm }) → keys ≡ waves.keys ++ record { rank = rank; comm = comm } ∷ []
+key_more waves keys rank comm none inserted =
+    let absent = no_key (is_key rank comm) waves.keys (key_absent (is_key rank comm) waves.keys (no_place waves rank comm none)) in
+    inserted ∙ ap (λ b. if b then waves.keys else waves.keys ++ record { rank = rank; comm = comm } ∷ []) absent
+
+-- a further list: the others stay, and the rank has it for the communicator
+pub grown_places : (waves : Joinings) (keys : List Holding) (lists : Seats) (rank comm : ℕ) → length waves.lists.places ≡ waves.ranks + length waves.keys → keys ≡ waves.keys ++ record { rank = rank; comm = comm } ∷ [] → lists.places ≡ waves.lists.places ++ [] ∷ [] → (r c : ℕ) → list_of (record { ranks = waves.ranks; keys = keys; lists = lists }) r c ≡ list_of waves r c
+grown_places waves keys lists rank comm many one more r c =
+    ⊎_elim
+    (λ (of_world : (c == 0 && nat_lt r waves.ranks) ≡ true). rw of_world (same r))
+    (λ (further : (c == 0 && nat_lt r waves.ranks) ≡ false). rw (further, one) (by_key (position_cases (is_key r c) waves.keys)))
+    (cases_Bool (c == 0 && nat_lt r waves.ranks))
+  where
+    same : (number : ℕ) → list_in lists.places number ≡ list_in waves.lists.places number
+    same number = ap (λ (ls : List (List ℕ)). list_in ls number) more ∙ list_pushed waves.lists.places number
+
+    behind : (o : Option ℕ) → ((place : ℕ) → o ≡ Some place → length waves.keys ≤ place) → option_map_or (list_in lists.places) (option_map (λ place. waves.ranks + place) o) [] ≡ []
+    behind None past = refl
+    behind (Some place) past = same (waves.ranks + place) ∙ list_past waves.lists.places (waves.ranks + place) (omega (arith, many, past place refl))
+
+    by_key : ((place : ℕ) × (position (is_key r c) waves.keys ≡ Some place) × (place < length waves.keys) × (position_or_len (is_key r c) waves.keys ≡ place)) ⊎ ((position (is_key r c) waves.keys ≡ None) × (position_or_len (is_key r c) waves.keys ≡ length waves.keys)) → option_map_or (list_in lists.places) (option_map (λ place. waves.ranks + place) (position (is_key r c) (waves.keys ++ record { rank = rank; comm = comm } ∷ []))) [] ≡ option_map_or (list_in waves.lists.places) (option_map (λ place. waves.ranks + place) (position (is_key r c) waves.keys)) []
+    by_key (inl found) =
+        rw (number_stays (is_key r c) waves.keys (record { rank = rank; comm = comm }) found.0 found.1, found.1) (same (waves.ranks + found.0))
+    by_key (inr absent) =
+        behind (position (is_key r c) (waves.keys ++ record { rank = rank; comm = comm } ∷ [])) (λ place is. number_past (is_key r c) waves.keys (record { rank = rank; comm = comm }) absent.1 place is)
+        ∙ sym (ap (λ (o : Option ℕ). option_map_or (list_in waves.lists.places) (option_map (λ place. waves.ranks + place) o) []) absent.0)
+
+pub grown_number : (waves : Joinings) (keys : List Holding) (lists : Seats) (rank comm : ℕ) → number_of waves rank comm ≡ None → keys ≡ waves.keys ++ record { rank = rank; comm = comm } ∷ [] → number_of (record { ranks = waves.ranks; keys = keys; lists = lists }) rank comm ≡ Some (waves.ranks + length waves.keys)
+grown_number waves keys lists rank comm none one =
+    ⊎_elim
+    (λ (of_world : (comm == 0 && nat_lt rank waves.ranks) ≡ true). absurd (none-some rank (sym none ∙ rw of_world refl)))
+    (λ (further : (comm == 0 && nat_lt rank waves.ranks) ≡ false).
+    let absent = key_absent (is_key rank comm) waves.keys (no_place waves rank comm none) in
+    let next = number_next (is_key rank comm) waves.keys (record { rank = rank; comm = comm }) absent (rw (eq-eqb rank rank refl, eq-eqb comm comm refl) refl) in
+    rw (further, one, next) refl)
+    (cases_Bool (comm == 0 && nat_lt rank waves.ranks))
+
+-- what it means that a list is the one for a call's wave
+pub its_wave : (waves : Joinings) (rank : ℕ) (call : Call) (list : ℕ) → IsListFor rank call waves (Some list) → (comm : ℕ) × (joins call ≡ Some comm) × (number_of waves rank comm ≡ Some list)
+its_wave waves rank call list is_list = map_parts (number_of waves rank) (joins call) (Some list) (sym is_list)
+
+pub no_wave : (waves : Joinings) (rank : ℕ) (call : Call) → IsListFor rank call waves None → joins call ≡ None
+no_wave waves rank call is_list = none (joins call) is_list
+  where
+    none : (o : Option ℕ) → None ≡ option_map (number_of waves rank) o → o ≡ None
+    none None h = refl
+    none (Some comm) h = absurd (none-some (number_of waves rank comm) h)
+
+-- the recording goes on by a call, whose place is put in the list of its wave
+pub put_in : (waves : Joinings) (lists : Seats) (recording : Lists) (rank place comm number : ℕ) (call : Call) → joins call ≡ Some comm → number_of waves rank comm ≡ Some number → length waves.lists.places ≡ waves.ranks + length waves.keys → lists.places ≡ with_place_in waves.lists.places number place → IsJoined recording waves → rank < length recording → place ≡ length (calls_of recording rank) → IsJoined (appended recording rank call) (record { ranks = waves.ranks; keys = waves.keys; lists = lists })
+put_in waves lists recording rank place comm number call is_joined numbered many put joined is_rank next r c =
+    ap (λ (ps : List (List ℕ)). option_map_or (list_in ps) (number_of waves r c) []) put ∙ of_rank
+  where
+    there : (o : Option ℕ) → o ≡ Some number → option_map_or (list_in (with_place_in waves.lists.places number place)) o [] ≡ option_map_or (list_in waves.lists.places) o [] ++ place ∷ []
+    there o is = rw is (list_same waves.lists.places number place (within_lists waves rank comm number many numbered))
+
+    elsewhere : (o : Option ℕ) → o ≢ Some number → option_map_or (list_in (with_place_in waves.lists.places number place)) o [] ≡ option_map_or (list_in waves.lists.places) o []
+    elsewhere None differs = refl
+    elsewhere (Some other) differs = list_other waves.lists.places number other place (λ same. differs (ap (λ (m : ℕ). Some m) same))
+
+    does : (m : ℕ) → does_join m call ≡ eqb comm m
+    does m = ap (λ (o : Option ℕ). option_map_or (λ other. eqb other m) o false) is_joined
+
+    list_put : (m : ℕ) → option_map_or (list_in (with_place_in waves.lists.places number place)) (number_of waves rank m) [] ≡ with_place (eqb comm m) (list_of waves rank m) place
+    list_put m =
         ⊎_elim
-        (λ (same : other ≡ rank).
-        subst (λ (r : ℕ). list_in (seats_of new r).places c ≡ places (does_join c) (calls_of (appended recording rank call) r)) (sym same) (own c))
-        (λ (differs : other ≢ rank). others c other differs)
-        (cases_eq other rank)
+        (λ (is : m ≡ comm).
+        there (number_of waves rank m) (ap (λ (n : ℕ). number_of waves rank n) is ∙ numbered)
+        ∙ sym (ap (λ b. with_place b (list_of waves rank m) place) (eq-eqb comm m (sym is))))
+        (λ (differs : m ≢ comm).
+        elsewhere (number_of waves rank m) (λ is. differs (one_list waves rank m rank comm number is numbered).1)
+        ∙ sym (ap (λ b. with_place b (list_of waves rank m) place) (ne_eqb comm m (λ e. differs (sym e)))))
+        (cases_eq m comm)
+
+    own : (m : ℕ) → option_map_or (list_in (with_place_in waves.lists.places number place)) (number_of waves rank m) [] ≡ places (does_join m) (calls_of (appended recording rank call) rank)
+    own m =
+        list_put m
+        ∙ ap (λ b. with_place b (list_of waves rank m) place) (sym (does m))
+        ∙ ap (λ ns. with_place (does_join m call) ns place) (joined rank m)
+        ∙ ap (λ (n : ℕ). with_place (does_join m call) (places (does_join m) (calls_of recording rank)) n) next
+        ∙ sym (ap (λ calls. places (does_join m) calls) (calls_of-appended recording rank call is_rank)
+        ∙ places_on (does_join m) (calls_of recording rank) call)
+
+    of_rank : option_map_or (list_in (with_place_in waves.lists.places number place)) (number_of waves r c) [] ≡ places (does_join c) (calls_of (appended recording rank call) r)
+    of_rank =
+        ⊎_elim
+        (λ (same : r ≡ rank).
+        subst (λ (other : ℕ). option_map_or (list_in (with_place_in waves.lists.places number place)) (number_of waves other c) [] ≡ places (does_join c) (calls_of (appended recording rank call) other)) (sym same) (own c))
+        (λ (differs : r ≢ rank).
+        elsewhere (number_of waves r c) (λ is. differs (one_list waves r c rank comm number is numbered).0)
+        ∙ joined r c
+        ∙ sym (ap (λ calls. places (does_join c) calls) (calls_of-appended_other recording rank r call differs)))
+        (cases_eq r rank)
 
 -- and where it joins none, all stays
-pub joined_none : (groups : Groups) (recording : Lists) (rank : ℕ) (call : Call) (waves : List Seats) → joins call ≡ None → IsJoined groups recording waves → rank < length recording → IsJoined groups (appended recording rank call) waves
-joined_none groups recording rank call waves none joined is_rank = record { ranks = joined.ranks; comms = joined.comms; places = of_rank }
-  where
-    own : (c : ℕ) → list_in (seats_of waves rank).places c ≡ places (does_join c) (calls_of (appended recording rank call) rank)
-    own c =
-        joined.places c rank
-        ∙ ap (λ b. with_place b (places (does_join c) (calls_of recording rank)) (length (calls_of recording rank))) (sym (ap (λ o. does o c) none))
-        ∙ sym (ap (λ calls. places (does_join c) calls) (calls_of-appended recording rank call is_rank)
-        ∙ places_on (does_join c) (calls_of recording rank) call)
-
-    of_rank : (c other : ℕ) → list_in (seats_of waves other).places c ≡ places (does_join c) (calls_of (appended recording rank call) other)
-    of_rank c other =
-        ⊎_elim
-        (λ (same : other ≡ rank).
-        subst (λ (r : ℕ). list_in (seats_of waves r).places c ≡ places (does_join c) (calls_of (appended recording rank call) r)) (sym same) (own c))
-        (λ (differs : other ≢ rank).
-        joined.places c other ∙ sym (ap (λ calls. places (does_join c) calls) (calls_of-appended_other recording rank other call differs)))
-        (cases_eq other rank)
+pub put_none : (waves : Joinings) (recording : Lists) (rank : ℕ) (call : Call) → joins call ≡ None → IsJoined recording waves → rank < length recording → IsJoined (appended recording rank call) waves
+put_none waves recording rank call none joined is_rank r c =
+    joined r c
+    ∙ ⊎_elim
+    (λ (same : r ≡ rank).
+    subst (λ (other : ℕ). places (does_join c) (calls_of recording other) ≡ places (does_join c) (calls_of (appended recording rank call) other)) (sym same)
+    (ap (λ b. with_place b (places (does_join c) (calls_of recording rank)) (length (calls_of recording rank))) (sym (ap (λ (o : Option ℕ). option_map_or (λ other. eqb other c) o false) none))
+    ∙ sym (ap (λ calls. places (does_join c) calls) (calls_of-appended recording rank call is_rank)
+    ∙ places_on (does_join c) (calls_of recording rank) call)))
+    (λ (differs : r ≢ rank). sym (ap (λ calls. places (does_join c) calls) (calls_of-appended_other recording rank r call differs)))
+    (cases_eq r rank)

@@ -239,7 +239,7 @@ goes_on_as old new rank call goes =
 pub kept_on : (groups : Groups) (old noted met : List (List Noted)) (before after : Tables) (rank place : ℕ) (call : Call) (halves : Halves) → rank < length old → place ≡ length (calls_of (recording_of old) rank) → IsKept groups old before → fault_of groups rank (calls_of (recording_of old) rank) call ≡ None → GoOnBy old noted rank call →
     envelopes halves.send ≡ envelope_of groups rank SendHalf call → envelopes halves.recv ≡ envelope_of groups rank RecvHalf call →
     recording_of met ≡ recording_of noted → ArePaired groups met (filed_halves halves place (halves_of groups (recording_of old))) after.matches →
-    after.matches.work ≡ worked halves before.matches.work → AreOthers groups (appended (recording_of old) rank call) after → IsKept groups met after
+    after.matches.work ≡ worked halves before.matches.work → AreOthers (appended (recording_of old) rank call) after → IsKept groups met after
 kept_on groups old noted met before after rank place call halves is_rank next kept fine goes sends recvs same paired worked others =
     let is : recording_of met ≡ appended (recording_of old) rank call = same ∙ goes_on_as old noted rank call goes in
     let in_recording : rank < length (recording_of old) = omega (arith, is_rank, ranks_noted old) in

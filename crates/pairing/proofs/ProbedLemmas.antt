@@ -1,9 +1,9 @@
 -- Which send a probe sees.
-use Rattle.std.proofs.Common.{◌≡◌, ℕ, zero, suc, ◌+◌, ◌<◌, ◌≤◌, Bool, true, false, if◌then◌else◌, Option, Some, None, List, [], ◌∷◌, ◌++◌, length, take, drop, refl, sym, ap, subst, ◌∙◌, ⊎_elim, arith}
+use Rattle.std.proofs.Common.{◌≡◌, ℕ, zero, suc, ◌+◌, ◌<◌, ◌≤◌, Bool, true, false, if◌then◌else◌, Some, None, List, [], ◌∷◌, length, take, drop, refl, sym, ◌∙◌, ⊎_elim, arith}
 use Rattle.std.specs.List.{slice_get}
-use Rattle.std.specs.Option.{option_map, option_map_or, option_and_then}
+use Rattle.std.specs.Option.{option_map}
 use Rattle.std.proofs.lemmas.List.{take-append-le}
-use Rattle.std.proofs.lemmas.Option.{slice_get_within, slice_get_past, slice_get-get_or, none-some}
+use Rattle.std.proofs.lemmas.Option.{slice_get_within, slice_get-get_or, none-some}
 use Rattle.std.proofs.lemmas.Bool.{cases_lt}
 use Rattle.mpicall.specs.declared.call.Call.{Call}
 use Rattle.mpicall.specs.declared.call.Peer.TheVariants.{Rank}
@@ -11,14 +11,13 @@ use Rattle.mpicall.specs.declared.call.Call.TheVariants.{Send, Recv, Isend, Irec
 use Rattle.mpigroup.specs.Groups.{Groups, group_rank_of}
 use Rattle.pairing.specs.declared.envelope.Envelope.{Envelope}
 use Rattle.pairing.specs.declared.envelope.Half.TheVariants.{Send as SendHalf, Recv as RecvHalf}
-use Rattle.pairing.specs.Recordings.{Lists, calls_of, GoesOn}
+use Rattle.pairing.specs.Recordings.{Lists, calls_of}
 use Rattle.pairing.specs.Envelopes.{envelope_by, envelope_of, rank_of_half, has_envelope}
-use Rattle.pairing.specs.Partners.{envelope_at, places_of, number_of, numbered, partner_of}
-use Rattle.pairing.specs.Places.{places, places_from, count_before}
-use Rattle.pairing.specs.Matched.{halves_of, pending_of}
+use Rattle.pairing.specs.Partners.{envelope_at, places_of, number_of}
+use Rattle.pairing.specs.Places.{places_from}
 use Rattle.pairing.proofs.PlaceLemmas.{places-append, slice_get-front}
-use Rattle.pairing.proofs.PartnerLemmas.{and_then_parts, map_parts, own_rank, numbered_half, numbered_parts}
-use Rattle.pairing.specs.Probed.{probed_message, probed_envelope, probed_envelope_at, probed_by, probed_of, receive_behind, TheNextReceiveTakesIt, ElseTheFirstPendingIsSeen, ProbedSendsStay}
+use Rattle.pairing.proofs.PartnerLemmas.{and_then_parts, own_rank, numbered_half, numbered_parts}
+use Rattle.pairing.specs.Probed.{probed_message, probed_envelope, probed_envelope_at, probed_by, receive_behind, TheNextReceiveTakesIt, ElseTheFirstPendingIsSeen, ProbedSendsStay}
 
 -- the rank that probes is the one that receives
 pub prober : (groups : Groups) (rank : ℕ) (call : Call) (e : Envelope) → probed_envelope groups rank call ≡ Some e → rank_of_half groups RecvHalf e ≡ Some rank

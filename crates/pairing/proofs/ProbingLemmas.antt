@@ -2,31 +2,31 @@
 use Rattle.std.proofs.Common.{eqb, not, IfSome, ◌≡◌, ◌≢◌, ◌⊎◌, ℕ, zero, suc, ◌+◌, ◌<◌, ◌≤◌, ◌==◌, ◌&&◌, Bool, true, false, if◌then◌else◌, Option, Some, None, is_some, unwrap_or, List, [], ◌∷◌, ◌++◌, length, take, replicate, set, refl, sym, ap, subst, ◌∙◌, ⊎_elim, arith}
 use mathlib.Core.Logic.{inl, inr}
 use Rattle.std.specs.List.{slice_get}
-use Rattle.std.specs.Option.{option_map, option_map_or, option_and_then}
+use Rattle.std.specs.Option.{option_map, option_and_then}
 use Rattle.std.proofs.lemmas.List.{take-append-le, length-append, length-set}
 use Rattle.std.proofs.lemmas.Option.{slice_get_within, slice_get_past, none-some, same_Some}
-use Rattle.std.proofs.lemmas.Bool.{cases_Bool, cases_eq, cases_lt, eqb-true, eq-eqb, ne_eqb, false≢true}
+use Rattle.std.proofs.lemmas.Bool.{cases_Bool, cases_eq, cases_lt, eq-eqb, ne_eqb, false≢true}
 use Rattle.std.proofs.lemmas.Grind.{common_steps}
 use Rattle.mpicall.specs.declared.call.Call.{Call}
 use Rattle.mpigroup.specs.Groups.{Groups}
 use Rattle.pairing.specs.declared.envelope.Envelope.{Envelope}
 use Rattle.pairing.specs.declared.envelope.Half.TheVariants.{Send as SendHalf, Recv as RecvHalf}
 use Rattle.pairing.specs.Recordings.{Lists, calls_of, appended}
-use Rattle.pairing.specs.Envelopes.{envelope_of, rank_of_half, has_envelope, same_envelope}
+use Rattle.pairing.specs.Envelopes.{envelope_of, rank_of_half, has_envelope}
 use Rattle.pairing.specs.Partners.{places_of, number_of}
 use Rattle.pairing.specs.Matched.{pending_of}
 use Rattle.pairing.specs.Places.{places, count_before}
 use Rattle.pairing.proofs.PlaceLemmas.{slice_get-front}
-use Rattle.pairing.proofs.PlacesLemmas.{with_place, places_on, no_calls}
+use Rattle.pairing.proofs.PlacesLemmas.{places_on, no_calls}
 use Rattle.pairing.proofs.PartnerLemmas.{and_then_parts, own_rank, has_it, same_envelope_refl}
 use Rattle.pairing.proofs.RecordingLemmas.{calls_of-appended, calls_of-appended_other}
 use Rattle.pairing.proofs.MatchedLemmas.{equal_true}
 use Rattle.pairing.specs.Probed.{probed_envelope, probed_envelope_at, probed_of, receive_behind, seen_from, HasProbe, HasProbesIf}
-use Rattle.pairing.specs.Probing.{is_same_envelope, unfilled_at, seat_for, Seating, seated, IsSeatOf, AreSeated, Sits, Follows, filled, calls_in_all}
+use Rattle.pairing.specs.Probing.{is_same_envelope, unfilled_at, seat_for, Seating, seated, IsSeatOf, AreSeated, Sits, Follows, filled}
 use Rattle.pairing.specs.declared.matches.Numbered.{Numbered}
 use Rattle.pairing.specs.declared.probes.Probes.{Probes}
 use Rattle.pairing.proofs.CallCountLemmas.{one_more_call}
-use Rattle.pairing.proofs.ProbedLemmas.{prober, no_receive, before_most, all_before, the_next_receive_takes_it, else_the_first_pending_is_seen}
+use Rattle.pairing.proofs.ProbedLemmas.{prober, no_receive, all_before, the_next_receive_takes_it, else_the_first_pending_is_seen}
 
 get_end : {A : Type 0} (xs : List A) (x : A) → slice_get (xs ++ x ∷ []) (length xs) ≡ Some x
 get_end [] x = refl

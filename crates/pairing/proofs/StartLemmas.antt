@@ -11,7 +11,7 @@ use Rattle.pairing.specs.declared.packed.Packed.{Packed}
 use Rattle.pairing.specs.declared.packed.Packed.TheVariants.{Send, Recv, Isend, Irecv, Sendrecv, Wait, Waitall, Waitany, Coll, Icoll, Dup, Split, Probe, Finalize, Open}
 use Rattle.pairing.specs.declared.packed.Entry.{Entry}
 use Rattle.pairing.specs.Requests.{starts, waits_for, completes, started_in}
-use Rattle.pairing.specs.Notes.{Noted, calls_in, request_at, completed_among, completed_starts, start_of}
+use Rattle.pairing.specs.Notes.{Noted, request_at, completed_among, completed_starts, start_of}
 use Rattle.pairing.specs.Packed.{req_at, reqs_at, part, unpack, unpack_starts, noted_of}
 use Rattle.pairing.proofs.RequestLaws.{started, is_it}
 use Rattle.mpicall.specs.declared.call.Call.{Call}

@@ -1,22 +1,44 @@
--- Places of collectives: each rank has a list of places for each communicator of the head.
-use Rattle.std.specs.Prelude.{◌≡◌, ◌<◌, ℕ, Some, unwrap_or, List, [], length, slice_get}
+-- Places of collectives: a rank has a list of them for the world, and one for each other communicator on which it
+-- has called a collective.
+use Rattle.std.specs.Prelude.{◌≡◌, ℕ, ◌+◌, ◌==◌, Bool, ◌&&◌, nat_lt, if◌then◌else◌, Option, Some, option_map, position, IfSome, List, []}
+use Rattle.std.specs.Option.{option_map_or}
 use Rattle.mpicall.specs.declared.call.Call.{Call}
-use Rattle.mpigroup.specs.Groups.{Groups, ranks_of}
+use Rattle.pairing.specs.declared.held.Holding.{Holding}
 use Rattle.pairing.specs.Recordings.{Lists, calls_of}
 use Rattle.pairing.specs.Places.{places}
 use Rattle.pairing.specs.Waves.{joins, does_join}
 use Rattle.pairing.specs.Seats.{Seats, list_in, HasRoomIn}
 
--- what a rank has in the table; nothing where there is no such rank
-abbrev pub seats_of : List Seats → ℕ → Seats
-seats_of waves rank = unwrap_or (slice_get waves rank) (record { places = []; rooms = [] })
+-- The lists: first those of the world, one for each of its ranks, and behind them one for each of the keys.
+pub record Joinings : Type 0 where
+  pub ranks : ℕ
+  pub keys : List Holding
+  pub lists : Seats
 
--- the table has the places of the recording's collectives, in a list for each rank and each communicator
-pub record IsJoined (groups : Groups) (recording : Lists) (waves : List Seats) : Type 0 where
-  pub ranks : length waves ≡ ranks_of groups
-  pub comms : (rank : ℕ) → rank < ranks_of groups → length (seats_of waves rank).places ≡ length groups
-  pub places : (comm rank : ℕ) → list_in (seats_of waves rank).places comm ≡ places (does_join comm) (calls_of recording rank)
+-- the key is that rank with that communicator
+abbrev pub is_key : ℕ → ℕ → Holding → Bool
+is_key rank comm key = rank == key.rank && comm == key.comm
 
--- there is room for the place of a rank's call, where it joins a wave
-pub record HasRoomToJoin (rank : ℕ) (call : Call) (waves : List Seats) : Type 0 where
-  pub room : (comm : ℕ) → joins call ≡ Some comm → HasRoomIn (seats_of waves rank) comm
+-- the number of the list that the rank has for the communicator
+abbrev pub number_of : Joinings → ℕ → ℕ → Option ℕ
+number_of waves rank comm =
+    if comm == 0 && nat_lt rank waves.ranks then Some rank
+    else option_map (λ number. waves.ranks + number) (position (is_key rank comm) waves.keys)
+
+-- the places in that list; none where there is no list
+abbrev pub list_of : Joinings → ℕ → ℕ → List ℕ
+list_of waves rank comm = option_map_or (list_in waves.lists.places) (number_of waves rank comm) []
+
+-- the table has the places of the recording's collectives
+abbrev pub IsJoined : Lists → Joinings → Type 0
+IsJoined recording waves =
+    (rank comm : ℕ) → list_of waves rank comm ≡ places (does_join comm) (calls_of recording rank)
+
+-- the number is that of the list for the wave that the rank's call joins; there is none where it joins none
+abbrev pub IsListFor : ℕ → Call → Joinings → Option ℕ → Type 0
+IsListFor rank call waves list = option_map (λ number. Some number) list ≡ option_map (number_of waves rank) (joins call)
+
+-- and that list has room for the place of the call
+pub record HasRoomToJoin (rank : ℕ) (call : Call) (list : Option ℕ) (waves : Joinings) : Type 0 where
+  pub is_list : IsListFor rank call waves list
+  pub room : IfSome list (HasRoomIn waves.lists)

@@ -1,5 +1,5 @@
 -- The probes of a recording with their seats: the seat of a probe is looked up by its rank and place.
-use Rattle.std.specs.Prelude.{◌≡◌, ◌<◌, ℕ, Bool, Option, Some, IsSome}
+use Rattle.std.specs.Prelude.{◌<◌, ℕ, Bool, Option, IsSome}
 use Rattle.indexmap.specs.IndexMap.{get, spare}
 use Rattle.mpicall.specs.declared.call.Call.{Call}
 use Rattle.mpigroup.specs.Groups.{Groups}

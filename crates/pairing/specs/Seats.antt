@@ -19,6 +19,6 @@ list_in lists index = unwrap_or (slice_get lists index) []
 abbrev pub with_place_in : List (List ℕ) → ℕ → ℕ → List (List ℕ)
 with_place_in lists index place = slice_set lists index (list_in lists index ++ place ∷ [])
 
--- the list of that number, if there is one, has room for one more place
+-- there is a list of that number, and it has room for one more place
 abbrev pub HasRoomIn : Seats → ℕ → Type 0
-HasRoomIn seats index = index < length seats.places → length (list_in seats.places index) < unwrap_or (slice_get seats.rooms index) 0
+HasRoomIn seats index = length (list_in seats.places index) < unwrap_or (slice_get seats.rooms index) 0

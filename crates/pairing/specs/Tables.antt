@@ -3,12 +3,12 @@ use Rattle.std.specs.Prelude.{◌≡◌, ℕ, Some, None, List, length}
 use Rattle.mpicall.specs.declared.call.Call.{Call}
 use Rattle.mpigroup.specs.Groups.{Groups, ranks_of}
 use Rattle.pairing.specs.declared.tables.Tables.{Tables}
+use Rattle.pairing.specs.declared.tables.Room.{Room}
 use Rattle.pairing.specs.Notes.{Noted, notes_of, with_note, calls_in, recording_of}
 use Rattle.pairing.specs.Kept.{IsNoted, AreNoted, ArePartnered}
 use Rattle.pairing.specs.Beside.{partner_in, wave_in}
 use Rattle.pairing.specs.declared.beside.Beside.{Beside}
 use Rattle.pairing.specs.declared.envelope.Half.{Half}
-use Rattle.pairing.specs.declared.matches.Halves.{Halves}
 use Rattle.pairing.specs.Recordings.{Lists}
 use Rattle.pairing.specs.Places.{places}
 use Rattle.pairing.specs.Waves.{joins, does_join}
@@ -19,20 +19,20 @@ use Rattle.pairing.specs.Holdings.{IsHeld, HasRoomToHold}
 use Rattle.pairing.specs.Starts.{IsActive, HasRoomToStart}
 
 -- the tables of waves, communicators and requests have what the recording gives them
-pub record AreOthers (groups : Groups) (recording : Lists) (tables : Tables) : Type 0 where
-  pub joined : IsJoined groups recording tables.waves
+pub record AreOthers (recording : Lists) (tables : Tables) : Type 0 where
+  pub joined : IsJoined recording tables.waves
   pub held : IsHeld recording tables.held
   pub active : IsActive recording tables.active
 
 -- and so do the pending halves
 pub record AreTables (groups : Groups) (recording : Lists) (tables : Tables) : Type 0 where
   pub matched : IsMatched groups recording tables.matches
-  pub others : AreOthers groups recording tables
+  pub others : AreOthers recording tables
 
 -- the rank's next call can be put into each without memory
-pub record HaveRoom (groups : Groups) (rank : ℕ) (call : Call) (halves : Halves) (tables : Tables) : Type 0 where
-  pub matched : HasRoomFor groups rank call halves tables.matches
-  pub joined : HasRoomToJoin rank call tables.waves
+pub record HaveRoom (groups : Groups) (rank : ℕ) (call : Call) (room : Room) (tables : Tables) : Type 0 where
+  pub matched : HasRoomFor groups rank call room.halves tables.matches
+  pub joined : HasRoomToJoin rank call room.list tables.waves
   pub held : HasRoomToHold tables.held call
   pub active : HasRoomToStart tables.active call
 

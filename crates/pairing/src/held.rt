@@ -10,11 +10,11 @@ use indexmap::IndexSet;
 use mpicall::record::Record;
 use std::alloc::{AllocError, Global};
 
-/// A communicator that a rank has made.
+/// A communicator of a rank.
 #[derive(Clone, Copy, PartialEq, Eq, Hash)]
 pub(crate) struct Holding {
-    rank: u16,
-    comm: u16,
+    pub rank: u16,
+    pub comm: u16,
 }
 
 /// The communicators that each rank has made by its calls. A look-up takes the same time however many

@@ -1,18 +1,20 @@
 //! Collectives by rank and communicator, so that a call in a wave is found without a look at other calls.
 
-ghost use Rattle.std.specs.Prelude.{◌≡◌, ◌<◌, ◌≤◌, ◌==◌, ℕ, [], true, length, replicate, if◌then◌else◌, IfOk, OnOk};
-ghost use Rattle.mpigroup.specs.Groups.{Groups, ranks_of};
-ghost use Rattle.pairing.specs.Faults.{comm_exists};
-ghost use Rattle.pairing.specs.Joined.{seats_of, IsJoined, HasRoomToJoin};
+ghost use Rattle.std.specs.Prelude.{◌≡◌, ◌<◌, ◌≤◌, ℕ, Option, None, Some, [], true, length, replicate, IfOk, IfSome, OnOk};
+ghost use Rattle.mpicall.specs.declared.call.Call.{Call};
+ghost use Rattle.mpigroup.specs.Groups.{Groups};
+ghost use Rattle.pairing.specs.Joined.{number_of, list_of, IsJoined, IsListFor, HasRoomToJoin};
 ghost use Rattle.pairing.specs.Limits.{most_calls};
 ghost use Rattle.pairing.specs.Places.{places};
 ghost use Rattle.pairing.specs.Recordings.{Lists, calls_of, appended};
-ghost use Rattle.pairing.specs.Seats.{list_in, with_place_in, HasRoomIn};
+ghost use Rattle.pairing.specs.Seats.{HasRoomIn};
 ghost use Rattle.pairing.specs.Waves.{does_join, place_in_wave, member_of, is_full};
 
+use crate::held::Holding;
 use crate::limits::MOST_CALLS;
 use crate::place_lists::PlaceLists;
 use crate::wave::joins;
+use indexmap::IndexSet;
 use mpicall::record::Record;
 use mpigroup::head::Head;
 use std::alloc::{AllocError, Global};
@@ -20,120 +22,141 @@ use std::marker::Model;
 
 /// The places of collectives by rank and communicator, in the order of the ranks' lists. What they are is
 /// said over each recording whose calls were put in so far, and no others.
+///
+/// Each rank of the world has a list for the world, which is found by its number. A list for another
+/// communicator is made at the rank's first collective there, and found by look-up, which takes the same time
+/// however many lists there are, on average.
 pub(crate) struct Waves {
-    // The lists of each rank, one for each communicator.
-    ranks: Vec<PlaceLists>,
+    alloc: Global,
+    ranks: u16,
+    joined: IndexSet<Holding>,
+    // The lists of the world, one for each of its ranks, and behind them one for each that joined.
+    lists: PlaceLists,
 }
 
 impl Drop for Waves {
     fn drop(self) {
-        let Waves { ranks: _ } = self;
+        let Waves {
+            alloc: _,
+            ranks: _,
+            joined: _,
+            lists: _,
+        } = self;
     }
 }
 
 impl Model for Waves {
-    ghost use Rattle.std.specs.Prelude.{List};
-    ghost use Rattle.pairing.specs.Seats.{Seats};
+    ghost use Rattle.std.specs.Prelude.{◌≡◌, ◌+◌, length};
+    ghost use Rattle.pairing.specs.Joined.{Joinings};
 
-    ghost Value = { List Seats };
+    ghost Value = { Joinings };
 
-    ghost view = { λ w. w.ranks.items };
+    ghost view = { λ w. record { ranks = w.ranks; keys = w.joined.keys; lists = w.lists } };
+
+    ghost invariant = { λ w. length w.lists.places ≡ w.ranks + length w.joined.keys };
 }
 
 impl Waves {
-    /// No calls yet, with a list for each rank and each communicator.
+    /// No calls yet: the table of each recording without calls.
     pub(crate) fn new(alloc: Global, head: &Head) -> Result<Waves, AllocError>
-        ensures { IfOk result (λ waves. (ranks : ℕ) → IsJoined head.now (replicate ranks []) waves) }
+        ensures { IfOk result (λ waves. (ranks : ℕ) → IsJoined (replicate ranks []) waves) }
     {
-        let mut ranks = Vec::new(alloc);
-        for _rank in 0..head.ranks() {
-            ranks.push(PlaceLists::new(alloc, head.comms())?)?;
-        }
-        Ok(Waves { ranks })
+        let ranks = head.ranks();
+        Ok(Waves {
+            alloc,
+            ranks,
+            joined: IndexSet::new(alloc),
+            lists: PlaceLists::new(alloc, ranks)?,
+        })
     }
 
-    /// Makes room for one more place of the rank under the communicator, if there is such a list.
-    fn reserve_at(&mut self, rank: u16, comm: u16) -> Result<(), AllocError>
-        ensures room { OnOk result (HasRoomIn (seats_of self.new rank) comm) }
-        ensures places { (other : ℕ) → (seats_of self.new other).places ≡ (seats_of self.old other).places }
-        ensures ranks { length self.new ≡ length self.old }
+    /// The number of the list that the rank has for the communicator.
+    #[inline(always)]
+    fn list(&self, rank: u16, comm: u16) -> Option<usize>
+        ensures value { result ≡ number_of self.now rank comm }
+        ensures within { IfSome result (λ list. list < length self.now.lists.places) }
     {
-        if usize::from(rank) >= self.ranks.len() {
-            return Ok(());
+        if comm == 0 && rank < self.ranks {
+            return Some(usize::from(rank));
         }
-        let seats = &mut self.ranks[usize::from(rank)];
-        seats.reserve(comm)
+        let number = self.joined.get_index_of(&Holding { rank, comm })?;
+        // There are more lists than that, so the sum is small.
+        let _lists = self.lists.len();
+        Some(usize::from(self.ranks) + number)
     }
 
-    /// Adds a place of the rank under the communicator, if there is such a list. It has room for it.
-    fn push_at(&mut self, rank: u16, comm: u16, place: u32)
-        requires { HasRoomIn (seats_of self.old rank) comm }
-        ensures places { (other : ℕ) → (seats_of self.new other).places
-            ≡ (if other == rank then with_place_in (seats_of self.old other).places comm place else (seats_of self.old other).places) }
-        ensures ranks { length self.new ≡ length self.old }
+    /// Makes the list of the rank for the communicator, which has none yet. All lists stay.
+    fn add_list(&mut self, rank: u16, comm: u16) -> Result<usize, AllocError>
+        requires { number_of self.old rank comm ≡ None }
+        ensures lists { (r c : ℕ) → list_of self.new r c ≡ list_of self.old r c }
+        ensures number { IfOk result (λ list. number_of self.new rank comm ≡ Some list) }
+        ensures within { IfOk result (λ list. list < length self.new.lists.places) }
     {
-        if usize::from(rank) < self.ranks.len() {
-            let seats = &mut self.ranks[usize::from(rank)];
-            seats.push_reserved(comm, place);
-        }
+        let list = self.lists.len();
+        self.joined.reserve(1)?;
+        self.lists.add(self.alloc)?;
+        self.joined.insert(Holding { rank, comm }).unwrap();
+        Ok(list)
     }
 
-    /// Makes room for the wave that a rank's call joins, if it joins one. All places stay.
-    pub(crate) fn reserve(&mut self, rank: u16, call: &Record) -> Result<(), AllocError>
-        ensures room { OnOk result (HasRoomToJoin rank call.now self.new) }
-        ensures joined { (groups : Groups) (recording : Lists) → IsJoined groups recording self.old → IsJoined groups recording self.new }
+    /// Makes room for one more place of the rank under the communicator, and answers the number of their list.
+    fn reserve_at(&mut self, rank: u16, comm: u16) -> Result<usize, AllocError>
+        ensures lists { (r c : ℕ) → list_of self.new r c ≡ list_of self.old r c }
+        ensures number { IfOk result (λ list. number_of self.new rank comm ≡ Some list) }
+        ensures room { IfOk result (λ list. HasRoomIn self.new.lists list) }
+    {
+        let list = match self.list(rank, comm) {
+            Some(list) => list,
+            None => self.add_list(rank, comm)?,
+        };
+        self.lists.reserve(list)?;
+        Ok(list)
+    }
+
+    /// Makes room for the wave that a rank's call joins, and answers the number of its list; None where it
+    /// joins none. All places stay.
+    pub(crate) fn reserve(&mut self, rank: u16, call: &Record) -> Result<Option<usize>, AllocError>
+        ensures room { IfOk result (λ list. HasRoomToJoin rank call.now list self.new) }
+        ensures joined { (recording : Lists) → IsJoined recording self.old → IsJoined recording self.new }
     {
         match joins(call.as_call()) {
-            Some(comm) => self.reserve_at(rank, comm),
-            None => Ok(()),
+            Some(comm) => Ok(Some(self.reserve_at(rank, comm)?)),
+            None => Ok(None),
         }
     }
 
-    /// Puts in a rank's next call, for whose wave there is room. Its communicator exists.
-    pub(crate) fn put(&mut self, rank: u16, place: u32, call: &Record)
-        requires { HasRoomToJoin rank call.now self.old }
-        ensures { (groups : Groups) (recording : Lists) → IsJoined groups recording self.old → rank < length recording
-            → rank < ranks_of groups → place ≡ length (calls_of recording rank) → comm_exists groups call.now ≡ true
-            → IsJoined groups (appended recording rank call.now) self.new }
+    /// Puts in a rank's next call, for whose wave the list has room.
+    pub(crate) fn put(&mut self, list: Option<usize>, place: u32)
+        requires { IfSome list (HasRoomIn self.old.lists) }
+        ensures { (recording : Lists) (rank : ℕ) (call : Call) → IsListFor rank call self.old list → IsJoined recording self.old →
+            rank < length recording → place ≡ length (calls_of recording rank) → IsJoined (appended recording rank call) self.new }
     {
-        if let Some(comm) = joins(call.as_call()) {
-            self.push_at(rank, comm, place);
+        if let Some(list) = list {
+            self.lists.push_reserved(list, place);
         }
     }
 
-    /// How many places the rank has under the communicator.
-    fn count(&self, comm: u16, rank: u16) -> usize
-        ensures { result ≡ length (list_in (seats_of self.now rank).places comm) }
-    {
-        match self.ranks.get(usize::from(rank)) {
-            Some(seats) => seats.count(comm),
-            None => 0,
-        }
-    }
-
-    /// How many waves of the communicator the rank has joined so far.
-    pub(crate) fn number(&self, comm: u16, rank: u16) -> u32
-        ensures { (groups : Groups) (recording : Lists) → IsJoined groups recording self.now → length (calls_of recording rank) ≤ most_calls
-            → result ≡ length (places (does_join comm) (calls_of recording rank)) }
+    /// How many waves the list has.
+    pub(crate) fn number(&self, list: usize) -> u32
+        ensures { (recording : Lists) (rank comm : ℕ) → IsJoined recording self.now → number_of self.now rank comm ≡ Some list →
+            length (calls_of recording rank) ≤ most_calls → result ≡ length (places (does_join comm) (calls_of recording rank)) }
     {
         // A rank has at most so many calls.
-        self.count(comm, rank).min(MOST_CALLS) as u32
+        self.lists.count(list).min(MOST_CALLS) as u32
     }
 
     /// The place of the rank's call in a wave of the communicator; None where it has none yet.
     pub(crate) fn place_in_wave(&self, comm: u16, wave: u32, rank: u16) -> Option<u32>
-        ensures { (groups : Groups) (recording : Lists) → IsJoined groups recording self.now → result ≡ place_in_wave recording comm wave rank }
+        ensures { (recording : Lists) → IsJoined recording self.now → result ≡ place_in_wave recording comm wave rank }
     {
-        match self.ranks.get(usize::from(rank)) {
-            Some(seats) => seats.get(comm, wave as usize),
-            None => None,
-        }
+        let list = self.list(rank, comm)?;
+        self.lists.get(list, wave as usize)
     }
 
     /// The place of a wave's call of the member with rank `g` in the communicator's group; None where it
     /// has none yet.
     pub(crate) fn member_of(&self, head: &Head, comm: u16, wave: u32, g: u16) -> Option<u32>
-        ensures { (groups : Groups) (recording : Lists) → IsJoined groups recording self.now → result ≡ member_of head.now recording comm wave g }
+        ensures { (recording : Lists) → IsJoined recording self.now → result ≡ member_of head.now recording comm wave g }
     {
         match head.world_rank(comm, g) {
             Some(rank) => self.place_in_wave(comm, wave, rank),
@@ -143,7 +166,7 @@ impl Waves {
 
     /// Whether each member of the communicator has its call of the wave.
     pub(crate) fn is_full(&self, head: &Head, comm: u16, wave: u32) -> bool
-        ensures { (groups : Groups) (recording : Lists) → IsJoined groups recording self.now → result ≡ is_full head.now recording comm wave }
+        ensures { (recording : Lists) → IsJoined recording self.now → result ≡ is_full head.now recording comm wave }
     {
         for g in 0..head.size(comm).unwrap_or(0) {
             if self.member_of(head, comm, wave, g).is_none() {

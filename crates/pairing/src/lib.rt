@@ -18,10 +18,11 @@
 //!   partners, waves and what probes see stay as a recording goes on.
 //!
 //! A call takes 32 bytes with the partners of its halves or the number of its wave, and each request that a
-//! wait for several names 4 more; each collective has 4 in the table of waves. A probe has an
-//! entry in a table of its own, which leads to its seat: there the place of the next receive is kept. Only the
-//! halves that have no partner yet stand in an arena of lists, and `work` tells what was done there: 1 for each
-//! half.
+//! wait for several names 4 more; each collective has 4 in the table of waves. There each rank has a list for the
+//! world, and one for each other communicator on which it has called a collective, so that the table follows the
+//! run and not its head. A probe has an entry in a table of its own, which leads to its seat: there the place of
+//! the next receive is kept. Only the halves that have no partner yet stand in an arena of lists, and `work` tells
+//! what was done there: 1 for each half.
 //!
 //! ```text
 //! let mut pairs = Pairs::new(alloc, head)?;

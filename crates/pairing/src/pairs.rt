@@ -8,6 +8,7 @@ ghost use Rattle.pairing.specs.Partners.{partner_of};
 ghost use Rattle.pairing.specs.Probed.{probed_of, seen_from, HasProbe, NoneIsProbed};
 ghost use Rattle.pairing.specs.Seated.{IsProbing};
 ghost use Rattle.pairing.specs.Requests.{started_of};
+ghost use Rattle.pairing.specs.Joined.{IsListFor};
 ghost use Rattle.pairing.specs.Waves.{wave_of, member_of};
 ghost use Rattle.pairing.specs.Faults.{fault_of, waits_for_active, IsLawful};
 ghost use Rattle.pairing.specs.Pairs.{with_call, joined_at, added_at, TellsFault, completed_of};
@@ -21,14 +22,13 @@ use crate::added::{Added, Joined, PairFault};
 use crate::envelope::{Envelope, Half, rank_of_half};
 use crate::fault::CallFault;
 use crate::first_fault::first_fault;
-use crate::matches::Halves;
 use crate::meeting::meet_halves;
 use crate::notes::Notes;
 use crate::probes::received_by;
 use crate::probing::Probing;
 use crate::request::waits_for;
 use crate::stored::StoredCall;
-use crate::tables::Tables;
+use crate::tables::{Room, Tables};
 use mpicall::limits::MOST_REQUESTS;
 use mpicall::record::Record;
 use mpigroup::head::Head;
@@ -84,7 +84,6 @@ fn is_over(notes: &Notes, rank: u16) -> bool
 }
 
 /// The first fault of the rank's next call.
-#[tactic(auto, using(crate::proofs::KeptLemmas::is_over_by, crate::proofs::KeptLemmas::count_noted))]
 fn next_fault(
     head: &Head,
     notes: &Notes,
@@ -109,35 +108,43 @@ fn next_fault(
     )
 }
 
-/// Makes all the room that the rank's next call takes, and answers its halves. All is said as before.
+/// Makes all the room that the rank's next call takes. All is said as before.
 fn reserve(
     head: &Head,
     notes: &mut Notes,
     tables: &mut Tables,
     rank: u16,
     call: &Record,
-) -> Result<Halves, AllocError>
+) -> Result<Room, AllocError>
     requires { rank < length notes.old.lists }
     ensures notes { notes.new.lists ≡ notes.old.lists }
     ensures tables { (recording : Lists) → AreTables head.now recording tables.old → AreTables head.now recording tables.new }
     ensures noted { OnOk result (HasRoom notes.new rank call.now) }
-    ensures room { IfOk result (λ halves. HaveRoom head.now rank call.now halves tables.new) }
+    ensures room { IfOk result (λ room. HaveRoom head.now rank call.now room tables.new) }
 {
     notes.reserve(rank, call)?;
     tables.reserve(head, rank, call)
 }
 
 /// Notes the rank's next wait, with the places that started the requests which it names.
-fn note_wait(head: &Head, notes: &mut Notes, tables: &Tables, rank: u16, call: &Record)
+fn note_wait(
+    head: &Head,
+    notes: &mut Notes,
+    tables: &Tables,
+    rank: u16,
+    call: &Record,
+    list: Option<usize>,
+)
     requires is_rank { rank < length notes.old.lists }
     requires room { HasRoom notes.old rank call.now }
     requires few { length (notes_of notes.old.lists rank) < most_calls }
     requires tables { AreTables head.now (recording_of notes.old.lists) tables.now }
+    requires is_list { IsListFor rank call.now tables.now.waves list }
     requires active { waits_for_active (calls_of (recording_of notes.old.lists) rank) call.now ≡ true }
     ensures { GoOnBy notes.old.lists notes.new.lists rank call.now }
 {
     let _head = head;
-    let beside = tables.beside(rank, call);
+    let beside = tables.beside(list);
     let mut starts = [0; MOST_REQUESTS];
     let count = tables
         .active
@@ -145,19 +152,27 @@ fn note_wait(head: &Head, notes: &mut Notes, tables: &Tables, rank: u16, call: &
     notes.note(rank, call, beside, &starts[..count]);
 }
 
-/// Notes the rank's next call, with what the tables of the calls before it say of it.
-fn note_call(head: &Head, notes: &mut Notes, tables: &Tables, rank: u16, call: &Record)
+/// Notes the rank's next call, whose wave has that list, with what the tables of the calls before it say of it.
+fn note_call(
+    head: &Head,
+    notes: &mut Notes,
+    tables: &Tables,
+    rank: u16,
+    call: &Record,
+    list: Option<usize>,
+)
     requires is_rank { rank < length notes.old.lists }
     requires room { HasRoom notes.old rank call.now }
     requires few { length (notes_of notes.old.lists rank) < most_calls }
     requires tables { AreTables head.now (recording_of notes.old.lists) tables.now }
+    requires is_list { IsListFor rank call.now tables.now.waves list }
     requires active { waits_for_active (calls_of (recording_of notes.old.lists) rank) call.now ≡ true }
     ensures { GoOnBy notes.old.lists notes.new.lists rank call.now }
 {
     if waits_for(call.as_call()).is_empty() {
-        notes.note(rank, call, tables.beside(rank, call), &[]);
+        notes.note(rank, call, tables.beside(list), &[]);
     } else {
-        note_wait(head, notes, tables, rank, call);
+        note_wait(head, notes, tables, rank, call, list);
     }
 }
 
@@ -169,20 +184,20 @@ fn put(
     rank: u16,
     place: u32,
     call: &Record,
-    halves: &Halves,
+    room: &Room,
 )
     requires is_rank { rank < length notes.old.lists }
     requires noted { HasRoom notes.old rank call.now }
-    requires room { HaveRoom head.now rank call.now halves.now tables.old }
+    requires room { HaveRoom head.now rank call.now room.now tables.old }
     requires is_next { place ≡ length (calls_of (recording_of notes.old.lists) rank) }
     requires lawful { fault_of head.now rank (calls_of (recording_of notes.old.lists) rank) call.now ≡ None }
     requires kept { IsKept head.now notes.old.lists tables.old }
     ensures recording { recording_of notes.new.lists ≡ appended (recording_of notes.old.lists) rank call.now }
     ensures kept { IsKept head.now notes.new.lists tables.new }
 {
-    note_call(head, notes, tables, rank, call);
-    meet_halves(head, notes, &mut tables.matches, rank, place, halves);
-    tables.put(rank, place, call);
+    note_call(head, notes, tables, rank, call, room.list);
+    meet_halves(head, notes, &mut tables.matches, rank, place, &room.halves);
+    tables.put(rank, place, call, room.list);
 }
 
 /// The partner of a half of a call.
@@ -333,7 +348,7 @@ impl Pairs {
             return Err(PairFault::Memory);
         }
         match reserve(&self.head, &mut self.notes, &mut self.tables, rank, call) {
-            Ok(halves) => {
+            Ok(room) => {
                 put(
                     &self.head,
                     &mut self.notes,
@@ -341,9 +356,10 @@ impl Pairs {
                     rank,
                     place,
                     call,
-                    &halves,
+                    &room,
                 );
-                self.probing.put(&self.head, rank, place, call, &halves);
+                self.probing
+                    .put(&self.head, rank, place, call, &room.halves);
                 Ok(())
             }
             Err(_) => Err(PairFault::Memory),

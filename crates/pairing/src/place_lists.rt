@@ -1,6 +1,6 @@
-//! Lists of places by numbers, one for each number below a count.
+//! Lists of places by numbers.
 
-ghost use Rattle.std.specs.Prelude.{◌≡◌, ◌<◌, [], ◌∷◌, ◌++◌, length, replicate, slice_get, IfOk, OnOk};
+ghost use Rattle.std.specs.Prelude.{◌≡◌, ◌<◌, [], ◌∷◌, ◌++◌, length, replicate, slice_get, IfOk, OnErr, OnOk};
 ghost use Rattle.pairing.specs.Seats.{list_in, with_place_in, HasRoomIn};
 
 use std::alloc::{AllocError, Global};
@@ -63,7 +63,7 @@ impl PlaceList {
     }
 }
 
-/// So many lists of places. Contracts see the places of each, and for how many each has room.
+/// Lists of places. Contracts see the places of each, and for how many each has room.
 #[derive(Drop)]
 pub(crate) struct PlaceLists {
     lists: Vec<PlaceList>,
@@ -93,44 +93,56 @@ impl PlaceLists {
         Ok(PlaceLists { lists })
     }
 
-    /// Makes room for one more place in the list of that number, if there is one.
-    pub(crate) fn reserve(&mut self, index: u16) -> Result<(), AllocError>
+    /// How many lists there are.
+    pub(crate) fn len(&self) -> usize
+        ensures { result ≡ length self.now.places }
+    {
+        self.lists.len()
+    }
+
+    /// Makes one more list, without places, behind the others.
+    pub(crate) fn add(&mut self, alloc: Global) -> Result<(), AllocError>
+        ensures ok { OnOk result (self.new.places ≡ self.old.places ++ [] ∷ []) }
+        ensures err { OnErr result (self.new.places ≡ self.old.places) }
+    {
+        self.lists.push(PlaceList::new(alloc))?;
+        Ok(())
+    }
+
+    /// Makes room for one more place in the list of that number.
+    pub(crate) fn reserve(&mut self, index: usize) -> Result<(), AllocError>
+        requires { index < length self.old.places }
         ensures places { self.new.places ≡ self.old.places }
         ensures room { OnOk result (HasRoomIn self.new index) }
     {
-        if usize::from(index) >= self.lists.len() {
-            return Ok(());
-        }
-        let list = &mut self.lists[usize::from(index)];
+        let list = &mut self.lists[index];
         list.reserve()
     }
 
-    /// Adds a place to the list of that number, if there is one, for which it has room.
-    pub(crate) fn push_reserved(&mut self, index: u16, place: u32)
+    /// Adds a place to the list of that number, which has room for it.
+    pub(crate) fn push_reserved(&mut self, index: usize, place: u32)
         requires { HasRoomIn self.old index }
         ensures { self.new.places ≡ with_place_in self.old.places index place }
     {
-        if usize::from(index) < self.lists.len() {
-            let list = &mut self.lists[usize::from(index)];
-            list.push_reserved(place);
-        }
+        let list = &mut self.lists[index];
+        list.push_reserved(place);
     }
 
     /// How many places the list of that number has; 0 where there is no such list.
-    pub(crate) fn count(&self, index: u16) -> usize
+    pub(crate) fn count(&self, index: usize) -> usize
         ensures { result ≡ length (list_in self.now.places index) }
     {
-        match self.lists.get(usize::from(index)) {
+        match self.lists.get(index) {
             Some(list) => list.len(),
             None => 0,
         }
     }
 
     /// The place with a number in the list of that index.
-    pub(crate) fn get(&self, index: u16, number: usize) -> Option<u32>
+    pub(crate) fn get(&self, index: usize, number: usize) -> Option<u32>
         ensures { result ≡ slice_get (list_in self.now.places index) number }
     {
-        match self.lists.get(usize::from(index)) {
+        match self.lists.get(index) {
             Some(list) => list.get(number),
             None => None,
         }

@@ -1,12 +1,13 @@
 //! What is looked up of the calls so far: pending halves of messages, waves, communicators and requests.
 
-ghost use Rattle.std.specs.Prelude.{◌≡◌, ◌<◌, ◌≤◌, ℕ, [], true, length, replicate, IfOk};
-ghost use Rattle.mpigroup.specs.Groups.{Groups, ranks_of};
+ghost use Rattle.std.specs.Prelude.{◌≡◌, ◌<◌, ◌≤◌, ℕ, [], length, replicate, IfOk, IfSome};
+ghost use Rattle.mpicall.specs.declared.call.Call.{Call};
+ghost use Rattle.mpigroup.specs.Groups.{Groups};
 ghost use Rattle.pairing.specs.Limits.{most_calls};
 ghost use Rattle.pairing.specs.Recordings.{Lists, calls_of, appended};
-ghost use Rattle.pairing.specs.Faults.{comm_exists};
+ghost use Rattle.pairing.specs.Seats.{HasRoomIn};
 ghost use Rattle.pairing.specs.Holdings.{HasRoomToHold};
-ghost use Rattle.pairing.specs.Joined.{HasRoomToJoin};
+ghost use Rattle.pairing.specs.Joined.{IsListFor};
 ghost use Rattle.pairing.specs.Starts.{HasRoomToStart};
 ghost use Rattle.pairing.specs.Tables.{AreOthers, AreTables, HaveRoom, IsBeside};
 
@@ -15,10 +16,17 @@ use crate::beside::Beside;
 use crate::held::Held;
 use crate::joined::Waves;
 use crate::matches::{Halves, Matches};
-use crate::wave::joins;
 use mpicall::record::Record;
 use mpigroup::head::Head;
 use std::alloc::{AllocError, Global};
+
+/// What room was made for of a rank's next call: the halves that it has, and the number of the list of waves
+/// that it joins.
+#[derive(Clone, Copy)]
+pub(crate) struct Room {
+    pub halves: Halves,
+    pub list: Option<usize>,
+}
 
 /// The tables of a recording, which are kept up to date call by call.
 pub(crate) struct Tables {
@@ -52,48 +60,47 @@ impl Tables {
         })
     }
 
-    /// Makes all the room that the rank's next call takes, and answers its halves. The tables say the same after
-    /// it.
+    /// Makes all the room that the rank's next call takes. The tables say the same after it.
     pub(crate) fn reserve(
         &mut self,
         head: &Head,
         rank: u16,
         call: &Record,
-    ) -> Result<Halves, AllocError>
+    ) -> Result<Room, AllocError>
         ensures kept { (recording : Lists) → AreTables head.now recording self.old → AreTables head.now recording self.new }
-        ensures ok { IfOk result (λ halves. HaveRoom head.now rank call.now halves self.new) }
+        ensures ok { IfOk result (λ room. HaveRoom head.now rank call.now room self.new) }
     {
         let halves = self.matches.reserve(head, rank, call)?;
-        self.waves.reserve(rank, call)?;
+        let list = self.waves.reserve(rank, call)?;
         self.held.reserve(call)?;
         self.active.reserve(call)?;
-        Ok(halves)
+        Ok(Room { halves, list })
     }
 
-    /// Puts in the rank's next call, at its place, whose communicator exists. Its halves stay as they are. It takes
-    /// no memory.
-    pub(crate) fn put(&mut self, rank: u16, place: u32, call: &Record)
-        requires joined { HasRoomToJoin rank call.now self.old.waves }
+    /// Puts in the rank's next call, at its place, where its wave has that list. Its halves stay as they are. It
+    /// takes no memory.
+    pub(crate) fn put(&mut self, rank: u16, place: u32, call: &Record, list: Option<usize>)
+        requires is_list { IsListFor rank call.now self.old.waves list }
+        requires joined { IfSome list (HasRoomIn self.old.waves.lists) }
         requires held { HasRoomToHold self.old.held call.now }
         requires active { HasRoomToStart self.old.active call.now }
         ensures matches { self.new.matches ≡ self.old.matches }
-        ensures others { (groups : Groups) (recording : Lists) → AreOthers groups recording self.old → rank < length recording →
-            place ≡ length (calls_of recording rank) → rank < ranks_of groups → comm_exists groups call.now ≡ true →
-            AreOthers groups (appended recording rank call.now) self.new }
+        ensures others { (recording : Lists) → AreOthers recording self.old → rank < length recording →
+            place ≡ length (calls_of recording rank) → AreOthers (appended recording rank call.now) self.new }
     {
-        self.waves.put(rank, place, call);
+        self.waves.put(list, place);
         self.held.put(rank, call);
         self.active.put(rank, place, call);
     }
 
-    /// What is kept beside the rank's next call, as long as its halves have no partners.
-    pub(crate) fn beside(&self, rank: u16, call: &Record) -> Beside
-        ensures { (groups : Groups) (recording : Lists) → AreTables groups recording self.now → length (calls_of recording rank) ≤ most_calls →
-            IsBeside (calls_of recording rank) call.now result }
+    /// What is kept beside a rank's next call, whose wave has that list, as long as its halves have no partners.
+    pub(crate) fn beside(&self, list: Option<usize>) -> Beside
+        ensures { (groups : Groups) (recording : Lists) (rank : ℕ) (call : Call) → AreTables groups recording self.now →
+            IsListFor rank call self.now.waves list → length (calls_of recording rank) ≤ most_calls → IsBeside (calls_of recording rank) call result }
     {
-        match joins(call.as_call()) {
-            Some(comm) => Beside::Wave {
-                number: self.waves.number(comm, rank),
+        match list {
+            Some(list) => Beside::Wave {
+                number: self.waves.number(list),
             },
             None => Beside::Nothing,
         }

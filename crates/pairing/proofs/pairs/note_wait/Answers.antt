@@ -28,7 +28,7 @@ returns c =
     let reqs : c.waits_for.result.now ≡ waits_for c.args.call.now = c.waits_for.ensures.value ∙ ap (λ (call : Call). waits_for call) c.as_call.ensures.value in
     let all = c.starts_of-count.ensures.all recording c.requires.tables.others.active (rw reqs c.requires.active) in
     let few : length (calls_of (recording_of c.args.notes.now.lists) c.args.rank) ≤ most_calls = omega (arith, count_noted c.args.notes.now.lists c.args.rank, c.requires.few) in
-    let beside = c.beside-beside.ensures c.args.head.now recording c.requires.tables few in
+    let beside = c.beside-beside.ensures c.args.head.now recording c.args.rank c.args.call.now c.requires.tables c.requires.is_list few in
     record {
       noted = record { call = c.args.call.now; beside = c.beside-beside.result; starts = take c.starts_of-count.result c.starts_of-count.new.into };
       added = c.note.ensures;

@@ -1,7 +1,5 @@
-use Rattle.std.proofs.Common.{◌≡◌, Some, None, sym, ◌∙◌, ap}
-use Rattle.std.specs.List.{slice_get}
+use Rattle.std.proofs.Common.{◌≡◌, Some, sym, ◌∙◌}
 use Rattle.pairing.specs.Notes.{recording_of}
-use Rattle.pairing.specs.Recordings.{calls_of}
 use Rattle.pairing.specs.Probed.{probed_envelope, probed_envelope_at}
 use Rattle.pairing.specs.Seated.{seat_in}
 use Rattle.pairing.proofs.KeptLemmas.{its_call}

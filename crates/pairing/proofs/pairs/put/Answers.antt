@@ -37,12 +37,10 @@ returns-clause-kept c =
     let others = c.requires.kept.tables.others in
     let paired = c.meet_halves.ensures.paired (halves_of groups recording)
     (paired_as groups old c.note_call.new.notes.lists c.args.tables.now c.args.rank c.args.call.now c.requires.is_rank c.requires.kept c.note_call.ensures)
-    (come_next groups recording (recording_of c.note_call.new.notes.lists) c.args.rank c.args.place c.args.call.now SendHalf c.args.halves.now.send longer in_recording c.requires.is_next room.send)
-    (come_next groups recording (recording_of c.note_call.new.notes.lists) c.args.rank c.args.place c.args.call.now RecvHalf c.args.halves.now.recv longer in_recording c.requires.is_next room.recv) in
-    kept_on groups old c.note_call.new.notes.lists c.meet_halves.new.notes.lists c.args.tables.now c.put.new.self c.args.rank c.args.place c.args.call.now c.args.halves.now
+    (come_next groups recording (recording_of c.note_call.new.notes.lists) c.args.rank c.args.place c.args.call.now SendHalf c.args.room.now.halves.send longer in_recording c.requires.is_next room.send)
+    (come_next groups recording (recording_of c.note_call.new.notes.lists) c.args.rank c.args.place c.args.call.now RecvHalf c.args.room.now.halves.recv longer in_recording c.requires.is_next room.recv) in
+    kept_on groups old c.note_call.new.notes.lists c.meet_halves.new.notes.lists c.args.tables.now c.put.new.self c.args.rank c.args.place c.args.call.now c.args.room.now.halves
     c.requires.is_rank c.requires.is_next c.requires.kept c.requires.lawful c.note_call.ensures room.send room.recv c.meet_halves.ensures.recording
-    (subst (λ (m : Matching). ArePaired groups c.meet_halves.new.notes.lists (filed_halves c.args.halves.now c.args.place (halves_of groups recording)) m) (sym c.put.ensures.matches) paired)
+    (subst (λ (m : Matching). ArePaired groups c.meet_halves.new.notes.lists (filed_halves c.args.room.now.halves c.args.place (halves_of groups recording)) m) (sym c.put.ensures.matches) paired)
     (ap (λ (m : Matching). m.work) c.put.ensures.matches ∙ c.meet_halves.ensures.work)
-    (c.put.ensures.others groups recording (record { joined = others.joined; held = others.held; active = others.active }) in_recording c.requires.is_next
-    (omega (arith, c.requires.is_rank, c.requires.kept.ranks))
-    (fault_none groups c.args.rank (calls_of recording c.args.rank) c.args.call.now c.requires.lawful).comm_is)
+    (c.put.ensures.others recording (record { joined = others.joined; held = others.held; active = others.active }) in_recording c.requires.is_next)

@@ -1,7 +1,7 @@
 use Rattle.std.proofs.Common.{◌≡◌, true, take}
 use Rattle.std.specs.List.{list_all}
 use Rattle.std.specs.Option.{is_some}
-use Rattle.mpigroup.specs.Groups.{Groups, group_of}
+use Rattle.mpigroup.specs.Groups.{group_of}
 use Rattle.pairing.specs.Joined.{IsJoined}
 use Rattle.pairing.specs.Recordings.{Lists}
 use Rattle.pairing.specs.Waves.{place_in_wave}
@@ -10,4 +10,4 @@ use Rattle.pairing.proofs.joined.Waves.is_full.Given as goal
 -- each member so far has its call
 abbrev pub invariant-loop-g : goal.invariant-loop-g
 invariant-loop-g l =
-    (groups : Groups) (recording : Lists) → IsJoined groups recording l.self → list_all (λ rank. is_some (place_in_wave recording l.comm l.wave rank)) (take l.g (group_of l.head l.comm)) ≡ true
+    (recording : Lists) → IsJoined recording l.self → list_all (λ rank. is_some (place_in_wave recording l.comm l.wave rank)) (take l.g (group_of l.head l.comm)) ≡ true

@@ -1,13 +1,19 @@
-use Rattle.std.proofs.Common.{◌≡◌, ◌∙◌, ℕ, List, length, ap, arith}
+use Rattle.std.proofs.Common.{◌≡◌, ◌∙◌, ℕ, Option, List, [], length, ap, sym, arith}
+use Rattle.std.specs.Option.{option_map_or}
 use Rattle.pairing.specs.Places.{places}
 use Rattle.pairing.specs.Recordings.{calls_of}
+use Rattle.pairing.specs.Joined.{Joinings}
+use Rattle.pairing.specs.Seats.{list_in}
 use Rattle.pairing.specs.Waves.{does_join}
 use Rattle.pairing.proofs.PlacesLemmas.{places_most}
 use Rattle.pairing.proofs.joined.Waves.number.Goals as goal
 
 pub returns : goal.returns
-returns c groups recording joined most =
-    let within = places_most 0 (does_join c.args.comm) (calls_of recording c.args.rank) in
-    let count : c.count.result ≡ length (places (does_join c.args.comm) (calls_of recording c.args.rank)) =
-    c.count.ensures ∙ ap (λ (ns : List ℕ). length ns) (joined.places c.args.comm c.args.rank) in
+returns c recording rank comm joined numbered most =
+    let within = places_most 0 (does_join comm) (calls_of recording rank) in
+    let count : c.count.result ≡ length (places (does_join comm) (calls_of recording rank)) =
+    c.count.ensures
+    ∙ ap (λ (waves : Joinings). length (list_in waves.lists.places c.args.list)) c.self.view_is
+    ∙ ap (λ (o : Option ℕ). length (option_map_or (list_in c.args.self.now.lists.places) o [])) (sym numbered)
+    ∙ ap (λ (ns : List ℕ). length ns) (joined rank comm) in
     omega (arith, within, most, count, c.min.ensures)

@@ -1,5 +1,5 @@
 -- More room leaves all as it was.
-use Rattle.std.proofs.Common.{◌≡◌, ◌≤◌, length, sym, ap, ◌∙◌, arith}
+use Rattle.std.proofs.Common.{◌≡◌, ◌≤◌, length, arith}
 use Rattle.mpigroup.specs.Groups.{ranks_of}
 use Rattle.mpigroup.specs.declared.limits.TheConstants.{MOST_RANKS}
 use Rattle.pairing.specs.Notes.{recording_of}

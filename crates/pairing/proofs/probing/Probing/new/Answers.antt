@@ -1,4 +1,4 @@
-use Rattle.std.proofs.Common.{◌≡◌, ℕ, None}
+use Rattle.std.proofs.Common.{None}
 use Rattle.std.proofs.lemmas.Option.{none-some}
 use Rattle.pairing.specs.Seated.{seat_in}
 use Rattle.pairing.proofs.ProbingLemmas.{reseated}

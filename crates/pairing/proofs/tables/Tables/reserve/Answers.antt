@@ -7,27 +7,27 @@ returns-in_err-halves-clause-kept c recording tables = record {
   others = record { joined = tables.others.joined; held = tables.others.held; active = tables.others.active };
 }
 
+pub returns-in_err-list-clause-kept : goal.returns-in_err-list-clause-kept
+returns-in_err-list-clause-kept c recording tables = record {
+  matched = matched_grown c.args.head.now recording c.args.self.now.matches c.reserve.new.self c.reserve.ensures.grown tables.matched;
+  others = record { joined = c.reserve-2.ensures.joined recording tables.others.joined; held = tables.others.held; active = tables.others.active };
+}
+
 pub returns-in_err-reserve-clause-kept : goal.returns-in_err-reserve-clause-kept
 returns-in_err-reserve-clause-kept c recording tables = record {
   matched = matched_grown c.args.head.now recording c.args.self.now.matches c.reserve.new.self c.reserve.ensures.grown tables.matched;
-  others = record { joined = c.reserve-2.ensures.joined c.args.head.now recording tables.others.joined; held = tables.others.held; active = tables.others.active };
+  others = record {
+    joined = c.reserve-2.ensures.joined recording tables.others.joined;
+    held = c.reserve-3.ensures.kept recording tables.others.held;
+    active = tables.others.active;
+  };
 }
 
 pub returns-in_err-reserve-2-clause-kept : goal.returns-in_err-reserve-2-clause-kept
 returns-in_err-reserve-2-clause-kept c recording tables = record {
   matched = matched_grown c.args.head.now recording c.args.self.now.matches c.reserve.new.self c.reserve.ensures.grown tables.matched;
   others = record {
-    joined = c.reserve-2.ensures.joined c.args.head.now recording tables.others.joined;
-    held = c.reserve-3.ensures.kept recording tables.others.held;
-    active = tables.others.active;
-  };
-}
-
-pub returns-in_err-reserve-3-clause-kept : goal.returns-in_err-reserve-3-clause-kept
-returns-in_err-reserve-3-clause-kept c recording tables = record {
-  matched = matched_grown c.args.head.now recording c.args.self.now.matches c.reserve.new.self c.reserve.ensures.grown tables.matched;
-  others = record {
-    joined = c.reserve-2.ensures.joined c.args.head.now recording tables.others.joined;
+    joined = c.reserve-2.ensures.joined recording tables.others.joined;
     held = c.reserve-3.ensures.kept recording tables.others.held;
     active = c.reserve-4.ensures.kept recording tables.others.active;
   };
@@ -37,7 +37,7 @@ pub returns-clause-kept : goal.returns-clause-kept
 returns-clause-kept c recording tables = record {
   matched = matched_grown c.args.head.now recording c.args.self.now.matches c.reserve.new.self c.reserve.ensures.grown tables.matched;
   others = record {
-    joined = c.reserve-2.ensures.joined c.args.head.now recording tables.others.joined;
+    joined = c.reserve-2.ensures.joined recording tables.others.joined;
     held = c.reserve-3.ensures.kept recording tables.others.held;
     active = c.reserve-4.ensures.kept recording tables.others.active;
   };
