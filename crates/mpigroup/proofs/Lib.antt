@@ -6,3 +6,4 @@ pub mod FrontLemmas
 pub mod OrderLemmas
 pub mod RunLemmas
 pub mod ChoiceLemmas
+pub mod PlaceLemmas

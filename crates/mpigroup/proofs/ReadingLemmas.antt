@@ -1,7 +1,6 @@
 -- Lines behind the first that are read one by one.
 use Rattle.std.proofs.Common.{◌≡◌, ℕ, ◌+◌, ◌≤◌, true, List, [], ◌∷◌, ◌++◌, length, sym, ap, ◌∙◌, refl, arith, Result, Ok, Err, append_assoc, length-append, map, drop, ltb, inl, inr}
 use Rattle.std.specs.List.{list_all}
-use Rattle.std.proofs.lemmas.List.{map-append}
 use Rattle.std.proofs.lemmas.List.Folds.{list_all-append}
 use Rattle.std.proofs.lemmas.Bool.{cases_Bool, and_from, ltb-false}
 use Rattle.mpicall.specs.Lines.{split_fields, body_of}
@@ -75,8 +74,3 @@ fault_of_line groups reading more all Memory same is = tt
 
 pub IsFaultOf-line : (ranks number : ℕ) (all : Result Groups HeadFault) (groups : Groups) (line : List ℕ) (left : List (List ℕ)) (fault : ReadFault) → AreRead ranks number all groups (line ∷ left) → IsFaultOf (at_line number (group_of_line ranks number line)) fault → IsFaultOf all fault
 IsFaultOf-line ranks number all groups line left fault so_far is = fault_of_line groups _ _ all fault so_far.same is
-
--- one more group, kept in a value of another type
-pub AreRead-more : {V : Type 0} (items : V → List ℕ) (ranks number : ℕ) (all : Result Groups HeadFault) (kept new : List V) (line : List ℕ) (left : List (List ℕ)) (group : V) → AreRead ranks number all (map items kept) (line ∷ left) → group_of_line ranks number line ≡ Ok (items group) → new ≡ kept ++ group ∷ [] → AreRead ranks (number + 1) all (map items new) left
-AreRead-more items ranks number all kept new line left group so_far is pushed =
-    rw (pushed, map-append) (AreRead-push ranks number all (map items kept) line left (items group) so_far is)

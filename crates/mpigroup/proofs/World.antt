@@ -1,15 +1,17 @@
 -- What the look-ups answer of the world, whose group has the ranks in order, and of the other groups.
-use Rattle.std.proofs.Common.{◌≡◌, ℕ, ◌-◌, ◌<◌, ◌≤◌, zero, suc, List, length, map, get_or, not, eqb, ltb, true, false, Some, None, [], ◌∷◌, ◌∙◌, arith, refl, ap, inl, inr, option_map}
-use Rattle.std.specs.List.{range_with_len, position, position_or_len, slice_get, list_all, list_any, IsDistinct, AllByRecursion}
+use Rattle.std.proofs.Common.{◌≡◌, ℕ, ◌+◌, ◌-◌, ◌<◌, ◌≤◌, zero, suc, List, length, get_or, not, eqb, ltb, true, false, Some, None, [], ◌∷◌, arith, refl, ap}
+use Rattle.std.specs.List.{range_with_len, position, position_or_len, slice_get, list_all, All}
 use Rattle.std.proofs.lemmas.List.FromFn.{length-range_with_len, get_or-range_with_len}
 use Rattle.std.proofs.lemmas.List.Sums.{prefix_len_is}
-use Rattle.std.proofs.lemmas.Option.{slice_get-get_or, slice_get_past, slice_get-map, slice_get_read}
-use Rattle.std.proofs.lemmas.Map.Keys.{IsDistinct-cons}
-use Rattle.std.proofs.lemmas.Map.Steps.{length-le_from_distinct_below}
-use Rattle.std.proofs.lemmas.Bool.{and_parts, or_parts, or_cases, not-true, ltb-true, eqb-true}
+use Rattle.std.proofs.lemmas.List.Elements.{All-nil, All-cons}
+use Rattle.std.proofs.lemmas.Option.{slice_get-get_or, slice_get_past}
+use Rattle.std.proofs.lemmas.Map.Keys.{IsDistinct-from_apart}
+use Rattle.std.proofs.lemmas.Bool.{and_parts, not-true, ltb-true, leb-true, ne_eqb}
 use Rattle.std.proofs.lemmas.Bool.Decides.{nat_tests}
-use Rattle.mpigroup.specs.Groups.{Groups, ranks_of, size_of, world_rank_of, group_rank_of}
+use Rattle.mpigroup.specs.Groups.{Groups, group_of, ranks_of, size_of, world_rank_of, group_rank_of}
 use Rattle.mpigroup.specs.HeadText.{has_twice, is_group}
+use Rattle.mpigroup.specs.Heads.{IsGroup}
+use Rattle.mpigroup.proofs.MemberLemmas.{distinct}
 
 -- the groups begin with a world of so many ranks
 abbrev pub BeginsWithWorld : Groups → ℕ → Groups → Type 0
@@ -63,35 +65,7 @@ pub slice_get-further : (groups : Groups) (n : ℕ) (further : Groups) (comm : �
 slice_get-further groups n further zero is h = absurd (omega arith)
 slice_get-further groups n further (suc comm) is h = let e : suc comm - 1 ≡ comm = omega arith in rw (is, e) refl
 
--- a group has no more members than the run has ranks
-apart : (x : ℕ) (xs : List ℕ) → list_any (λ y. eqb y x) xs ≡ false → AllByRecursion (λ y. eqb x y ≡ false) xs
-apart x [] none = tt
-apart x (y ∷ xs) none =
-    let parts = or_parts (eqb y x) (list_any (λ z. eqb z x) xs) none in
-    (grind (arith, nat_tests), apart x xs parts.1)
-
-distinct : (xs : List ℕ) → has_twice xs ≡ false → IsDistinct eqb xs
-unfolding IsDistinct
-distinct [] once = tt
-distinct (x ∷ xs) once =
-    let parts = or_parts (list_any (λ y. eqb y x) xs) (has_twice xs) once in
-    IsDistinct-cons eqb x xs (apart x xs parts.0) (distinct xs parts.1)
-
-below : (n : ℕ) (xs : List ℕ) (q : ℕ) → list_all (λ m. ltb m n) xs ≡ true → list_any (eqb q) xs ≡ true → q < n
-below n [] q all some = absurd cc
-below n (x ∷ xs) q all some =
-    let parts = and_parts (ltb x n) (list_all (λ m. ltb m n) xs) all in
-    elim (or_cases (eqb q x) (list_any (eqb q) xs) some) [
-      | inl here ↦ omega (arith, eqb-true q x here, ltb-true x n parts.0)
-      | inr there ↦ below n xs q parts.1 there
-    ]
-
-length-le_ranks : (ranks : ℕ) (group : List ℕ) → is_group ranks group ≡ true → length group ≤ ranks
-length-le_ranks ranks group is =
-    let parts = and_parts _ (not (has_twice group)) is in
-    let more = and_parts _ (list_all (λ m. ltb m ranks) group) parts.0 in
-    length-le_from_distinct_below group ranks (distinct group (not-true _ parts.1)) (λ q some. below ranks group q more.1 some)
-
+-- each group names ranks of the run, one at least and none twice
 is_group-at : (ranks : ℕ) (groups : Groups) (k : ℕ) (group : List ℕ) → list_all (is_group ranks) groups ≡ true → slice_get groups k ≡ Some group → is_group ranks group ≡ true
 is_group-at ranks [] k group all is = absurd cc
 is_group-at ranks (first ∷ groups) zero group all is =
@@ -100,15 +74,45 @@ is_group-at ranks (first ∷ groups) zero group all is =
 is_group-at ranks (first ∷ groups) (suc k) group all is =
     is_group-at ranks groups k group (and_parts (is_group ranks first) (list_all (is_group ranks) groups) all).1 is
 
-pub few_members : (ranks : ℕ) (groups : Groups) (k : ℕ) (group : List ℕ) → list_all (is_group ranks) groups ≡ true → slice_get groups k ≡ Some group → length group ≤ ranks
-few_members ranks groups k group all is = length-le_ranks ranks group (is_group-at ranks groups k group all is)
+range-apart : (n i j d : ℕ) → i < j → j < n → eqb (get_or (range_with_len 0 n) i d) (get_or (range_with_len 0 n) j d) ≡ false
+range-apart n i j d less within =
+    let first : get_or (range_with_len 0 n) i d ≡ 0 + i = get_or-range_with_len 0 n i d (omega arith) in
+    let second : get_or (range_with_len 0 n) j d ≡ 0 + j = get_or-range_with_len 0 n j d within in
+    rw (first, second) (ne_eqb (0 + i) (0 + j) (λ e. omega (arith, less, e)))
 
--- the same of groups that are kept in values of another type
-pub few_kept : {V : Type 0} (items : V → List ℕ) (ranks : ℕ) (kept : List V) (place : ℕ) (group : V) → list_all (is_group ranks) (map items kept) ≡ true → place < length kept → group ≡ get_or kept place group → length (items group) ≤ ranks
-few_kept items ranks kept place group all within at =
-    few_members ranks (map items kept) place (items group) all
-    (slice_get-map items kept place ∙ ap (option_map items) (slice_get_read kept (length kept) place group refl within at))
+range-below : (n : ℕ) → All (λ rank. rank < n) (range_with_len 0 n)
+range-below n = λ k d within. let h : k < n = rw length-range_with_len at within in rw (get_or-range_with_len 0 n k d h) (omega arith)
 
-pub slice_get-past_further : {V : Type 0} (items : V → List ℕ) (groups : Groups) (n : ℕ) (kept : List V) (comm : ℕ) → BeginsWithWorld groups n (map items kept) → 0 < comm → length kept ≤ comm - 1 → slice_get groups comm ≡ None
-slice_get-past_further items groups n kept comm is some past =
-    slice_get-further groups n (map items kept) comm is some ∙ slice_get-map items kept (comm - 1) ∙ ap (option_map items) (slice_get_past kept (comm - 1) past)
+world-IsGroup : (n : ℕ) → 1 ≤ n → IsGroup n (range_with_len 0 n)
+world-IsGroup n some = record {
+  some = rw length-range_with_len some;
+  below = range-below n;
+  once = IsDistinct-from_apart eqb (range_with_len 0 n) (λ i j d less within. range-apart n i j d less (let h = rw length-range_with_len at within in h));
+}
+
+below-All : (n : ℕ) (xs : List ℕ) → list_all (λ m. ltb m n) xs ≡ true → All (λ rank. rank < n) xs
+below-All n [] all = All-nil (λ rank. rank < n)
+below-All n (x ∷ xs) all =
+    let parts = and_parts (ltb x n) (list_all (λ m. ltb m n) xs) all in
+    All-cons (λ rank. rank < n) x xs (ltb-true x n parts.0) (below-All n xs parts.1)
+
+IsGroup-from : (ranks : ℕ) (group : List ℕ) → is_group ranks group ≡ true → IsGroup ranks group
+IsGroup-from ranks group is =
+    let parts = and_parts _ (not (has_twice group)) is in
+    let more = and_parts _ (list_all (λ m. ltb m ranks) group) parts.0 in
+    record {
+      some = leb-true 1 (length group) more.0;
+      below = below-All ranks group more.1;
+      once = distinct group (not-true _ parts.1);
+    }
+
+pub group_of-world : (groups : Groups) (n : ℕ) (further : Groups) → BeginsWithWorld groups n further → group_of groups 0 ≡ range_with_len 0 (ranks_of groups)
+group_of-world groups n further is = rw (ranks_of-world groups n further is) (rw is refl)
+
+pub groups_are_sound : (groups : Groups) (n : ℕ) (further : Groups) (comm : ℕ) → BeginsWithWorld groups n further → 1 ≤ n → list_all (is_group n) further ≡ true → comm < length groups → IsGroup (ranks_of groups) (group_of groups comm)
+groups_are_sound groups n further zero is some all within =
+    rw (is, length-range_with_len) (world-IsGroup n some)
+groups_are_sound groups n further (suc comm) is some all within =
+    let inside : comm < length further = omega (arith, within, ap length is) in
+    let at : slice_get further comm ≡ Some (get_or further comm []) = slice_get-get_or further comm [] inside in
+    rw (ranks_of-world groups n further is) (rw (is, at) (IsGroup-from n (get_or further comm []) (is_group-at n further comm (get_or further comm []) all at)))

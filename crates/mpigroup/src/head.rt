@@ -1,14 +1,16 @@
 //! The head of a run: its ranks, and the group of each of its communicators.
 
-ghost use Rattle.std.specs.Prelude.{take, ◌≡◌, ◌≤◌, ◌<◌, ◌==◌, Ok, length, position, slice_get, option_map, IfOk, IfErr, IfSome, map};
+ghost use Rattle.std.specs.Prelude.{ℕ, take, ◌≡◌, ◌≤◌, ◌<◌, Ok, length, slice_get, IfOk, IfErr};
+ghost use Rattle.std.specs.List.{range_with_len};
 ghost use Rattle.std.specs.Option.{option_copied};
-ghost use Rattle.mpigroup.specs.Groups.{ranks_of, size_of, world_rank_of, group_rank_of};
-ghost use Rattle.mpigroup.specs.Heads.{AreSound};
+ghost use Rattle.mpigroup.specs.Groups.{group_of, ranks_of, size_of, world_rank_of, group_rank_of};
+ghost use Rattle.mpigroup.specs.Heads.{AreSound, IsGroup};
 ghost use Rattle.mpigroup.specs.Codes.{IsFaultOf};
 ghost use Rattle.mpicall.specs.Lines.{lines_of};
 ghost use Rattle.mpigroup.specs.HeadText.{groups_of_lines, read_head};
 
 use crate::fault::{HeadFaultKind, ReadFault};
+use crate::group::Group;
 pub use crate::limits::DECIDING_BYTES;
 use crate::limits::{MOST_COMMS, MOST_RANKS};
 use crate::line::{read_group, read_ranks, split_line};
@@ -20,7 +22,7 @@ use std::marker::Model;
 pub struct Head {
     ranks: u16,
     /// The groups of communicators 1, 2 and so on; the world's has the ranks in order.
-    further: Vec<Vec<u16>>,
+    further: Vec<Group>,
 }
 
 impl Drop for Head {
@@ -33,15 +35,15 @@ impl Drop for Head {
 }
 
 impl Model for Head {
-    ghost use Rattle.std.specs.Prelude.{◌∷◌, ℕ, List, map};
+    ghost use Rattle.std.specs.Prelude.{◌∷◌, ℕ, List};
     ghost use Rattle.std.specs.List.{range_with_len};
     ghost use Rattle.mpigroup.specs.Heads.{AreSound};
 
     ghost Value = { List (List ℕ) };
 
-    ghost view = { λ h. range_with_len 0 h.ranks ∷ map (λ group. group.items) h.further.items };
+    ghost view = { λ h. range_with_len 0 h.ranks ∷ h.further.items };
 
-    ghost invariant = { λ h. AreSound h.ranks (map (λ group. group.items) h.further.items) };
+    ghost invariant = { λ h. AreSound h.ranks h.further.items };
 }
 
 /// The law that a text says what its first [`DECIDING_BYTES`] bytes say.
@@ -52,12 +54,11 @@ pub fn front_decides(text: &[u8])
 }
 
 /// The groups that the lines behind the first give.
-fn read_further(alloc: Global, ranks: u16, text: &[u8]) -> Result<Vec<Vec<u16>>, ReadFault>
+fn read_further(alloc: Global, ranks: u16, text: &[u8]) -> Result<Vec<Group>, ReadFault>
     requires least { 1 ≤ ranks }
     requires most { ranks ≤ MOST_RANKS }
-    ensures ok { IfOk result (λ groups.
-        groups_of_lines ranks 2 (lines_of text.now) ≡ Ok (map (λ group. group.items) groups.items)) }
-    ensures sound { IfOk result (λ groups. AreSound ranks (map (λ group. group.items) groups.items)) }
+    ensures ok { IfOk result (λ groups. groups_of_lines ranks 2 (lines_of text.now) ≡ Ok groups.items) }
+    ensures sound { IfOk result (λ groups. AreSound ranks groups.items) }
     ensures fault { IfErr result (IsFaultOf (groups_of_lines ranks 2 (lines_of text.now))) }
 {
     let mut groups = Vec::new(alloc);
@@ -101,16 +102,21 @@ impl Head {
         self.further.len() as u16 + 1
     }
 
-    /// The group of a communicator that isn't the world, if the run has it.
-    fn further_group(&self, comm: u16) -> Option<&[u16]>
-        requires { 0 < comm }
-        ensures value { option_copied result ≡ slice_get self.now comm }
-        ensures few { IfSome result (λ group. length group.now ≤ MOST_RANKS) }
+    /// Communicator 0 has the ranks in order, and each one's group names ranks of the run: one at least,
+    /// and none twice. This does nothing: it only says so.
+    pub fn groups_are_sound(&self)
+        ensures world { group_of self.now 0 ≡ range_with_len 0 (ranks_of self.now) }
+        ensures each { (comm : ℕ) → comm < length self.now → IsGroup (ranks_of self.now) (group_of self.now comm) }
     {
-        match self.further.get(usize::from(comm) - 1) {
-            Some(group) => Some(group.as_slice()),
-            None => None,
-        }
+        let _further = &self.further;
+    }
+
+    /// The group of a communicator that isn't the world, if the run has it.
+    fn further_group(&self, comm: u16) -> Option<&Group>
+        requires { 0 < comm }
+        ensures { option_copied result ≡ slice_get self.now comm }
+    {
+        self.further.get(usize::from(comm) - 1)
     }
 
     /// How many members a communicator has; None where there is no such communicator.
@@ -120,10 +126,7 @@ impl Head {
         if comm == 0 {
             return Some(self.ranks);
         }
-        match self.further_group(comm) {
-            Some(group) => Some(group.len() as u16),
-            None => None,
-        }
+        Some(self.further_group(comm)?.len())
     }
 
     /// The rank in the communicator's group of a rank of the world; None where it is no member.
@@ -137,10 +140,7 @@ impl Head {
                 None
             };
         }
-        match place_of(self.further_group(comm)?, world) {
-            Some(place) => Some(place as u16),
-            None => None,
-        }
+        self.further_group(comm)?.rank_of(world)
     }
 
     /// The world rank of a member of the communicator's group; None where there is no such member.
@@ -150,13 +150,6 @@ impl Head {
         if comm == 0 {
             return if g < self.ranks { Some(g) } else { None };
         }
-        self.further_group(comm)?.get(usize::from(g)).copied()
+        self.further_group(comm)?.member(g)
     }
-}
-
-/// Where a rank of the world stands in a group, if it does.
-fn place_of(group: &[u16], world: u16) -> Option<usize>
-    ensures { result ≡ position (λ member. member == world) group.now }
-{
-    group.iter().position(|member| *member == world)
 }

@@ -22,6 +22,7 @@
 #![tactic(auto)]
 
 pub mod fault;
+mod group;
 pub mod head;
 pub mod limits;
 mod line;

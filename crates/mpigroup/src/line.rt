@@ -1,14 +1,17 @@
 //! The lines of a head: where one ends, and what it says.
 
-ghost use Rattle.std.specs.Prelude.{◌≡◌, [], ◌∷◌, ◌==◌, ◌≤◌, ◌<◌, map, IsTrue, position, MatchOption, IfOk, IfErr};
+ghost use Rattle.std.specs.Prelude.{◌≡◌, [], ◌∷◌, ◌==◌, ◌≤◌, ◌<◌, map, IsTrue, position, MatchOption, IfOk, IfErr, Ok, codes, length, ◌&&◌, if◌then◌else◌};
 ghost use Rattle.std.specs.List.{list_all};
 ghost use Rattle.mpicall.specs.Spelling.{line_feed};
 ghost use Rattle.mpicall.specs.Number.{is_canonical, value_of};
 ghost use Rattle.mpigroup.specs.Codes.{IsFaultOf};
 ghost use Rattle.mpicall.specs.Lines.{lines_of};
-ghost use Rattle.mpigroup.specs.HeadText.{is_head_line, is_comm, ranks_of_fields, ranks_of_line, checked_group, group_of_line, at_line};
+ghost use Rattle.mpigroup.specs.HeadText.{is_head_line, ranks_of_fields, ranks_of_line, group_of_fields, group_of_line, at_line};
+ghost use Rattle.mpigroup.specs.Places.{new_member};
+ghost use Rattle.mpigroup.specs.declared.fault.HeadFaultKind.TheVariants.{Group as GroupFault, CommLine};
 
 use crate::fault::{HeadFaultKind, ReadFault};
+use crate::group::{Group, NO_PLACE};
 use crate::limits::{MOST_COMMS, MOST_HEAD_LINE_BYTES, MOST_RANKS};
 use mpicall::fields::Fields;
 use mpicall::number::{is_canonical, read_number};
@@ -86,52 +89,57 @@ fn are_canonical(mut fields: Fields<'_>) -> bool
     true
 }
 
-/// Whether the fields are the word of a further line and canonical numbers.
-fn is_comm(mut fields: Fields<'_>) -> bool
-    ensures { result ≡ is_comm fields.entry }
+/// What is wrong with a group, by the numbers from the first on that names no new member.
+fn group_fault(number: &[u8], behind: Fields<'_>) -> HeadFaultKind
+    ensures { result ≡ (if is_canonical number.now && list_all is_canonical behind.entry then GroupFault else CommLine) }
 {
-    match fields.next_field() {
-        Some(word) => word == b"comm".as_slice() && are_canonical(fields),
-        None => false,
+    if is_canonical(number) && are_canonical(behind) {
+        HeadFaultKind::Group
+    } else {
+        HeadFaultKind::CommLine
     }
 }
 
-/// The rank that a canonical number names, if the run has it.
+/// The rank that a field names, if it is a canonical number and names a rank that has no place yet.
 #[tactic(auto, unfolding(mpicall::specs::Number::number_up_to))]
-fn read_member(ranks: u16, number: &[u8]) -> Option<u16>
-    requires some { 1 ≤ ranks }
-    requires canonical { IsTrue (is_canonical number.now) }
-    ensures { MatchOption result
-        (ranks ≤ value_of number.now)
-        (λ member. (member ≡ value_of number.now) × (member < ranks)) }
+fn new_member(places: &[u16], field: &[u8]) -> Option<u16>
+    requires some { 1 ≤ length places.now }
+    requires few { length places.now ≤ MOST_RANKS }
+    ensures { result ≡ new_member places.now field.now }
 {
-    read_number(u32::from(ranks) - 1, number).map(|member| member as u16)
+    let member = read_number(places.len() as u32 - 1, field)? as u16;
+    if places[usize::from(member)] == NO_PLACE {
+        Some(member)
+    } else {
+        None
+    }
 }
 
-/// The group whose members are the numbers, each of which is canonical.
+/// The group that some numbers give.
 fn read_members(
     alloc: Global,
     ranks: u16,
     line: u32,
     mut numbers: Fields<'_>,
-) -> Result<Vec<u16>, ReadFault>
+) -> Result<Group, ReadFault>
     requires some { 1 ≤ ranks }
-    requires canonical { IsTrue (list_all is_canonical numbers) }
-    ensures ok { IfOk result (λ group. checked_group ranks (map value_of numbers.entry) ≡ Ok group.items) }
-    ensures fault { IfErr result (IsFaultOf (at_line line (checked_group ranks (map value_of numbers.entry)))) }
+    requires few { ranks ≤ MOST_RANKS }
+    ensures ok { IfOk result (λ group. group_of_fields ranks (codes "comm" ∷ numbers.entry) ≡ Ok group) }
+    ensures fault { IfErr result (IsFaultOf (at_line line (group_of_fields ranks (codes "comm" ∷ numbers.entry)))) }
 {
-    let mut group = Vec::new(alloc);
+    let mut members = Vec::new(alloc);
+    let mut places = vec![in alloc; NO_PLACE; usize::from(ranks)]?;
     while let Some(number) = numbers.next_field() {
-        let member = read_member(ranks, number).ok_or(HeadFaultKind::Group.at(line))?;
-        if group.contains(&member) {
-            return Err(HeadFaultKind::Group.at(line));
-        }
-        group.push(member)?;
+        let Some(member) = new_member(&places, number) else {
+            return Err(group_fault(number, numbers).at(line));
+        };
+        places[usize::from(member)] = members.len() as u16;
+        members.push(member)?;
     }
-    if group.is_empty() {
+    if members.is_empty() {
         return Err(HeadFaultKind::Group.at(line));
     }
-    Ok(group)
+    Ok(Group { members, places })
 }
 
 /// The group that a line behind the first gives, by the line's number.
@@ -140,9 +148,10 @@ pub(crate) fn read_group(
     ranks: u16,
     number: u32,
     line: &[u8],
-) -> Result<Vec<u16>, ReadFault>
+) -> Result<Group, ReadFault>
     requires some { 1 ≤ ranks }
-    ensures ok { IfOk result (λ group. group_of_line ranks number line.now ≡ Ok group.items) }
+    requires few { ranks ≤ MOST_RANKS }
+    ensures ok { IfOk result (λ group. group_of_line ranks number line.now ≡ Ok group) }
     ensures fault { IfErr result (IsFaultOf (at_line number (group_of_line ranks number line.now))) }
 {
     if number > u32::from(MOST_COMMS) {
@@ -151,11 +160,9 @@ pub(crate) fn read_group(
     if !is_head_line(line) {
         return Err(HeadFaultKind::LineForm.at(number));
     }
-    let body = &line[..line.len() - 1];
-    if !is_comm(Fields::of(body)) {
-        return Err(HeadFaultKind::CommLine.at(number));
+    let mut fields = Fields::of(&line[..line.len() - 1]);
+    match fields.next_field() {
+        Some(word) if word == b"comm".as_slice() => read_members(alloc, ranks, number, fields),
+        _ => Err(HeadFaultKind::CommLine.at(number)),
     }
-    let mut numbers = Fields::of(body);
-    let _word = numbers.next_field();
-    read_members(alloc, ranks, number, numbers)
 }
