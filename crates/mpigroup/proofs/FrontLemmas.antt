@@ -63,7 +63,7 @@ group_of_line-long ranks number line few long =
 group_of_line-past : (ranks number : ℕ) (line : List ℕ) → MOST_COMMS < number → group_of_line ranks number line ≡ Err TooManyComms
 group_of_line-past ranks number line past = let test : ltb MOST_COMMS number ≡ true = grind (arith, nat_tests) in rw test refl
 
--- the lines of a front of more than 1,024 bytes: the same first line, or one that is too long too
+-- the lines of a front: the same first line, or the whole front where the text has a longer one
 pub record IsFront (n k : ℕ) (xs : List ℕ) : Type 0 where
   pub whole_text : lines_of xs ≡ take k xs ∷ lines_of (drop k xs)
   pub first_len : length (take k xs) ≡ k

@@ -10,7 +10,9 @@
 //!   `specs/HeadText.antt`, or the fault of the first line that has one. It alone, of the calls on heads,
 //!   takes memory, and answers its want in place of either. So many bytes as [`limits::DECIDING_BYTES`]
 //!   decide what a text says.
-//! - The look-ups answer by these groups, as `specs/Groups.antt` defines them.
+//! - The look-ups answer by these groups, as `specs/Groups.antt` defines them. None searches a group.
+//! - [`head::Head::groups_are_sound`] says of every head that each group names ranks of the run, one at
+//!   least and none twice.
 //! - [`split::split_groups`] answers the groups of `specs/Splits.antt`, or want of memory.
 //!
 //! ```text

@@ -89,7 +89,8 @@ fn are_canonical(mut fields: Fields<'_>) -> bool
     true
 }
 
-/// What is wrong with a group, by the numbers from the first on that names no new member.
+/// What is wrong with a line, by its numbers from the first on that names no new member: one of them isn't
+/// canonical, or else they are no group.
 fn group_fault(number: &[u8], behind: Fields<'_>) -> HeadFaultKind
     ensures { result ≡ (if is_canonical number.now && list_all is_canonical behind.entry then GroupFault else CommLine) }
 {
