@@ -1,9 +1,9 @@
 //! The lines of a head: where one ends, and what it says.
 
-ghost use Rattle.std.specs.Prelude.{◌≡◌, [], ◌∷◌, ◌==◌, ◌≤◌, ◌<◌, map, IsTrue, position, MatchOption, IfOk, IfErr, Ok, codes, length, ◌&&◌, if◌then◌else◌};
+ghost use Rattle.std.specs.Prelude.{◌≡◌, [], ◌∷◌, ◌==◌, ◌≤◌, ◌<◌, position, MatchOption, IfOk, IfErr, Ok, codes, length, ◌&&◌, if◌then◌else◌};
 ghost use Rattle.std.specs.List.{list_all};
 ghost use Rattle.mpicall.specs.Spelling.{line_feed};
-ghost use Rattle.mpicall.specs.Number.{is_canonical, value_of};
+ghost use Rattle.mpicall.specs.Number.{is_canonical};
 ghost use Rattle.mpigroup.specs.Codes.{IsFaultOf};
 ghost use Rattle.mpicall.specs.Lines.{lines_of};
 ghost use Rattle.mpigroup.specs.HeadText.{is_head_line, ranks_of_fields, ranks_of_line, group_of_fields, group_of_line, at_line};
