@@ -8,13 +8,15 @@ use Rattle.pairing.specs.Requests.{waits_for}
 use Rattle.moves.specs.Runs.{State, total}
 use Rattle.moves.specs.Stands.{calls_in}
 
--- the groups of a run's communicators, the calls of each rank that were accepted, the ranks' stands, and how
--- often waiting ranks and waves were touched
+-- the groups of a run's communicators, the calls of each rank that were accepted, the ranks' stands, how much was
+-- done in the arena in which waiting ranks are linked (1 for each link and each unlink, as the arena counts it), and
+-- how often waiting ranks and waves were touched
 pub record Analysed : Type 0 where
   pub reading : Reading
   pub groups : Groups
   pub recording : Lists
   pub stands : State
+  pub work : ℕ
   pub touches : ℕ
 
 -- how many requests the waits of a list name, each as often as it is named

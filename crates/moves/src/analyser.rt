@@ -29,8 +29,8 @@ use std::marker::Model;
 /// The calls of all ranks that were accepted so far, and where the ranks stand. Contracts see the groups of
 /// the run's head, the reading, each rank's list of calls, and each rank's stand: the number of its calls that it has
 /// completed. At any time the ranks stand where every maximal run over these calls ends. They see too how
-/// often waiting ranks and waves were touched: what the arena of the waiting ranks counts, and the changes of
-/// how far waves are.
+/// much was done in the arena in which waiting ranks are linked, and how often waiting ranks and waves were
+/// touched: what that arena counts, and the changes of how far waves are.
 pub struct Analyser {
     reading: Reading,
     pairs: Pairs,
@@ -57,7 +57,7 @@ impl Model for Analyser {
 
     ghost Value = { Analysed };
 
-    ghost view = { λ a. record { reading = a.reading; groups = a.pairs.groups; recording = a.pairs.recording; stands = a.stands.items; touches = touches_of a.waves a.waiters } };
+    ghost view = { λ a. record { reading = a.reading; groups = a.pairs.groups; recording = a.pairs.recording; stands = a.stands.items; work = a.waiters.work; touches = touches_of a.waves a.waiters } };
 
     ghost invariant = { λ a. IsSettled a.reading a.pairs.groups a.pairs.recording a.stands.items a.waves a.waiters };
 }
@@ -93,6 +93,7 @@ impl Analyser {
         ensures recording { IfOk result (λ analyser. analyser.recording ≡ replicate (ranks_of head) []) }
         ensures stands { IfOk result (λ analyser. analyser.stands ≡ start (ranks_of head)) }
         ensures end { IfOk result (λ analyser. IsTheEnd (can_move analyser.reading analyser.groups analyser.recording) (length analyser.recording) analyser.stands) }
+        ensures work { IfOk result (λ analyser. analyser.work ≡ 0) }
         ensures touches { IfOk result (λ analyser. analyser.touches ≡ 0) }
     {
         let (ranks, comms) = (head.ranks(), head.comms());
@@ -148,9 +149,11 @@ impl Analyser {
 
     /// How much was done so far to have the ranks stand where they do: 1 each time that a rank was put into a
     /// list of waiting ranks or of those to look at, or taken out of one, and 1 each time that it was noted
-    /// how far a communicator's waves are. Looks are not counted.
+    /// how far a communicator's waves are. So it is no less than what was done in the arena of those lists.
+    /// Looks are not counted.
     pub fn touches(&self) -> u64
         ensures value { result ≡ self.now.touches }
+        ensures least { self.now.work ≤ result }
         ensures most { result ≤ most_touches self.now.recording }
     {
         let work = self.waiters.work();
