@@ -300,7 +300,7 @@ sum_count n [] h = sum_zero n (λ k. 0) (λ k l. refl)
 sum_count n ((node, x) ∷ xs) h =
     omega (arith, sum_both n (λ k. count k ((node, x) ∷ [])) (λ k. count k xs) (λ k. count k ((node, x) ∷ xs)) (λ k. omega arith), sum_one n node x (h x (omega (arith, count_one x node))), sum_count n xs (λ r l. h r (omega (arith, l))))
 
-sum_all : (n : ℕ) (ls : List Entries) → ((r : ℕ) → 0 < in_all r ls → r < n) → sum_to n (λ k. in_all k ls) ≡ held ls
+pub sum_all : (n : ℕ) (ls : List Entries) → ((r : ℕ) → 0 < in_all r ls → r < n) → sum_to n (λ k. in_all k ls) ≡ held ls
 sum_all n [] h = sum_zero n (λ k. 0) (λ k l. refl)
 sum_all n (xs ∷ ls) h =
     omega (arith, sum_both n (λ k. count k xs) (λ k. in_all k ls) (λ k. in_all k (xs ∷ ls)) (λ k. refl), sum_count n xs (λ r l. h r (omega (arith, l))), sum_all n ls (λ r l. h r (omega (arith, l))))

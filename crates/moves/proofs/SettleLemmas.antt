@@ -1,7 +1,7 @@
 -- What is kept as ranks are looked at, wait, move on and are woken.
 use Rattle.moves.specs.declared.reading.Reading.{Reading}
-use Rattle.std.proofs.Common.{◌≡◌, ℕ, zero, suc, ◌+◌, ◌-◌, ◌*◌, ◌<◌, ◌≤◌, ◌≢◌, true, false, Option, Some, None, List, [], ◌∷◌, ◌++◌, length, replicate, drop, get_or, set, refl, sym, ap, subst, ◌∙◌, ⊎_elim, inl, inr, arith, get_or-set_same, get_or-set_other}
-use Rattle.std.specs.Prelude.{◌⊎◌, min}
+use Rattle.std.proofs.Common.{◌≡◌, ℕ, zero, suc, ◌+◌, ◌-◌, ◌*◌, ◌<◌, ◌≤◌, ◌≢◌, Bool, true, false, Option, Some, None, List, [], ◌∷◌, ◌++◌, length, replicate, drop, get_or, set, refl, sym, ap, subst, ◌∙◌, ⊎_elim, inl, inr, arith, get_or-set_same, get_or-set_other}
+use Rattle.std.specs.Prelude.{◌⊎◌, min, if◌then◌else◌}
 use Rattle.std.specs.List.{slice_get}
 use Rattle.std.proofs.Math.Nat.{suc-mul, min-le_left}
 use Rattle.std.proofs.lemmas.List.{length-set, length-replicate}
@@ -15,11 +15,11 @@ use Rattle.pairing.specs.Waves.{wave_of}
 use Rattle.arenalist.specs.Numbers.{list_at}
 use Rattle.arenalist.specs.Arena.{first_value}
 use Rattle.moves.specs.Runs.{State, start, moved, IsReached, IsTheEnd, total}
-use Rattle.moves.specs.Needs.{can_move}
+use Rattle.moves.specs.Needs.{may_pass, can_move}
 use Rattle.moves.specs.Stands.{calls_in}
-use Rattle.moves.specs.Analysed.{most_touches}
+use Rattle.moves.specs.Analysed.{most_touches, ranks_waiting}
 use Rattle.moves.specs.declared.waves.Waves.{Waves}
-use Rattle.moves.specs.Links.{Entries, count, in_all, held, IsLinked}
+use Rattle.moves.specs.Links.{sum_to, Entries, count, in_all, held, IsLinked}
 use Rattle.moves.specs.Waiting.{HasJoined, HasArrived, complete_of, met_of, AreWaves, IsNoException, NeedsPartner, NeedsWave, Rests, Waiting, own_list, comm_list, with_rank, with_awaited, WaitsFor, WaitsIn, HasLists, IsKept, IsNobody, IsInHand, IsSettled, IsReaching, to_do, paid, cost_of, touches_of}
 use Rattle.moves.proofs.RunLemmas.{get_start, reached_step, reached_ranks, total_moved, total_most}
 use Rattle.moves.proofs.StandLemmas.{reached_within}
@@ -28,8 +28,8 @@ use Rattle.moves.proofs.ArrivalLemmas.{no_calls}
 use Rattle.moves.proofs.AdvanceLemmas.{stuck_end, moved_later}
 use Rattle.moves.proofs.AnalyserLemmas.{goes_on_by, still_reached, start_end}
 use Rattle.moves.proofs.StayLemmas.{call_stays}
-use Rattle.moves.proofs.LinkLemmas.{none_linked, none_there, held_less, count_in_all, found_in, held_at, linked_woken, changed, taken, linked_at, linked_nodes, linked_behind, sum_count}
-use Rattle.moves.proofs.TouchLemmas.{sum_at_most_one, cost_cases, paid_ahead, paid_there, paid_moved, paid_waves, paid_waiters, paid_most}
+use Rattle.moves.proofs.LinkLemmas.{none_linked, none_there, held_less, count_in_all, found_in, held_at, linked_woken, changed, taken, linked_at, linked_nodes, linked_behind, sum_count, sum_all}
+use Rattle.moves.proofs.TouchLemmas.{sum_least, sum_at_most_one, cost_cases, paid_ahead, paid_there, paid_moved, paid_waves, paid_waiters, paid_most}
 use Rattle.moves.proofs.WaveLemmas.{fewer_excepted}
 use Rattle.moves.proofs.WaitLemmas.{partner_stuck, wave_stuck, resting_stuck, open_parts, open_from}
 use Rattle.moves.proofs.WakeLemmas.{most_work, Wakens, load, list_cost, all_woken, all_wakens, waiter_emptied, wave_emptied, three_cost, none_woken}
@@ -152,6 +152,7 @@ reach_hand reading groups recording s waves new w rank place done h are others o
           lists = wakens.wakes.lists ∙ h.has_lists.lists;
           nodes = omega (arith, wakens.wakes.nodes, h.has_lists.nodes, wakens.same_spare);
           awaited = ap (length {A = ℕ}) awaited ∙ h.has_lists.awaited;
+          counts = omega (arith, wakens.wakes.nodes, wakens.no_less, h.has_lists.counts);
         };
         linked =
             changed (length recording) all.lists _ (WaitsIn reading groups recording s new all.awaited) _ (λ other. Rests recording s other ⊎ (other ≡ rank)) now
@@ -257,6 +258,7 @@ hand_links reading groups recording s waves w last rank list node h links =
         lists = nodes.0 ∙ h.kept.has_lists.lists;
         nodes = omega (arith, nodes.1, h.kept.has_lists.nodes, links.spare, links.room);
         awaited = links.long ∙ h.kept.has_lists.awaited;
+        counts = omega (arith, nodes.1, links.work, h.kept.has_lists.counts);
       };
       linked =
           linked_at (length recording) w.lists last.lists list node rank (WaitsIn reading groups recording s waves last.awaited) (λ other. Rests recording s other ⊎ IsNobody other) right h.is_rank h.in_none links.within (λ later. links.waits) links.lists;
@@ -396,6 +398,7 @@ arrival_reaches reading groups recording s waves w rank place call h is_rank at_
         lists = h.kept.has_lists.lists ∙ ap (λ (n : ℕ). 1 + n + length groups) same_ranks;
         nodes = h.kept.has_lists.nodes ∙ same_ranks;
         awaited = h.kept.has_lists.awaited ∙ same_ranks;
+        counts = h.kept.has_lists.counts;
       };
       linked =
           subst (λ (n : ℕ). IsLinked n w.lists (WaitsOrWoken reading groups longer s waves w.awaited rank place) (λ other. Rests longer s other ⊎ (other ≡ rank))) same_ranks
@@ -449,6 +452,7 @@ arrival_waits reading groups recording s waves w rank call h is_rank behind end 
           lists = h.kept.has_lists.lists ∙ ap (λ (n : ℕ). 1 + n + length groups) same_ranks;
           nodes = h.kept.has_lists.nodes ∙ same_ranks;
           awaited = h.kept.has_lists.awaited ∙ same_ranks;
+          counts = h.kept.has_lists.counts;
         };
         linked =
             subst (λ (n : ℕ). IsLinked n w.lists (WaitsIn reading groups longer s waves w.awaited) (λ other. Rests longer s other ⊎ IsNobody other)) same_ranks
@@ -493,6 +497,7 @@ kept_taken reading groups recording s waves w new rank h first lists spare work 
           lists = it.lists ∙ h.has_lists.lists;
           nodes = omega (arith, it.nodes, h.has_lists.nodes, spare);
           awaited = ap (length {A = ℕ}) awaited ∙ h.has_lists.awaited;
+          counts = omega (arith, it.nodes, work, h.has_lists.counts);
         };
         linked =
             changed (length recording) new.lists _ _ _ _ it.linked
@@ -589,6 +594,7 @@ new_settled reading groups recording s waves w ranks is_empty zeros complete met
           lists = ap (length {A = Entries}) lists ∙ length-replicate (1 + ranks + length groups) [] ∙ ap (λ (n : ℕ). 1 + n + length groups) (sym long);
           nodes = omega (arith, ap held lists, none.0, spare, long);
           awaited = ap (length {A = ℕ}) awaited ∙ length-replicate ranks 0 ∙ sym long;
+          counts = omega (arith, ap held lists, none.0, work);
         };
         linked = rw lists (none_linked (length recording) (1 + ranks + length groups) _ _ (λ rank is_rank. inl (rw (is_empty, no_calls ranks rank) refl)));
         are_waves = record {
@@ -609,3 +615,22 @@ new_settled reading groups recording s waves w ranks is_empty zeros complete met
 pub touches_within : (reading : Reading) (groups : Groups) (recording : Lists) (s : State) (waves : Waves) (w : Waiting) → IsSettled reading groups recording s waves w → touches_of waves w ≤ most_touches recording
 touches_within reading groups recording s waves w h =
     omega (arith, min-le_left (w.work + waves.changes) most_work, h.kept.is_paid, paid_most recording s waves (λ rank. stand_within reading groups recording s rank h.kept.is_reached))
+
+-- each rank that waits was linked
+one_at_most : (waits : Bool) → (if waits then 1 else 0) ≤ 1
+one_at_most true = omega arith
+one_at_most false = omega arith
+
+pub waiting_linked : (reading : Reading) (groups : Groups) (recording : Lists) (s : State) (waves : Waves) (w : Waiting) → IsSettled reading groups recording s waves w → length s ≤ most_work → ranks_waiting recording s ≤ w.work
+waiting_linked reading groups recording s waves w h few =
+    let all : ranks_waiting recording s ≤ sum_to (length recording) (λ rank. in_all rank w.lists) =
+    sum_least (length recording) _ (λ rank. in_all rank w.lists) (λ rank is_rank. stands_in rank is_rank (in_all rank w.lists) refl) in
+    omega (arith, all, sum_all (length recording) w.lists h.kept.linked.ranks_only, h.kept.has_lists.counts, h.kept.has_lists.nodes, few, reached_ranks (can_move reading groups recording) (length recording) s h.kept.is_reached)
+  where
+    stands_in : (rank : ℕ) → rank < length recording → (n : ℕ) → in_all rank w.lists ≡ n → (if may_pass (slice_get (calls_of recording rank) (get_or s rank 0)) then 1 else 0) ≤ in_all rank w.lists
+    stands_in rank is_rank zero e =
+        ⊎_elim
+        (λ (rest : Rests recording s rank). rw rest (omega arith))
+        (λ (nobody : IsNobody rank). absurd nobody)
+        (h.kept.linked.rests rank is_rank e)
+    stands_in rank is_rank (suc n) e = omega (arith, e, one_at_most (may_pass (slice_get (calls_of recording rank) (get_or s rank 0))))

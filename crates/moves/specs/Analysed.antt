@@ -1,10 +1,12 @@
 -- What an analyser has of a run whose records are still coming.
-use Rattle.std.specs.Prelude.{ℕ, ◌+◌, ◌*◌, List, [], ◌∷◌, length, map}
+use Rattle.std.specs.Prelude.{ℕ, ◌+◌, ◌*◌, if◌then◌else◌, List, [], ◌∷◌, length, map, slice_get, slice_index}
 use Rattle.mpicall.specs.declared.call.Call.{Call}
 use Rattle.moves.specs.declared.reading.Reading.{Reading}
 use Rattle.mpigroup.specs.Groups.{Groups}
-use Rattle.pairing.specs.Recordings.{Lists}
+use Rattle.pairing.specs.Recordings.{Lists, calls_of}
 use Rattle.pairing.specs.Requests.{waits_for}
+use Rattle.moves.specs.Links.{sum_to}
+use Rattle.moves.specs.Needs.{may_pass}
 use Rattle.moves.specs.Runs.{State, total}
 use Rattle.moves.specs.Stands.{calls_in}
 
@@ -31,3 +33,8 @@ requests_in recording = total (map requests_of recording)
 -- the most touches: 24 for each call that was accepted, and for each request that a wait among them names
 abbrev pub most_touches : Lists → ℕ
 most_touches recording = 24 * (calls_in recording + requests_in recording)
+
+-- how many ranks wait: each has a call where it stands, and not the one that ends its list
+abbrev pub ranks_waiting : Lists → State → ℕ
+ranks_waiting recording stands =
+    sum_to (length recording) (λ rank. if may_pass (slice_get (calls_of recording rank) (slice_index stands rank)) then 1 else 0)

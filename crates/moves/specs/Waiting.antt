@@ -249,11 +249,13 @@ WaitsIn reading groups recording stands waves awaited rank list =
     ((list ≡ own_list rank) × (rank < length recording) × NeedsPartner reading groups recording stands rank (slice_index awaited rank))
     ⊎ ((comm : ℕ) × (list ≡ comm_list (length recording) comm) × NeedsWave groups recording stands waves rank comm)
 
--- there is a list for each rank and for each communicator, and a node for each rank
+-- there is a list for each rank and for each communicator, and a node for each rank; what stands in a list was
+-- counted when it was put there
 pub record HasLists (groups : Groups) (recording : Lists) (waiting : Waiting) : Type 0 where
   pub lists : length waiting.lists ≡ 1 + length recording + length groups
   pub nodes : waiting.spare + held waiting.lists ≡ length recording
   pub awaited : length waiting.awaited ≡ length recording
+  pub counts : counted (held waiting.lists) 0 ≤ waiting.work
 
 -- the touches: what was done in the lists, and each change of how far a wave is
 abbrev pub touches_of : Waves → Waiting → ℕ

@@ -12,7 +12,7 @@ ghost use Rattle.moves.specs.Runs.{start, IsTheEnd, StandsNoLater};
 ghost use Rattle.moves.specs.Needs.{can_move};
 ghost use Rattle.moves.specs.Stands.{stands_of, is_at_end};
 ghost use Rattle.moves.specs.Arrivals.{IsKeptOn};
-ghost use Rattle.moves.specs.Analysed.{most_touches};
+ghost use Rattle.moves.specs.Analysed.{most_touches, ranks_waiting};
 
 use crate::need::stand_of;
 use crate::reading::Reading;
@@ -149,10 +149,11 @@ impl Analyser {
 
     /// How much was done so far to have the ranks stand where they do: 1 each time that a rank was put into a
     /// list of waiting ranks or of those to look at, or taken out of one, and 1 each time that it was noted
-    /// how far a communicator's waves are. So it is no less than what was done in the arena of those lists.
-    /// Looks are not counted.
+    /// how far a communicator's waves are. So it is no less than what was done in the arena of those lists, and that
+    /// no less than the number of ranks that wait. Looks are not counted.
     pub fn touches(&self) -> u64
         ensures value { result ≡ self.now.touches }
+        ensures linked { ranks_waiting self.now.recording self.now.stands ≤ self.now.work }
         ensures least { self.now.work ≤ result }
         ensures most { result ≤ most_touches self.now.recording }
     {

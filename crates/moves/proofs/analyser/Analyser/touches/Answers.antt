@@ -1,7 +1,7 @@
 use Rattle.std.proofs.Common.{◌≡◌, ◌≤◌, subst, rules}
-use Rattle.moves.specs.Analysed.{Analysed, most_touches}
+use Rattle.moves.specs.Analysed.{Analysed, most_touches, ranks_waiting}
 use Rattle.moves.specs.Waiting.{touches_of}
-use Rattle.moves.proofs.SettleLemmas.{touches_within}
+use Rattle.moves.proofs.SettleLemmas.{touches_within, waiting_linked}
 use Rattle.moves.proofs.analyser.Analyser.touches.Goals as goal
 
 pub returns-clause-most : goal.returns-clause-most
@@ -11,3 +11,9 @@ returns-clause-most c =
     let within = touches_within a.reading a.pairs.groups a.pairs.recording a.stands.items a.waves a.waiters c.self.invariant in
     subst (λ n. n ≤ most_touches c.args.self.now.recording) is
     (subst (λ (b : Analysed). touches_of a.waves a.waiters ≤ most_touches b.recording) c.self.view_is within)
+
+pub returns-clause-linked : goal.returns-clause-linked
+returns-clause-linked c =
+    let a = c.self.inside in
+    subst (λ (b : Analysed). ranks_waiting b.recording b.stands ≤ b.work) c.self.view_is
+    (waiting_linked a.reading a.pairs.groups a.pairs.recording a.stands.items a.waves a.waiters c.self.invariant (search rules))
