@@ -616,11 +616,12 @@ pub touches_within : (reading : Reading) (groups : Groups) (recording : Lists) (
 touches_within reading groups recording s waves w h =
     omega (arith, min-le_left (w.work + waves.changes) most_work, h.kept.is_paid, paid_most recording s waves (λ rank. stand_within reading groups recording s rank h.kept.is_reached))
 
--- each rank that waits was linked
+-- a rank that waits counts once
 one_at_most : (waits : Bool) → (if waits then 1 else 0) ≤ 1
 one_at_most true = omega arith
 one_at_most false = omega arith
 
+-- each rank that waits was linked
 pub waiting_linked : (reading : Reading) (groups : Groups) (recording : Lists) (s : State) (waves : Waves) (w : Waiting) → IsSettled reading groups recording s waves w → length s ≤ most_work → ranks_waiting recording s ≤ w.work
 waiting_linked reading groups recording s waves w h few =
     let all : ranks_waiting recording s ≤ sum_to (length recording) (λ rank. in_all rank w.lists) =
