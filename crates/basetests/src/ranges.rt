@@ -29,15 +29,15 @@ fn a_call_out_of_its_ranges_is_no_record(rt: HostRuntime) -> Result<(), Fail> {
     let reqs = Reqs::new(&[5]).ok_or("one request")?;
     let large = Reqs::new(&[2147483648]).ok_or("one request")?;
     let calls = [
-        coll(256, Kind::Scan),
-        coll(0, Kind::Bcast(64)),
-        recv(Peer::Rank(64), 0),
+        coll(4096, Kind::Scan),
+        coll(0, Kind::Bcast(1024)),
+        recv(Peer::Rank(1024), 0),
         recv(Peer::Null, 2147483648),
         Call::Wait { req: 2147483648 },
         Call::Waitall { reqs: large },
         Call::Waitany { chosen: 1, reqs },
         split(Some(2147483648), None),
-        split(None, Some(256)),
+        split(None, Some(4096)),
     ];
     for call in calls {
         assert!(rt; Record::new(call).is_none());

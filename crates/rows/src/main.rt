@@ -16,6 +16,7 @@
 //! . TEXT                 a piece of it without a line feed
 //! many N TEXT            a line N times
 //! repeat N TEXT          a piece without a line feed, N times
+//! counts N TEXT          a line N times, with a blank and its number behind it, from 1
 //! fails PATH N           read N of that file fails, counted from 0
 //! pieces N               a read of a file gives at most N bytes
 //! threads                each file is read by a thread of its own, as where a read may wait; else by turns

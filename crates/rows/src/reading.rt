@@ -191,6 +191,17 @@ impl Reading {
         Ok(())
     }
 
+    /// Adds a line so often to the text that is being read, with its number behind it, from 1.
+    fn add_counted(&mut self, alloc: Global, rest: &str) -> Result<(), LineFault> {
+        let (times, text) = rest.split_once(' ').ok_or(LineFault::NoText)?;
+        let times = number(times)?;
+        for before in 0..times {
+            let line = format!(in alloc; "{text} {}", before + 1)?;
+            self.add(line.as_str(), "\n")?;
+        }
+        Ok(())
+    }
+
     /// The file and its read that fails.
     fn fail_read(&mut self, alloc: Global, rest: &str) -> Result<(), LineFault> {
         let (path, read) = rest.split_once(' ').ok_or(LineFault::NoText)?;
@@ -266,6 +277,7 @@ impl Reading {
             "." => self.add(rest, "")?,
             "many" => self.add_many(rest, "\n")?,
             "repeat" => self.add_many(rest, "")?,
+            "counts" => self.add_counted(alloc, rest)?,
             _ => return self.read_devices(alloc, kind, rest),
         }
         Ok(())
