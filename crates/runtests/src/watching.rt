@@ -67,7 +67,7 @@ impl Opened {
         wait: &impl Wait,
     ) -> Result<Option<Opened>, Fail> {
         let head = head_again(alloc, head)?;
-        match Session::open(alloc, head, Reading::Strict, 4, watches.min(2), wait) {
+        match Session::open(alloc, head, Reading::Strict, 2, watches.min(2), wait) {
             Ok((feeds, collector, watches)) => Ok(Some(Opened {
                 feeds,
                 collector,
@@ -135,6 +135,20 @@ impl Opened {
         }
     }
 
+    /// Ends the feeds and closes the session: its verdict, and how often its analyser linked ranks that wait.
+    fn close_with_touches(self, alloc: Global) -> Result<(Verdict, u64), CloseFault> {
+        let Opened {
+            feeds,
+            collector,
+            watches: _,
+        } = self;
+        let Ok(receipts) = end_feeds(alloc, feeds, SourceFault::NoFinalize, None) else {
+            return Err(CloseFault::Memory);
+        };
+        let outcome = collector.close(receipts)?;
+        Ok((outcome.verdict(), outcome.analyser().touches()))
+    }
+
     /// Ends the feeds and closes the session.
     fn close(self, alloc: Global) -> Result<Verdict, CloseFault> {
         let Opened {
@@ -199,19 +213,24 @@ fn a_watch_keeps_the_last_stands_of_a_closed_session(rt: HostRuntime) -> Result<
     Ok(())
 }
 
-/// What two watches of 64 ranks answer that all wait for the last one: the first once it was told of all ranks
+/// What two watches answer of ranks that all wait for the last one: the first once it was told of all ranks
 /// but the last, the second once it was told of all, the first once it was told of all, and once it was told
 /// of the earlier stands again.
-fn answers_of_two(alloc: Global, wait: &impl Wait) -> Result<[Result<Option<u32>, Gone>; 4], Fail> {
-    let mut session = Opened::of(alloc, b"ranks 64\n", 2, wait)?;
-    session.deal_barriers(0, 63)?;
+fn answers_of_two(
+    alloc: Global,
+    head: &[u8],
+    last: u16,
+    wait: &impl Wait,
+) -> Result<[Result<Option<u32>, Gone>; 4], Fail> {
+    let mut session = Opened::of(alloc, head, 2, wait)?;
+    session.deal_barriers(0, last)?;
     let earlier = session.publish(wait)?;
     session.learn(0, &earlier);
     let waiting = session.read(0, 0);
-    session.deal_barriers(63, 64)?;
+    session.deal_barriers(last, last.saturating_add(1))?;
     let told = session.publish(wait)?;
     session.learn(1, &told);
-    let last = session.read(1, 63);
+    let last = session.read(1, last);
     session.learn(0, &told);
     let over = session.read(0, 0);
     session.learn(0, &earlier);
@@ -219,12 +238,42 @@ fn answers_of_two(alloc: Global, wait: &impl Wait) -> Result<[Result<Option<u32>
 }
 
 #[test]
-fn watches_of_64_ranks(rt: HostRuntime) -> Result<(), Fail> {
-    let answers = answers_of_two(rt.alloc(), &rt)?;
-    assert_eq!(rt;
-        answers,
-        [Ok(Some(0)), Ok(Some(1)), Ok(Some(1)), Ok(Some(1))]
-    );
+fn watches_of_many_ranks(rt: HostRuntime) -> Result<(), Fail> {
+    let heads: [(&[u8], u16); 2] = [(b"ranks 64\n", 63), (b"ranks 1024\n", 1023)];
+    for (head, last) in heads {
+        let answers = answers_of_two(rt.alloc(), head, last, &rt)?;
+        assert_eq!(rt;
+            answers,
+            [Ok(Some(0)), Ok(Some(1)), Ok(Some(1)), Ok(Some(1))]
+        );
+    }
+    Ok(())
+}
+
+/// What comes of a session of 1,024 ranks in one thread, each in one barrier and the last rank first: how many
+/// stand behind it, by a watch, and the verdict with the touches.
+fn barrier_of_1024(alloc: Global, wait: &impl Wait) -> Result<(u16, Verdict, u64), Fail> {
+    let mut session = Opened::of(alloc, b"ranks 1024\n", 1, wait)?;
+    for before in 0..1024u16 {
+        session.deal_barriers(1023 - before, 1024 - before)?;
+    }
+    let told = session.publish(wait)?;
+    session.learn(0, &told);
+    let mut over = 0u16;
+    for rank in 0..1024u16 {
+        if session.read(0, rank) == Ok(Some(1)) {
+            over = over.saturating_add(1);
+        }
+    }
+    let (verdict, touches) = session.close_with_touches(alloc)?;
+    Ok((over, verdict, touches))
+}
+
+#[test]
+fn a_session_of_1024_ranks_in_one_thread(rt: HostRuntime) -> Result<(), Fail> {
+    let (over, verdict, touches) = barrier_of_1024(rt.alloc(), &rt)?;
+    assert_eq!(rt; (over, verdict), (1024, Verdict::Free));
+    assert!(rt; (1023..=49152).contains(&touches));
     Ok(())
 }
 
