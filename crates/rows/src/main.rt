@@ -20,6 +20,7 @@
 //! fails PATH N           read N of that file fails, counted from 0
 //! pieces N               a read of a file gives at most N bytes
 //! threads                each file is read by a thread of its own, as where a read may wait; else by turns
+//! meet PATH PATH         the first reads of these two files wait for each other, and fail if they don't meet
 //! out-fails N            write N on standard output fails, counted from 0
 //! out-pieces N           a write on standard output takes at most N bytes
 //! err-fails N            write N on standard error fails, counted from 0

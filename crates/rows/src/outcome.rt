@@ -3,7 +3,7 @@
 use crate::arguments::Arguments;
 use crate::named::fault_of;
 use crate::row::{Asked, Row, Wanted};
-use crate::shelf::Shelf;
+use crate::shelf::{Meeting, Shelf};
 use crate::sink::Sink;
 use command::capacity::Capacity;
 use command::fault::Fault;
@@ -87,7 +87,12 @@ fn answer_of_program<R: AllocGlobal + Eprint + Threads + Wait + Sync>(rt: &R, ro
     };
     let mut err = FailsAt::new(Counted::new(sink), devices.failing_error);
     let given = (Arguments(row.words.as_slice()), rt.alloc());
-    let ended = run(&given, &Shelf(row), rt, &mut out, &mut err);
+    let meeting = Meeting::new();
+    let shelf = Shelf {
+        row,
+        meeting: &meeting,
+    };
+    let ended = run(&given, &shelf, rt, &mut out, &mut err);
     drop(out);
     drop(err);
     Answer {

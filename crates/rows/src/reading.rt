@@ -115,6 +115,10 @@ impl Reading {
         if !failing.is_empty() && !row.has_file(failing) {
             return Err(LineFault::NoSuchFile);
         }
+        let (first, second) = &row.devices.meeting;
+        if !first.is_empty() && !(row.has_file(first) && row.has_file(second)) {
+            return Err(LineFault::NoSuchFile);
+        }
         if !row.wanted.parts.is_empty() && !row.wanted.out.is_empty() {
             return Err(LineFault::WholeAndParts);
         }
@@ -213,6 +217,16 @@ impl Reading {
         Ok(())
     }
 
+    /// The two files whose first reads wait for each other.
+    fn meet(&mut self, alloc: Global, rest: &str) -> Result<(), LineFault> {
+        let (first, second) = rest.split_once(' ').ok_or(LineFault::NoText)?;
+        if first.is_empty() || !self.row.devices.meeting.0.is_empty() {
+            return Err(LineFault::SaidTwice);
+        }
+        self.row.devices.meeting = (first.to_string(alloc)?, second.to_string(alloc)?);
+        Ok(())
+    }
+
     fn set_status(&mut self, rest: &str) -> Result<(), LineFault> {
         if self.row.wanted.status.is_some() {
             return Err(LineFault::SaidTwice);
@@ -255,6 +269,7 @@ impl Reading {
             "fails" => self.fail_read(alloc, rest)?,
             "pieces" => self.row.devices.most_read = most(rest)?,
             "threads" => self.row.devices.in_threads = true,
+            "meet" => self.meet(alloc, rest)?,
             "out-fails" => self.row.devices.failing_output = number(rest)?,
             "out-pieces" => self.row.devices.most_written = most(rest)?,
             "err-fails" => self.row.devices.failing_error = number(rest)?,

@@ -32,6 +32,8 @@ pub struct Devices {
     pub most_read: usize,
     /// Whether each file is read by a thread of its own.
     pub in_threads: bool,
+    /// Two files whose first reads wait for each other; no file has the empty path.
+    pub meeting: (String, String),
     /// The write that fails on standard output, and the most bytes that one takes.
     pub failing_output: u64,
     pub most_written: usize,
@@ -47,6 +49,7 @@ impl Devices {
             failing_read: u64::MAX,
             most_read: usize::MAX,
             in_threads: false,
+            meeting: (String::new(alloc), String::new(alloc)),
             failing_output: u64::MAX,
             most_written: usize::MAX,
             failing_error: u64::MAX,
