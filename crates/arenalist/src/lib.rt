@@ -12,8 +12,7 @@
 //!   list. A node that is taken out is spare, and a later push uses it again.
 //! - `work` counts what was done: 1 for a push, an unlink and a pop that finds something, 2 for a
 //!   move, and 2 for each node that `append` moves. It stays at the greatest `u64`.
-//! - All calls but `new_list`, `reserve` and `push_back` take no memory; with a spare node
-//!   `push_back` takes none either.
+//! - With a spare node `push_back` can't be refused.
 //!
 //! Those who do not want nodes read the map by `contents`, which gives each list's values.
 //!

@@ -27,7 +27,7 @@ module _ {O E : Type 0} (written : O → Option Text) (failures : O → ℕ) (wr
   abbrev pub EndsBySome : Status → Type 0
   EndsBySome status = (words : List Text) × Ends written failures written_errors failed_errors told old new old_errors new_errors words status
 
-  -- the words of the process were read, and the program ended by them; or they couldn't be, which standard error
+  -- the program ended by some words; or those of the process couldn't be read, which standard error
   -- says alone
   abbrev pub EndsGiven : Status → Type 0
   EndsGiven status =

@@ -5,9 +5,9 @@
 //! - `program::program` runs it on words that are texts, and gives the status.
 //! - `opener::Opener` is what opens the files that the words name; `opener::Disk` opens those of the machine.
 //!
-//! What stands on both outputs at the end, by the words and by the texts of the files, is the contract of these
-//! two; its definitions stand in `specs/`: `Asked` for the words, `Ends` for the end, `Texts` and `Lints` for
-//! what a check and a lint answer.
+//! What stands on both outputs at the end, by the words and by the texts of the files, is the contract of
+//! `program`; that of `given::run` says the same of some words. The definitions stand in `specs/`: `Asked` for
+//! the words, `Ends` for the end, `Texts` and `Lints` for what a check and a lint answer.
 #![tactic(auto)]
 
 pub mod capacity;

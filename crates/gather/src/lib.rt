@@ -11,8 +11,8 @@
 //! - `outcome::Outcome::verdict` is `Hang` exactly if some rank is held; where no list was left open, exactly if
 //!   some rank is stuck.
 //! - `Collector::publish` publishes where the ranks stand over what is kept so far, no rank lower than before, and
-//!   `watch::Watch` reads it: its answers never wait and never fall, and each is a stand that some run over what is
-//!   kept passes. `covers` says whether a watch answers by a publication of the session.
+//!   `watch::Watch` reads it: it is passed nothing to wait with, and its answers never fall. Each publication is a
+//!   state that some run over what is kept passes. Where `covers` says yes, a watch answers by one of them.
 //! - `feed::feed` puts the records of one source on a rank's feed and ends it.
 //!
 //! The definitions stand in `specs/`: `Answers` says which refusal or verdict some traces have, `Collected` and
@@ -21,7 +21,7 @@
 //! `runs`.
 //!
 //! ```text
-//! let (mut feeds, mut collector, _watches) = Session::open(alloc, head, 64, 0, wait)?;
+//! let (mut feeds, mut collector, _watches) = Session::open(alloc, head, Reading::Strict, 64, 0, wait)?;
 //! feeds[0].try_put(record)?;
 //! collector.step(0) == Stepped::Took
 //! ```

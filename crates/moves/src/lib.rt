@@ -5,7 +5,7 @@
 //! - `analyser::Analyser` takes the ranks' calls one by one, in any mix, and knows at any time where the
 //!   ranks stand. `offer` refuses a call exactly where it has a fault, with the first one, or where memory
 //!   is wanted, and then nothing has changed. After each offer the ranks stand where every maximal run over
-//!   the accepted calls ends, and no rank stands lower than before. No query takes memory.
+//!   the accepted calls ends, and no rank stands lower than before.
 //! - Every maximal run over a recording ends at the same stands, and there is one: the law
 //!   `stand::every_maximal_run_ends_at_the_stands`. No run brings a rank to its end that isn't there at
 //!   the stands, every maximal run brings the others, and a longer recording lowers no stand.

@@ -23,7 +23,7 @@
 //! - A device's fault is answered only where the device's count of failures rose.
 //! - `fails_at::FailsAt` fails at its stated call, and at no other unless the device within does;
 //!   `memory::MemoryInput` gives pieces of a stated size.
-//! - Every call returns, whatever the bytes are; `lint` does where the input ends.
+//! - Every call but `lint` returns, whatever the bytes are; a source may have no end.
 //!
 //! The definitions stand in `specs/`: `Number`, `Argument`, `Word` and `Spelling` say how a call is
 //! spelled, `Limits` which calls are records, `Lines` and `Line` what is wrong with a line, `Trace` what

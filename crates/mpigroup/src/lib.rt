@@ -7,13 +7,15 @@
 //! What the crate promises:
 //!
 //! - [`head::Head::read`] answers the groups that the text gives by the definition `read_head` of
-//!   `specs/HeadText.antt`, or the fault of the first line that has one. It alone, of the calls on heads,
-//!   takes memory, and answers its want in place of either. So many bytes as [`limits::DECIDING_BYTES`]
+//!   `specs/HeadText.antt`, or the fault of the first line that has one, or want of memory in place of
+//!   either. So many bytes as [`limits::DECIDING_BYTES`]
 //!   decide what a text says.
-//! - The look-ups answer by these groups, as `specs/Groups.antt` defines them. None searches a group.
+//! - The look-ups answer by these groups, as `specs/Groups.antt` defines them.
 //! - [`head::Head::groups_are_sound`] says of every head that each group names ranks of the run, one at
 //!   least and none twice.
 //! - [`split::split_groups`] answers the groups of `specs/Splits.antt`, or want of memory.
+//!
+//! In the code alone it is seen that no look-up searches a group or takes memory.
 //!
 //! ```text
 //! let head = Head::read(alloc, b"ranks 3\ncomm 2 0\n")?;

@@ -11,11 +11,13 @@
 //!   wave that a collective joins, and `member` a member's call in a wave (`Waves`): blocking and nonblocking
 //!   ones count together. `started` and `completed` answer the call that started a request which a wait
 //!   names, or completes (`Requests`). `probed` answers the send that a probe sees (`Probed`): the one that
-//!   the next receive of its envelope takes. No look-up takes memory or scans a list of calls.
+//!   the next receive of its envelope takes.
 //! - Laws, each on a function that does nothing: partners are mutual, no two sends have one receive, and
 //!   messages of one envelope do not overtake; a wave has at most one call of each rank; in a list without
 //!   faults each request that a wait names has its start, and no request is started while it is active;
 //!   partners, waves and what probes see stay as a recording goes on.
+//!
+//! No look-up takes memory or goes through a list of calls: that is seen in the code alone.
 //!
 //! A call takes 32 bytes with the partners of its halves or the number of its wave, and each request that a
 //! wait for several names 4 more; each collective has 4 in the table of waves. There each rank has a list for the

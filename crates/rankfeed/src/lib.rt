@@ -13,7 +13,9 @@
 //!   the end record was put, `Full` never for a new feed's first `capacity` records.
 //! - The items are in order (`IsFeed` of `specs/Items.antt`): an end mark is last, no record follows
 //!   the end record (`Call::ends_list`), and `Sealed` stands only directly behind it.
-//! - No call but `put` waits, and none but `open` takes memory. The end mark has a place of its own.
+//! - No call but `put` and `put_copy` may wait. The end mark has a place of its own.
+//!
+//! In the code alone it is seen that none but `open` takes memory.
 //!
 //! It isn't promised that a full feed has room again, that an item comes to an empty one, or that there
 //! is a receipt: there is none where the taker was dropped before.

@@ -5,7 +5,7 @@
 //! session runs, another thread steps and publishes:
 //!
 //! ```text
-//! let (feeds, mut collector, mut watches) = Session::open(alloc, head, 64, 1, &rt)?;
+//! let (feeds, mut collector, mut watches) = Session::open(alloc, head, Reading::Strict, 64, 1, &rt)?;
 //!
 //! // One thread takes the records, and publishes now and then.
 //! collector.step(rank);
