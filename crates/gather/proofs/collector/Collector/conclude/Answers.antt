@@ -1,5 +1,6 @@
 -- The answer is that of what is kept, where all feeds were drained by a receipt for each.
-use Rattle.std.proofs.Common.{◌≡◌, false, refl, sym, ap, subst, ◌∙◌}
+use Rattle.std.proofs.Common.{◌≡◌, ℕ, Option, None, Err, IfSome, false, refl, sym, ap, subst, ◌∙◌}
+use Rattle.gather.specs.declared.outcome.CloseFault.TheVariants.{Unproved}
 use Rattle.gather.specs.Collected.{Kept}
 use Rattle.gather.proofs.CloseLemmas.{AreDrained, drained, recording_closed, concluded, memory_first}
 use Rattle.gather.proofs.collector.Collector.conclude.Goals as goal
@@ -25,3 +26,8 @@ returns-in-None-clause-answer c receipts finished =
 pub returns-in-None-clause-wanting : goal.returns-in-None-clause-wanting
 returns-in-None-clause-wanting c wanted =
     memory_first c.into_ledger-ledger.result c.conclude.result (ap (λ (kept : Kept). kept.wanted) c.into_ledger-ledger.ensures ∙ wanted) c.conclude.ensures
+
+pub returns-in-None-clause-unproved : goal.returns-in-None-clause-unproved
+returns-in-None-clause-unproved c calm =
+    let none : c.args.missing ≡ None = c.unproved.ensures.none c.in-None.is (ap (λ (kept : Kept). kept.wanted) c.into_ledger-ledger.ensures ∙ calm) in
+    subst (λ (missing : Option ℕ). IfSome missing (λ rank. c.conclude.result ≡ Err (Unproved rank))) (sym none) tt

@@ -1,4 +1,4 @@
-use Rattle.std.proofs.Common.{ℕ, List, ap, ◌∙◌}
+use Rattle.std.proofs.Common.{ℕ, List, ap, sym, ◌∙◌}
 use Rattle.rankfeed.specs.declared.item.Item.{Item}
 use Rattle.watches.specs.Publishers.{published_by}
 use Rattle.gather.proofs.OpenLemmas.{opened, nothing_received}
@@ -13,3 +13,6 @@ of-requires-clause-passed g c = first_passed c.in-Ok-new.ledger.reading c.in-Ok-
 
 pub returns-in-Ok-new-clause-received : goal.returns-in-Ok-new-clause-received
 returns-in-Ok-new-clause-received g c rank = ap (λ (f : ℕ → List Item). f rank) c.of.ensures.received ∙ nothing_received c.in-Ok.takers.items rank c.in-Ok.ensures.takers
+
+pub returns-in-Ok-new-clause-watch : goal.returns-in-Ok-new-clause-watch
+returns-in-Ok-new-clause-watch g c k d below = rw (c.of.ensures.publisher, sym c.ranks-ranks.ensures.value, c.in_ok-publisher.ensures.published) (c.in_ok-publisher.ensures.watches k d below)
