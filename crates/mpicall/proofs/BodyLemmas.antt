@@ -19,27 +19,19 @@ use Rattle.mpicall.proofs.ArgumentLemmas.{small_form, and_true, le_to, le_from, 
 use Rattle.mpicall.proofs.RowLemmas.{row_spelled, row_length, row_none}
 use Rattle.mpicall.specs.declared.call.Call.{Call}
 use Rattle.mpicall.specs.declared.call.Call.TheVariants.{Waitany}
-use Rattle.mpicall.specs.declared.word.Collective.TheVariants.{Barrier, Bcast, Gather, Scatter, Reduce, Allgather, Alltoall, Allreduce, Scan, Exscan}
+use Rattle.mpicall.specs.declared.word.Collective.TheVariants.{Barrier}
 use Rattle.mpicall.specs.declared.word.Collective.{Collective}
-use Rattle.mpicall.specs.declared.call.Mode.TheVariants.{Standard, Synchronous, Buffered}
-use Rattle.mpicall.specs.declared.word.Operation.TheVariants.{Send as SendOperation, Recv as RecvOperation, Coll as CollOperation}
+use Rattle.mpicall.specs.declared.call.Mode.TheVariants.{Standard}
+use Rattle.mpicall.specs.declared.word.Operation.TheVariants.{Send as SendOperation, Coll as CollOperation}
 use Rattle.mpicall.specs.declared.word.Operation.{Operation}
 use Rattle.mpicall.specs.declared.word.Word.{Word}
-use Rattle.mpicall.specs.declared.word.Word.TheVariants.{Blocking, Started, Sendrecv as SendrecvWord, Wait as WaitWord, Waitall as WaitallWord, Waitany as WaitanyWord, Dup as DupWord, Split as SplitWord, Probe as ProbeWord, Finalize as FinalizeWord, Open as OpenWord}
+use Rattle.mpicall.specs.declared.word.Word.TheVariants.{Blocking, Started, Sendrecv as SendrecvWord, Waitall as WaitallWord, Waitany as WaitanyWord}
 
 -- Words whose fields have fixed forms.
 
 root_small : (c : Collective) → list_all small_form (root_forms c) ≡ true
 root_small Barrier = refl
-root_small Bcast = refl
-root_small Gather = refl
-root_small Scatter = refl
-root_small Reduce = refl
-root_small Allgather = refl
-root_small Alltoall = refl
-root_small Allreduce = refl
-root_small Scan = refl
-root_small Exscan = refl
+root_small _ = refl
 
 bytes_small : (plain count : ℕ) → list_all small_form (bytes_forms plain count) ≡ true
 bytes_small plain count = by_test (count == plain + 1)
@@ -50,10 +42,8 @@ bytes_small plain count = by_test (count == plain + 1)
 
 operation_small : (o : Operation) (count : ℕ) → list_all small_form (operation_forms o count) ≡ true
 operation_small (SendOperation Standard) count = bytes_small 3 count
-operation_small (SendOperation Synchronous) count = refl
-operation_small (SendOperation Buffered) count = refl
-operation_small RecvOperation count = refl
 operation_small (CollOperation c) count = root_small c
+operation_small _ count = refl
 
 abbrev shape_small : Shape → Bool
 shape_small (Fixed forms) = list_all small_form forms
@@ -63,14 +53,7 @@ word_small : (w : Word) (count : ℕ) → shape_small (shape_of w count) ≡ tru
 word_small (Blocking o) count = operation_small o count
 word_small (Started o) count = operation_small o (count - 1)
 word_small SendrecvWord count = bytes_small 5 count
-word_small WaitWord count = refl
-word_small WaitallWord count = refl
-word_small WaitanyWord count = refl
-word_small DupWord count = refl
-word_small SplitWord count = refl
-word_small ProbeWord count = refl
-word_small FinalizeWord count = refl
-word_small OpenWord count = refl
+word_small _ count = refl
 
 abbrev is_fixed : Shape → Bool
 is_fixed (Fixed forms) = true

@@ -70,27 +70,11 @@ rebuilt args = rebuilt_from [] args args 0 refl refl
 
 root_rebuilt : (c : Collective) (k : ℕ) (args : List Argument) → root_arguments (root_of (kind_of c (at args k))) ≡ rebuild (root_forms c) k args
 root_rebuilt Barrier k args = refl
-root_rebuilt Bcast k args = refl
-root_rebuilt Gather k args = refl
-root_rebuilt Scatter k args = refl
-root_rebuilt Reduce k args = refl
-root_rebuilt Allgather k args = refl
-root_rebuilt Alltoall k args = refl
-root_rebuilt Allreduce k args = refl
-root_rebuilt Scan k args = refl
-root_rebuilt Exscan k args = refl
+root_rebuilt _ k args = refl
 
 name_kept : (c : Collective) (root : Argument) → name_of (kind_of c root) ≡ c
 name_kept Barrier root = refl
-name_kept Bcast root = refl
-name_kept Gather root = refl
-name_kept Scatter root = refl
-name_kept Reduce root = refl
-name_kept Allgather root = refl
-name_kept Alltoall root = refl
-name_kept Allreduce root = refl
-name_kept Scan root = refl
-name_kept Exscan root = refl
+name_kept _ root = refl
 
 -- the bytes of a message, where there is one argument more
 bytes_rebuilt : (more : Bool) (place : ℕ) (args : List Argument) → length args ≡ place + length (if more then bytes_form ∷ [] else []) → bytes_arguments (number_at args place) ≡ rebuild (if more then bytes_form ∷ [] else []) place args
@@ -146,14 +130,9 @@ fixed_back (Started (Send Buffered)) forms args is e = (same_arguments _ forms a
 fixed_back (Started Recv) forms args is e = (same_arguments _ forms args _ (started_rebuilt Recv args (count_of _ forms args is e)) is e, refl, refl)
 fixed_back (Started (Coll c)) forms args is e = (same_arguments _ forms args _ (started_rebuilt (Coll c) args (count_of _ forms args is e)) is e, ap (λ n. Started (Coll n)) (name_kept c (at args 2)), refl)
 fixed_back Sendrecv forms args is e = (same_arguments _ forms args _ (sendrecv_rebuilt args (count_of _ forms args is e)) is e, refl, refl)
-fixed_back Wait forms args is e = (same_arguments (request_form ∷ []) forms args _ refl is e, refl, refl)
 fixed_back Waitall forms args is e = cc
 fixed_back Waitany forms args is e = cc
-fixed_back Dup forms args is e = (same_arguments (comm_form ∷ comm_form ∷ []) forms args _ refl is e, refl, refl)
-fixed_back Split forms args is e = (same_arguments (comm_form ∷ ColourForm ∷ KeyForm ∷ NewForm ∷ []) forms args _ refl is e, refl, refl)
-fixed_back Probe forms args is e = (same_arguments (comm_form ∷ PeerForm ∷ tag_form ∷ []) forms args _ refl is e, refl, refl)
-fixed_back Finalize forms args is e = (same_arguments [] forms args _ refl is e, refl, refl)
-fixed_back Open forms args is e = (same_arguments [] forms args _ refl is e, refl, refl)
+fixed_back _ forms args is e = (same_arguments _ forms args _ refl is e, refl, refl)
 
 -- Fields in their forms are read.
 

@@ -76,51 +76,21 @@ word_has text w e =
 operation_found : (o : Operation) → operation_of (operation_text o) ≡ Some o
 unfolding operation_of collective_of
 operation_found (Send Standard) = refl
-operation_found (Send Synchronous) = refl
-operation_found (Send Buffered) = refl
-operation_found Recv = refl
 operation_found (Coll Barrier) = refl
-operation_found (Coll Bcast) = refl
-operation_found (Coll Gather) = refl
-operation_found (Coll Scatter) = refl
-operation_found (Coll Reduce) = refl
-operation_found (Coll Allgather) = refl
-operation_found (Coll Alltoall) = refl
-operation_found (Coll Allreduce) = refl
-operation_found (Coll Scan) = refl
-operation_found (Coll Exscan) = refl
+operation_found _ = refl
 
 -- no operation's word begins with the letter of a start
 operation_starts_none : (o : Operation) → operation_of (start_letter ∷ operation_text o) ≡ None
 unfolding operation_of collective_of
 operation_starts_none (Send Standard) = refl
-operation_starts_none (Send Synchronous) = refl
-operation_starts_none (Send Buffered) = refl
-operation_starts_none Recv = refl
 operation_starts_none (Coll Barrier) = refl
-operation_starts_none (Coll Bcast) = refl
-operation_starts_none (Coll Gather) = refl
-operation_starts_none (Coll Scatter) = refl
-operation_starts_none (Coll Reduce) = refl
-operation_starts_none (Coll Allgather) = refl
-operation_starts_none (Coll Alltoall) = refl
-operation_starts_none (Coll Allreduce) = refl
-operation_starts_none (Coll Scan) = refl
-operation_starts_none (Coll Exscan) = refl
+operation_starts_none _ = refl
 
 pub word_found : (w : Word) → word_of (text_of w) ≡ Some w
 unfolding word_of operation_of collective_of
 word_found (Blocking o) = rw (operation_found o) refl
 word_found (Started o) = rw (operation_starts_none o, operation_found o) refl
-word_found Sendrecv = refl
-word_found Wait = refl
-word_found Waitall = refl
-word_found Waitany = refl
-word_found Dup = refl
-word_found Split = refl
-word_found Probe = refl
-word_found Finalize = refl
-word_found Open = refl
+word_found _ = refl
 
 -- Each text has bytes, few and all above the space.
 
@@ -129,19 +99,8 @@ fair text = nat_lt 0 (length text) && nat_le (length text) 9 && list_all above_s
 
 operation_fair : (o : Operation) → fair (operation_text o) ≡ true
 operation_fair (Send Standard) = refl
-operation_fair (Send Synchronous) = refl
-operation_fair (Send Buffered) = refl
-operation_fair Recv = refl
 operation_fair (Coll Barrier) = refl
-operation_fair (Coll Bcast) = refl
-operation_fair (Coll Gather) = refl
-operation_fair (Coll Scatter) = refl
-operation_fair (Coll Reduce) = refl
-operation_fair (Coll Allgather) = refl
-operation_fair (Coll Alltoall) = refl
-operation_fair (Coll Allreduce) = refl
-operation_fair (Coll Scan) = refl
-operation_fair (Coll Exscan) = refl
+operation_fair _ = refl
 
 pub record IsText (text : List ℕ) : Type 0 where
   pub clean : list_all above_space text ≡ true
@@ -165,12 +124,4 @@ started_text text h =
 pub text_is : (w : Word) → IsText (text_of w)
 text_is (Blocking o) = fair_text _ (operation_fair o)
 text_is (Started o) = started_text _ (operation_fair o)
-text_is Sendrecv = fair_text _ refl
-text_is Wait = fair_text _ refl
-text_is Waitall = fair_text _ refl
-text_is Waitany = fair_text _ refl
-text_is Dup = fair_text _ refl
-text_is Split = fair_text _ refl
-text_is Probe = fair_text _ refl
-text_is Finalize = fair_text _ refl
-text_is Open = fair_text _ refl
+text_is _ = fair_text _ refl
