@@ -25,7 +25,8 @@ use Rattle.mpicall.specs.declared.call.Mode.TheVariants.{Standard}
 use Rattle.mpicall.specs.declared.word.Operation.TheVariants.{Send as SendOperation, Coll as CollOperation}
 use Rattle.mpicall.specs.declared.word.Operation.{Operation}
 use Rattle.mpicall.specs.declared.word.Word.{Word}
-use Rattle.mpicall.specs.declared.word.Word.TheVariants.{Blocking, Started, Sendrecv as SendrecvWord, Waitall as WaitallWord, Waitany as WaitanyWord}
+use Rattle.mpicall.specs.declared.word.Word.TheVariants.{Blocking, Started, Named}
+use Rattle.mpicall.specs.declared.word.Name.TheVariants as name
 
 -- Words whose fields have fixed forms.
 
@@ -52,7 +53,7 @@ shape_small _ = true
 word_small : (w : Word) (count : ℕ) → shape_small (shape_of w count) ≡ true
 word_small (Blocking o) count = operation_small o count
 word_small (Started o) count = operation_small o (count - 1)
-word_small SendrecvWord count = bytes_small 5 count
+word_small (Named name.Sendrecv) count = bytes_small 5 count
 word_small _ count = refl
 
 abbrev is_fixed : Shape → Bool
@@ -61,8 +62,8 @@ is_fixed _ = false
 
 -- a word whose forms are fixed names no list of requests
 pub lists_none : Word → Bool
-lists_none WaitallWord = false
-lists_none WaitanyWord = false
+lists_none (Named name.Waitall) = false
+lists_none (Named name.Waitany) = false
 lists_none _ = true
 
 pub both : (a b : Bool) → a ≡ true → b ≡ true → (a && b) ≡ true
@@ -225,7 +226,7 @@ unfolding number_up_to
 greater_none a b n field h e = canonical_above (is_canonical field) (value_of field) a b n h e
 
 -- an index that is none below the number of requests
-chosen_unfit : (field : List ℕ) (left : List (List ℕ)) → (nat_le (length left) 64 ≡ true → number_up_to (length left - 1) field ≡ None) → fits WaitanyWord (field ∷ left) ≡ false
+chosen_unfit : (field : List ℕ) (left : List (List ℕ)) → (nat_le (length left) 64 ≡ true → number_up_to (length left - 1) field ≡ None) → fits (Named name.Waitany) (field ∷ left) ≡ false
 chosen_unfit field left none =
     not_both (takes_count Chosen (length (field ∷ left))) (all_in_form Chosen (field ∷ left)) (λ counts.
     let parts = and_true (nat_le 2 (length (field ∷ left))) (nat_le (length (field ∷ left)) 65) counts in
@@ -237,7 +238,7 @@ number_none : (greatest : ℕ) (o : Option ℕ) (left : List (List ℕ)) → wit
 number_none greatest None left e = refl
 number_none greatest (Some n) left e = cc
 
-pub index_missing : (all : List (List ℕ)) → next_argument (NumberUpTo 63) all ≡ None → fits WaitanyWord all ≡ false
+pub index_missing : (all : List (List ℕ)) → next_argument (NumberUpTo 63) all ≡ None → fits (Named name.Waitany) all ≡ false
 index_missing [] e = refl
 index_missing (field ∷ left) e =
     chosen_unfit field left (λ few.
@@ -270,25 +271,25 @@ unfit_list n x c e =
     let high : nat_le (suc n) 65 ≡ nat_le n 64 = grind (arith, nat_tests) in
     rw (low, high) (unfit_last (nat_le 1 n && nat_le n 64) x c e)
 
-pub list_unfit : (all : List (List ℕ)) (chosen : ℕ) (left : List (List ℕ)) → Index all chosen left → requests_fit left ≡ false → fits WaitanyWord all ≡ false
+pub list_unfit : (all : List (List ℕ)) (chosen : ℕ) (left : List (List ℕ)) → Index all chosen left → requests_fit left ≡ false → fits (Named name.Waitany) all ≡ false
 list_unfit all chosen left i e =
-    ap (fits WaitanyWord) i.all_are ∙ unfit_list (length left) (is_in_form (index_form (length left)) i.field) (all_requests left) e
+    ap (fits (Named name.Waitany)) i.all_are ∙ unfit_list (length left) (is_in_form (index_form (length left)) i.field) (all_requests left) e
 
 as_many : (reqs : List ℕ) → length (map spell (map request_argument reqs)) ≡ length reqs
 as_many reqs = length-map (map request_argument reqs) spell ∙ length-map reqs request_argument
 
-pub index_unfit : (all : List (List ℕ)) (chosen : ℕ) (left : List (List ℕ)) (reqs : List ℕ) → Index all chosen left → SpellsRequests left reqs → length reqs ≤ chosen → fits WaitanyWord all ≡ false
+pub index_unfit : (all : List (List ℕ)) (chosen : ℕ) (left : List (List ℕ)) (reqs : List ℕ) → Index all chosen left → SpellsRequests left reqs → length reqs ≤ chosen → fits (Named name.Waitany) all ≡ false
 index_unfit all chosen left reqs i s above =
     let count = ap length s.fields_are ∙ as_many reqs in
     let enough = and_true (nat_le 1 (length reqs)) (nat_le (length reqs) 64) s.enough in
     let least = le_from 1 (length reqs) enough.0 in
-    ap (fits WaitanyWord) i.all_are
+    ap (fits (Named name.Waitany)) i.all_are
     ∙ chosen_unfit i.field left (λ few. greater_none (length left - 1) 63 chosen i.field (omega arith) i.number_is)
 
 with_first : (field : List ℕ) (chosen : ℕ) (left : List (List ℕ)) (reqs : List ℕ) → field ≡ decimal chosen → left ≡ map spell (map request_argument reqs) → field ∷ left ≡ decimal chosen ∷ map spell (map request_argument reqs)
 with_first field chosen left reqs p q = rw (p, q) refl
 
-pub index_fits : (all : List (List ℕ)) (chosen : ℕ) (left : List (List ℕ)) (reqs : List ℕ) → Index all chosen left → SpellsRequests left reqs → chosen < length reqs → (all ≡ map spell (arguments_of (Waitany chosen reqs))) × (WaitanyWord ≡ WaitanyWord) × (in_ranges (Waitany chosen reqs) ≡ true)
+pub index_fits : (all : List (List ℕ)) (chosen : ℕ) (left : List (List ℕ)) (reqs : List ℕ) → Index all chosen left → SpellsRequests left reqs → chosen < length reqs → (all ≡ map spell (arguments_of (Waitany chosen reqs))) × ((Named name.Waitany) ≡ (Named name.Waitany)) × (in_ranges (Waitany chosen reqs) ≡ true)
 index_fits all chosen left reqs i s below =
     let text = number-decimal 63 chosen i.field (omega arith) i.number_is in
     let in_list : nat_le chosen (length reqs - 1) ≡ true = le_to chosen (length reqs - 1) (omega arith) in

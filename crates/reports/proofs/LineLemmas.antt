@@ -17,7 +17,8 @@ use Rattle.mpicall.specs.declared.word.Collective.TheVariants.{Barrier, Bcast, G
 use Rattle.mpicall.specs.declared.word.Operation.{Operation}
 use Rattle.mpicall.specs.declared.word.Operation.TheVariants.{Send, Recv, Coll}
 use Rattle.mpicall.specs.declared.word.Word.{Word}
-use Rattle.mpicall.specs.declared.word.Word.TheVariants.{Blocking, Started, Sendrecv, Wait, Waitall, Waitany, Dup, Split, Probe, Finalize, Open}
+use Rattle.mpicall.specs.declared.word.Word.TheVariants.{Blocking, Started, Named}
+use Rattle.mpicall.specs.declared.word.Name.TheVariants.{Waitall}
 
 -- ---- numbers
 
@@ -73,6 +74,7 @@ operation_small _ = refl
 word_small : (word : Word) → is_small (text_of word) ≡ true
 word_small (Blocking operation) = operation_small operation
 word_small (Started operation) = operation_small operation
+word_small (Named Waitall) = refl
 word_small _ = refl
 
 -- ---- fields and lines
