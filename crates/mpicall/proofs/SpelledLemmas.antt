@@ -25,7 +25,7 @@ use Rattle.mpicall.specs.Spelling.{word_of_call, arguments_of, name_of, root_of,
 use Rattle.mpicall.proofs.ArgumentLemmas.{and_true, le_to, le_from}
 use Rattle.mpicall.proofs.DecimalLemmas.{number-decimal, value_decimal}
 use Rattle.mpicall.specs.declared.word.Collective.{Collective}
-use Rattle.mpicall.specs.declared.word.Collective.TheVariants.{Barrier, Bcast, Gather, Scatter, Reduce, Allgather, Alltoall, Allreduce, Scan, Exscan}
+use Rattle.mpicall.specs.declared.word.Collective.TheVariants.{Barrier}
 use Rattle.mpicall.specs.declared.call.Mode.TheVariants.{Standard, Synchronous, Buffered}
 use Rattle.mpicall.specs.declared.word.Operation.{Operation}
 use Rattle.mpicall.specs.declared.word.Operation.TheVariants.{Send, Recv, Coll}

@@ -1,6 +1,6 @@
 -- Communicators of a rank (MPI 4.0, section 7.4.2). Each rank holds the world, and the communicators that
 -- its own MPI_Comm_dup and MPI_Comm_split have made.
-use Rattle.std.specs.Prelude.{ℕ, ◌==◌, Bool, false, ◌||◌, Option, Some, None, List}
+use Rattle.std.specs.Prelude.{ℕ, ◌==◌, Bool, false, ◌||◌, Option, None, List}
 use Rattle.std.specs.List.{list_any}
 use Rattle.std.specs.Option.{option_map_or}
 use Rattle.mpicall.specs.declared.call.Call.{Call}
