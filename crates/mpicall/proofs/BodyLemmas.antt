@@ -19,27 +19,20 @@ use Rattle.mpicall.proofs.ArgumentLemmas.{small_form, and_true, le_to, le_from, 
 use Rattle.mpicall.proofs.RowLemmas.{row_spelled, row_length, row_none}
 use Rattle.mpicall.specs.declared.call.Call.{Call}
 use Rattle.mpicall.specs.declared.call.Call.TheVariants.{Waitany}
-use Rattle.mpicall.specs.declared.word.Collective.TheVariants.{Barrier, Bcast, Gather, Scatter, Reduce, Allgather, Alltoall, Allreduce, Scan, Exscan}
+use Rattle.mpicall.specs.declared.word.Collective.TheVariants.{Barrier}
 use Rattle.mpicall.specs.declared.word.Collective.{Collective}
-use Rattle.mpicall.specs.declared.call.Mode.TheVariants.{Standard, Synchronous, Buffered}
-use Rattle.mpicall.specs.declared.word.Operation.TheVariants.{Send as SendOperation, Recv as RecvOperation, Coll as CollOperation}
+use Rattle.mpicall.specs.declared.call.Mode.TheVariants.{Standard}
+use Rattle.mpicall.specs.declared.word.Operation.TheVariants.{Send as SendOperation, Coll as CollOperation}
 use Rattle.mpicall.specs.declared.word.Operation.{Operation}
 use Rattle.mpicall.specs.declared.word.Word.{Word}
-use Rattle.mpicall.specs.declared.word.Word.TheVariants.{Blocking, Started, Sendrecv as SendrecvWord, Wait as WaitWord, Waitall as WaitallWord, Waitany as WaitanyWord, Dup as DupWord, Split as SplitWord, Probe as ProbeWord, Finalize as FinalizeWord, Open as OpenWord}
+use Rattle.mpicall.specs.declared.word.Word.TheVariants.{Blocking, Started, Named}
+use Rattle.mpicall.specs.declared.word.Name.TheVariants as name
 
 -- Words whose fields have fixed forms.
 
 root_small : (c : Collective) → list_all small_form (root_forms c) ≡ true
 root_small Barrier = refl
-root_small Bcast = refl
-root_small Gather = refl
-root_small Scatter = refl
-root_small Reduce = refl
-root_small Allgather = refl
-root_small Alltoall = refl
-root_small Allreduce = refl
-root_small Scan = refl
-root_small Exscan = refl
+root_small _ = refl
 
 bytes_small : (plain count : ℕ) → list_all small_form (bytes_forms plain count) ≡ true
 bytes_small plain count = by_test (count == plain + 1)
@@ -50,10 +43,8 @@ bytes_small plain count = by_test (count == plain + 1)
 
 operation_small : (o : Operation) (count : ℕ) → list_all small_form (operation_forms o count) ≡ true
 operation_small (SendOperation Standard) count = bytes_small 3 count
-operation_small (SendOperation Synchronous) count = refl
-operation_small (SendOperation Buffered) count = refl
-operation_small RecvOperation count = refl
 operation_small (CollOperation c) count = root_small c
+operation_small _ count = refl
 
 abbrev shape_small : Shape → Bool
 shape_small (Fixed forms) = list_all small_form forms
@@ -62,15 +53,8 @@ shape_small _ = true
 word_small : (w : Word) (count : ℕ) → shape_small (shape_of w count) ≡ true
 word_small (Blocking o) count = operation_small o count
 word_small (Started o) count = operation_small o (count - 1)
-word_small SendrecvWord count = bytes_small 5 count
-word_small WaitWord count = refl
-word_small WaitallWord count = refl
-word_small WaitanyWord count = refl
-word_small DupWord count = refl
-word_small SplitWord count = refl
-word_small ProbeWord count = refl
-word_small FinalizeWord count = refl
-word_small OpenWord count = refl
+word_small (Named name.Sendrecv) count = bytes_small 5 count
+word_small _ count = refl
 
 abbrev is_fixed : Shape → Bool
 is_fixed (Fixed forms) = true
@@ -78,8 +62,8 @@ is_fixed _ = false
 
 -- a word whose forms are fixed names no list of requests
 pub lists_none : Word → Bool
-lists_none WaitallWord = false
-lists_none WaitanyWord = false
+lists_none (Named name.Waitall) = false
+lists_none (Named name.Waitany) = false
 lists_none _ = true
 
 pub both : (a b : Bool) → a ≡ true → b ≡ true → (a && b) ≡ true
@@ -242,7 +226,7 @@ unfolding number_up_to
 greater_none a b n field h e = canonical_above (is_canonical field) (value_of field) a b n h e
 
 -- an index that is none below the number of requests
-chosen_unfit : (field : List ℕ) (left : List (List ℕ)) → (nat_le (length left) 64 ≡ true → number_up_to (length left - 1) field ≡ None) → fits WaitanyWord (field ∷ left) ≡ false
+chosen_unfit : (field : List ℕ) (left : List (List ℕ)) → (nat_le (length left) 64 ≡ true → number_up_to (length left - 1) field ≡ None) → fits (Named name.Waitany) (field ∷ left) ≡ false
 chosen_unfit field left none =
     not_both (takes_count Chosen (length (field ∷ left))) (all_in_form Chosen (field ∷ left)) (λ counts.
     let parts = and_true (nat_le 2 (length (field ∷ left))) (nat_le (length (field ∷ left)) 65) counts in
@@ -254,7 +238,7 @@ number_none : (greatest : ℕ) (o : Option ℕ) (left : List (List ℕ)) → wit
 number_none greatest None left e = refl
 number_none greatest (Some n) left e = cc
 
-pub index_missing : (all : List (List ℕ)) → next_argument (NumberUpTo 63) all ≡ None → fits WaitanyWord all ≡ false
+pub index_missing : (all : List (List ℕ)) → next_argument (NumberUpTo 63) all ≡ None → fits (Named name.Waitany) all ≡ false
 index_missing [] e = refl
 index_missing (field ∷ left) e =
     chosen_unfit field left (λ few.
@@ -287,25 +271,25 @@ unfit_list n x c e =
     let high : nat_le (suc n) 65 ≡ nat_le n 64 = grind (arith, nat_tests) in
     rw (low, high) (unfit_last (nat_le 1 n && nat_le n 64) x c e)
 
-pub list_unfit : (all : List (List ℕ)) (chosen : ℕ) (left : List (List ℕ)) → Index all chosen left → requests_fit left ≡ false → fits WaitanyWord all ≡ false
+pub list_unfit : (all : List (List ℕ)) (chosen : ℕ) (left : List (List ℕ)) → Index all chosen left → requests_fit left ≡ false → fits (Named name.Waitany) all ≡ false
 list_unfit all chosen left i e =
-    ap (fits WaitanyWord) i.all_are ∙ unfit_list (length left) (is_in_form (index_form (length left)) i.field) (all_requests left) e
+    ap (fits (Named name.Waitany)) i.all_are ∙ unfit_list (length left) (is_in_form (index_form (length left)) i.field) (all_requests left) e
 
 as_many : (reqs : List ℕ) → length (map spell (map request_argument reqs)) ≡ length reqs
 as_many reqs = length-map (map request_argument reqs) spell ∙ length-map reqs request_argument
 
-pub index_unfit : (all : List (List ℕ)) (chosen : ℕ) (left : List (List ℕ)) (reqs : List ℕ) → Index all chosen left → SpellsRequests left reqs → length reqs ≤ chosen → fits WaitanyWord all ≡ false
+pub index_unfit : (all : List (List ℕ)) (chosen : ℕ) (left : List (List ℕ)) (reqs : List ℕ) → Index all chosen left → SpellsRequests left reqs → length reqs ≤ chosen → fits (Named name.Waitany) all ≡ false
 index_unfit all chosen left reqs i s above =
     let count = ap length s.fields_are ∙ as_many reqs in
     let enough = and_true (nat_le 1 (length reqs)) (nat_le (length reqs) 64) s.enough in
     let least = le_from 1 (length reqs) enough.0 in
-    ap (fits WaitanyWord) i.all_are
+    ap (fits (Named name.Waitany)) i.all_are
     ∙ chosen_unfit i.field left (λ few. greater_none (length left - 1) 63 chosen i.field (omega arith) i.number_is)
 
 with_first : (field : List ℕ) (chosen : ℕ) (left : List (List ℕ)) (reqs : List ℕ) → field ≡ decimal chosen → left ≡ map spell (map request_argument reqs) → field ∷ left ≡ decimal chosen ∷ map spell (map request_argument reqs)
 with_first field chosen left reqs p q = rw (p, q) refl
 
-pub index_fits : (all : List (List ℕ)) (chosen : ℕ) (left : List (List ℕ)) (reqs : List ℕ) → Index all chosen left → SpellsRequests left reqs → chosen < length reqs → (all ≡ map spell (arguments_of (Waitany chosen reqs))) × (WaitanyWord ≡ WaitanyWord) × (in_ranges (Waitany chosen reqs) ≡ true)
+pub index_fits : (all : List (List ℕ)) (chosen : ℕ) (left : List (List ℕ)) (reqs : List ℕ) → Index all chosen left → SpellsRequests left reqs → chosen < length reqs → (all ≡ map spell (arguments_of (Waitany chosen reqs))) × ((Named name.Waitany) ≡ (Named name.Waitany)) × (in_ranges (Waitany chosen reqs) ≡ true)
 index_fits all chosen left reqs i s below =
     let text = number-decimal 63 chosen i.field (omega arith) i.number_is in
     let in_list : nat_le chosen (length reqs - 1) ≡ true = le_to chosen (length reqs - 1) (omega arith) in

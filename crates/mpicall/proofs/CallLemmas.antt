@@ -15,9 +15,9 @@ use Rattle.mpicall.proofs.RowLemmas.{row_back, row_in_form}
 use Rattle.std.proofs.lemmas.Bool.{false≢true}
 use Rattle.mpicall.specs.declared.call.Mode.TheVariants.{Standard, Synchronous, Buffered}
 use Rattle.mpicall.specs.declared.call.Kind.{Kind}
-use Rattle.mpicall.specs.declared.call.Kind.TheVariants.{Barrier, Bcast, Gather, Scatter, Reduce, Allgather, Alltoall, Allreduce, Scan, Exscan}
+use Rattle.mpicall.specs.declared.call.Kind.TheVariants.{Barrier}
 use Rattle.mpicall.specs.declared.call.Call.{Call}
-use Rattle.mpicall.specs.declared.call.Call.TheVariants.{Send, Recv, Isend, Irecv, Sendrecv, Wait, Waitall, Waitany, Coll, Icoll, Dup, Split, Probe, Finalize, Open}
+use Rattle.mpicall.specs.declared.call.Call.TheVariants.{Send, Isend, Sendrecv, Waitall, Waitany, Coll, Icoll}
 
 -- What is known of a call in its ranges.
 pub record KnownCall (x : Call) : Type 0 where
@@ -36,15 +36,7 @@ record KindRow (kind : Kind) : Type 0 where
 
 kind_row : (kind : Kind) → KindRow kind
 kind_row Barrier = record { forms = refl; kind_is = refl; small = refl; few = refl }
-kind_row (Bcast root) = record { forms = refl; kind_is = refl; small = refl; few = refl }
-kind_row (Gather root) = record { forms = refl; kind_is = refl; small = refl; few = refl }
-kind_row (Scatter root) = record { forms = refl; kind_is = refl; small = refl; few = refl }
-kind_row (Reduce root) = record { forms = refl; kind_is = refl; small = refl; few = refl }
-kind_row Allgather = record { forms = refl; kind_is = refl; small = refl; few = refl }
-kind_row Alltoall = record { forms = refl; kind_is = refl; small = refl; few = refl }
-kind_row Allreduce = record { forms = refl; kind_is = refl; small = refl; few = refl }
-kind_row Scan = record { forms = refl; kind_is = refl; small = refl; few = refl }
-kind_row Exscan = record { forms = refl; kind_is = refl; small = refl; few = refl }
+kind_row _ = record { forms = refl; kind_is = refl; small = refl; few = refl }
 
 in_range_of : (x : Call) → in_ranges x ≡ true → list_all is_in_range (arguments_of x) ≡ true
 in_range_of x h = (and_true (list_all is_in_range (arguments_of x)) (names_enough x) h).0
@@ -139,24 +131,17 @@ waitany_known chosen reqs enough h =
 
 -- Every call.
 
+tells_none : (args : List Argument) → (list_all is_in_range args && false) ≡ true → ⊥
+tells_none args h = false≢true ((and_true (list_all is_in_range args) false h).1)
+
 pub known_call : (x : Call) → in_ranges x ≡ true → KnownCall x
 known_call (Send Standard comm dest tag None) h = fixed _ refl refl refl (omega arith) h
-known_call (Send Standard comm dest tag (Some bytes)) h = fixed _ refl refl refl (omega arith) h
-known_call (Send Synchronous comm dest tag None) h = fixed _ refl refl refl (omega arith) h
-known_call (Send Synchronous comm dest tag (Some bytes)) h = absurd (false≢true ((and_true (list_all is_in_range (arguments_of (Send Synchronous comm dest tag (Some bytes)))) false h).1))
-known_call (Send Buffered comm dest tag None) h = fixed _ refl refl refl (omega arith) h
-known_call (Send Buffered comm dest tag (Some bytes)) h = absurd (false≢true ((and_true (list_all is_in_range (arguments_of (Send Buffered comm dest tag (Some bytes)))) false h).1))
-known_call (Recv comm source tag) h = fixed _ refl refl refl (omega arith) h
+known_call (Send Synchronous comm dest tag (Some bytes)) h = absurd (tells_none (arguments_of (Send Synchronous comm dest tag (Some bytes))) h)
+known_call (Send Buffered comm dest tag (Some bytes)) h = absurd (tells_none (arguments_of (Send Buffered comm dest tag (Some bytes))) h)
 known_call (Isend req Standard comm dest tag None) h = fixed _ refl refl refl (omega arith) h
-known_call (Isend req Standard comm dest tag (Some bytes)) h = fixed _ refl refl refl (omega arith) h
-known_call (Isend req Synchronous comm dest tag None) h = fixed _ refl refl refl (omega arith) h
-known_call (Isend req Synchronous comm dest tag (Some bytes)) h = absurd (false≢true ((and_true (list_all is_in_range (arguments_of (Isend req Synchronous comm dest tag (Some bytes)))) false h).1))
-known_call (Isend req Buffered comm dest tag None) h = fixed _ refl refl refl (omega arith) h
-known_call (Isend req Buffered comm dest tag (Some bytes)) h = absurd (false≢true ((and_true (list_all is_in_range (arguments_of (Isend req Buffered comm dest tag (Some bytes)))) false h).1))
-known_call (Irecv req comm source tag) h = fixed _ refl refl refl (omega arith) h
+known_call (Isend req Synchronous comm dest tag (Some bytes)) h = absurd (tells_none (arguments_of (Isend req Synchronous comm dest tag (Some bytes))) h)
+known_call (Isend req Buffered comm dest tag (Some bytes)) h = absurd (tells_none (arguments_of (Isend req Buffered comm dest tag (Some bytes))) h)
 known_call (Sendrecv comm dest send_tag source recv_tag None) h = fixed _ refl refl refl (omega arith) h
-known_call (Sendrecv comm dest send_tag source recv_tag (Some bytes)) h = fixed _ refl refl refl (omega arith) h
-known_call (Wait req) h = fixed _ refl refl refl (omega arith) h
 known_call (Waitall reqs) h =
     let parts = and_true (list_all is_in_range (map request_argument reqs)) (few_enough reqs) h in
     waitall_known reqs parts.1 parts.0
@@ -171,11 +156,7 @@ known_call (Icoll req comm kind) h =
     let row = kind_row kind in
     let few = le_from _ 1 row.few in
     fixed (Icoll req comm kind) (ap (λ f. Fixed (request_form ∷ comm_form ∷ f)) row.forms) (ap (Icoll req comm) row.kind_is) row.small (omega arith) h
-known_call (Dup comm new) h = fixed _ refl refl refl (omega arith) h
-known_call (Split comm colour key new) h = fixed _ refl refl refl (omega arith) h
-known_call (Probe comm source tag) h = fixed _ refl refl refl (omega arith) h
-known_call Finalize h = fixed _ refl refl refl (omega arith) h
-known_call Open h = fixed _ refl refl refl (omega arith) h
+known_call _ h = fixed _ refl refl refl (omega arith) h
 
 -- each further field of a call
 unfoldable pub AllFields : List (List ℕ) → Type 0

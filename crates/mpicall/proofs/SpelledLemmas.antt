@@ -25,12 +25,13 @@ use Rattle.mpicall.specs.Spelling.{word_of_call, arguments_of, name_of, root_of,
 use Rattle.mpicall.proofs.ArgumentLemmas.{and_true, le_to, le_from}
 use Rattle.mpicall.proofs.DecimalLemmas.{number-decimal, value_decimal}
 use Rattle.mpicall.specs.declared.word.Collective.{Collective}
-use Rattle.mpicall.specs.declared.word.Collective.TheVariants.{Barrier, Bcast, Gather, Scatter, Reduce, Allgather, Alltoall, Allreduce, Scan, Exscan}
+use Rattle.mpicall.specs.declared.word.Collective.TheVariants.{Barrier}
 use Rattle.mpicall.specs.declared.call.Mode.TheVariants.{Standard, Synchronous, Buffered}
 use Rattle.mpicall.specs.declared.word.Operation.{Operation}
 use Rattle.mpicall.specs.declared.word.Operation.TheVariants.{Send, Recv, Coll}
 use Rattle.mpicall.specs.declared.word.Word.{Word}
-use Rattle.mpicall.specs.declared.word.Word.TheVariants.{Blocking, Started, Sendrecv, Wait, Waitall, Waitany, Dup, Split, Probe, Finalize, Open}
+use Rattle.mpicall.specs.declared.word.Word.TheVariants.{Blocking, Started, Named}
+use Rattle.mpicall.specs.declared.word.Name.TheVariants as name
 
 -- Arguments, each put into its form again.
 
@@ -70,27 +71,11 @@ rebuilt args = rebuilt_from [] args args 0 refl refl
 
 root_rebuilt : (c : Collective) (k : ℕ) (args : List Argument) → root_arguments (root_of (kind_of c (at args k))) ≡ rebuild (root_forms c) k args
 root_rebuilt Barrier k args = refl
-root_rebuilt Bcast k args = refl
-root_rebuilt Gather k args = refl
-root_rebuilt Scatter k args = refl
-root_rebuilt Reduce k args = refl
-root_rebuilt Allgather k args = refl
-root_rebuilt Alltoall k args = refl
-root_rebuilt Allreduce k args = refl
-root_rebuilt Scan k args = refl
-root_rebuilt Exscan k args = refl
+root_rebuilt _ k args = refl
 
 name_kept : (c : Collective) (root : Argument) → name_of (kind_of c root) ≡ c
 name_kept Barrier root = refl
-name_kept Bcast root = refl
-name_kept Gather root = refl
-name_kept Scatter root = refl
-name_kept Reduce root = refl
-name_kept Allgather root = refl
-name_kept Alltoall root = refl
-name_kept Allreduce root = refl
-name_kept Scan root = refl
-name_kept Exscan root = refl
+name_kept _ root = refl
 
 -- the bytes of a message, where there is one argument more
 bytes_rebuilt : (more : Bool) (place : ℕ) (args : List Argument) → length args ≡ place + length (if more then bytes_form ∷ [] else []) → bytes_arguments (number_at args place) ≡ rebuild (if more then bytes_form ∷ [] else []) place args
@@ -120,7 +105,7 @@ started_rebuilt (Send Buffered) args count = rw (no_bytes 4 args count) refl
 started_rebuilt Recv args count = refl
 started_rebuilt (Coll c) args count = ap (λ others. Number 2147483647 (number_in (at args 0)) ∷ Number GREATEST_COMM (number_in (at args 1)) ∷ others) (root_rebuilt c 2 args)
 
-sendrecv_rebuilt : (args : List Argument) → length args ≡ length (comm_form ∷ PeerForm ∷ tag_form ∷ PeerForm ∷ tag_form ∷ bytes_forms 5 (length args)) → arguments_of (call_of Sendrecv args) ≡ rebuild (comm_form ∷ PeerForm ∷ tag_form ∷ PeerForm ∷ tag_form ∷ bytes_forms 5 (length args)) 0 args
+sendrecv_rebuilt : (args : List Argument) → length args ≡ length (comm_form ∷ PeerForm ∷ tag_form ∷ PeerForm ∷ tag_form ∷ bytes_forms 5 (length args)) → arguments_of (call_of (Named name.Sendrecv) args) ≡ rebuild (comm_form ∷ PeerForm ∷ tag_form ∷ PeerForm ∷ tag_form ∷ bytes_forms 5 (length args)) 0 args
 sendrecv_rebuilt args count =
     ap (λ others. Number GREATEST_COMM (number_in (at args 0)) ∷ PeerOf (peer_in (at args 1)) ∷ Number 2147483647 (number_in (at args 2)) ∷ PeerOf (peer_in (at args 3)) ∷ Number 2147483647 (number_in (at args 4)) ∷ others) (bytes_rebuilt (length args == 5 + 1) 5 args (omega (arith, count)))
 
@@ -145,15 +130,10 @@ fixed_back (Started (Send Synchronous)) forms args is e = (same_arguments _ form
 fixed_back (Started (Send Buffered)) forms args is e = (same_arguments _ forms args _ (started_rebuilt (Send Buffered) args (count_of _ forms args is e)) is e, refl, rw (no_bytes 4 args (count_of _ forms args is e)) refl)
 fixed_back (Started Recv) forms args is e = (same_arguments _ forms args _ (started_rebuilt Recv args (count_of _ forms args is e)) is e, refl, refl)
 fixed_back (Started (Coll c)) forms args is e = (same_arguments _ forms args _ (started_rebuilt (Coll c) args (count_of _ forms args is e)) is e, ap (λ n. Started (Coll n)) (name_kept c (at args 2)), refl)
-fixed_back Sendrecv forms args is e = (same_arguments _ forms args _ (sendrecv_rebuilt args (count_of _ forms args is e)) is e, refl, refl)
-fixed_back Wait forms args is e = (same_arguments (request_form ∷ []) forms args _ refl is e, refl, refl)
-fixed_back Waitall forms args is e = cc
-fixed_back Waitany forms args is e = cc
-fixed_back Dup forms args is e = (same_arguments (comm_form ∷ comm_form ∷ []) forms args _ refl is e, refl, refl)
-fixed_back Split forms args is e = (same_arguments (comm_form ∷ ColourForm ∷ KeyForm ∷ NewForm ∷ []) forms args _ refl is e, refl, refl)
-fixed_back Probe forms args is e = (same_arguments (comm_form ∷ PeerForm ∷ tag_form ∷ []) forms args _ refl is e, refl, refl)
-fixed_back Finalize forms args is e = (same_arguments [] forms args _ refl is e, refl, refl)
-fixed_back Open forms args is e = (same_arguments [] forms args _ refl is e, refl, refl)
+fixed_back (Named name.Sendrecv) forms args is e = (same_arguments _ forms args _ (sendrecv_rebuilt args (count_of _ forms args is e)) is e, refl, refl)
+fixed_back (Named name.Waitall) forms args is e = cc
+fixed_back (Named name.Waitany) forms args is e = cc
+fixed_back _ forms args is e = (same_arguments _ forms args _ refl is e, refl, refl)
 
 -- Fields in their forms are read.
 
@@ -239,7 +219,7 @@ fixed_spells w forms fields is h =
     let read = row.read ∙ ap (λ (a : List Argument). Some (a, [])) (sym back.0) in
     rw args (fixed_all w forms fields (call_of w row.args) is read back.1 back.2)
 
-waitall_spells : (fields : List (List ℕ)) → fits Waitall fields ≡ true → SpellsBehind Waitall fields (call_of Waitall (arguments_in Requests fields))
+waitall_spells : (fields : List (List ℕ)) → fits (Named name.Waitall) fields ≡ true → SpellsBehind (Named name.Waitall) fields (call_of (Named name.Waitall) (arguments_in Requests fields))
 unfolding SpellsBehind
 waitall_spells fields h =
     let parts = and_true (nat_le 1 (length fields) && nat_le (length fields) 64) (all_requests fields) h in
@@ -258,7 +238,7 @@ index_field greatest field small e =
     let value : value_of field ≡ some.0 = ap value_of read.0 ∙ value_decimal some.0 (omega (arith, read.1)) in
     (rw value read.0, rw value (le_to some.0 greatest read.1))
 
-waitany_spells : (fields : List (List ℕ)) → fits Waitany fields ≡ true → SpellsBehind Waitany fields (call_of Waitany (arguments_in Chosen fields))
+waitany_spells : (fields : List (List ℕ)) → fits (Named name.Waitany) fields ≡ true → SpellsBehind (Named name.Waitany) fields (call_of (Named name.Waitany) (arguments_in Chosen fields))
 unfolding SpellsBehind
 waitany_spells [] h = cc
 waitany_spells (index ∷ fields) h =
@@ -277,8 +257,8 @@ waitany_spells (index ∷ fields) h =
 
 by_shape : (w : Word) (s : Shape) (fields : List (List ℕ)) → shape_of w (length fields) ≡ s → fits w fields ≡ true → SpellsBehind w fields (call_of w (arguments_in (shape_of w (length fields)) fields))
 by_shape w (Fixed forms) fields is h = fixed_spells w forms fields is h
-by_shape Waitall Requests fields is h = waitall_spells fields h
-by_shape Waitany Chosen fields is h = waitany_spells fields h
+by_shape (Named name.Waitall) Requests fields is h = waitall_spells fields h
+by_shape (Named name.Waitany) Chosen fields is h = waitany_spells fields h
 by_shape w Requests fields is h = cc
 by_shape w Chosen fields is h = cc
 

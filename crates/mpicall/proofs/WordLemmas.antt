@@ -1,18 +1,21 @@
 -- A word's text is found as that word, and what is found as a word has its text.
-use Rattle.std.proofs.Common.{◌≡◌, ℕ, ◌<◌, ◌≤◌, Bool, true, false, List, [], ◌∷◌, length, sym, ap, ◌∙◌, refl, arith, Option, Some, None, cond, option_map, ◌==◌, nat_lt, nat_le, ◌&&◌}
+use Rattle.std.proofs.Common.{◌≡◌, ℕ, ◌<◌, ◌≤◌, Bool, true, false, List, [], ◌∷◌, length, sym, ap, ◌∙◌, refl, arith, Option, Some, None, cond, option_map, map, ◌==◌, nat_lt, nat_le, ◌&&◌}
 use Rattle.std.specs.List.{list_all}
 use Rattle.std.specs.Str.{bytes_eq}
 use Rattle.std.proofs.lemmas.Slice.Eq.{bytes_eq-Decides}
 use Rattle.std.proofs.lemmas.Bool.Decides.{nat_tests}
 use Rattle.mpicall.proofs.ArgumentLemmas.{above_space, and_true, le_from}
-use Rattle.mpicall.specs.Word.{collective_text, operation_text, text_of, start_letter, with_text, or_else, collectives, messages, other_words, collective_of, operation_of, started_of, word_of}
-use Rattle.mpicall.specs.declared.call.Mode.TheVariants.{Standard, Synchronous, Buffered}
+use Rattle.mpicall.specs.Word.{collective_text, operation_text, text_of, start_letter, with_text, or_else, collectives, messages, name_text, name_in, named_of, collective_of, operation_of, started_of, word_of}
+use Rattle.mpicall.specs.declared.call.Mode.TheVariants.{Standard}
 use Rattle.mpicall.specs.declared.word.Collective.{Collective}
-use Rattle.mpicall.specs.declared.word.Collective.TheVariants.{Barrier, Bcast, Gather, Scatter, Reduce, Allgather, Alltoall, Allreduce, Scan, Exscan}
+use Rattle.mpicall.specs.declared.word.Collective.TheVariants.{Barrier}
 use Rattle.mpicall.specs.declared.word.Operation.{Operation}
-use Rattle.mpicall.specs.declared.word.Operation.TheVariants.{Send, Recv, Coll}
+use Rattle.mpicall.specs.declared.word.Operation.TheVariants.{Send, Coll}
 use Rattle.mpicall.specs.declared.word.Word.{Word}
-use Rattle.mpicall.specs.declared.word.Word.TheVariants.{Blocking, Started, Sendrecv, Wait, Waitall, Waitany, Dup, Split, Probe, Finalize, Open}
+use Rattle.mpicall.specs.declared.word.Word.TheVariants.{Blocking, Started, Named}
+use Rattle.mpicall.specs.declared.word.Name.{Name}
+use Rattle.mpicall.specs.declared.word.Name.TheVariants.{Waitall}
+use Rattle.mpicall.specs.declared.word.TheConstants.{NAMES}
 
 -- What is found has the text.
 
@@ -65,62 +68,49 @@ started_has : (text : List ℕ) (w : Word) → started_of text ≡ Some w → te
 started_has [] w e = cc
 started_has (letter ∷ text) w e = start_cases (letter == start_letter) letter text w (letter_is letter) e
 
+-- a row of a table has its name's text
+abbrev has_text : List ℕ × Name → Bool
+has_text row = bytes_eq row.0 (name_text row.1)
+
+in_rows : (rows : List (List ℕ × Name)) (text : List ℕ) (name : Name) → list_all has_text rows ≡ true → name_in rows text ≡ Some name → text ≡ name_text name
+in_rows [] text name has e = cc
+in_rows (row ∷ rows) text name has e =
+    let parts = and_true (has_text row) (list_all has_text rows) has in
+    first_has (bytes_eq text row.0) name_text text row.1 name (name_in rows text)
+    (λ same. (bytes_eq-Decides text row.0).0 same ∙ (bytes_eq-Decides row.0 (name_text row.1)).0 parts.0) (in_rows rows text name parts.1) e
+
+named_has : (text : List ℕ) (w : Word) → named_of text ≡ Some w → text ≡ text_of w
+named_has text w e =
+    let found = map_cases Named (name_in (map (λ row. (row.0.now, row.1)) NAMES) text) w e in
+    rw found.2 (in_rows (map (λ row. (row.0.now, row.1)) NAMES) text found.0 refl found.1)
+
 pub word_has : (text : List ℕ) (w : Word) → word_of text ≡ Some w → text ≡ text_of w
 unfolding word_of
 word_has text w e =
-    else_cases (text ≡ text_of w) (option_map Blocking (operation_of text)) (or_else (started_of text) (with_text text_of text other_words)) w (blocking_has text w)
-    (else_cases (text ≡ text_of w) (started_of text) (with_text text_of text other_words) w (started_has text w) (with_text_has text_of text other_words w)) e
+    else_cases (text ≡ text_of w) (option_map Blocking (operation_of text)) (or_else (started_of text) (named_of text)) w (blocking_has text w)
+    (else_cases (text ≡ text_of w) (started_of text) (named_of text) w (started_has text w) (named_has text w)) e
 
 -- Each text is found.
 
 operation_found : (o : Operation) → operation_of (operation_text o) ≡ Some o
 unfolding operation_of collective_of
 operation_found (Send Standard) = refl
-operation_found (Send Synchronous) = refl
-operation_found (Send Buffered) = refl
-operation_found Recv = refl
 operation_found (Coll Barrier) = refl
-operation_found (Coll Bcast) = refl
-operation_found (Coll Gather) = refl
-operation_found (Coll Scatter) = refl
-operation_found (Coll Reduce) = refl
-operation_found (Coll Allgather) = refl
-operation_found (Coll Alltoall) = refl
-operation_found (Coll Allreduce) = refl
-operation_found (Coll Scan) = refl
-operation_found (Coll Exscan) = refl
+operation_found _ = refl
 
 -- no operation's word begins with the letter of a start
 operation_starts_none : (o : Operation) → operation_of (start_letter ∷ operation_text o) ≡ None
 unfolding operation_of collective_of
 operation_starts_none (Send Standard) = refl
-operation_starts_none (Send Synchronous) = refl
-operation_starts_none (Send Buffered) = refl
-operation_starts_none Recv = refl
 operation_starts_none (Coll Barrier) = refl
-operation_starts_none (Coll Bcast) = refl
-operation_starts_none (Coll Gather) = refl
-operation_starts_none (Coll Scatter) = refl
-operation_starts_none (Coll Reduce) = refl
-operation_starts_none (Coll Allgather) = refl
-operation_starts_none (Coll Alltoall) = refl
-operation_starts_none (Coll Allreduce) = refl
-operation_starts_none (Coll Scan) = refl
-operation_starts_none (Coll Exscan) = refl
+operation_starts_none _ = refl
 
 pub word_found : (w : Word) → word_of (text_of w) ≡ Some w
 unfolding word_of operation_of collective_of
 word_found (Blocking o) = rw (operation_found o) refl
 word_found (Started o) = rw (operation_starts_none o, operation_found o) refl
-word_found Sendrecv = refl
-word_found Wait = refl
-word_found Waitall = refl
-word_found Waitany = refl
-word_found Dup = refl
-word_found Split = refl
-word_found Probe = refl
-word_found Finalize = refl
-word_found Open = refl
+word_found (Named Waitall) = refl
+word_found _ = refl
 
 -- Each text has bytes, few and all above the space.
 
@@ -129,19 +119,8 @@ fair text = nat_lt 0 (length text) && nat_le (length text) 9 && list_all above_s
 
 operation_fair : (o : Operation) → fair (operation_text o) ≡ true
 operation_fair (Send Standard) = refl
-operation_fair (Send Synchronous) = refl
-operation_fair (Send Buffered) = refl
-operation_fair Recv = refl
 operation_fair (Coll Barrier) = refl
-operation_fair (Coll Bcast) = refl
-operation_fair (Coll Gather) = refl
-operation_fair (Coll Scatter) = refl
-operation_fair (Coll Reduce) = refl
-operation_fair (Coll Allgather) = refl
-operation_fair (Coll Alltoall) = refl
-operation_fair (Coll Allreduce) = refl
-operation_fair (Coll Scan) = refl
-operation_fair (Coll Exscan) = refl
+operation_fair _ = refl
 
 pub record IsText (text : List ℕ) : Type 0 where
   pub clean : list_all above_space text ≡ true
@@ -165,12 +144,5 @@ started_text text h =
 pub text_is : (w : Word) → IsText (text_of w)
 text_is (Blocking o) = fair_text _ (operation_fair o)
 text_is (Started o) = started_text _ (operation_fair o)
-text_is Sendrecv = fair_text _ refl
-text_is Wait = fair_text _ refl
-text_is Waitall = fair_text _ refl
-text_is Waitany = fair_text _ refl
-text_is Dup = fair_text _ refl
-text_is Split = fair_text _ refl
-text_is Probe = fair_text _ refl
-text_is Finalize = fair_text _ refl
-text_is Open = fair_text _ refl
+text_is (Named Waitall) = fair_text _ refl
+text_is _ = fair_text _ refl

@@ -3,6 +3,7 @@ pub mod Argument
 pub mod Word
 pub mod Spelling
 pub mod Limits
+pub mod Does
 pub mod Draft
 pub mod Cells
 pub mod Lines

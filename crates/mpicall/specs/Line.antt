@@ -4,7 +4,7 @@ use Rattle.std.specs.Prelude.{ℕ, ◌+◌, ◌-◌, Bool, true, false, ◌&&◌
 use Rattle.std.specs.List.{list_any, list_all}
 use Rattle.std.specs.Str.{bytes_eq}
 use Rattle.mpicall.specs.Argument.{Form, PeerForm, ColourForm, KeyForm, NewForm, comm_form, tag_form, request_form, bytes_form, root_form, index_form, is_in_form}
-use Rattle.mpicall.specs.Word.{word_of}
+use Rattle.mpicall.specs.Word.{layout_of, word_of}
 use Rattle.mpicall.specs.Lines.{is_blank, most_bytes, has_line_feed, split_fields, body_of}
 use Rattle.mpicall.specs.declared.limits.TheConstants.{MOST_REQUESTS}
 use Rattle.mpicall.specs.declared.word.Collective.{Collective}
@@ -13,7 +13,9 @@ use Rattle.mpicall.specs.declared.call.Mode.TheVariants.{Standard, Synchronous, 
 use Rattle.mpicall.specs.declared.word.Operation.{Operation}
 use Rattle.mpicall.specs.declared.word.Operation.TheVariants.{Send, Recv, Coll}
 use Rattle.mpicall.specs.declared.word.Word.{Word}
-use Rattle.mpicall.specs.declared.word.Word.TheVariants.{Blocking, Started, Sendrecv, Wait, Waitall, Waitany, Dup, Split, Probe, Finalize, Open}
+use Rattle.mpicall.specs.declared.word.Word.TheVariants.{Blocking, Started, Named}
+use Rattle.mpicall.specs.declared.word.Layout.{Layout}
+use Rattle.mpicall.specs.declared.word.Layout.TheVariants.{Nothing, Message, Exchange, Request, Requests as AllRequests, Chosen as ChosenRequest, Copy, Split}
 use Rattle.mpicall.specs.declared.fault.LineFault.{LineFault}
 use Rattle.mpicall.specs.declared.fault.LineFault.TheVariants.{EmptyField, UnknownWord, FieldCount, FieldForm, Wildcard, TooLong, NoLineFeed}
 
@@ -43,19 +45,22 @@ operation_forms (Send Buffered) count = comm_form ∷ PeerForm ∷ tag_form ∷ 
 operation_forms Recv count = comm_form ∷ PeerForm ∷ tag_form ∷ []
 operation_forms (Coll collective) count = comm_form ∷ root_forms collective
 
+-- the shape of what stands behind a name, where there are so many fields
+abbrev pub shape_by : Layout → ℕ → Shape
+shape_by Nothing count = Fixed []
+shape_by Message count = Fixed (comm_form ∷ PeerForm ∷ tag_form ∷ [])
+shape_by Exchange count = Fixed (comm_form ∷ PeerForm ∷ tag_form ∷ PeerForm ∷ tag_form ∷ bytes_forms 5 count)
+shape_by Request count = Fixed (request_form ∷ [])
+shape_by AllRequests count = Requests
+shape_by ChosenRequest count = Chosen
+shape_by Copy count = Fixed (comm_form ∷ comm_form ∷ [])
+shape_by Split count = Fixed (comm_form ∷ ColourForm ∷ KeyForm ∷ NewForm ∷ [])
+
 -- the shape of a word's line that has so many fields behind it; what starts an operation has its request in front
 abbrev pub shape_of : Word → ℕ → Shape
 shape_of (Blocking operation) count = Fixed (operation_forms operation count)
 shape_of (Started operation) count = Fixed (request_form ∷ operation_forms operation (count - 1))
-shape_of Sendrecv count = Fixed (comm_form ∷ PeerForm ∷ tag_form ∷ PeerForm ∷ tag_form ∷ bytes_forms 5 count)
-shape_of Wait count = Fixed (request_form ∷ [])
-shape_of Waitall count = Requests
-shape_of Waitany count = Chosen
-shape_of Dup count = Fixed (comm_form ∷ comm_form ∷ [])
-shape_of Split count = Fixed (comm_form ∷ ColourForm ∷ KeyForm ∷ NewForm ∷ [])
-shape_of Probe count = Fixed (comm_form ∷ PeerForm ∷ tag_form ∷ [])
-shape_of Finalize count = Fixed []
-shape_of Open count = Fixed []
+shape_of (Named name) count = shape_by (layout_of name) count
 
 -- a line of this shape may have so many fields behind its word
 abbrev pub takes_count : Shape → ℕ → Bool
@@ -81,12 +86,17 @@ all_in_form Chosen (index ∷ requests) = is_in_form (index_form (length request
 abbrev pub is_any : List ℕ → Bool
 is_any field = bytes_eq field (codes "any")
 
--- how many fields stand before the source of a receive, behind which its tag stands
+-- how many fields stand before a source, behind which its tag stands
+abbrev pub source_by : Layout → Option ℕ
+source_by Message = Some 1
+source_by Exchange = Some 3
+source_by _ = None
+
+-- the same behind a word
 abbrev pub source_place : Word → Option ℕ
 source_place (Blocking Recv) = Some 1
 source_place (Started Recv) = Some 2
-source_place Sendrecv = Some 3
-source_place Probe = Some 1
+source_place (Named name) = source_by (layout_of name)
 source_place _ = None
 
 -- a wildcard stands as the source or the tag of a receive

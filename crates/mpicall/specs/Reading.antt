@@ -21,7 +21,8 @@ use Rattle.mpicall.specs.declared.word.Collective.{Collective}
 use Rattle.mpicall.specs.declared.word.Collective.TheVariants.{Barrier as BarrierName, Bcast as BcastName, Gather as GatherName, Scatter as ScatterName, Reduce as ReduceName, Allgather as AllgatherName, Alltoall as AlltoallName, Allreduce as AllreduceName, Scan as ScanName, Exscan as ExscanName}
 use Rattle.mpicall.specs.declared.word.Operation.TheVariants.{Send as SendOperation, Recv as RecvOperation, Coll as CollOperation}
 use Rattle.mpicall.specs.declared.word.Word.{Word}
-use Rattle.mpicall.specs.declared.word.Word.TheVariants.{Blocking, Started, Sendrecv as SendrecvWord, Wait as WaitWord, Waitall as WaitallWord, Waitany as WaitanyWord, Dup as DupWord, Split as SplitWord, Probe as ProbeWord, Finalize as FinalizeWord, Open as OpenWord}
+use Rattle.mpicall.specs.declared.word.Word.TheVariants.{Blocking, Started, Named}
+use Rattle.mpicall.specs.declared.word.Name.TheVariants as name
 use Rattle.mpicall.specs.declared.fault.LineFault.{LineFault}
 
 -- an argument that was read, and the fields behind it
@@ -110,15 +111,15 @@ call_of (Blocking (CollOperation name)) a = Coll (number_in (at a 0)) (kind_of n
 call_of (Started (SendOperation mode)) a = Isend (number_in (at a 0)) mode (number_in (at a 1)) (peer_in (at a 2)) (number_in (at a 3)) (number_at a 4)
 call_of (Started RecvOperation) a = Irecv (number_in (at a 0)) (number_in (at a 1)) (peer_in (at a 2)) (number_in (at a 3))
 call_of (Started (CollOperation name)) a = Icoll (number_in (at a 0)) (number_in (at a 1)) (kind_of name (at a 2))
-call_of SendrecvWord a = Sendrecv (number_in (at a 0)) (peer_in (at a 1)) (number_in (at a 2)) (peer_in (at a 3)) (number_in (at a 4)) (number_at a 5)
-call_of WaitWord a = Wait (number_in (at a 0))
-call_of WaitallWord a = Waitall (map number_in a)
-call_of WaitanyWord a = Waitany (number_in (at a 0)) (map number_in (drop 1 a))
-call_of DupWord a = Dup (number_in (at a 0)) (number_in (at a 1))
-call_of SplitWord a = Split (number_in (at a 0)) (colour_in (at a 1)) (key_in (at a 2)) (new_in (at a 3))
-call_of ProbeWord a = Probe (number_in (at a 0)) (peer_in (at a 1)) (number_in (at a 2))
-call_of FinalizeWord a = Finalize
-call_of OpenWord a = Open
+call_of (Named name.Sendrecv) a = Sendrecv (number_in (at a 0)) (peer_in (at a 1)) (number_in (at a 2)) (peer_in (at a 3)) (number_in (at a 4)) (number_at a 5)
+call_of (Named name.Wait) a = Wait (number_in (at a 0))
+call_of (Named name.Waitall) a = Waitall (map number_in a)
+call_of (Named name.Waitany) a = Waitany (number_in (at a 0)) (map number_in (drop 1 a))
+call_of (Named name.Dup) a = Dup (number_in (at a 0)) (number_in (at a 1))
+call_of (Named name.Split) a = Split (number_in (at a 0)) (colour_in (at a 1)) (key_in (at a 2)) (new_in (at a 3))
+call_of (Named name.Probe) a = Probe (number_in (at a 0)) (peer_in (at a 1)) (number_in (at a 2))
+call_of (Named name.Finalize) a = Finalize
+call_of (Named name.Open) a = Open
 
 -- the arguments that fields of a shape spell
 abbrev pub taken : Option (List Argument × List (List ℕ)) → List Argument

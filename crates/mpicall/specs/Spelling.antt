@@ -11,7 +11,8 @@ use Rattle.mpicall.specs.declared.word.Collective.{Collective}
 use Rattle.mpicall.specs.declared.word.Collective.TheVariants.{Barrier as BarrierName, Bcast as BcastName, Gather as GatherName, Scatter as ScatterName, Reduce as ReduceName, Allgather as AllgatherName, Alltoall as AlltoallName, Allreduce as AllreduceName, Scan as ScanName, Exscan as ExscanName}
 use Rattle.mpicall.specs.declared.word.Operation.TheVariants.{Send as SendOperation, Recv as RecvOperation, Coll as CollOperation}
 use Rattle.mpicall.specs.declared.word.Word.{Word}
-use Rattle.mpicall.specs.declared.word.Word.TheVariants.{Blocking, Started, Sendrecv as SendrecvWord, Wait as WaitWord, Waitall as WaitallWord, Waitany as WaitanyWord, Dup as DupWord, Split as SplitWord, Probe as ProbeWord, Finalize as FinalizeWord, Open as OpenWord}
+use Rattle.mpicall.specs.declared.word.Word.TheVariants.{Blocking, Started, Named}
+use Rattle.mpicall.specs.declared.word.Name.TheVariants as name
 
 -- the bytes between and behind the fields
 abbrev pub space : ℕ
@@ -46,17 +47,17 @@ word_of_call (Send mode comm dest tag bytes) = Blocking (SendOperation mode)
 word_of_call (Recv comm source tag) = Blocking RecvOperation
 word_of_call (Isend req mode comm dest tag bytes) = Started (SendOperation mode)
 word_of_call (Irecv req comm source tag) = Started RecvOperation
-word_of_call (Sendrecv comm dest send_tag source recv_tag bytes) = SendrecvWord
-word_of_call (Wait req) = WaitWord
-word_of_call (Waitall reqs) = WaitallWord
-word_of_call (Waitany chosen reqs) = WaitanyWord
+word_of_call (Sendrecv comm dest send_tag source recv_tag bytes) = Named name.Sendrecv
+word_of_call (Wait req) = Named name.Wait
+word_of_call (Waitall reqs) = Named name.Waitall
+word_of_call (Waitany chosen reqs) = Named name.Waitany
 word_of_call (Coll comm kind) = Blocking (CollOperation (name_of kind))
 word_of_call (Icoll req comm kind) = Started (CollOperation (name_of kind))
-word_of_call (Dup comm new) = DupWord
-word_of_call (Split comm colour key new) = SplitWord
-word_of_call (Probe comm source tag) = ProbeWord
-word_of_call Finalize = FinalizeWord
-word_of_call Open = OpenWord
+word_of_call (Dup comm new) = Named name.Dup
+word_of_call (Split comm colour key new) = Named name.Split
+word_of_call (Probe comm source tag) = Named name.Probe
+word_of_call Finalize = Named name.Finalize
+word_of_call Open = Named name.Open
 
 abbrev pub root_arguments : Option ℕ → List Argument
 root_arguments None = []

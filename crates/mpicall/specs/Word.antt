@@ -1,6 +1,7 @@
 -- The words of the format and their texts. A call that starts an operation has an `i` before the word of
 -- the operation.
-use Rattle.std.specs.Prelude.{ℕ, ◌==◌, Option, Some, None, option_map, if◌then◌else◌, List, [], ◌∷◌, codes}
+use Rattle.std.specs.Prelude.{ℕ, ◌==◌, Option, Some, None, option_map, if◌then◌else◌, List, [], ◌∷◌, ◌++◌, map, get_or, codes}
+use denote.Enum.Declared.{tag_of}
 use Rattle.std.specs.Str.{bytes_eq}
 use Rattle.mpicall.specs.declared.call.Mode.TheVariants.{Standard, Synchronous, Buffered}
 use Rattle.mpicall.specs.declared.word.Collective.{Collective}
@@ -8,7 +9,12 @@ use Rattle.mpicall.specs.declared.word.Collective.TheVariants.{Barrier, Bcast, G
 use Rattle.mpicall.specs.declared.word.Operation.{Operation}
 use Rattle.mpicall.specs.declared.word.Operation.TheVariants.{Send, Recv, Coll}
 use Rattle.mpicall.specs.declared.word.Word.{Word}
-use Rattle.mpicall.specs.declared.word.Word.TheVariants.{Blocking, Started, Sendrecv, Wait, Waitall, Waitany, Dup, Split, Probe, Finalize, Open}
+use Rattle.mpicall.specs.declared.word.Word.TheVariants.{Blocking, Started, Named}
+use Rattle.mpicall.specs.declared.word.Name.{Name}
+use Rattle.mpicall.specs.contracts.word.Name.{the_type}
+use Rattle.mpicall.specs.declared.word.Layout.{Layout}
+use Rattle.mpicall.specs.declared.word.Layout.TheVariants.{Nothing}
+use Rattle.mpicall.specs.declared.word.TheConstants.{NAMES}
 
 abbrev pub collective_text : Collective → List ℕ
 collective_text Barrier = codes "barrier"
@@ -33,19 +39,26 @@ operation_text (Coll collective) = collective_text collective
 abbrev pub start_letter : ℕ
 start_letter = 105
 
+-- what the table of names says of a name: its text, and what stands behind it
+abbrev pub name_text : Name → List ℕ
+name_text name = get_or (map (λ row. row.0.now) NAMES) (tag_of the_type name) []
+
+abbrev pub layout_of : Name → Layout
+layout_of name = get_or (map (λ row. row.2) NAMES) (tag_of the_type name) Nothing
+
+-- the letter before a word, and the text behind that
+abbrev pub start_of : Word → List ℕ
+start_of (Started operation) = start_letter ∷ []
+start_of _ = []
+
+abbrev pub stem_of : Word → List ℕ
+stem_of (Blocking operation) = operation_text operation
+stem_of (Started operation) = operation_text operation
+stem_of (Named name) = name_text name
+
 -- the text of a word
 abbrev pub text_of : Word → List ℕ
-text_of (Blocking operation) = operation_text operation
-text_of (Started operation) = start_letter ∷ operation_text operation
-text_of Sendrecv = codes "sendrecv"
-text_of Wait = codes "wait"
-text_of Waitall = codes "waitall"
-text_of Waitany = codes "waitany"
-text_of Dup = codes "dup"
-text_of Split = codes "split"
-text_of Probe = codes "probe"
-text_of Finalize = codes "finalize"
-text_of Open = codes "open"
+text_of word = start_of word ++ stem_of word
 
 -- the first of some things that has a text
 abbrev pub with_text : {A : Type 0} → (A → List ℕ) → List ℕ → List A → Option A
@@ -63,9 +76,6 @@ collectives = Barrier ∷ Bcast ∷ Gather ∷ Scatter ∷ Reduce ∷ Allgather 
 abbrev pub messages : List Operation
 messages = Send Standard ∷ Recv ∷ Send Synchronous ∷ Send Buffered ∷ []
 
-abbrev pub other_words : List Word
-other_words = Waitall ∷ Wait ∷ Waitany ∷ Sendrecv ∷ Dup ∷ Split ∷ Finalize ∷ Probe ∷ Open ∷ []
-
 -- the collective, the operation and the word with a text, if the format has one
 unfoldable pub collective_of : List ℕ → Option Collective
 collective_of text = with_text collective_text text collectives
@@ -77,6 +87,13 @@ abbrev pub started_of : List ℕ → Option Word
 started_of [] = None
 started_of (letter ∷ text) = if letter == start_letter then option_map Started (operation_of text) else None
 
+-- the name with a text, by the rows of a table
+abbrev pub name_in : List (List ℕ × Name) → List ℕ → Option Name
+name_in [] text = None
+name_in (row ∷ rows) text = if bytes_eq text row.0 then Some row.1 else name_in rows text
+
+abbrev pub named_of : List ℕ → Option Word
+named_of text = option_map Named (name_in (map (λ row. (row.0.now, row.1)) NAMES) text)
+
 unfoldable pub word_of : List ℕ → Option Word
-word_of text =
-    or_else (option_map Blocking (operation_of text)) (or_else (started_of text) (with_text text_of text other_words))
+word_of text = or_else (option_map Blocking (operation_of text)) (or_else (started_of text) (named_of text))

@@ -2,7 +2,8 @@
 
 ghost use Rattle.std.specs.Prelude.{◌≡◌, ◌≤◌, [], ◌∷◌, true, false, List, ℕ, length, MatchOption, MatchBool};
 ghost use Rattle.mpicall.specs.Reading.{ReadsBehind, ReadsFields, requests_fit, SpellsRequests};
-ghost use Rattle.mpicall.specs.declared.word.Word.TheVariants.{Waitall, Waitany, Finalize, Open};
+ghost use Rattle.mpicall.specs.declared.word.Name.TheVariants as name;
+ghost use Rattle.mpicall.specs.declared.word.Word.TheVariants.{Named};
 
 use crate::call::Call;
 use crate::fields::Fields;
@@ -13,7 +14,7 @@ use crate::reading::{
     read_started, read_wait,
 };
 use crate::reqs::Reqs;
-use crate::word::{Word, word_of};
+use crate::word::{Name, Word, word_of};
 
 /// The requests that all the fields spell, where they are as many as one wait may name.
 fn read_requests(mut fields: Fields<'_>) -> Option<Reqs>
@@ -30,7 +31,7 @@ fn read_requests(mut fields: Fields<'_>) -> Option<Reqs>
 }
 
 fn read_waitall(fields: Fields<'_>, into: &mut Call) -> bool
-    ensures { ReadsBehind Waitall fields.entry result into.old into.new }
+    ensures { ReadsBehind (Named name.Waitall) fields.entry result into.old into.new }
 {
     match read_requests(fields) {
         Some(reqs) => {
@@ -42,7 +43,7 @@ fn read_waitall(fields: Fields<'_>, into: &mut Call) -> bool
 }
 
 fn read_waitany(mut fields: Fields<'_>, into: &mut Call) -> bool
-    ensures { ReadsBehind Waitany fields.entry result into.old into.new }
+    ensures { ReadsBehind (Named name.Waitany) fields.entry result into.old into.new }
 {
     let Some(chosen) = next_number(MOST_REQUESTS as u32 - 1, &mut fields) else {
         return false;
@@ -61,7 +62,7 @@ fn read_waitany(mut fields: Fields<'_>, into: &mut Call) -> bool
 }
 
 fn read_finalize(mut fields: Fields<'_>, into: &mut Call) -> bool
-    ensures { ReadsBehind Finalize fields.entry result into.old into.new }
+    ensures { ReadsBehind (Named name.Finalize) fields.entry result into.old into.new }
 {
     if fields.next_field().is_some() {
         return false;
@@ -71,13 +72,30 @@ fn read_finalize(mut fields: Fields<'_>, into: &mut Call) -> bool
 }
 
 fn read_open(mut fields: Fields<'_>, into: &mut Call) -> bool
-    ensures { ReadsBehind Open fields.entry result into.old into.new }
+    ensures { ReadsBehind (Named name.Open) fields.entry result into.old into.new }
 {
     if fields.next_field().is_some() {
         return false;
     }
     *into = Call::Open;
     true
+}
+
+/// Reads the call of a name and the fields behind it.
+fn read_named(name: Name, fields: Fields<'_>, into: &mut Call) -> bool
+    ensures { ReadsBehind (Named name) fields.entry result into.old into.new }
+{
+    match name {
+        Name::Waitall => read_waitall(fields, into),
+        Name::Wait => read_wait(fields, into).is_some(),
+        Name::Waitany => read_waitany(fields, into),
+        Name::Sendrecv => read_sendrecv(fields, into).is_some(),
+        Name::Dup => read_dup(fields, into).is_some(),
+        Name::Split => read_split(fields, into).is_some(),
+        Name::Probe => read_probe(fields, into).is_some(),
+        Name::Finalize => read_finalize(fields, into),
+        Name::Open => read_open(fields, into),
+    }
 }
 
 /// Reads the call of a word and the fields behind it; says whether there is one, and else leaves the
@@ -88,15 +106,7 @@ fn read_behind(word: Word, fields: Fields<'_>, into: &mut Call) -> bool
     match word {
         Word::Blocking(operation) => read_blocking(operation, fields, into).is_some(),
         Word::Started(operation) => read_started(operation, fields, into).is_some(),
-        Word::Waitall => read_waitall(fields, into),
-        Word::Wait => read_wait(fields, into).is_some(),
-        Word::Waitany => read_waitany(fields, into),
-        Word::Sendrecv => read_sendrecv(fields, into).is_some(),
-        Word::Dup => read_dup(fields, into).is_some(),
-        Word::Split => read_split(fields, into).is_some(),
-        Word::Probe => read_probe(fields, into).is_some(),
-        Word::Finalize => read_finalize(fields, into),
-        Word::Open => read_open(fields, into),
+        Word::Named(name) => read_named(name, fields, into),
     }
 }
 

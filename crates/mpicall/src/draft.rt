@@ -10,7 +10,7 @@ ghost use Rattle.mpicall.specs.Word.{text_of};
 
 use crate::call::{Call, Kind, Peer};
 use crate::limits::MOST_LINE_BYTES;
-use crate::word::{Word, operation_text, root_of};
+use crate::word::{Word, root_of};
 use itoa::Buffer;
 use std::marker::Model;
 
@@ -165,22 +165,8 @@ impl Draft {
         ensures value { self.new ≡ text_of word }
         ensures short { length self.new ≤ 10 }
     {
-        match word {
-            Word::Blocking(operation) => self.push_all(operation_text(operation)),
-            Word::Started(operation) => {
-                self.push(b'i');
-                self.push_all(operation_text(operation));
-            }
-            Word::Sendrecv => self.push_all(b"sendrecv"),
-            Word::Wait => self.push_all(b"wait"),
-            Word::Waitall => self.push_all(b"waitall"),
-            Word::Waitany => self.push_all(b"waitany"),
-            Word::Dup => self.push_all(b"dup"),
-            Word::Split => self.push_all(b"split"),
-            Word::Probe => self.push_all(b"probe"),
-            Word::Finalize => self.push_all(b"finalize"),
-            Word::Open => self.push_all(b"open"),
-        }
+        self.push_all(word.start().as_bytes());
+        self.push_all(word.stem().as_bytes());
     }
 
     /// Adds the arguments of a call.

@@ -2,14 +2,14 @@
 
 ghost use Rattle.std.specs.Prelude.{◌≡◌, ◌≤◌, Some, false, length, take, drop};
 ghost use Rattle.std.specs.List.{list_any};
-ghost use Rattle.mpicall.specs.Line.{root_forms, operation_forms, shape_of, takes_count, is_any, source_place, wildcard_at, fault_of_fields, fits_line};
+ghost use Rattle.mpicall.specs.Line.{root_forms, operation_forms, shape_of, shape_by, takes_count, is_any, source_by, source_place, wildcard_at, fault_of_fields, fits_line};
 ghost use Rattle.mpicall.specs.Lines.{is_blank};
 
 use crate::call::Mode;
 use crate::fault::LineFault;
 use crate::fields::Fields;
 use crate::limits::{MOST_LINE_BYTES, MOST_REQUESTS};
-use crate::word::{Collective, Operation, Word, word_of};
+use crate::word::{Collective, Layout, Operation, Word, layout_of, word_of};
 
 /// Whether a field has no bytes.
 fn has_blank(mut fields: Fields<'_>) -> bool
@@ -49,6 +49,22 @@ fn field_count(operation: Operation, count: usize) -> usize
     }
 }
 
+/// Whether so many fields may stand behind a name.
+fn layout_takes(layout: Layout, count: usize) -> bool
+    ensures { result ≡ takes_count (shape_by layout count) count }
+{
+    match layout {
+        Layout::Nothing => count == 0,
+        Layout::Message => count == 3,
+        Layout::Exchange => count == 5 || count == 6,
+        Layout::Request => count == 1,
+        Layout::Requests => 1 <= count && count <= MOST_REQUESTS,
+        Layout::Chosen => 2 <= count && count <= MOST_REQUESTS + 1,
+        Layout::Copy => count == 2,
+        Layout::Split => count == 4,
+    }
+}
+
 /// Whether a word takes so many fields.
 fn takes_count(word: Word, count: usize) -> bool
     ensures { result ≡ takes_count (shape_of word count) count }
@@ -56,14 +72,7 @@ fn takes_count(word: Word, count: usize) -> bool
     match word {
         Word::Blocking(operation) => count == field_count(operation, count),
         Word::Started(operation) => 1 <= count && count == 1 + field_count(operation, count - 1),
-        Word::Sendrecv => count == 5 || count == 6,
-        Word::Wait => count == 1,
-        Word::Waitall => 1 <= count && count <= MOST_REQUESTS,
-        Word::Waitany => 2 <= count && count <= MOST_REQUESTS + 1,
-        Word::Dup => count == 2,
-        Word::Split => count == 4,
-        Word::Probe => count == 3,
-        Word::Finalize | Word::Open => count == 0,
+        Word::Named(name) => layout_takes(layout_of(name), count),
     }
 }
 
@@ -73,15 +82,25 @@ fn is_any(field: &[u8]) -> bool
     field == b"any".as_slice()
 }
 
-/// How many fields stand before the source of a receive.
+/// How many fields stand before a source.
+fn source_by(layout: Layout) -> Option<usize>
+    ensures { result ≡ source_by layout }
+{
+    match layout {
+        Layout::Message => Some(1),
+        Layout::Exchange => Some(3),
+        _ => None,
+    }
+}
+
+/// The same behind a word.
 fn source_place(word: Word) -> Option<usize>
     ensures { result ≡ source_place word }
 {
     match word {
         Word::Blocking(Operation::Recv) => Some(1),
         Word::Started(Operation::Recv) => Some(2),
-        Word::Sendrecv => Some(3),
-        Word::Probe => Some(1),
+        Word::Named(name) => source_by(layout_of(name)),
         _ => None,
     }
 }

@@ -43,6 +43,7 @@ mod body;
 pub mod call;
 pub mod counted;
 pub mod device;
+pub mod does;
 mod draft;
 pub mod fails_at;
 pub mod fault;

@@ -8,7 +8,8 @@ ghost use Rattle.mpicall.specs.Lines.{is_empty};
 ghost use Rattle.mpicall.specs.Spelling.{name_of, root_of, root_arguments, bytes_arguments};
 ghost use Rattle.mpicall.specs.Line.{root_forms, bytes_forms, operation_forms};
 ghost use Rattle.mpicall.specs.Reading.{next_argument, take_arguments, all_taken, ReadsWhole};
-ghost use Rattle.mpicall.specs.declared.word.Word.TheVariants.{Blocking, Started, Sendrecv, Wait, Dup, Split, Probe};
+ghost use Rattle.mpicall.specs.declared.word.Name.TheVariants as name;
+ghost use Rattle.mpicall.specs.declared.word.Word.TheVariants.{Blocking, Started, Named};
 
 use crate::call::{Call, Kind, Mode, Peer};
 use crate::fields::Fields;
@@ -280,7 +281,7 @@ pub(crate) fn read_started(
 }
 
 pub(crate) fn read_sendrecv(mut fields: Fields<'_>, into: &mut Call) -> Option<()>
-    ensures { ReadsWhole Sendrecv (comm_form ∷ PeerForm ∷ tag_form ∷ PeerForm ∷ tag_form ∷ bytes_forms 5 (length fields.entry)) fields.entry result into.old into.new }
+    ensures { ReadsWhole (Named name.Sendrecv) (comm_form ∷ PeerForm ∷ tag_form ∷ PeerForm ∷ tag_form ∷ bytes_forms 5 (length fields.entry)) fields.entry result into.old into.new }
 {
     let (comm, dest, send_tag) = next_message(&mut fields)?;
     let source = next_peer(&mut fields)?;
@@ -298,7 +299,7 @@ pub(crate) fn read_sendrecv(mut fields: Fields<'_>, into: &mut Call) -> Option<(
 }
 
 pub(crate) fn read_probe(mut fields: Fields<'_>, into: &mut Call) -> Option<()>
-    ensures { ReadsWhole Probe (comm_form ∷ PeerForm ∷ tag_form ∷ []) fields.entry result into.old into.new }
+    ensures { ReadsWhole (Named name.Probe) (comm_form ∷ PeerForm ∷ tag_form ∷ []) fields.entry result into.old into.new }
 {
     let (comm, source, tag) = next_message(&mut fields)?;
     end_of(&mut fields)?;
@@ -307,7 +308,7 @@ pub(crate) fn read_probe(mut fields: Fields<'_>, into: &mut Call) -> Option<()>
 }
 
 pub(crate) fn read_wait(mut fields: Fields<'_>, into: &mut Call) -> Option<()>
-    ensures { ReadsWhole Wait (request_form ∷ []) fields.entry result into.old into.new }
+    ensures { ReadsWhole (Named name.Wait) (request_form ∷ []) fields.entry result into.old into.new }
 {
     let req = next_request(&mut fields)?;
     end_of(&mut fields)?;
@@ -316,7 +317,7 @@ pub(crate) fn read_wait(mut fields: Fields<'_>, into: &mut Call) -> Option<()>
 }
 
 pub(crate) fn read_dup(mut fields: Fields<'_>, into: &mut Call) -> Option<()>
-    ensures { ReadsWhole Dup (comm_form ∷ comm_form ∷ []) fields.entry result into.old into.new }
+    ensures { ReadsWhole (Named name.Dup) (comm_form ∷ comm_form ∷ []) fields.entry result into.old into.new }
 {
     let comm = next_comm(&mut fields)?;
     let new = next_comm(&mut fields)?;
@@ -326,7 +327,7 @@ pub(crate) fn read_dup(mut fields: Fields<'_>, into: &mut Call) -> Option<()>
 }
 
 pub(crate) fn read_split(mut fields: Fields<'_>, into: &mut Call) -> Option<()>
-    ensures { ReadsWhole Split (comm_form ∷ ColourForm ∷ KeyForm ∷ NewForm ∷ []) fields.entry result into.old into.new }
+    ensures { ReadsWhole (Named name.Split) (comm_form ∷ ColourForm ∷ KeyForm ∷ NewForm ∷ []) fields.entry result into.old into.new }
 {
     let comm = next_comm(&mut fields)?;
     let colour = next_colour(&mut fields)?;

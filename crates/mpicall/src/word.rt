@@ -1,7 +1,7 @@
 //! The words of the format. A call that starts an operation has an `i` before the operation's word.
 
-ghost use Rattle.std.specs.Prelude.{◌≡◌, ◌≤◌, length};
-ghost use Rattle.mpicall.specs.Word.{collective_of, operation_of, started_of, word_of, with_text, other_words, collective_text, operation_text, text_of};
+ghost use Rattle.std.specs.Prelude.{◌≡◌, ◌≤◌, length, map};
+ghost use Rattle.mpicall.specs.Word.{collective_of, operation_of, started_of, name_in, named_of, word_of, layout_of, start_of, stem_of, collective_text, operation_text};
 ghost use Rattle.mpicall.specs.Spelling.{name_of, root_of, word_of_call};
 
 use crate::call::{Call, Kind, Mode};
@@ -29,20 +29,60 @@ pub enum Operation {
     Coll(Collective),
 }
 
+/// What stands behind a word that is no operation's.
+#[derive(Clone, Copy, PartialEq, Eq)]
+pub enum Layout {
+    /// Nothing.
+    Nothing,
+    /// A communicator, a source and a tag.
+    Message,
+    /// A communicator, a destination with its tag, a source with its tag, and the bytes that are sent, if they are told.
+    Exchange,
+    /// A request.
+    Request,
+    /// Requests.
+    Requests,
+    /// The index of a request, and the requests.
+    Chosen,
+    /// A communicator and a new one.
+    Copy,
+    /// A communicator, a colour, a key and a new communicator.
+    Split,
+}
+
+/// The words that are no operation's.
+#[derive(Clone, Copy, PartialEq, Eq)]
+pub enum Name {
+    Waitall,
+    Wait,
+    Waitany,
+    Sendrecv,
+    Dup,
+    Split,
+    Finalize,
+    Probe,
+    Open,
+}
+
+/// Their texts and what stands behind them: a row each, in the order of the variants of `Name`.
+pub const NAMES: [(&str, Name, Layout); 9] = [
+    ("waitall", Name::Waitall, Layout::Requests),
+    ("wait", Name::Wait, Layout::Request),
+    ("waitany", Name::Waitany, Layout::Chosen),
+    ("sendrecv", Name::Sendrecv, Layout::Exchange),
+    ("dup", Name::Dup, Layout::Copy),
+    ("split", Name::Split, Layout::Split),
+    ("finalize", Name::Finalize, Layout::Nothing),
+    ("probe", Name::Probe, Layout::Message),
+    ("open", Name::Open, Layout::Nothing),
+];
+
 /// A word that a line may begin with.
 #[derive(Clone, Copy, PartialEq, Eq)]
 pub enum Word {
     Blocking(Operation),
     Started(Operation),
-    Sendrecv,
-    Wait,
-    Waitall,
-    Waitany,
-    Dup,
-    Split,
-    Probe,
-    Finalize,
-    Open,
+    Named(Name),
 }
 
 impl Word {
@@ -55,19 +95,47 @@ impl Word {
             Call::Recv { .. } => Word::Blocking(Operation::Recv),
             Call::Isend { mode, .. } => Word::Started(Operation::Send(mode)),
             Call::Irecv { .. } => Word::Started(Operation::Recv),
-            Call::Sendrecv { .. } => Word::Sendrecv,
-            Call::Wait { .. } => Word::Wait,
-            Call::Waitall { .. } => Word::Waitall,
-            Call::Waitany { .. } => Word::Waitany,
+            Call::Sendrecv { .. } => Word::Named(Name::Sendrecv),
+            Call::Wait { .. } => Word::Named(Name::Wait),
+            Call::Waitall { .. } => Word::Named(Name::Waitall),
+            Call::Waitany { .. } => Word::Named(Name::Waitany),
             Call::Coll { kind, .. } => Word::Blocking(Operation::Coll(name_of(kind))),
             Call::Icoll { kind, .. } => Word::Started(Operation::Coll(name_of(kind))),
-            Call::Dup { .. } => Word::Dup,
-            Call::Split { .. } => Word::Split,
-            Call::Probe { .. } => Word::Probe,
-            Call::Finalize => Word::Finalize,
-            Call::Open => Word::Open,
+            Call::Dup { .. } => Word::Named(Name::Dup),
+            Call::Split { .. } => Word::Named(Name::Split),
+            Call::Probe { .. } => Word::Named(Name::Probe),
+            Call::Finalize => Word::Named(Name::Finalize),
+            Call::Open => Word::Named(Name::Open),
         }
     }
+
+    /// The letter before the word of an operation that a call starts; nothing before other words.
+    pub fn start(self) -> &'static str
+        ensures { result.now ≡ start_of self }
+    {
+        match self {
+            Word::Started(_) => "i",
+            _ => "",
+        }
+    }
+
+    /// The text behind that.
+    pub fn stem(self) -> &'static str
+        ensures value { result.now ≡ stem_of self }
+        ensures short { length result.now ≤ 9 }
+    {
+        match self {
+            Word::Blocking(operation) | Word::Started(operation) => operation_text(operation),
+            Word::Named(name) => NAMES[name as usize].0,
+        }
+    }
+}
+
+/// What stands behind a name.
+pub(crate) fn layout_of(name: Name) -> Layout
+    ensures { result ≡ layout_of name }
+{
+    NAMES[name as usize].2
 }
 
 /// The collective that a field spells, if the format has it.
@@ -146,38 +214,33 @@ fn started_of(field: &[u8]) -> Option<Word>
     }
 }
 
-/// A word that is no operation's, if the field spells one.
-fn other_of(field: &[u8]) -> Option<Word>
-    ensures { result ≡ with_text text_of field.now other_words }
+/// The name that a field spells, if it is in the table.
+fn name_in(mut table: &[(&str, Name, Layout)], field: &[u8]) -> Option<Name>
+    ensures { result ≡ name_in (map (λ row. (row.0.now, row.1)) table.entry.now) field.now }
 {
-    if field == b"waitall".as_slice() {
-        return Some(Word::Waitall);
-    }
-    if field == b"wait".as_slice() {
-        return Some(Word::Wait);
-    }
-    if field == b"waitany".as_slice() {
-        return Some(Word::Waitany);
-    }
-    if field == b"sendrecv".as_slice() {
-        return Some(Word::Sendrecv);
-    }
-    if field == b"dup".as_slice() {
-        return Some(Word::Dup);
-    }
-    if field == b"split".as_slice() {
-        return Some(Word::Split);
-    }
-    if field == b"finalize".as_slice() {
-        return Some(Word::Finalize);
-    }
-    if field == b"probe".as_slice() {
-        return Some(Word::Probe);
-    }
-    if field == b"open".as_slice() {
-        return Some(Word::Open);
+    while let [row, rest @ ..] = table {
+        if field == row.0.as_bytes() {
+            return Some(row.1);
+        }
+        table = rest;
     }
     None
+}
+
+/// A word that is no operation's, if the field spells one; the most frequent ones first.
+fn named_of(field: &[u8]) -> Option<Word>
+    ensures { result ≡ named_of field.now }
+{
+    if field == b"waitall".as_slice() {
+        return Some(Word::Named(Name::Waitall));
+    }
+    if field == b"wait".as_slice() {
+        return Some(Word::Named(Name::Wait));
+    }
+    match name_in(&NAMES[2..], field) {
+        Some(name) => Some(Word::Named(name)),
+        None => None,
+    }
 }
 
 /// The word that a field spells, if the format has it.
@@ -192,37 +255,37 @@ pub(crate) fn word_of(field: &[u8]) -> Option<Word>
     if let Some(word) = started_of(field) {
         return Some(word);
     }
-    other_of(field)
+    named_of(field)
 }
 
-fn collective_text(collective: Collective) -> &'static [u8]
+fn collective_text(collective: Collective) -> &'static str
     ensures value { result.now ≡ collective_text collective }
     ensures short { length result.now ≤ 9 }
 {
     match collective {
-        Collective::Barrier => b"barrier",
-        Collective::Bcast => b"bcast",
-        Collective::Gather => b"gather",
-        Collective::Scatter => b"scatter",
-        Collective::Reduce => b"reduce",
-        Collective::Allgather => b"allgather",
-        Collective::Alltoall => b"alltoall",
-        Collective::Allreduce => b"allreduce",
-        Collective::Scan => b"scan",
-        Collective::Exscan => b"exscan",
+        Collective::Barrier => "barrier",
+        Collective::Bcast => "bcast",
+        Collective::Gather => "gather",
+        Collective::Scatter => "scatter",
+        Collective::Reduce => "reduce",
+        Collective::Allgather => "allgather",
+        Collective::Alltoall => "alltoall",
+        Collective::Allreduce => "allreduce",
+        Collective::Scan => "scan",
+        Collective::Exscan => "exscan",
     }
 }
 
 /// The text of an operation's word.
-pub(crate) fn operation_text(operation: Operation) -> &'static [u8]
+fn operation_text(operation: Operation) -> &'static str
     ensures value { result.now ≡ operation_text operation }
     ensures short { length result.now ≤ 9 }
 {
     match operation {
-        Operation::Send(Mode::Standard) => b"send",
-        Operation::Send(Mode::Synchronous) => b"ssend",
-        Operation::Send(Mode::Buffered) => b"bsend",
-        Operation::Recv => b"recv",
+        Operation::Send(Mode::Standard) => "send",
+        Operation::Send(Mode::Synchronous) => "ssend",
+        Operation::Send(Mode::Buffered) => "bsend",
+        Operation::Recv => "recv",
         Operation::Coll(collective) => collective_text(collective),
     }
 }

@@ -5,7 +5,7 @@ use Rattle.std.specs.List.{slice_get, list_any, position, position_or_len}
 use Rattle.std.proofs.lemmas.List.{take-map, drop-map, length-map, length-replicate}
 use Rattle.std.proofs.lemmas.Option.{slice_get-map, none-some, same_Some}
 use Rattle.std.proofs.lemmas.Bool.{cases_Bool, cases_eq, cases_lt, eqb-true, lt-ltb, le-ltb}
-use Rattle.mpicall.specs.declared.call.Call.TheVariants.{Send, Recv, Isend, Irecv, Sendrecv, Wait, Waitall, Waitany, Coll, Icoll, Dup, Split, Probe, Finalize, Open}
+use Rattle.mpicall.specs.declared.call.Call.TheVariants.{Waitany}
 use Rattle.mpicall.specs.declared.call.Call.{Call}
 use Rattle.mpigroup.specs.Groups.{Groups, ranks_of, world_rank_of, group_rank_of}
 use Rattle.pairing.specs.declared.envelope.Envelope.{Envelope}
@@ -132,38 +132,12 @@ beside f (start ∷ starts) (req ∷ reqs) zero h = cc
 beside f (start ∷ starts) (req ∷ reqs) (suc index) h = beside f starts reqs index cc
 
 completes_among : (call : Call) → completes call ≡ completed_among call (waits_for call)
-completes_among (Send mode comm dest tag bytes) = refl
-completes_among (Recv comm source tag) = refl
-completes_among (Isend req mode comm dest tag bytes) = refl
-completes_among (Irecv req comm source tag) = refl
-completes_among (Sendrecv comm dest send_tag source recv_tag bytes) = refl
-completes_among (Wait req) = refl
-completes_among (Waitall reqs) = refl
 completes_among (Waitany chosen reqs) = refl
-completes_among (Coll comm kind) = refl
-completes_among (Icoll req comm kind) = refl
-completes_among (Dup comm new) = refl
-completes_among (Split comm colour key new) = refl
-completes_among (Probe comm source tag) = refl
-completes_among Finalize = refl
-completes_among Open = refl
+completes_among _ = refl
 
 among_maps : {A : Type 0} (f : ℕ → A) (call : Call) (numbers : List ℕ) → map f (completed_among call numbers) ≡ picked_among call (map f numbers)
-among_maps f (Send mode comm dest tag bytes) numbers = refl
-among_maps f (Recv comm source tag) numbers = refl
-among_maps f (Isend req mode comm dest tag bytes) numbers = refl
-among_maps f (Irecv req comm source tag) numbers = refl
-among_maps f (Sendrecv comm dest send_tag source recv_tag bytes) numbers = refl
-among_maps f (Wait req) numbers = refl
-among_maps f (Waitall reqs) numbers = refl
 among_maps f (Waitany chosen reqs) numbers = sym (take-map f 1 (drop chosen numbers)) ∙ ap (take 1) (sym (drop-map f chosen numbers))
-among_maps f (Coll comm kind) numbers = refl
-among_maps f (Icoll req comm kind) numbers = refl
-among_maps f (Dup comm new) numbers = refl
-among_maps f (Split comm colour key new) numbers = refl
-among_maps f (Probe comm source tag) numbers = refl
-among_maps f Finalize numbers = refl
-among_maps f Open numbers = refl
+among_maps f _ numbers = refl
 
 pub completed_noted : (notes : List (List Noted)) (rank place index : ℕ) (noted : Noted) → AreNoted notes → slice_get (notes_of notes rank) place ≡ Some noted → completed_of (recording_of notes) rank place index ≡ slice_get (completed_starts noted) index
 completed_noted notes rank place index noted are_noted h =

@@ -12,7 +12,7 @@ use Rattle.mpicall.specs.declared.limits.TheConstants.{MOST_REQUESTS}
 use Rattle.mpicall.specs.declared.call.Call.{Call}
 use Rattle.mpicall.specs.declared.call.Call.TheVariants as made
 use Rattle.pairing.specs.declared.packed.Packed.{Packed}
-use Rattle.pairing.specs.declared.packed.Packed.TheVariants.{Send, Recv, Isend, Irecv, Sendrecv, Wait, Waitall, Waitany, Coll, Icoll, Dup, Split, Probe, Finalize, Open}
+use Rattle.pairing.specs.declared.packed.Packed.TheVariants.{Send, Wait, Waitall, Waitany}
 use Rattle.pairing.specs.declared.packed.Entry.{Entry}
 use Rattle.std.specs.Option.{option_map, option_map_or}
 use Rattle.std.specs.List.{slice_get}
@@ -35,19 +35,7 @@ part_more xs more first count within =
 starts_more : (starts more : List ℕ) (packed : Packed) → end_of packed ≤ length starts → unpack_starts (starts ++ more) packed ≡ unpack_starts starts packed
 starts_more starts more (Waitall first count) within = part_more starts more first count within
 starts_more starts more (Waitany chosen first count) within = part_more starts more first count within
-starts_more starts more (Send mode comm dest tag bytes) within = refl
-starts_more starts more (Recv comm source tag) within = refl
-starts_more starts more (Isend mode comm dest req tag bytes) within = refl
-starts_more starts more (Irecv req comm source tag) within = refl
-starts_more starts more (Sendrecv comm dest source send_tag recv_tag bytes) within = refl
-starts_more starts more (Wait start) within = refl
-starts_more starts more (Coll comm kind) within = refl
-starts_more starts more (Icoll req comm kind) within = refl
-starts_more starts more (Dup comm new) within = refl
-starts_more starts more (Split comm colour key new) within = refl
-starts_more starts more (Probe comm source tag) within = refl
-starts_more starts more Finalize within = refl
-starts_more starts more Open within = refl
+starts_more starts more _ within = refl
 
 -- a call that starts a request starts the same as calls go on
 request_more : (entries more : List Entry) (place : ℕ) → IsSome (request_at entries place) → request_at (entries ++ more) place ≡ request_at entries place
@@ -80,18 +68,7 @@ unpack_more entries entries' starts starts' (Waitall first count) within started
     ap (λ (reqs : List ℕ). made.Waitall reqs) (named_more entries entries' starts starts' first count within started)
 unpack_more entries entries' starts starts' (Waitany chosen first count) within started =
     ap (λ (reqs : List ℕ). made.Waitany chosen reqs) (named_more entries entries' starts starts' first count within started)
-unpack_more entries entries' starts starts' (Send mode comm dest tag bytes) within started = refl
-unpack_more entries entries' starts starts' (Recv comm source tag) within started = refl
-unpack_more entries entries' starts starts' (Isend mode comm dest req tag bytes) within started = refl
-unpack_more entries entries' starts starts' (Irecv req comm source tag) within started = refl
-unpack_more entries entries' starts starts' (Sendrecv comm dest source send_tag recv_tag bytes) within started = refl
-unpack_more entries entries' starts starts' (Coll comm kind) within started = refl
-unpack_more entries entries' starts starts' (Icoll req comm kind) within started = refl
-unpack_more entries entries' starts starts' (Dup comm new) within started = refl
-unpack_more entries entries' starts starts' (Split comm colour key new) within started = refl
-unpack_more entries entries' starts starts' (Probe comm source tag) within started = refl
-unpack_more entries entries' starts starts' Finalize within started = refl
-unpack_more entries entries' starts starts' Open within started = refl
+unpack_more entries entries' starts starts' _ within started = refl
 
 -- so an entry stands for the same, and is stored
 noted_more : (entries entries' : List Entry) (starts starts' : List ℕ) (entry : Entry) → IsStored entries starts entry → noted_of (entries ++ entries') (starts ++ starts') entry ≡ noted_of entries starts entry
@@ -131,20 +108,7 @@ stored_push entries starts starts' entry stored added short few = record {
 -- the request that an entry starts is that of its call
 request_unpacked : (entries : List Entry) (starts : List ℕ) (packed : Packed) → starts_of (unpack entries starts packed) ≡ request_of packed
 request_unpacked entries starts (Send mode comm dest tag bytes) = refl
-request_unpacked entries starts (Recv comm source tag) = refl
-request_unpacked entries starts (Isend mode comm dest req tag bytes) = refl
-request_unpacked entries starts (Irecv req comm source tag) = refl
-request_unpacked entries starts (Sendrecv comm dest source send_tag recv_tag bytes) = refl
-request_unpacked entries starts (Wait start) = refl
-request_unpacked entries starts (Waitall first count) = refl
-request_unpacked entries starts (Waitany chosen first count) = refl
-request_unpacked entries starts (Coll comm kind) = refl
-request_unpacked entries starts (Icoll req comm kind) = refl
-request_unpacked entries starts (Dup comm new) = refl
-request_unpacked entries starts (Split comm colour key new) = refl
-request_unpacked entries starts (Probe comm source tag) = refl
-request_unpacked entries starts Finalize = refl
-request_unpacked entries starts Open = refl
+request_unpacked entries starts _ = refl
 
 request_noted : (all : List Entry) (starts : List ℕ) (entries : List Entry) (place : ℕ) → request_among (calls_in (map (noted_of all starts) entries)) place ≡ request_at entries place
 request_noted all starts [] place = refl
@@ -235,18 +199,7 @@ module _ (entries entries' : List Entry) (same : (place : ℕ) → request_at en
   unpack_same starts (Wait start) = ap (λ (o : Option ℕ). made.Wait (unwrap_or o 0)) (same start)
   unpack_same starts (Waitall first count) = ap (λ (reqs : List ℕ). made.Waitall reqs) (reqs_same (part starts first count))
   unpack_same starts (Waitany chosen first count) = ap (λ (reqs : List ℕ). made.Waitany chosen reqs) (reqs_same (part starts first count))
-  unpack_same starts (Send mode comm dest tag bytes) = refl
-  unpack_same starts (Recv comm source tag) = refl
-  unpack_same starts (Isend mode comm dest req tag bytes) = refl
-  unpack_same starts (Irecv req comm source tag) = refl
-  unpack_same starts (Sendrecv comm dest source send_tag recv_tag bytes) = refl
-  unpack_same starts (Coll comm kind) = refl
-  unpack_same starts (Icoll req comm kind) = refl
-  unpack_same starts (Dup comm new) = refl
-  unpack_same starts (Split comm colour key new) = refl
-  unpack_same starts (Probe comm source tag) = refl
-  unpack_same starts Finalize = refl
-  unpack_same starts Open = refl
+  unpack_same starts _ = refl
 
   noted_same : (starts : List ℕ) (entry : Entry) → noted_of entries' starts entry ≡ noted_of entries starts entry
   noted_same starts entry = ap (λ (call : Call). noted call entry.beside (unpack_starts starts entry.call)) (unpack_same starts entry.call)

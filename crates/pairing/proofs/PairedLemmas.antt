@@ -5,7 +5,7 @@ use Rattle.std.specs.List.{slice_get}
 use Rattle.std.specs.Option.{option_map, option_map_or}
 use Rattle.std.proofs.lemmas.Bool.{cases_eq}
 use Rattle.std.proofs.lemmas.Option.{none-some, same_Some, slice_get-map}
-use Rattle.mpicall.specs.declared.call.Call.TheVariants.{Send, Recv, Isend, Irecv, Sendrecv, Wait, Waitall, Waitany, Coll, Icoll, Dup, Split, Probe, Finalize, Open}
+use Rattle.mpicall.specs.declared.call.Call.TheVariants.{Coll, Icoll, Dup, Split}
 use Rattle.mpicall.specs.declared.call.Call.{Call}
 use Rattle.mpigroup.specs.Groups.{Groups, group_rank_of}
 use Rattle.pairing.specs.declared.envelope.Envelope.{Envelope}
@@ -31,34 +31,14 @@ no_join_send (Coll comm kind) m h = absurd (none-some m h)
 no_join_send (Icoll req comm kind) m h = absurd (none-some m h)
 no_join_send (Dup comm new) m h = absurd (none-some m h)
 no_join_send (Split comm colour key new) m h = absurd (none-some m h)
-no_join_send (Send mode comm dest tag bytes) m h = refl
-no_join_send (Recv comm source tag) m h = refl
-no_join_send (Isend req mode comm dest tag bytes) m h = refl
-no_join_send (Irecv req comm source tag) m h = refl
-no_join_send (Sendrecv comm dest send_tag source recv_tag bytes) m h = refl
-no_join_send (Wait req) m h = refl
-no_join_send (Waitall reqs) m h = refl
-no_join_send (Waitany chosen reqs) m h = refl
-no_join_send (Probe comm source tag) m h = refl
-no_join_send Finalize m h = refl
-no_join_send Open m h = refl
+no_join_send _ m h = refl
 
 no_join_recv : (call : Call) (m : Message) → message_of RecvHalf call ≡ Some m → joins call ≡ None
 no_join_recv (Coll comm kind) m h = absurd (none-some m h)
 no_join_recv (Icoll req comm kind) m h = absurd (none-some m h)
 no_join_recv (Dup comm new) m h = absurd (none-some m h)
 no_join_recv (Split comm colour key new) m h = absurd (none-some m h)
-no_join_recv (Send mode comm dest tag bytes) m h = refl
-no_join_recv (Recv comm source tag) m h = refl
-no_join_recv (Isend req mode comm dest tag bytes) m h = refl
-no_join_recv (Irecv req comm source tag) m h = refl
-no_join_recv (Sendrecv comm dest send_tag source recv_tag bytes) m h = refl
-no_join_recv (Wait req) m h = refl
-no_join_recv (Waitall reqs) m h = refl
-no_join_recv (Waitany chosen reqs) m h = refl
-no_join_recv (Probe comm source tag) m h = refl
-no_join_recv Finalize m h = refl
-no_join_recv Open m h = refl
+no_join_recv _ m h = refl
 
 no_join : (half : Half) (call : Call) (m : Message) → message_of half call ≡ Some m → joins call ≡ None
 no_join SendHalf call m h = no_join_send call m h

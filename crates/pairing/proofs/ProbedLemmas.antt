@@ -7,7 +7,7 @@ use Rattle.std.proofs.lemmas.Option.{slice_get_within, slice_get-get_or, none-so
 use Rattle.std.proofs.lemmas.Bool.{cases_lt}
 use Rattle.mpicall.specs.declared.call.Call.{Call}
 use Rattle.mpicall.specs.declared.call.Peer.TheVariants.{Rank}
-use Rattle.mpicall.specs.declared.call.Call.TheVariants.{Send, Recv, Isend, Irecv, Sendrecv, Wait, Waitall, Waitany, Coll, Icoll, Dup, Split, Probe, Finalize, Open}
+use Rattle.mpicall.specs.declared.call.Call.TheVariants.{Recv, Irecv, Sendrecv}
 use Rattle.mpigroup.specs.Groups.{Groups, group_rank_of}
 use Rattle.pairing.specs.declared.envelope.Envelope.{Envelope}
 use Rattle.pairing.specs.declared.envelope.Half.TheVariants.{Send as SendHalf, Recv as RecvHalf}
@@ -27,21 +27,10 @@ prober groups rank call e h =
 
 -- a probe is no receive
 pub no_receive : (groups : Groups) (rank : ℕ) (call : Call) (e : Envelope) → probed_envelope groups rank call ≡ Some e → envelope_of groups rank RecvHalf call ≡ None
-no_receive groups rank (Probe comm source tag) e h = refl
-no_receive groups rank (Send mode comm dest tag bytes) e h = absurd (none-some e h)
-no_receive groups rank Open e h = absurd (none-some e h)
 no_receive groups rank (Recv comm source tag) e h = absurd (none-some e h)
-no_receive groups rank (Isend req mode comm dest tag bytes) e h = absurd (none-some e h)
 no_receive groups rank (Irecv req comm source tag) e h = absurd (none-some e h)
 no_receive groups rank (Sendrecv comm dest send_tag source recv_tag bytes) e h = absurd (none-some e h)
-no_receive groups rank (Wait req) e h = absurd (none-some e h)
-no_receive groups rank (Waitall reqs) e h = absurd (none-some e h)
-no_receive groups rank (Waitany chosen reqs) e h = absurd (none-some e h)
-no_receive groups rank (Coll comm kind) e h = absurd (none-some e h)
-no_receive groups rank (Icoll req comm kind) e h = absurd (none-some e h)
-no_receive groups rank (Dup comm new) e h = absurd (none-some e h)
-no_receive groups rank (Split comm colour key new) e h = absurd (none-some e h)
-no_receive groups rank Finalize e h = absurd (none-some e h)
+no_receive groups rank _ e h = refl
 
 -- no more places are before a place than there are
 pub before_most : {A : Type 0} (n : ℕ) (test : A → Bool) (xs : List A) (i : ℕ) → length (places_from n test (take i xs)) ≤ length (places_from n test xs)

@@ -8,7 +8,7 @@ use Rattle.std.proofs.lemmas.Option.{slice_get-map, slice_get_past}
 use Rattle.std.proofs.lemmas.List.Folds.{find_at}
 use Rattle.std.proofs.lemmas.Bool.{false≢true, cases_Bool, cases_lt, eqb-true, lt-ltb, le-ltb}
 use Rattle.pairing.specs.declared.packed.Packed.{Packed}
-use Rattle.pairing.specs.declared.packed.Packed.TheVariants.{Send, Recv, Isend, Irecv, Sendrecv, Wait, Waitall, Waitany, Coll, Icoll, Dup, Split, Probe, Finalize, Open}
+use Rattle.pairing.specs.declared.packed.Packed.TheVariants.{Wait, Waitany}
 use Rattle.pairing.specs.declared.packed.Entry.{Entry}
 use Rattle.pairing.specs.Requests.{starts, waits_for, completes, started_in}
 use Rattle.pairing.specs.Notes.{Noted, request_at, completed_among, completed_starts, start_of}
@@ -18,40 +18,14 @@ use Rattle.mpicall.specs.declared.call.Call.{Call}
 
 -- a wait names what its starts start
 pub waits_unpacked : (entries : List Entry) (starts : List ℕ) (packed : Packed) → waits_for (unpack entries starts packed) ≡ reqs_at entries (unpack_starts starts packed)
-waits_unpacked entries starts (Send mode comm dest tag bytes) = refl
-waits_unpacked entries starts (Recv comm source tag) = refl
-waits_unpacked entries starts (Isend mode comm dest req tag bytes) = refl
-waits_unpacked entries starts (Irecv req comm source tag) = refl
-waits_unpacked entries starts (Sendrecv comm dest source send_tag recv_tag bytes) = refl
 waits_unpacked entries starts (Wait start) = refl
-waits_unpacked entries starts (Waitall first count) = refl
-waits_unpacked entries starts (Waitany chosen first count) = refl
-waits_unpacked entries starts (Coll comm kind) = refl
-waits_unpacked entries starts (Icoll req comm kind) = refl
-waits_unpacked entries starts (Dup comm new) = refl
-waits_unpacked entries starts (Split comm colour key new) = refl
-waits_unpacked entries starts (Probe comm source tag) = refl
-waits_unpacked entries starts Finalize = refl
-waits_unpacked entries starts Open = refl
+waits_unpacked entries starts _ = refl
 
 -- and completes what those of its starts start which stand beside what it completes
 by_starts : (entries : List Entry) (starts : List ℕ) (packed : Packed) → completes (unpack entries starts packed) ≡ reqs_at entries (completed_among (unpack entries starts packed) (unpack_starts starts packed))
-by_starts entries starts (Send mode comm dest tag bytes) = refl
-by_starts entries starts (Recv comm source tag) = refl
-by_starts entries starts (Isend mode comm dest req tag bytes) = refl
-by_starts entries starts (Irecv req comm source tag) = refl
-by_starts entries starts (Sendrecv comm dest source send_tag recv_tag bytes) = refl
-by_starts entries starts (Wait start) = refl
-by_starts entries starts (Waitall first count) = refl
 by_starts entries starts (Waitany chosen first count) =
     ap (take 1) (drop-map (req_at entries) chosen (part starts first count)) ∙ take-map (req_at entries) 1 (drop chosen (part starts first count))
-by_starts entries starts (Coll comm kind) = refl
-by_starts entries starts (Icoll req comm kind) = refl
-by_starts entries starts (Dup comm new) = refl
-by_starts entries starts (Split comm colour key new) = refl
-by_starts entries starts (Probe comm source tag) = refl
-by_starts entries starts Finalize = refl
-by_starts entries starts Open = refl
+by_starts entries starts _ = refl
 
 pub completes_count : (entries : List Entry) (starts : List ℕ) (entry : Entry) → length (completed_starts (noted_of entries starts entry)) ≡ length (completes (unpack entries starts entry.call))
 completes_count entries starts entry =

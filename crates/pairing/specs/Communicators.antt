@@ -1,16 +1,20 @@
 -- Communicators of a rank (MPI 4.0, section 7.4.2). Each rank holds the world, and the communicators that
 -- its own MPI_Comm_dup and MPI_Comm_split have made.
-use Rattle.std.specs.Prelude.{ℕ, ◌==◌, Bool, false, ◌||◌, Option, Some, None, List}
+use Rattle.std.specs.Prelude.{ℕ, ◌==◌, Bool, false, ◌||◌, Option, None, List}
 use Rattle.std.specs.List.{list_any}
 use Rattle.std.specs.Option.{option_map_or}
 use Rattle.mpicall.specs.declared.call.Call.{Call}
-use Rattle.mpicall.specs.declared.call.Call.TheVariants.{Dup, Split}
+use Rattle.mpicall.specs.Does.{does_of}
+use Rattle.mpicall.specs.declared.does.Does.{Does}
+use Rattle.mpicall.specs.declared.does.Does.TheVariants.{Joins}
 
 -- the communicator that the call makes for its rank
 abbrev pub makes : Call → Option ℕ
-makes (Dup comm new) = Some new
-makes (Split comm colour key new) = new
-makes _ = None
+makes call = by_what (does_of call)
+  where
+    by_what : Does → Option ℕ
+    by_what (Joins comm root made) = made
+    by_what _ = None
 
 abbrev pub does_make : ℕ → Call → Bool
 does_make comm call = option_map_or (λ made. made == comm) (makes call) false

@@ -5,9 +5,13 @@
 -- whose peer is MPI_PROC_NULL has no message (section 3.11).
 use Rattle.std.specs.Prelude.{ℕ, ◌==◌, Bool, false, ◌&&◌, Option, Some, None, option_map, option_and_then}
 use Rattle.std.specs.Option.{option_map_or}
-use Rattle.mpicall.specs.declared.call.Peer.TheVariants.{Rank}
+use Rattle.mpicall.specs.Does.{does_of}
+use Rattle.mpicall.specs.declared.call.Peer.{Peer}
+use Rattle.mpicall.specs.declared.call.Peer.TheVariants.{Rank, Null}
+use Rattle.mpicall.specs.declared.does.Side.{Side}
+use Rattle.mpicall.specs.declared.does.Does.{Does}
+use Rattle.mpicall.specs.declared.does.Does.TheVariants.{Exchanges}
 use Rattle.mpicall.specs.declared.call.Call.{Call}
-use Rattle.mpicall.specs.declared.call.Call.TheVariants.{Send, Recv, Isend, Irecv, Sendrecv}
 use Rattle.mpigroup.specs.Groups.{Groups, world_rank_of, group_rank_of}
 use Rattle.pairing.specs.declared.envelope.Envelope.{Envelope}
 use Rattle.pairing.specs.declared.envelope.Half.{Half}
@@ -19,16 +23,24 @@ abbrev pub other_half : Half → Half
 other_half SendHalf = RecvHalf
 other_half RecvHalf = SendHalf
 
+-- a message over a communicator, by what a call says of its other end; none where that is MPI_PROC_NULL
+abbrev pub message : ℕ → Side → Option Message
+message comm side = by_peer comm side.peer side.tag
+  where
+    by_peer : ℕ → Peer → ℕ → Option Message
+    by_peer comm (Rank peer) tag = Some (record { comm = comm; peer = peer; tag = tag })
+    by_peer comm Null tag = None
+
+-- the message that is sent or received
+abbrev pub message_by : Half → Does → Option Message
+message_by SendHalf (Exchanges comm sent received probed) = option_and_then (message comm) sent
+message_by RecvHalf (Exchanges comm sent received probed) = option_and_then (message comm) received
+message_by _ _ = None
+
 -- the message that a half of a call sends or receives: its communicator, peer and tag. None where the
 -- call has no such half, and where its peer is MPI_PROC_NULL.
 abbrev pub message_of : Half → Call → Option Message
-message_of SendHalf (Send mode comm (Rank dest) tag bytes) = Some (record { comm = comm; peer = dest; tag = tag })
-message_of SendHalf (Isend req mode comm (Rank dest) tag bytes) = Some (record { comm = comm; peer = dest; tag = tag })
-message_of SendHalf (Sendrecv comm (Rank dest) send_tag source recv_tag bytes) = Some (record { comm = comm; peer = dest; tag = send_tag })
-message_of RecvHalf (Recv comm (Rank source) tag) = Some (record { comm = comm; peer = source; tag = tag })
-message_of RecvHalf (Irecv req comm (Rank source) tag) = Some (record { comm = comm; peer = source; tag = tag })
-message_of RecvHalf (Sendrecv comm dest send_tag (Rank source) recv_tag bytes) = Some (record { comm = comm; peer = source; tag = recv_tag })
-message_of _ _ = None
+message_of half call = message_by half (does_of call)
 
 -- the envelope of a message by the half that a member of the communicator's group has of it
 abbrev pub envelope_by : Half → Message → ℕ → Envelope

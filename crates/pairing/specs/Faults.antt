@@ -8,10 +8,12 @@ use Rattle.std.specs.List.{list_all}
 use Rattle.std.specs.Option.{option_map_or}
 use Rattle.mpicall.specs.declared.call.Peer.{Peer}
 use Rattle.mpicall.specs.declared.call.Peer.TheVariants.{Rank, Null}
-use Rattle.mpicall.specs.declared.call.Kind.{Kind}
-use Rattle.mpicall.specs.declared.call.Kind.TheVariants.{Bcast, Gather, Scatter, Reduce}
+use Rattle.mpicall.specs.Does.{does_of}
+use Rattle.mpicall.specs.declared.does.Side.{Side}
+use Rattle.mpicall.specs.declared.does.Does.{Does}
+use Rattle.mpicall.specs.declared.does.Does.TheVariants.{Exchanges, Joins, Alone}
 use Rattle.mpicall.specs.declared.call.Call.{Call}
-use Rattle.mpicall.specs.declared.call.Call.TheVariants.{Send, Recv, Isend, Irecv, Sendrecv, Probe, Coll, Icoll, Dup, Split}
+use Rattle.mpicall.specs.declared.call.Call.TheVariants.{Dup, Split}
 use Rattle.mpigroup.specs.Groups.{Groups, size_of, group_rank_of}
 use Rattle.pairing.specs.Limits.{most_calls}
 use Rattle.pairing.specs.Recordings.{Lists, calls_of, has_end, is_ended, IsClosedList}
@@ -22,25 +24,12 @@ use Rattle.pairing.specs.declared.fault.CallFault.TheVariants.{CallAfterFinalize
 
 -- the communicator over which the call is made, if it names one
 abbrev pub comm_of : Call → Option ℕ
-comm_of (Send mode comm dest tag bytes) = Some comm
-comm_of (Recv comm source tag) = Some comm
-comm_of (Isend req mode comm dest tag bytes) = Some comm
-comm_of (Irecv req comm source tag) = Some comm
-comm_of (Sendrecv comm dest send_tag source recv_tag bytes) = Some comm
-comm_of (Probe comm source tag) = Some comm
-comm_of (Coll comm kind) = Some comm
-comm_of (Icoll req comm kind) = Some comm
-comm_of (Dup comm new) = Some comm
-comm_of (Split comm colour key new) = Some comm
-comm_of _ = None
-
--- the root of a collective, if it has one
-abbrev pub root_of : Kind → Option ℕ
-root_of (Bcast root) = Some root
-root_of (Gather root) = Some root
-root_of (Scatter root) = Some root
-root_of (Reduce root) = Some root
-root_of _ = None
+comm_of call = by_what (does_of call)
+  where
+    by_what : Does → Option ℕ
+    by_what (Exchanges comm sent received probed) = Some comm
+    by_what (Joins comm root made) = Some comm
+    by_what Alone = None
 
 -- the communicator exists
 abbrev pub is_comm : Groups → ℕ → Bool
@@ -69,15 +58,16 @@ holds_comm groups rank calls call = option_map_or (λ comm. is_member groups ran
 
 -- each peer and root that the call names is a rank of its communicator's group
 abbrev pub peers_exist : Groups → Call → Bool
-peers_exist groups (Send mode comm dest tag bytes) = is_peer groups comm dest
-peers_exist groups (Recv comm source tag) = is_peer groups comm source
-peers_exist groups (Isend req mode comm dest tag bytes) = is_peer groups comm dest
-peers_exist groups (Irecv req comm source tag) = is_peer groups comm source
-peers_exist groups (Sendrecv comm dest send_tag source recv_tag bytes) = is_peer groups comm dest && is_peer groups comm source
-peers_exist groups (Probe comm source tag) = is_peer groups comm source
-peers_exist groups (Coll comm kind) = option_map_or (is_group_rank groups comm) (root_of kind) true
-peers_exist groups (Icoll req comm kind) = option_map_or (is_group_rank groups comm) (root_of kind) true
-peers_exist groups _ = true
+peers_exist groups call = by_what (does_of call)
+  where
+    is_side : ℕ → Side → Bool
+    is_side comm side = is_peer groups comm side.peer
+
+    by_what : Does → Bool
+    by_what (Exchanges comm sent received probed) =
+        option_map_or (is_side comm) sent true && option_map_or (is_side comm) received true && option_map_or (is_side comm) probed true
+    by_what (Joins comm root made) = option_map_or (is_group_rank groups comm) root true
+    by_what Alone = true
 
 -- the request that the call starts isn't active before
 abbrev pub starts_afresh : List Call → Call → Bool

@@ -5,18 +5,20 @@ use Rattle.std.specs.Prelude.{◌≡◌, ℕ, ◌==◌, Bool, false, Option, Som
 use Rattle.std.specs.List.{list_all}
 use Rattle.std.specs.Option.{option_map_or}
 use Rattle.mpicall.specs.declared.call.Call.{Call}
-use Rattle.mpicall.specs.declared.call.Call.TheVariants.{Coll, Icoll, Dup, Split}
+use Rattle.mpicall.specs.Does.{does_of}
+use Rattle.mpicall.specs.declared.does.Does.{Does}
+use Rattle.mpicall.specs.declared.does.Does.TheVariants.{Joins}
 use Rattle.mpigroup.specs.Groups.{Groups, group_of, world_rank_of}
 use Rattle.pairing.specs.Recordings.{Lists, calls_of, GoesOn}
 use Rattle.pairing.specs.Places.{places, count_before}
 
 -- the communicator whose members all make the call
 abbrev pub joins : Call → Option ℕ
-joins (Coll comm kind) = Some comm
-joins (Icoll req comm kind) = Some comm
-joins (Dup comm new) = Some comm
-joins (Split comm colour key new) = Some comm
-joins _ = None
+joins call = by_what (does_of call)
+  where
+    by_what : Does → Option ℕ
+    by_what (Joins comm root made) = Some comm
+    by_what _ = None
 
 abbrev pub does_join : ℕ → Call → Bool
 does_join comm call = option_map_or (λ joined. joined == comm) (joins call) false

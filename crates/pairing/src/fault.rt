@@ -3,10 +3,11 @@
 ghost use Rattle.std.specs.Prelude.{◌≡◌, true};
 ghost use Rattle.std.specs.Option.{option_map_or};
 ghost use Rattle.pairing.specs.Codes.{code_of_call};
-ghost use Rattle.pairing.specs.Faults.{comm_of, root_of, is_group_rank, is_peer, is_member, comm_exists, peers_exist, are_distinct, AnEndedLawfulListIsClosed, EachWaitHasItsStarts, NoTwoStartsAreActive};
+ghost use Rattle.pairing.specs.Faults.{comm_of, is_group_rank, is_peer, is_member, comm_exists, peers_exist, are_distinct, AnEndedLawfulListIsClosed, EachWaitHasItsStarts, NoTwoStartsAreActive};
 
 use crate::request::is_among;
-use mpicall::call::{Call, Kind, Peer};
+use mpicall::call::{Call, Peer};
+use mpicall::does::{Does, Side};
 use mpigroup::head::Head;
 use thiserror::Error;
 
@@ -56,34 +57,9 @@ impl CallFault {
 pub(crate) fn comm_of(call: &Call) -> Option<u16>
     ensures { result ≡ comm_of call.now }
 {
-    match *call {
-        Call::Send { comm, .. }
-        | Call::Recv { comm, .. }
-        | Call::Isend { comm, .. }
-        | Call::Irecv { comm, .. }
-        | Call::Sendrecv { comm, .. }
-        | Call::Probe { comm, .. }
-        | Call::Coll { comm, .. }
-        | Call::Icoll { comm, .. }
-        | Call::Dup { comm, .. }
-        | Call::Split { comm, .. } => Some(comm),
-        Call::Wait { .. }
-        | Call::Waitall { .. }
-        | Call::Waitany { .. }
-        | Call::Finalize
-        | Call::Open => None,
-    }
-}
-
-/// The root of a collective, if it has one.
-fn root_of(kind: Kind) -> Option<u16>
-    ensures { result ≡ root_of kind }
-{
-    match kind {
-        Kind::Bcast(root) | Kind::Gather(root) | Kind::Scatter(root) | Kind::Reduce(root) => {
-            Some(root)
-        }
-        _ => None,
+    match call.does() {
+        Does::Exchanges { comm, .. } | Does::Joins { comm, .. } => Some(comm),
+        Does::Alone => None,
     }
 }
 
@@ -107,11 +83,21 @@ fn is_peer(head: &Head, comm: u16, peer: Peer) -> bool
     }
 }
 
-/// Whether the collective has no root, or a rank of the communicator's group as root.
-fn is_root(head: &Head, comm: u16, kind: Kind) -> bool
-    ensures { result ≡ option_map_or (is_group_rank head.now comm) (root_of kind) true }
+/// Whether a call says nothing of a message's other end, or its peer is null or a rank of the communicator's group.
+fn is_side(head: &Head, comm: u16, side: Option<Side>) -> bool
+    ensures { result ≡ option_map_or (λ side. is_peer head.now comm side.peer) side true }
 {
-    match root_of(kind) {
+    match side {
+        Some(Side { peer, .. }) => is_peer(head, comm, peer),
+        None => true,
+    }
+}
+
+/// Whether a call has no root, or a rank of the communicator's group as root.
+fn is_root(head: &Head, comm: u16, root: Option<u16>) -> bool
+    ensures { result ≡ option_map_or (is_group_rank head.now comm) root true }
+{
+    match root {
         Some(root) => is_group_rank(head, comm, root),
         None => true,
     }
@@ -138,19 +124,19 @@ pub(crate) fn comm_exists(head: &Head, call: &Call) -> bool
 pub(crate) fn peers_exist(head: &Head, call: &Call) -> bool
     ensures { result ≡ peers_exist head.now call.now }
 {
-    match *call {
-        Call::Send { comm, dest, .. } | Call::Isend { comm, dest, .. } => is_peer(head, comm, dest),
-        Call::Recv { comm, source, .. }
-        | Call::Irecv { comm, source, .. }
-        | Call::Probe { comm, source, .. } => is_peer(head, comm, source),
-        Call::Sendrecv {
+    match call.does() {
+        Does::Exchanges {
             comm,
-            dest,
-            source,
-            ..
-        } => is_peer(head, comm, dest) && is_peer(head, comm, source),
-        Call::Coll { comm, kind } | Call::Icoll { comm, kind, .. } => is_root(head, comm, kind),
-        _ => true,
+            sent,
+            received,
+            probed,
+        } => {
+            is_side(head, comm, sent)
+                && is_side(head, comm, received)
+                && is_side(head, comm, probed)
+        }
+        Does::Joins { comm, root, .. } => is_root(head, comm, root),
+        Does::Alone => true,
     }
 }
 

@@ -17,6 +17,7 @@ use crate::envelope::{Envelope, Half, Message, envelope_by};
 use crate::matches::Numbered;
 use indexmap::IndexMap;
 use mpicall::call::{Call, Peer};
+use mpicall::does::{Does, Side};
 use mpicall::record::Record;
 use mpigroup::head::Head;
 use std::alloc::{AllocError, Global};
@@ -25,11 +26,16 @@ use std::alloc::{AllocError, Global};
 fn probed_message(call: &Call) -> Option<Message>
     ensures { result ≡ probed_message call.now }
 {
-    match *call {
-        Call::Probe {
+    match call.does() {
+        Does::Exchanges {
             comm,
-            source: Peer::Rank(peer),
-            tag,
+            probed: Some(
+                Side {
+                    peer: Peer::Rank(peer),
+                    tag,
+                },
+            ),
+            ..
         } => Some(Message { comm, peer, tag }),
         _ => None,
     }

@@ -4,16 +4,14 @@ ghost use Rattle.std.specs.Prelude.{◌≡◌};
 ghost use Rattle.pairing.specs.Waves.{joins, AWaveHasOneCallOfEachRank, TheCallInAWaveJoinsIt, NoOtherCallIsInAWave, WavesStay};
 
 use mpicall::call::Call;
+use mpicall::does::Does;
 
 /// The communicator whose members all make the call, if there is one.
 pub fn joins(call: &Call) -> Option<u16>
     ensures { result ≡ joins call.now }
 {
-    match *call {
-        Call::Coll { comm, .. }
-        | Call::Icoll { comm, .. }
-        | Call::Dup { comm, .. }
-        | Call::Split { comm, .. } => Some(comm),
+    match call.does() {
+        Does::Joins { comm, .. } => Some(comm),
         _ => None,
     }
 }

@@ -17,7 +17,8 @@ use Rattle.mpicall.specs.declared.word.Collective.TheVariants.{Barrier, Bcast, G
 use Rattle.mpicall.specs.declared.word.Operation.{Operation}
 use Rattle.mpicall.specs.declared.word.Operation.TheVariants.{Send, Recv, Coll}
 use Rattle.mpicall.specs.declared.word.Word.{Word}
-use Rattle.mpicall.specs.declared.word.Word.TheVariants.{Blocking, Started, Sendrecv, Wait, Waitall, Waitany, Dup, Split, Probe, Finalize, Open}
+use Rattle.mpicall.specs.declared.word.Word.TheVariants.{Blocking, Started, Named}
+use Rattle.mpicall.specs.declared.word.Name.TheVariants.{Waitall}
 
 -- ---- numbers
 
@@ -63,35 +64,18 @@ small_ascii (b ∷ text) h =
 
 collective_small : (collective : Collective) → is_small (collective_text collective) ≡ true
 collective_small Barrier = refl
-collective_small Bcast = refl
-collective_small Gather = refl
-collective_small Scatter = refl
-collective_small Reduce = refl
-collective_small Allgather = refl
-collective_small Alltoall = refl
-collective_small Allreduce = refl
-collective_small Scan = refl
-collective_small Exscan = refl
+collective_small _ = refl
 
 operation_small : (operation : Operation) → is_small (operation_text operation) ≡ true
 operation_small (Send Standard) = refl
-operation_small (Send Synchronous) = refl
-operation_small (Send Buffered) = refl
-operation_small Recv = refl
 operation_small (Coll collective) = collective_small collective
+operation_small _ = refl
 
 word_small : (word : Word) → is_small (text_of word) ≡ true
 word_small (Blocking operation) = operation_small operation
 word_small (Started operation) = operation_small operation
-word_small Sendrecv = refl
-word_small Wait = refl
-word_small Waitall = refl
-word_small Waitany = refl
-word_small Dup = refl
-word_small Split = refl
-word_small Probe = refl
-word_small Finalize = refl
-word_small Open = refl
+word_small (Named Waitall) = refl
+word_small _ = refl
 
 -- ---- fields and lines
 

@@ -8,7 +8,7 @@ use Rattle.std.proofs.lemmas.Bool.Decides.{Decides-eqb}
 use Rattle.std.proofs.lemmas.Slice.Eq.{bytes_eq-Decides}
 use Rattle.std.specs.Str.{bytes_eq}
 use Rattle.mpicall.specs.declared.call.Call.{Call}
-use Rattle.mpicall.specs.declared.call.Call.TheVariants.{Send, Recv, Isend, Irecv, Sendrecv, Wait, Waitall, Waitany, Coll, Icoll, Dup, Split, Finalize, Probe, Open}
+use Rattle.mpicall.specs.declared.call.Call.TheVariants.{Coll}
 use Rattle.mpicall.specs.declared.call.Kind.{Kind}
 use Rattle.mpicall.specs.Spelling.{root_of, word_of_call}
 use Rattle.mpicall.specs.Word.{text_of}
@@ -38,20 +38,7 @@ of_kind : (P : Call → Type 0) (call : Call) (kind : Kind) → kind_of call ≡
 of_kind P (Coll comm other) kind e holds =
     let is : other ≡ kind = ap (λ found. unwrap_or found kind) e in
     subst (λ (k : Kind). P (Coll comm k)) (sym is) (holds comm)
-of_kind P (Send mode comm dest tag bytes) kind e holds = absurd (none-some kind e)
-of_kind P (Recv comm source tag) kind e holds = absurd (none-some kind e)
-of_kind P (Isend req mode comm dest tag bytes) kind e holds = absurd (none-some kind e)
-of_kind P (Irecv req comm source tag) kind e holds = absurd (none-some kind e)
-of_kind P (Sendrecv comm dest send_tag source recv_tag bytes) kind e holds = absurd (none-some kind e)
-of_kind P (Probe comm source tag) kind e holds = absurd (none-some kind e)
-of_kind P Open kind e holds = absurd (none-some kind e)
-of_kind P (Wait req) kind e holds = absurd (none-some kind e)
-of_kind P (Waitall reqs) kind e holds = absurd (none-some kind e)
-of_kind P (Waitany chosen reqs) kind e holds = absurd (none-some kind e)
-of_kind P (Icoll req comm other) kind e holds = absurd (none-some kind e)
-of_kind P (Dup comm new) kind e holds = absurd (none-some kind e)
-of_kind P (Split comm colour key new) kind e holds = absurd (none-some kind e)
-of_kind P Finalize kind e holds = absurd (none-some kind e)
+of_kind P _ kind e holds = absurd (none-some kind e)
 
 pub alike : (first call : Call) (kind : Kind) → kind_of first ≡ Some kind → kind_of call ≡ Some kind → (compared : Compared) (comm wave member : ℕ) → comparison_of compared comm wave member first call ≡ []
 alike first call kind of_first of_call compared comm wave member =

@@ -9,7 +9,6 @@ ghost use Rattle.mpicall.specs.Word.{text_of};
 ghost use Rattle.reports.specs.Pages.{with_fields, Tells};
 
 use crate::report::spelled::SpelledCall;
-use crate::word::operation_text;
 use itoa::Buffer;
 use mpicall::device::{DeviceFault, Output, write_all};
 use mpicall::record::Record;
@@ -118,22 +117,8 @@ impl Page {
         ensures value { self.new ≡ self.old ++ space ∷ text_of word }
         ensures short { length self.new ≤ length self.old + 12 }
     {
-        match word {
-            Word::Blocking(operation) => self.push_field(operation_text(operation).as_bytes()),
-            Word::Started(operation) => {
-                self.push_field(b"i");
-                self.push_all(operation_text(operation).as_bytes());
-            }
-            Word::Sendrecv => self.push_field(b"sendrecv"),
-            Word::Wait => self.push_field(b"wait"),
-            Word::Waitall => self.push_field(b"waitall"),
-            Word::Waitany => self.push_field(b"waitany"),
-            Word::Dup => self.push_field(b"dup"),
-            Word::Split => self.push_field(b"split"),
-            Word::Probe => self.push_field(b"probe"),
-            Word::Finalize => self.push_field(b"finalize"),
-            Word::Open => self.push_field(b"open"),
-        }
+        self.push_field(word.start().as_bytes());
+        self.push_all(word.stem().as_bytes());
     }
 
     /// Adds a call as its trace has it.

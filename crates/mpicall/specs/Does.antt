@@ -1,0 +1,29 @@
+-- What a call does over its communicator: it sends a message, receives one (MPI 4.0, section 3.2) or waits for one
+-- that it doesn't take (section 3.8), or it is a call of all members (chapters 6 and 7). The modes and the
+-- nonblocking forms do the same (section 3.7).
+use Rattle.std.specs.Prelude.{ℕ, Option, Some, None}
+use Rattle.mpicall.specs.Spelling.{root_of}
+use Rattle.mpicall.specs.declared.call.Peer.{Peer}
+use Rattle.mpicall.specs.declared.call.Call.{Call}
+use Rattle.mpicall.specs.declared.call.Call.TheVariants.{Send, Recv, Isend, Irecv, Sendrecv, Probe, Coll, Icoll, Dup, Split}
+use Rattle.mpicall.specs.declared.does.Side.{Side}
+use Rattle.mpicall.specs.declared.does.Does.{Does}
+use Rattle.mpicall.specs.declared.does.Does.TheVariants.{Exchanges, Joins, Alone}
+
+abbrev pub side : Peer → ℕ → Option Side
+side peer tag = Some (record { peer = peer; tag = tag })
+
+-- what it sends, receives and probes for, each with the peer and the tag; or the root and the communicator that it
+-- makes, of a call of all members
+abbrev pub does_of : Call → Does
+does_of (Send mode comm dest tag bytes) = Exchanges comm (side dest tag) None None
+does_of (Isend req mode comm dest tag bytes) = Exchanges comm (side dest tag) None None
+does_of (Recv comm source tag) = Exchanges comm None (side source tag) None
+does_of (Irecv req comm source tag) = Exchanges comm None (side source tag) None
+does_of (Sendrecv comm dest send_tag source recv_tag bytes) = Exchanges comm (side dest send_tag) (side source recv_tag) None
+does_of (Probe comm source tag) = Exchanges comm None None (side source tag)
+does_of (Coll comm kind) = Joins comm (root_of kind) None
+does_of (Icoll req comm kind) = Joins comm (root_of kind) None
+does_of (Dup comm new) = Joins comm None (Some new)
+does_of (Split comm colour key new) = Joins comm None new
+does_of _ = Alone

@@ -1,0 +1,133 @@
+//! What a call does over its communicator.
+
+ghost use Rattle.std.specs.Prelude.{◌≡◌, Some, None};
+ghost use Rattle.mpicall.specs.Does.{does_of};
+
+use crate::call::{Call, Peer};
+use crate::word::root_of;
+
+/// One end of a message, as a call names the other one: the peer, and the message's tag.
+#[derive(Clone, Copy, PartialEq, Eq)]
+pub struct Side {
+    pub peer: Peer,
+    pub tag: u32,
+}
+
+/// What a call does over a communicator, whether it waits for that itself or only starts it.
+#[derive(Clone, Copy, PartialEq, Eq)]
+pub enum Does {
+    /// It sends a message, receives one, or waits for one that it doesn't take; MPI_Sendrecv does two of these.
+    Exchanges {
+        comm: u16,
+        sent: Option<Side>,
+        received: Option<Side>,
+        probed: Option<Side>,
+    },
+    /// All members make it: with a root, if it has one, and with the communicator that it makes, if it makes one.
+    Joins {
+        comm: u16,
+        root: Option<u16>,
+        made: Option<u16>,
+    },
+    /// It names no communicator.
+    Alone,
+}
+
+impl Does {
+    /// It sends a message.
+    #[inline(always)]
+    fn sends(comm: u16, peer: Peer, tag: u32) -> Does
+        ensures { result ≡ Does.Exchanges comm (Some (record { peer = peer; tag = tag })) None None }
+    {
+        Does::Exchanges {
+            comm,
+            sent: Some(Side { peer, tag }),
+            received: None,
+            probed: None,
+        }
+    }
+
+    /// It receives a message.
+    #[inline(always)]
+    fn receives(comm: u16, peer: Peer, tag: u32) -> Does
+        ensures { result ≡ Does.Exchanges comm None (Some (record { peer = peer; tag = tag })) None }
+    {
+        Does::Exchanges {
+            comm,
+            sent: None,
+            received: Some(Side { peer, tag }),
+            probed: None,
+        }
+    }
+}
+
+impl Call {
+    /// What the call does.
+    #[inline(always)]
+    pub fn does(&self) -> Does
+        ensures { result ≡ does_of self.now }
+    {
+        match *self {
+            Call::Send {
+                comm,
+                dest,
+                tag,
+                ..
+            }
+            | Call::Isend {
+                comm,
+                dest,
+                tag,
+                ..
+            } => Does::sends(comm, dest, tag),
+            Call::Recv { comm, source, tag }
+            | Call::Irecv {
+                comm,
+                source,
+                tag,
+                ..
+            } => Does::receives(comm, source, tag),
+            Call::Sendrecv {
+                comm,
+                dest,
+                send_tag,
+                source,
+                recv_tag,
+                ..
+            } => Does::Exchanges {
+                comm,
+                sent: Some(Side {
+                    peer: dest,
+                    tag: send_tag,
+                }),
+                received: Some(Side {
+                    peer: source,
+                    tag: recv_tag,
+                }),
+                probed: None,
+            },
+            Call::Probe { comm, source, tag } => Does::Exchanges {
+                comm,
+                sent: None,
+                received: None,
+                probed: Some(Side { peer: source, tag }),
+            },
+            Call::Coll { comm, kind } | Call::Icoll { comm, kind, .. } => Does::Joins {
+                comm,
+                root: root_of(kind),
+                made: None,
+            },
+            Call::Dup { comm, new } => Does::Joins {
+                comm,
+                root: None,
+                made: Some(new),
+            },
+            Call::Split { comm, new, .. } => Does::Joins {
+                comm,
+                root: None,
+                made: new,
+            },
+            _ => Does::Alone,
+        }
+    }
+}
