@@ -24,6 +24,7 @@
 //! lists.move_back(ten, b);      // a: 20      b: 10
 //! lists.append(a, b);           // a: 20 10   b:
 //! lists.list_of(ten)            // Some(a)
+//! lists.list(0)                 // a, by its number
 //! lists.pop_front(a)            // Some(20)
 //! lists.unlink(ten)             // 10, and both nodes are spare
 //! lists.work()                  // 8
