@@ -10,13 +10,16 @@ module _ {T : Type 0} where
   abbrev pub values : List (ℕ × T) → List T
   values list = map (λ entry. entry.1) list
 
-  pub length-contents : (lists : List (List (ℕ × T))) → length (contents lists) ≡ length lists
-  length-contents lists = length-map lists values
+  pub contents_length : (lists : List (List (ℕ × T))) → length (contents lists) ≡ length lists
+  contents_length lists = length-map lists values
 
   pub contents_at : (lists : List (List (ℕ × T))) (l : ℕ) → list_at (contents lists) l ≡ values (list_at lists l)
   contents_at [] l = refl
   contents_at (list ∷ lists) zero = refl
   contents_at (list ∷ lists) (suc l) = contents_at lists l
+
+  pub length_at : (lists : List (List (ℕ × T))) (l : ℕ) → length (list_at (contents lists) l) ≡ length (list_at lists l)
+  length_at lists l = ap (length {A = T}) (contents_at lists l) ∙ length-map (list_at lists l) (λ (entry : ℕ × T). entry.1)
 
   pub contents_set : (lists : List (List (ℕ × T))) (l : ℕ) (list : List (ℕ × T)) → contents (set lists l list) ≡ set (contents lists) l (values list)
   contents_set lists l list = map-set values lists l list

@@ -12,14 +12,15 @@ use Rattle.mpigroup.specs.Groups.{Groups, group_of}
 use Rattle.pairing.specs.Limits.{most_calls}
 use Rattle.pairing.specs.Recordings.{Lists, calls_of, appended}
 use Rattle.pairing.specs.Waves.{wave_of}
-use Rattle.arenalist.specs.Numbers.{list_at}
-use Rattle.arenalist.specs.Arena.{first_value}
+use Rattle.arenalist.specs.Numbers.{count, in_all, list_at, sum_to}
+use Rattle.arenalist.proofs.NumberLemmas.{count_in_all, found_in}
+use Rattle.arenalist.proofs.SumLemmas.{sum_least, sum_count}
 use Rattle.moves.specs.Runs.{State, start, moved, IsReached, IsTheEnd, total}
 use Rattle.moves.specs.Needs.{may_pass, can_move}
 use Rattle.moves.specs.Stands.{calls_in}
 use Rattle.moves.specs.Analysed.{most_touches, ranks_waiting}
 use Rattle.moves.specs.declared.waves.Waves.{Waves}
-use Rattle.moves.specs.Links.{sum_to, Entries, count, in_all, held, IsLinked}
+use Rattle.moves.specs.Links.{linked_ranks, AreListed}
 use Rattle.moves.specs.Waiting.{HasJoined, HasArrived, complete_of, met_of, AreWaves, IsNoException, NeedsPartner, NeedsWave, Rests, Waiting, own_list, comm_list, with_rank, with_awaited, WaitsFor, WaitsIn, HasLists, IsKept, IsNobody, IsInHand, IsSettled, IsReaching, to_do, paid, cost_of, touches_of}
 use Rattle.moves.proofs.RunLemmas.{get_start, reached_step, reached_ranks, total_moved, total_most}
 use Rattle.moves.proofs.StandLemmas.{reached_within}
@@ -28,15 +29,15 @@ use Rattle.moves.proofs.ArrivalLemmas.{no_calls}
 use Rattle.moves.proofs.AdvanceLemmas.{stuck_end, moved_later}
 use Rattle.moves.proofs.AnalyserLemmas.{goes_on_by, still_reached, start_end}
 use Rattle.moves.proofs.StayLemmas.{call_stays}
-use Rattle.moves.proofs.LinkLemmas.{none_linked, none_there, held_less, count_in_all, found_in, held_at, linked_woken, changed, taken, linked_at, linked_nodes, linked_behind, sum_count, sum_all}
-use Rattle.moves.proofs.TouchLemmas.{sum_least, sum_at_most_one, cost_cases, paid_ahead, paid_there, paid_moved, paid_waves, paid_waiters, paid_most}
+use Rattle.moves.proofs.LinkLemmas.{none_linked, none_there, linked_less, most_linked, linked_woken, changed, taken, linked_at, linked_nodes, linked_behind, sum_all}
+use Rattle.moves.proofs.TouchLemmas.{sum_at_most_one, cost_cases, paid_ahead, paid_there, paid_moved, paid_waves, paid_waiters, paid_most}
 use Rattle.moves.proofs.WaveLemmas.{fewer_excepted}
 use Rattle.moves.proofs.WaitLemmas.{partner_stuck, wave_stuck, resting_stuck, open_parts, open_from}
 use Rattle.moves.proofs.WakeLemmas.{most_work, Wakens, load, list_cost, all_woken, all_wakens, waiter_emptied, wave_emptied, three_cost, none_woken}
 use Rattle.moves.proofs.ReachLemmas.{OnlyReaches, IsWoken, awaited_place, partner_waits_on, wave_waits_on, waves_on, rests_on, moved_other, moved_own, moved_on, appended_other, arrived_there, arrived_ahead}
 
 -- a list in which one rank alone may wait has no more than that rank
-own_short : (ranks : ℕ) (ls : List Entries) (W : ℕ → ℕ → Type 0) (R : ℕ → Type 0) (rank list : ℕ) → IsLinked ranks ls W R → 0 < list → ((other : ℕ) → W other list → other ≡ rank) → length (list_at ls list) ≤ 1
+own_short : (ranks : ℕ) (ls : List (List ℕ)) (W : ℕ → ℕ → Type 0) (R : ℕ → Type 0) (rank list : ℕ) → AreListed ranks ls W R → 0 < list → ((other : ℕ) → W other list → other ≡ rank) → length (list_at ls list) ≤ 1
 own_short ranks ls W R rank list h later only =
     let most = sum_at_most_one ranks rank (λ other. count other (list_at ls list))
     (λ other is_rank differs. none other differs (count other (list_at ls list)) refl)
@@ -121,7 +122,7 @@ all_cost reading groups recording s waves new rank place w (Some comm) h others 
     let ranks : length both.awaited ≡ length recording = ap (length {A = ℕ}) wakens.same_awaited ∙ h.has_lists.awaited in
     let within : comm_list (length both.awaited) comm < length both.lists = omega (arith, known comm refl, h.has_lists.lists, ranks, wakens.wakes.lists) in
     let now = linked_woken (length recording) w.lists both.lists _ _ h.linked wakens.wakes in
-    let entries : Entries = list_at both.lists (comm_list (length recording) comm) in
+    let entries : List ℕ = list_at both.lists (comm_list (length recording) comm) in
     let same : length (list_at both.lists (comm_list (length both.awaited) comm)) ≡ length entries = ap (λ (n : ℕ). length (list_at both.lists (comm_list n comm))) ranks in
     omega (
       arith,
@@ -202,7 +203,7 @@ reach_counts reading groups recording s waves new w rank place done h known chan
 -- there is a spare node for the rank in hand
 pub hand_room : (reading : Reading) (groups : Groups) (recording : Lists) (s : State) (waves : Waves) (w : Waiting) (rank : ℕ) → IsInHand reading groups recording s waves w rank → 0 < w.spare
 hand_room reading groups recording s waves w rank h =
-    omega (arith, held_less (length recording) rank w.lists _ _ h.kept.linked h.is_rank h.in_none, h.kept.has_lists.nodes)
+    omega (arith, linked_less (length recording) rank w.lists _ _ h.kept.linked h.is_rank h.in_none, h.kept.has_lists.nodes)
 
 -- the rank in hand rests
 pub hand_rests : (reading : Reading) (groups : Groups) (recording : Lists) (s : State) (waves : Waves) (w : Waiting) (rank : ℕ) → IsInHand reading groups recording s waves w rank → Rests recording s rank → IsKept reading groups recording s waves w IsNobody 0
@@ -222,20 +223,20 @@ hand_rests reading groups recording s waves w rank h rests = record {
 }
 
 -- The rank in hand is linked where it waits.
-pub record Links (reading : Reading) (groups : Groups) (recording : Lists) (s : State) (waves : Waves) (w last : Waiting) (rank list node : ℕ) : Type 0 where
+pub record Links (reading : Reading) (groups : Groups) (recording : Lists) (s : State) (waves : Waves) (w last : Waiting) (rank list : ℕ) : Type 0 where
   pub later : 0 < list
   pub within : list < length w.lists
   pub room : 0 < w.spare
-  pub lists : last.lists ≡ set w.lists list (list_at w.lists list ++ (node, rank) ∷ [])
+  pub lists : last.lists ≡ set w.lists list (list_at w.lists list ++ rank ∷ [])
   pub spare : last.spare ≡ w.spare - 1
   pub work : last.work ≡ min (w.work + 1) most_work
   pub long : length last.awaited ≡ length w.awaited
   pub awaited : (other : ℕ) → other ≢ rank → get_or last.awaited other 0 ≡ get_or w.awaited other 0
   pub waits : WaitsIn reading groups recording s waves last.awaited rank list
 
-pub hand_links : (reading : Reading) (groups : Groups) (recording : Lists) (s : State) (waves : Waves) (w last : Waiting) (rank list node : ℕ) → IsInHand reading groups recording s waves w rank → Links reading groups recording s waves w last rank list node → IsKept reading groups recording s waves last IsNobody 0
-hand_links reading groups recording s waves w last rank list node h links =
-    let nodes = linked_nodes w.lists last.lists list node rank links.within links.lists in
+pub hand_links : (reading : Reading) (groups : Groups) (recording : Lists) (s : State) (waves : Waves) (w last : Waiting) (rank list : ℕ) → IsInHand reading groups recording s waves w rank → Links reading groups recording s waves w last rank list → IsKept reading groups recording s waves last IsNobody 0
+hand_links reading groups recording s waves w last rank list h links =
+    let nodes = linked_nodes w.lists last.lists list rank links.within links.lists in
     let right = changed (length recording) w.lists _ (WaitsIn reading groups recording s waves last.awaited) _ (λ other. (Rests recording s other ⊎ IsNobody other) ⊎ (other ≡ rank)) h.kept.linked
     (λ other list' is_rank later on waits.
     ⊎_elim
@@ -261,18 +262,18 @@ hand_links reading groups recording s waves w last rank list node h links =
         counts = omega (arith, nodes.1, links.work, h.kept.has_lists.counts);
       };
       linked =
-          linked_at (length recording) w.lists last.lists list node rank (WaitsIn reading groups recording s waves last.awaited) (λ other. Rests recording s other ⊎ IsNobody other) right h.is_rank h.in_none links.within (λ later. links.waits) links.lists;
+          linked_at (length recording) w.lists last.lists list rank (WaitsIn reading groups recording s waves last.awaited) (λ other. Rests recording s other ⊎ IsNobody other) right h.is_rank h.in_none links.within (λ later. links.waits) links.lists;
       are_waves = h.kept.are_waves;
       is_reached = h.kept.is_reached;
       is_paid =
-          omega (arith, h.kept.is_paid, links.work, min-le_left (w.work + 1) most_work, ap (length {A = ℕ × ℕ}) (linked_behind w.lists last.lists list node rank links.later links.lists));
+          omega (arith, h.kept.is_paid, links.work, min-le_left (w.work + 1) most_work, ap (length {A = ℕ}) (linked_behind w.lists last.lists list rank links.later links.lists));
     }
 
-pub links_counts : (reading : Reading) (groups : Groups) (recording : Lists) (s : State) (waves : Waves) (w last : Waiting) (rank list node : ℕ) → Links reading groups recording s waves w last rank list node → touches_of waves w ≤ touches_of waves last
-links_counts reading groups recording s waves w last rank list node links = omega (arith, links.work)
+pub links_counts : (reading : Reading) (groups : Groups) (recording : Lists) (s : State) (waves : Waves) (w last : Waiting) (rank list : ℕ) → Links reading groups recording s waves w last rank list → touches_of waves w ≤ touches_of waves last
+links_counts reading groups recording s waves w last rank list links = omega (arith, links.work)
 
-pub links_partner : (reading : Reading) (groups : Groups) (recording : Lists) (s : State) (waves : Waves) (w last : Waiting) (rank place node : ℕ) → IsInHand reading groups recording s waves w rank → NeedsPartner reading groups recording s rank place → 0 < w.spare → last ≡ with_rank (with_awaited w rank place) (own_list rank) node rank → Links reading groups recording s waves w last rank (own_list rank) node
-links_partner reading groups recording s waves w last rank place node h needs room is =
+pub links_partner : (reading : Reading) (groups : Groups) (recording : Lists) (s : State) (waves : Waves) (w last : Waiting) (rank place : ℕ) → IsInHand reading groups recording s waves w rank → NeedsPartner reading groups recording s rank place → 0 < w.spare → last ≡ with_rank (with_awaited w rank place) (own_list rank) rank → Links reading groups recording s waves w last rank (own_list rank)
+links_partner reading groups recording s waves w last rank place h needs room is =
     let awaited : last.awaited ≡ set w.awaited rank place = ap (λ (x : Waiting). x.awaited) is in
     let here : get_or last.awaited rank 0 ≡ place = ap (λ (xs : List ℕ). get_or xs rank 0) awaited ∙ get_or-set_same w.awaited rank place 0 (omega (arith, h.is_rank, h.kept.has_lists.awaited)) in
     record {
@@ -295,8 +296,8 @@ comm_known (group ∷ groups) (suc comm) h = omega (arith, comm_known groups com
 pub wave_known : (groups : Groups) (recording : Lists) (s : State) (waves : Waves) (rank comm : ℕ) → NeedsWave groups recording s waves rank comm → comm < length groups
 wave_known groups recording s waves rank comm h = comm_known groups comm (open_parts groups recording waves rank h.start comm h.is_joined).some_member
 
-pub links_wave : (reading : Reading) (groups : Groups) (recording : Lists) (s : State) (waves : Waves) (w last : Waiting) (rank comm node : ℕ) → IsInHand reading groups recording s waves w rank → NeedsWave groups recording s waves rank comm → 0 < w.spare → last ≡ with_rank w (comm_list (length w.awaited) comm) node rank → Links reading groups recording s waves w last rank (comm_list (length w.awaited) comm) node
-links_wave reading groups recording s waves w last rank comm node h needs room is = record {
+pub links_wave : (reading : Reading) (groups : Groups) (recording : Lists) (s : State) (waves : Waves) (w last : Waiting) (rank comm : ℕ) → IsInHand reading groups recording s waves w rank → NeedsWave groups recording s waves rank comm → 0 < w.spare → last ≡ with_rank w (comm_list (length w.awaited) comm) rank → Links reading groups recording s waves w last rank (comm_list (length w.awaited) comm)
+links_wave reading groups recording s waves w last rank comm h needs room is = record {
   later = omega arith;
   within = omega (arith, wave_known groups recording s waves rank comm needs, h.kept.has_lists.lists, h.kept.has_lists.awaited);
   room = room;
@@ -383,8 +384,8 @@ at_end_in_none reading groups recording s waves w rank h at_end = none (in_all r
     none (suc n) e =
         let found = found_in rank w.lists (omega (arith, e)) in
         ⊎_elim
-        (λ (first : found.0 ≡ 0). absurd (omega (arith, found.1, ap (λ (l : ℕ). count rank (list_at w.lists l)) first, ap (count rank) h.is_empty)))
-        (λ (later : found.0 ≢ 0). absurd (stands_at_end reading groups recording s waves w.awaited rank found.0 at_end (h.kept.linked.waits rank found.0 (omega arith) found.1)))
+        (λ (first : found.0 ≡ 0). absurd (omega (arith, found.2, ap (λ (l : ℕ). count rank (list_at w.lists l)) first, ap (count rank) h.is_empty)))
+        (λ (later : found.0 ≢ 0). absurd (stands_at_end reading groups recording s waves w.awaited rank found.0 at_end (h.kept.linked.waits rank found.0 (omega arith) found.2)))
         (cases_eq found.0 0)
 
 pub arrival_reaches : (reading : Reading) (groups : Groups) (recording : Lists) (s : State) (waves : Waves) (w : Waiting) (rank place : ℕ) (call : Call) → IsSettled reading groups recording s waves w → rank < length recording → get_or s rank 0 ≡ length (calls_of recording rank) → place ≡ get_or s rank 0 → place ≤ most_calls → IsTheEnd (can_move reading groups recording) (length recording) s → IsReaching reading groups (appended recording rank call) s waves w rank place
@@ -401,7 +402,7 @@ arrival_reaches reading groups recording s waves w rank place call h is_rank at_
         counts = h.kept.has_lists.counts;
       };
       linked =
-          subst (λ (n : ℕ). IsLinked n w.lists (WaitsOrWoken reading groups longer s waves w.awaited rank place) (λ other. Rests longer s other ⊎ (other ≡ rank))) same_ranks
+          subst (λ (n : ℕ). AreListed n w.lists (WaitsOrWoken reading groups longer s waves w.awaited rank place) (λ other. Rests longer s other ⊎ (other ≡ rank))) same_ranks
           (changed (length recording) w.lists _ (WaitsOrWoken reading groups longer s waves w.awaited rank place) _ (λ other. Rests longer s other ⊎ (other ≡ rank)) h.kept.linked
           (λ other list is_rank' later on waits.
           ⊎_elim
@@ -455,7 +456,7 @@ arrival_waits reading groups recording s waves w rank call h is_rank behind end 
           counts = h.kept.has_lists.counts;
         };
         linked =
-            subst (λ (n : ℕ). IsLinked n w.lists (WaitsIn reading groups longer s waves w.awaited) (λ other. Rests longer s other ⊎ IsNobody other)) same_ranks
+            subst (λ (n : ℕ). AreListed n w.lists (WaitsIn reading groups longer s waves w.awaited) (λ other. Rests longer s other ⊎ IsNobody other)) same_ranks
             (changed (length recording) w.lists _ (WaitsIn reading groups longer s waves w.awaited) _ (λ other. Rests longer s other ⊎ IsNobody other) h.kept.linked
             (λ other list is_rank' later on waits.
             ⊎_elim
@@ -488,7 +489,7 @@ arrival_waits reading groups recording s waves w rank call h is_rank behind end 
         (cases_eq other rank)
 
 -- the first of the worklist is taken
-pub kept_taken : (reading : Reading) (groups : Groups) (recording : Lists) (s : State) (waves : Waves) (w new : Waiting) (rank : ℕ) → IsKept reading groups recording s waves w IsNobody 0 → first_value (list_at w.lists 0) ≡ Some rank → new.lists ≡ set w.lists 0 (drop 1 (list_at w.lists 0)) → new.spare ≡ w.spare + 1 → new.work ≡ min (w.work + 1) most_work → new.awaited ≡ w.awaited → IsInHand reading groups recording s waves new rank
+pub kept_taken : (reading : Reading) (groups : Groups) (recording : Lists) (s : State) (waves : Waves) (w new : Waiting) (rank : ℕ) → IsKept reading groups recording s waves w IsNobody 0 → slice_get (list_at w.lists 0) 0 ≡ Some rank → new.lists ≡ set w.lists 0 (drop 1 (list_at w.lists 0)) → new.spare ≡ w.spare + 1 → new.work ≡ min (w.work + 1) most_work → new.awaited ≡ w.awaited → IsInHand reading groups recording s waves new rank
 kept_taken reading groups recording s waves w new rank h first lists spare work awaited =
     let it = taken (length recording) w.lists new.lists rank _ _ h.linked (omega (arith, h.has_lists.lists)) first lists in
     record {
@@ -519,14 +520,14 @@ kept_taken reading groups recording s waves w new rank h first lists spare work 
       in_none = it.in_none;
     }
 
-pub taken_shorter : (reading : Reading) (groups : Groups) (recording : Lists) (s : State) (waves : Waves) (w new : Waiting) (rank : ℕ) → IsKept reading groups recording s waves w IsNobody 0 → first_value (list_at w.lists 0) ≡ Some rank → new.lists ≡ set w.lists 0 (drop 1 (list_at w.lists 0)) → to_do recording s new < to_do recording s w
+pub taken_shorter : (reading : Reading) (groups : Groups) (recording : Lists) (s : State) (waves : Waves) (w new : Waiting) (rank : ℕ) → IsKept reading groups recording s waves w IsNobody 0 → slice_get (list_at w.lists 0) 0 ≡ Some rank → new.lists ≡ set w.lists 0 (drop 1 (list_at w.lists 0)) → to_do recording s new < to_do recording s w
 taken_shorter reading groups recording s waves w new rank h first lists =
     let it = taken (length recording) w.lists new.lists rank _ _ h.linked (omega (arith, h.has_lists.lists)) first lists in
     omega (arith, it.shorter)
 
-pub links_falls : (reading : Reading) (groups : Groups) (recording : Lists) (s : State) (waves : Waves) (w last : Waiting) (rank list node : ℕ) → Links reading groups recording s waves w last rank list node → to_do recording s last ≤ to_do recording s w
-links_falls reading groups recording s waves w last rank list node links =
-    omega (arith, ap (length {A = ℕ × ℕ}) (linked_behind w.lists last.lists list node rank links.later links.lists))
+pub links_falls : (reading : Reading) (groups : Groups) (recording : Lists) (s : State) (waves : Waves) (w last : Waiting) (rank list : ℕ) → Links reading groups recording s waves w last rank list → to_do recording s last ≤ to_do recording s w
+links_falls reading groups recording s waves w last rank list links =
+    omega (arith, ap (length {A = ℕ}) (linked_behind w.lists last.lists list rank links.later links.lists))
 
 less_to_do : (a b m l : ℕ) → a < b → l ≤ m → (k : ℕ) → (b - suc a) * (m + 1) + l < (b - a) * (m + 1) + k
 less_to_do a b m l less most k =
@@ -538,7 +539,7 @@ moved_falls reading groups recording s t new w last rank h is_rank is =
     let within = reached_within reading groups recording t h.kept.is_reached in
     let total_t : total t ≡ suc (total s) = ap total is ∙ total_moved s rank is_rank ∙ omega arith in
     let most = total_most t _ within.ranks within.stands in
-    rw total_t (less_to_do (total s) (calls_in recording) (length recording) (length (list_at last.lists 0)) (omega (arith, most, total_t)) (omega (arith, held_at last.lists 0, h.kept.has_lists.nodes)) (length (list_at w.lists 0)))
+    rw total_t (less_to_do (total s) (calls_in recording) (length recording) (length (list_at last.lists 0)) (omega (arith, most, total_t)) (omega (arith, most_linked last.lists 0, h.kept.has_lists.nodes)) (length (list_at w.lists 0)))
 
 -- no rank can move once none is to be looked at
 pub settled_end : (reading : Reading) (groups : Groups) (recording : Lists) (s : State) (waves : Waves) (w : Waiting) → IsSettled reading groups recording s waves w → IsTheEnd (can_move reading groups recording) (length recording) s
@@ -555,12 +556,12 @@ settled_end reading groups recording s waves w h =
     by_all rank is_rank (suc n) e =
         let found = found_in rank w.lists (omega (arith, e)) in
         ⊎_elim
-        (λ (first : found.0 ≡ 0). absurd (omega (arith, found.1, ap (λ (l : ℕ). count rank (list_at w.lists l)) first, ap (count rank) h.is_empty)))
+        (λ (first : found.0 ≡ 0). absurd (omega (arith, found.2, ap (λ (l : ℕ). count rank (list_at w.lists l)) first, ap (count rank) h.is_empty)))
         (λ (later : found.0 ≢ 0).
         ⊎_elim
         (λ (own : (found.0 ≡ own_list rank) × (rank < length recording) × NeedsPartner reading groups recording s rank (get_or w.awaited rank 0)). partner_stuck reading groups recording s rank (get_or w.awaited rank 0) own.2)
         (λ (wave : (comm : ℕ) × (found.0 ≡ comm_list (length recording) comm) × NeedsWave groups recording s waves rank comm). wave_stuck reading groups recording s waves rank wave.0 h.kept.are_waves wave.2)
-        (h.kept.linked.waits rank found.0 (omega arith) found.1))
+        (h.kept.linked.waits rank found.0 (omega arith) found.2))
         (cases_eq found.0 0)
 
 -- a rank stands at its list's end, or before it
@@ -588,13 +589,13 @@ new_settled reading groups recording s waves w ranks is_empty zeros complete met
     let none = none_there (1 + ranks + length groups) in
     let end = start_end reading groups ranks in
     record {
-      is_empty = ap (λ (ls : List Entries). list_at ls 0) lists ∙ none.1;
+      is_empty = ap (λ (ls : List (List ℕ)). list_at ls 0) lists ∙ none.1;
       kept = record {
         has_lists = record {
-          lists = ap (length {A = Entries}) lists ∙ length-replicate (1 + ranks + length groups) [] ∙ ap (λ (n : ℕ). 1 + n + length groups) (sym long);
-          nodes = omega (arith, ap held lists, none.0, spare, long);
+          lists = ap (length {A = List ℕ}) lists ∙ length-replicate (1 + ranks + length groups) [] ∙ ap (λ (n : ℕ). 1 + n + length groups) (sym long);
+          nodes = omega (arith, ap linked_ranks lists, none.0, spare, long);
           awaited = ap (length {A = ℕ}) awaited ∙ length-replicate ranks 0 ∙ sym long;
-          counts = omega (arith, ap held lists, none.0, work);
+          counts = omega (arith, ap linked_ranks lists, none.0, work);
         };
         linked = rw lists (none_linked (length recording) (1 + ranks + length groups) _ _ (λ rank is_rank. inl (rw (is_empty, no_calls ranks rank) refl)));
         are_waves = record {
@@ -607,7 +608,7 @@ new_settled reading groups recording s waves w ranks is_empty zeros complete met
               (get_or (group_of groups comm) 0 0, rw first (slice_get-get_or (group_of groups comm) 0 0 some), λ joined. no_call_joined ranks comm (complete_of waves comm) (get_or (group_of groups comm) 0 0) s (rw is_empty at joined));
         };
         is_reached = rw (long, is_empty, zeros) end.is_reached;
-        is_paid = omega (arith, work, changes, ap (λ (ls : List Entries). length (list_at ls 0)) lists, ap (length {A = ℕ × ℕ}) none.1);
+        is_paid = omega (arith, work, changes, ap (λ (ls : List (List ℕ)). length (list_at ls 0)) lists, ap (length {A = ℕ}) none.1);
       };
     }
 

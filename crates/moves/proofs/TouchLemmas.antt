@@ -15,20 +15,16 @@ use Rattle.pairing.proofs.WaveLemmas.{the_call_in_a_wave_joins_it, no_other_call
 use Rattle.moves.specs.Runs.{State, moved}
 use Rattle.moves.specs.Stands.{calls_in}
 use Rattle.moves.specs.declared.waves.Waves.{Waves}
-use Rattle.moves.specs.Links.{Entries, count, sum_to}
+use Rattle.arenalist.specs.Numbers.{count, sum_to}
+use Rattle.arenalist.proofs.SumLemmas.{sum_least, sum_both, sum_zero, sum_count}
 use Rattle.moves.specs.Waiting.{complete_of, NeedsWave, is_done, done_of, paid_by, paid, cost_of}
 use Rattle.moves.proofs.StayLemmas.{wave_stays}
-use Rattle.moves.proofs.LinkLemmas.{sum_both, sum_zero, sum_count}
 use Rattle.moves.proofs.WaveLemmas.{earlier_place}
 use Rattle.moves.proofs.WaitLemmas.{open_parts}
 use Rattle.moves.proofs.ReachLemmas.{moved_other, moved_own, appended_length}
 use Rattle.moves.proofs.AnalyserLemmas.{goes_on_by}
 
 -- sums
-pub sum_least : (n : ℕ) (f g : ℕ → ℕ) → ((k : ℕ) → k < n → f k ≤ g k) → sum_to n f ≤ sum_to n g
-sum_least zero f g h = omega arith
-sum_least (suc n) f g h = omega (arith, h n (omega arith), sum_least n f g (λ k l. h k (omega arith)))
-
 pub sum_more : (n i m : ℕ) (f g : ℕ → ℕ) → i < n → ((k : ℕ) → k < n → k ≢ i → f k ≤ g k) → f i + m ≤ g i → sum_to n f + m ≤ sum_to n g
 sum_more zero i m f g within h more = absurd (omega arith)
 sum_more (suc n) i m f g within h more =
@@ -167,7 +163,7 @@ done_waiter groups recording s waves new rank comm h one needs =
     (λ place within differs. done_least waves new (wave_of recording rank place) h)
     (rw joined (done_newly waves new comm one))
 
-pub paid_waiters : (groups : Groups) (recording : Lists) (s : State) (waves new : Waves) (comm : ℕ) (entries : Entries) → ((c : ℕ) → complete_of waves c ≤ complete_of new c) → complete_of new comm ≡ complete_of waves comm + 1 → ((rank : ℕ) → count rank entries ≤ 1) → ((rank : ℕ) → 0 < count rank entries → rank < length recording) → ((rank : ℕ) → 0 < count rank entries → NeedsWave groups recording s waves rank comm) → paid recording s waves + 4 * length entries ≤ paid recording s new
+pub paid_waiters : (groups : Groups) (recording : Lists) (s : State) (waves new : Waves) (comm : ℕ) (entries : List ℕ) → ((c : ℕ) → complete_of waves c ≤ complete_of new c) → complete_of new comm ≡ complete_of waves comm + 1 → ((rank : ℕ) → count rank entries ≤ 1) → ((rank : ℕ) → 0 < count rank entries → rank < length recording) → ((rank : ℕ) → 0 < count rank entries → NeedsWave groups recording s waves rank comm) → paid recording s waves + 4 * length entries ≤ paid recording s new
 paid_waiters groups recording s waves new comm entries h one once ranks needs =
     let each : (rank : ℕ) → rank < length recording → paid_by recording s waves rank + 4 * count rank entries ≤ paid_by recording s new rank = λ rank within.
     ⊎_elim

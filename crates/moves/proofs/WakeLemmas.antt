@@ -18,10 +18,9 @@ use Rattle.pairing.specs.Partners.{number_of, partner_of}
 use Rattle.pairing.specs.Probed.{probed_envelope, probed_envelope_at, probed_by, probed_of}
 use Rattle.pairing.proofs.PartnerLemmas.{and_then_parts, map_parts, numbered_parts, numbered_half}
 use Rattle.pairing.proofs.ProbedLemmas.{prober}
-use Rattle.arenalist.specs.Numbers.{list_at}
-use Rattle.moves.specs.Links.{count}
+use Rattle.arenalist.specs.Numbers.{count, list_at}
 use Rattle.moves.specs.Waiting.{Waiting, own_list, comm_list, woken, awaits, woken_at, woken_partner, sent_to, sees, prober_of, woken_prober, woken_comm, WaitsFor, HasLists}
-use Rattle.moves.proofs.LinkLemmas.{Wakes, wakes_none, wakes_both, wakes_list, appended_there, appended_work}
+use Rattle.moves.proofs.LinkLemmas.{Wakes, wakes_none, wakes_both, wakes_list, woken_there, woken_work}
 
 -- the greatest count
 abbrev pub most_work : ℕ
@@ -73,7 +72,7 @@ wakens_partner w (Some partner) room = wakens_at w partner room
 
 -- the rank that waits for the partner is in its list no more
 emptied_by : (w : Waiting) (rank r : ℕ) (partner : Option (ℕ × ℕ)) → rank < length w.awaited → 1 + length w.awaited ≤ length w.lists → partner ≡ Some (rank, get_or w.awaited rank 0) → count r (list_at (woken_partner w partner).lists (own_list rank)) ≡ 0
-emptied_by w rank r partner within room is = rw is (rw (awaits_from w rank within) (ap (count r) (appended_there w.lists (own_list rank) (omega arith) (omega (arith, within, room)))))
+emptied_by w rank r partner within room is = rw is (rw (awaits_from w rank within) (ap (count r) (woken_there w.lists (own_list rank) (omega arith) (omega (arith, within, room)))))
 
 wakens_comm : (w : Waiting) (done : Option ℕ) (comms : ℕ) → ((comm : ℕ) → done ≡ Some comm → comm_list (length w.awaited) comm < length w.lists) → Wakens w (woken_comm w done)
 wakens_comm w None comms within = wakens_none w
@@ -85,7 +84,7 @@ load w = w.work + 2 * length (list_at w.lists 0)
 
 pub list_cost : (w : Waiting) (l : ℕ) → 0 < l → l < length w.lists → load (woken w l) ≤ load w + 4 * length (list_at w.lists l)
 list_cost w l later within =
-    omega (arith, min-le_left (w.work + 2 * length (list_at w.lists l)) most_work, ap (length {A = ℕ × ℕ}) (appended_work w.lists l later within), length-append (list_at w.lists 0) (list_at w.lists l))
+    omega (arith, min-le_left (w.work + 2 * length (list_at w.lists l)) most_work, ap (length {A = ℕ}) (woken_work w.lists l later within), length-append (list_at w.lists 0) (list_at w.lists l))
 
 pub partner_cost : (w : Waiting) (partner : Option (ℕ × ℕ)) → 1 + length w.awaited ≤ length w.lists → ((rank : ℕ) → rank < length w.awaited → length (list_at w.lists (own_list rank)) ≤ 1) → load (woken_partner w partner) ≤ load w + 4
 partner_cost w None room short = omega arith
@@ -228,7 +227,7 @@ waiter_emptied groups recording rank place w done other r h known is_rank waits 
 
 -- who waits for the communicator's waves is in its list no more, once one of them is complete
 comm_emptied : (w : Waiting) (comm r : ℕ) → comm_list (length w.awaited) comm < length w.lists → count r (list_at (woken_comm w (Some comm)).lists (comm_list (length w.awaited) comm)) ≡ 0
-comm_emptied w comm r within = ap (count r) (appended_there w.lists (comm_list (length w.awaited) comm) (omega arith) within)
+comm_emptied w comm r within = ap (count r) (woken_there w.lists (comm_list (length w.awaited) comm) (omega arith) within)
 
 pub wave_emptied : (groups : Groups) (recording : Lists) (rank place : ℕ) (w : Waiting) (comm r : ℕ) → HasLists groups recording w → comm < length groups → count r (list_at (all_woken groups recording rank place w (Some comm)).lists (comm_list (length recording) comm)) ≡ 0
 wave_emptied groups recording rank place w comm r h known =

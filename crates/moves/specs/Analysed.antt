@@ -5,7 +5,7 @@ use Rattle.moves.specs.declared.reading.Reading.{Reading}
 use Rattle.mpigroup.specs.Groups.{Groups}
 use Rattle.pairing.specs.Recordings.{Lists, calls_of}
 use Rattle.pairing.specs.Requests.{waits_for}
-use Rattle.moves.specs.Links.{sum_to}
+use Rattle.arenalist.specs.Numbers.{sum_to}
 use Rattle.moves.specs.Needs.{may_pass}
 use Rattle.moves.specs.Runs.{State, total}
 use Rattle.moves.specs.Stands.{calls_in}

@@ -1,7 +1,7 @@
 -- What a rank waits for that cannot move on: the partner of one of its messages, the send that its probe sees,
 -- or a wave.
 use Rattle.moves.specs.declared.reading.Reading.{Reading}
-use Rattle.std.specs.Prelude.{min, ◌≡◌, ℕ, ◌+◌, ◌-◌, ◌*◌, ◌<◌, ◌≤◌, ◌⊎◌, Bool, true, false, ◌&&◌, nat_le, nat_lt, Option, Some, None, is_some, option_and_then, if◌then◌else◌, List, [], ◌++◌, length, flat_map, slice_get, slice_index, slice_set, ◌==◌}
+use Rattle.std.specs.Prelude.{min, ◌≡◌, ℕ, ◌+◌, ◌-◌, ◌*◌, ◌<◌, ◌≤◌, ◌⊎◌, Bool, true, false, ◌&&◌, nat_le, nat_lt, Option, Some, None, is_some, option_and_then, if◌then◌else◌, List, [], ◌∷◌, ◌++◌, length, flat_map, slice_get, slice_index, slice_set, ◌==◌}
 use Rattle.std.specs.List.{list_all}
 use Rattle.std.specs.Option.{option_map_or}
 use Rattle.mpicall.specs.declared.call.Call.{Call}
@@ -9,7 +9,7 @@ use Rattle.mpigroup.specs.Groups.{Groups, group_of, world_rank_of}
 use Rattle.pairing.specs.declared.envelope.Half.{Half}
 use Rattle.pairing.specs.declared.envelope.Half.TheVariants.{Send as SendHalf, Recv as RecvHalf}
 use Rattle.pairing.specs.Limits.{most_calls}
-use Rattle.pairing.specs.Recordings.{Lists, calls_of, appended as with_call}
+use Rattle.pairing.specs.Recordings.{Lists, calls_of, appended}
 use Rattle.pairing.specs.Partners.{partner_of}
 use Rattle.pairing.specs.Envelopes.{message_of}
 use Rattle.pairing.specs.Probed.{probed_of}
@@ -20,12 +20,12 @@ use Rattle.moves.specs.declared.look.Look.{Look}
 use Rattle.moves.specs.declared.look.Look.TheVariants.{Over, Passes, Partner, Wave}
 use Rattle.moves.specs.declared.need.Need.{Need}
 use Rattle.moves.specs.declared.waves.Waves.{Waves}
-use Rattle.moves.specs.Links.{sum_to, Entries, in_all, held, IsLinked}
+use Rattle.moves.specs.Links.{linked_ranks, AreListed}
 use Rattle.moves.specs.Needs.{half_needs, probe_needs, sends_freely, operation_needs_at, request_needs, needs_of_call, is_met, may_pass, can_move}
 use Rattle.moves.specs.Runs.{State, IsReached, total}
 use Rattle.moves.specs.Stands.{calls_in}
-use Rattle.arenalist.specs.Numbers.{list_at}
-use Rattle.arenalist.specs.Arena.{linked, appended, counted}
+use Rattle.arenalist.specs.Numbers.{in_all, list_at, sum_to}
+use Rattle.arenalist.specs.Arena.{counted}
 
 -- what the messages of the call at a place need: the partners of its halves, and the send that it probes for
 abbrev pub message_needs : Reading → Groups → Lists → ℕ → ℕ → Call → List Need
@@ -162,10 +162,10 @@ TellsRank reading groups recording stands waves rank Passes = can_move reading g
 TellsRank reading groups recording stands waves rank (Partner start) = NeedsPartner reading groups recording stands rank start
 TellsRank reading groups recording stands waves rank (Wave comm) = NeedsWave groups recording stands waves rank comm
 
--- What the waiting ranks are seen as: the lists, how many nodes are spare, how much was done in the lists,
--- and for each rank the place of the operation for whose partner it waits, or waited last; at a probe its own.
+-- What the waiting ranks are seen as: the lists, how many more ranks have room in them, how much was done in the
+-- lists, and for each rank the place of the operation for whose partner it waits, or waited last; at a probe its own.
 pub record Waiting : Type 0 where
-  pub lists : List Entries
+  pub lists : List (List ℕ)
   pub spare : ℕ
   pub work : ℕ
   pub awaited : List ℕ
@@ -180,16 +180,16 @@ comm_list ranks comm = 1 + ranks + comm
 -- the waiting ranks once those of a list are to be looked at
 abbrev pub woken : Waiting → ℕ → Waiting
 woken w list = record {
-  lists = appended w.lists 0 list;
+  lists = slice_set (slice_set w.lists 0 (list_at w.lists 0 ++ list_at w.lists list)) list [];
   spare = w.spare;
   work = counted w.work (2 * length (list_at w.lists list));
   awaited = w.awaited;
 }
 
--- once a rank is put into a list, in the node
-abbrev pub with_rank : Waiting → ℕ → ℕ → ℕ → Waiting
-with_rank w list node rank = record {
-  lists = linked w.lists list node rank;
+-- once a rank is put into a list
+abbrev pub with_rank : Waiting → ℕ → ℕ → Waiting
+with_rank w list rank = record {
+  lists = slice_set w.lists list (list_at w.lists list ++ rank ∷ []);
   spare = w.spare - 1;
   work = counted w.work 1;
   awaited = w.awaited;
@@ -249,13 +249,13 @@ WaitsIn reading groups recording stands waves awaited rank list =
     ((list ≡ own_list rank) × (rank < length recording) × NeedsPartner reading groups recording stands rank (slice_index awaited rank))
     ⊎ ((comm : ℕ) × (list ≡ comm_list (length recording) comm) × NeedsWave groups recording stands waves rank comm)
 
--- there is a list for each rank and for each communicator, and a node for each rank; what stands in a list was
+-- there is a list for each rank and for each communicator, and room for each rank; what stands in a list was
 -- counted when it was put there
 pub record HasLists (groups : Groups) (recording : Lists) (waiting : Waiting) : Type 0 where
   pub lists : length waiting.lists ≡ 1 + length recording + length groups
-  pub nodes : waiting.spare + held waiting.lists ≡ length recording
+  pub nodes : waiting.spare + linked_ranks waiting.lists ≡ length recording
   pub awaited : length waiting.awaited ≡ length recording
-  pub counts : counted (held waiting.lists) 0 ≤ waiting.work
+  pub counts : counted (linked_ranks waiting.lists) 0 ≤ waiting.work
 
 -- the touches: what was done in the lists, and each change of how far a wave is
 abbrev pub touches_of : Waves → Waiting → ℕ
@@ -269,7 +269,7 @@ spent waves waiting = waiting.work + waves.changes + 2 * length (list_at waiting
 -- from resting. What is spent is paid, and so much more is left.
 pub record IsKept (reading : Reading) (groups : Groups) (recording : Lists) (stands : State) (waves : Waves) (waiting : Waiting) (IsExcepted : ℕ → Type 0) (left : ℕ) : Type 0 where
   pub has_lists : HasLists groups recording waiting
-  pub linked : IsLinked (length recording) waiting.lists (WaitsIn reading groups recording stands waves waiting.awaited) (λ rank. Rests recording stands rank ⊎ IsExcepted rank)
+  pub linked : AreListed (length recording) waiting.lists (WaitsIn reading groups recording stands waves waiting.awaited) (λ rank. Rests recording stands rank ⊎ IsExcepted rank)
   pub are_waves : AreWaves groups recording stands waves IsNoException
   pub is_reached : IsReached (can_move reading groups recording) (length recording) stands
   pub is_paid : spent waves waiting + left ≤ paid recording stands waves
@@ -291,7 +291,7 @@ pub record IsSettled (reading : Reading) (groups : Groups) (recording : Lists) (
 -- The rank has just reached its call at the place: the ranks that wait for it are still to be woken.
 pub record IsReaching (reading : Reading) (groups : Groups) (recording : Lists) (stands : State) (waves : Waves) (waiting : Waiting) (rank place : ℕ) : Type 0 where
   pub has_lists : HasLists groups recording waiting
-  pub linked : IsLinked (length recording) waiting.lists
+  pub linked : AreListed (length recording) waiting.lists
       (λ other list. WaitsIn reading groups recording stands waves waiting.awaited other list
       ⊎ ((list ≡ own_list other) × (other < length recording) × (WaitsFor groups recording rank place other (slice_index waiting.awaited other))))
       (λ other. Rests recording stands other ⊎ (other ≡ rank))
@@ -307,7 +307,7 @@ pub record IsReaching (reading : Reading) (groups : Groups) (recording : Lists) 
 pub record HasArrived (reading : Reading) (groups : Groups) (recording : Lists) (stands : State) (waves : Waves) (waiting : Waiting) (rank place : ℕ) : Type 0 where
   pub before : Lists
   pub call : Call
-  pub is : recording ≡ with_call before rank call
+  pub is : recording ≡ appended before rank call
   pub settled : IsSettled reading groups before stands waves waiting
   pub is_rank : rank < length before
   pub is_next : place ≡ length (calls_of before rank)
