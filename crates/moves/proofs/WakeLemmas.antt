@@ -19,7 +19,7 @@ use Rattle.pairing.specs.Probed.{probed_envelope, probed_envelope_at, probed_by,
 use Rattle.pairing.proofs.PartnerLemmas.{and_then_parts, map_parts, numbered_parts, numbered_half}
 use Rattle.pairing.proofs.ProbedLemmas.{prober}
 use Rattle.arenalist.specs.Numbers.{count, list_at}
-use Rattle.moves.specs.Waiting.{Waiting, own_list, comm_list, woken, awaits, woken_at, woken_partner, sent_to, sees, prober_of, woken_prober, woken_comm, WaitsFor, HasLists}
+use Rattle.moves.specs.Waiting.{WaitLists, own_list, comm_list, woken, awaits, woken_at, woken_partner, sent_to, sees, prober_of, woken_prober, woken_comm, WaitsFor, HasLists}
 use Rattle.moves.proofs.LinkLemmas.{Wakes, wakes_none, wakes_both, wakes_list, woken_there, woken_work}
 
 -- the greatest count
@@ -27,16 +27,16 @@ abbrev pub most_work : ℕ
 most_work = 2 ^ 64 - 1
 
 -- what waking does to waiting ranks
-pub record Wakens (old new : Waiting) : Type 0 where
+pub record Wakens (old new : WaitLists) : Type 0 where
   pub wakes : Wakes old.lists new.lists
   pub same_spare : new.spare ≡ old.spare
   pub same_awaited : new.awaited ≡ old.awaited
   pub no_less : min old.work most_work ≤ min new.work most_work
 
-wakens_none : (w : Waiting) → Wakens w w
+wakens_none : (w : WaitLists) → Wakens w w
 wakens_none w = record { wakes = wakes_none w.lists; same_spare = refl; same_awaited = refl; no_less = omega arith }
 
-wakens_both : (a b c : Waiting) → Wakens a b → Wakens b c → Wakens a c
+wakens_both : (a b c : WaitLists) → Wakens a b → Wakens b c → Wakens a c
 wakens_both a b c h g = record {
   wakes = wakes_both a.lists b.lists c.lists h.wakes g.wakes;
   same_spare = g.same_spare ∙ h.same_spare;
@@ -44,20 +44,20 @@ wakens_both a b c h g = record {
   no_less = omega (arith, h.no_less, g.no_less);
 }
 
-wakens_list : (w : Waiting) (l : ℕ) → 0 < l → l < length w.lists → Wakens w (woken w l)
+wakens_list : (w : WaitLists) (l : ℕ) → 0 < l → l < length w.lists → Wakens w (woken w l)
 wakens_list w l later within = record { wakes = wakes_list w.lists l later within; same_spare = refl; same_awaited = refl; no_less = omega arith }
 
 awaits_there : (xs : List ℕ) (rank place : ℕ) (there : Option ℕ) → slice_get xs rank ≡ there → option_map_or (λ awaited. awaited == place) there false ≡ true → (rank < length xs) × (get_or xs rank 0 ≡ place)
 awaits_there xs rank place None e h = absurd (false≢true h)
 awaits_there xs rank place (Some awaited) e h = (slice_get_within xs rank awaited e, get_or_from_slice_get xs rank awaited 0 e ∙ eqb-true awaited place h)
 
-awaits_parts : (w : Waiting) (rank place : ℕ) → awaits w rank place ≡ true → (rank < length w.awaited) × (get_or w.awaited rank 0 ≡ place)
+awaits_parts : (w : WaitLists) (rank place : ℕ) → awaits w rank place ≡ true → (rank < length w.awaited) × (get_or w.awaited rank 0 ≡ place)
 awaits_parts w rank place h = awaits_there w.awaited rank place (slice_get w.awaited rank) refl h
 
-awaits_from : (w : Waiting) (rank : ℕ) → rank < length w.awaited → awaits w rank (get_or w.awaited rank 0) ≡ true
+awaits_from : (w : WaitLists) (rank : ℕ) → rank < length w.awaited → awaits w rank (get_or w.awaited rank 0) ≡ true
 awaits_from w rank within = rw (slice_get-get_or w.awaited rank 0 within) (eq-eqb (get_or w.awaited rank 0) (get_or w.awaited rank 0) refl)
 
-wakens_at : (w : Waiting) (partner : ℕ × ℕ) → 1 + length w.awaited ≤ length w.lists → Wakens w (woken_at w partner)
+wakens_at : (w : WaitLists) (partner : ℕ × ℕ) → 1 + length w.awaited ≤ length w.lists → Wakens w (woken_at w partner)
 wakens_at w partner room =
     ⊎_elim
     (λ (yes : awaits w partner.0 partner.1 ≡ true).
@@ -66,27 +66,27 @@ wakens_at w partner room =
     (λ (no : awaits w partner.0 partner.1 ≡ false). rw no (wakens_none w))
     (cases_Bool (awaits w partner.0 partner.1))
 
-wakens_partner : (w : Waiting) (partner : Option (ℕ × ℕ)) → 1 + length w.awaited ≤ length w.lists → Wakens w (woken_partner w partner)
+wakens_partner : (w : WaitLists) (partner : Option (ℕ × ℕ)) → 1 + length w.awaited ≤ length w.lists → Wakens w (woken_partner w partner)
 wakens_partner w None room = wakens_none w
 wakens_partner w (Some partner) room = wakens_at w partner room
 
 -- the rank that waits for the partner is in its list no more
-emptied_by : (w : Waiting) (rank r : ℕ) (partner : Option (ℕ × ℕ)) → rank < length w.awaited → 1 + length w.awaited ≤ length w.lists → partner ≡ Some (rank, get_or w.awaited rank 0) → count r (list_at (woken_partner w partner).lists (own_list rank)) ≡ 0
+emptied_by : (w : WaitLists) (rank r : ℕ) (partner : Option (ℕ × ℕ)) → rank < length w.awaited → 1 + length w.awaited ≤ length w.lists → partner ≡ Some (rank, get_or w.awaited rank 0) → count r (list_at (woken_partner w partner).lists (own_list rank)) ≡ 0
 emptied_by w rank r partner within room is = rw is (rw (awaits_from w rank within) (ap (count r) (woken_there w.lists (own_list rank) (omega arith) (omega (arith, within, room)))))
 
-wakens_comm : (w : Waiting) (done : Option ℕ) → ((comm : ℕ) → done ≡ Some comm → comm_list (length w.awaited) comm < length w.lists) → Wakens w (woken_comm w done)
+wakens_comm : (w : WaitLists) (done : Option ℕ) → ((comm : ℕ) → done ≡ Some comm → comm_list (length w.awaited) comm < length w.lists) → Wakens w (woken_comm w done)
 wakens_comm w None within = wakens_none w
 wakens_comm w (Some comm) within = wakens_list w (comm_list (length w.awaited) comm) (omega arith) (within comm refl)
 
 -- what wakes cost: four for each rank that is woken
-abbrev pub load : Waiting → ℕ
+abbrev pub load : WaitLists → ℕ
 load w = w.work + 2 * length (list_at w.lists 0)
 
-pub list_cost : (w : Waiting) (l : ℕ) → 0 < l → l < length w.lists → load (woken w l) ≤ load w + 4 * length (list_at w.lists l)
+pub list_cost : (w : WaitLists) (l : ℕ) → 0 < l → l < length w.lists → load (woken w l) ≤ load w + 4 * length (list_at w.lists l)
 list_cost w l later within =
     omega (arith, min-le_left (w.work + 2 * length (list_at w.lists l)) most_work, ap (length {A = ℕ}) (woken_work w.lists l later within), length-append (list_at w.lists 0) (list_at w.lists l))
 
-pub partner_cost : (w : Waiting) (partner : Option (ℕ × ℕ)) → 1 + length w.awaited ≤ length w.lists → ((rank : ℕ) → rank < length w.awaited → length (list_at w.lists (own_list rank)) ≤ 1) → load (woken_partner w partner) ≤ load w + 4
+pub partner_cost : (w : WaitLists) (partner : Option (ℕ × ℕ)) → 1 + length w.awaited ≤ length w.lists → ((rank : ℕ) → rank < length w.awaited → length (list_at w.lists (own_list rank)) ≤ 1) → load (woken_partner w partner) ≤ load w + 4
 partner_cost w None room short = omega arith
 partner_cost w (Some partner) room short =
     ⊎_elim
@@ -133,43 +133,43 @@ no_prober groups recording awaited rank place none = by_rank (sent_to groups rec
     by_rank None = refl
     by_rank (Some other) = by_start other (slice_get awaited other)
 
-pub none_probe : (groups : Groups) (recording : Lists) (rank place : ℕ) (w : Waiting) → ((other start : ℕ) → probed_of groups recording other start ≡ None) → w ≡ woken_prober groups recording rank place w
+pub none_probe : (groups : Groups) (recording : Lists) (rank place : ℕ) (w : WaitLists) → ((other start : ℕ) → probed_of groups recording other start ≡ None) → w ≡ woken_prober groups recording rank place w
 none_probe groups recording rank place w none = rw (no_prober groups recording w.awaited rank place none) refl
 
-room_of : (groups : Groups) (recording : Lists) (w : Waiting) → HasLists groups recording w → 1 + length w.awaited ≤ length w.lists
+room_of : (groups : Groups) (recording : Lists) (w : WaitLists) → HasLists groups recording w → 1 + length w.awaited ≤ length w.lists
 room_of groups recording w h = omega (arith, h.lists, h.awaited)
 
-room_on : (w new : Waiting) → Wakens w new → 1 + length w.awaited ≤ length w.lists → 1 + length new.awaited ≤ length new.lists
+room_on : (w new : WaitLists) → Wakens w new → 1 + length w.awaited ≤ length w.lists → 1 + length new.awaited ≤ length new.lists
 room_on w new wakens room = omega (arith, room, ap (length {A = ℕ}) wakens.same_awaited, wakens.wakes.lists)
 
 -- the waiting ranks once those are to be looked at that wait for one of some calls
-abbrev pub woken_each : Waiting → List (Option (ℕ × ℕ)) → Waiting
+abbrev pub woken_each : WaitLists → List (Option (ℕ × ℕ)) → WaitLists
 woken_each w [] = w
 woken_each w (partner ∷ more) = woken_each (woken_partner w partner) more
 
-wakens_each : (w : Waiting) (partners : List (Option (ℕ × ℕ))) → 1 + length w.awaited ≤ length w.lists → Wakens w (woken_each w partners)
+wakens_each : (w : WaitLists) (partners : List (Option (ℕ × ℕ))) → 1 + length w.awaited ≤ length w.lists → Wakens w (woken_each w partners)
 wakens_each w [] room = wakens_none w
 wakens_each w (partner ∷ more) room =
-    let next : Waiting = woken_partner w partner in
+    let next : WaitLists = woken_partner w partner in
     let first = wakens_partner w partner room in
     wakens_both w next (woken_each next more) first (wakens_each next more (room_on w next first room))
 
-each_emptied : (w : Waiting) (partners : List (Option (ℕ × ℕ))) (i rank r : ℕ) → rank < length w.awaited → 1 + length w.awaited ≤ length w.lists → slice_get partners i ≡ Some (Some (rank, get_or w.awaited rank 0)) → count r (list_at (woken_each w partners).lists (own_list rank)) ≡ 0
+each_emptied : (w : WaitLists) (partners : List (Option (ℕ × ℕ))) (i rank r : ℕ) → rank < length w.awaited → 1 + length w.awaited ≤ length w.lists → slice_get partners i ≡ Some (Some (rank, get_or w.awaited rank 0)) → count r (list_at (woken_each w partners).lists (own_list rank)) ≡ 0
 each_emptied w [] i rank r within room is = absurd (none-some (Some (rank, get_or w.awaited rank 0)) is)
 each_emptied w (partner ∷ more) zero rank r within room is =
-    let next : Waiting = woken_partner w partner in
+    let next : WaitLists = woken_partner w partner in
     let none = emptied_by w rank r partner within room (same_Some partner (Some (rank, get_or w.awaited rank 0)) is) in
     omega (arith, none, (wakens_each next more (room_on w next (wakens_partner w partner room) room)).wakes.fewer r (own_list rank) (omega arith))
 each_emptied w (partner ∷ more) (suc i) rank r within room is =
-    let next : Waiting = woken_partner w partner in
+    let next : WaitLists = woken_partner w partner in
     let first = wakens_partner w partner room in
     each_emptied next more i rank r (omega (arith, within, ap (length {A = ℕ}) first.same_awaited)) (room_on w next first room)
     (is ∙ ap (λ (xs : List ℕ). Some (Some (rank, get_or xs rank 0))) (sym first.same_awaited))
 
-each_cost : (w : Waiting) (partners : List (Option (ℕ × ℕ))) → 1 + length w.awaited ≤ length w.lists → ((x : Waiting) → Wakens w x → (owner : ℕ) → owner < length x.awaited → length (list_at x.lists (own_list owner)) ≤ 1) → load (woken_each w partners) ≤ load w + 4 * length partners
+each_cost : (w : WaitLists) (partners : List (Option (ℕ × ℕ))) → 1 + length w.awaited ≤ length w.lists → ((x : WaitLists) → Wakens w x → (owner : ℕ) → owner < length x.awaited → length (list_at x.lists (own_list owner)) ≤ 1) → load (woken_each w partners) ≤ load w + 4 * length partners
 each_cost w [] room short = omega arith
 each_cost w (partner ∷ more) room short =
-    let next : Waiting = woken_partner w partner in
+    let next : WaitLists = woken_partner w partner in
     let first = wakens_partner w partner room in
     omega (arith, partner_cost w partner room (short w (wakens_none w)), each_cost next more (room_on w next first room) (λ x wakens. short x (wakens_both w next x first wakens)))
 
@@ -178,11 +178,11 @@ abbrev pub partners_of : Groups → Lists → List ℕ → ℕ → ℕ → List 
 partners_of groups recording awaited rank place =
     partner_of groups recording rank place SendHalf ∷ partner_of groups recording rank place RecvHalf ∷ prober_of groups recording awaited rank place ∷ []
 
-abbrev pub all_woken : Groups → Lists → ℕ → ℕ → Waiting → Option ℕ → Waiting
+abbrev pub all_woken : Groups → Lists → ℕ → ℕ → WaitLists → Option ℕ → WaitLists
 all_woken groups recording rank place w done = woken_comm (woken_each w (partners_of groups recording w.awaited rank place)) done
 
 -- it is done one after the other
-same_awaited : (w : Waiting) (partner : Option (ℕ × ℕ)) → (woken_partner w partner).awaited ≡ w.awaited
+same_awaited : (w : WaitLists) (partner : Option (ℕ × ℕ)) → (woken_partner w partner).awaited ≡ w.awaited
 same_awaited w None = refl
 same_awaited w (Some partner) =
     ⊎_elim
@@ -190,28 +190,28 @@ same_awaited w (Some partner) =
     (λ (no : awaits w partner.0 partner.1 ≡ false). rw no refl)
     (cases_Bool (awaits w partner.0 partner.1))
 
-pub one_by_one : (groups : Groups) (recording : Lists) (rank place : ℕ) (w one two three : Waiting) → one ≡ woken_partner w (partner_of groups recording rank place SendHalf) → two ≡ woken_partner one (partner_of groups recording rank place RecvHalf) → three ≡ woken_prober groups recording rank place two → three ≡ all_woken groups recording rank place w None
+pub one_by_one : (groups : Groups) (recording : Lists) (rank place : ℕ) (w one two three : WaitLists) → one ≡ woken_partner w (partner_of groups recording rank place SendHalf) → two ≡ woken_partner one (partner_of groups recording rank place RecvHalf) → three ≡ woken_prober groups recording rank place two → three ≡ all_woken groups recording rank place w None
 one_by_one groups recording rank place w one two three first second third =
     let awaited : two.awaited ≡ w.awaited =
-    ap (λ (x : Waiting). x.awaited) second ∙ same_awaited one (partner_of groups recording rank place RecvHalf)
-    ∙ ap (λ (x : Waiting). x.awaited) first ∙ same_awaited w (partner_of groups recording rank place SendHalf) in
+    ap (λ (x : WaitLists). x.awaited) second ∙ same_awaited one (partner_of groups recording rank place RecvHalf)
+    ∙ ap (λ (x : WaitLists). x.awaited) first ∙ same_awaited w (partner_of groups recording rank place SendHalf) in
     third ∙ ap (λ (xs : List ℕ). woken_partner two (prober_of groups recording xs rank place)) awaited
-    ∙ ap (λ (x : Waiting). woken_partner x (prober_of groups recording w.awaited rank place)) (second ∙ ap (λ (x : Waiting). woken_partner x (partner_of groups recording rank place RecvHalf)) first)
+    ∙ ap (λ (x : WaitLists). woken_partner x (prober_of groups recording w.awaited rank place)) (second ∙ ap (λ (x : WaitLists). woken_partner x (partner_of groups recording rank place RecvHalf)) first)
 
 -- what all of it does
-last_wakens : (groups : Groups) (recording : Lists) (w : Waiting) (partners : List (Option (ℕ × ℕ))) (done : Option ℕ) → HasLists groups recording w → ((comm : ℕ) → done ≡ Some comm → comm < length groups) → Wakens (woken_each w partners) (woken_comm (woken_each w partners) done)
+last_wakens : (groups : Groups) (recording : Lists) (w : WaitLists) (partners : List (Option (ℕ × ℕ))) (done : Option ℕ) → HasLists groups recording w → ((comm : ℕ) → done ≡ Some comm → comm < length groups) → Wakens (woken_each w partners) (woken_comm (woken_each w partners) done)
 last_wakens groups recording w partners done h known =
     let each = wakens_each w partners (room_of groups recording w h) in
     wakens_comm (woken_each w partners) done
     (λ comm e. omega (arith, known comm e, h.lists, h.awaited, each.wakes.lists, ap (length {A = ℕ}) each.same_awaited))
 
-pub all_wakens : (groups : Groups) (recording : Lists) (rank place : ℕ) (w : Waiting) (done : Option ℕ) → HasLists groups recording w → ((comm : ℕ) → done ≡ Some comm → comm < length groups) → Wakens w (all_woken groups recording rank place w done)
+pub all_wakens : (groups : Groups) (recording : Lists) (rank place : ℕ) (w : WaitLists) (done : Option ℕ) → HasLists groups recording w → ((comm : ℕ) → done ≡ Some comm → comm < length groups) → Wakens w (all_woken groups recording rank place w done)
 all_wakens groups recording rank place w done h known =
     let partners = partners_of groups recording w.awaited rank place in
     wakens_both w (woken_each w partners) (all_woken groups recording rank place w done) (wakens_each w partners (room_of groups recording w h)) (last_wakens groups recording w partners done h known)
 
 -- who waits for the call is in its list no more
-pub waiter_emptied : (groups : Groups) (recording : Lists) (rank place : ℕ) (w : Waiting) (done : Option ℕ) (other r : ℕ) → HasLists groups recording w → ((comm : ℕ) → done ≡ Some comm → comm < length groups) → other < length recording → WaitsFor groups recording rank place other (get_or w.awaited other 0) → count r (list_at (all_woken groups recording rank place w done).lists (own_list other)) ≡ 0
+pub waiter_emptied : (groups : Groups) (recording : Lists) (rank place : ℕ) (w : WaitLists) (done : Option ℕ) (other r : ℕ) → HasLists groups recording w → ((comm : ℕ) → done ≡ Some comm → comm < length groups) → other < length recording → WaitsFor groups recording rank place other (get_or w.awaited other 0) → count r (list_at (all_woken groups recording rank place w done).lists (own_list other)) ≡ 0
 waiter_emptied groups recording rank place w done other r h known is_rank waits =
     let within : other < length w.awaited = omega (arith, is_rank, h.awaited) in
     ⊎_elim
@@ -230,21 +230,21 @@ waiter_emptied groups recording rank place w done other r h known is_rank waits 
     by_half RecvHalf is = by_index 1 (ap (λ (o : Option (ℕ × ℕ)). Some o) is)
 
 -- who waits for the communicator's waves is in its list no more, once one of them is complete
-pub wave_emptied : (groups : Groups) (recording : Lists) (rank place : ℕ) (w : Waiting) (comm r : ℕ) → HasLists groups recording w → comm < length groups → count r (list_at (all_woken groups recording rank place w (Some comm)).lists (comm_list (length recording) comm)) ≡ 0
+pub wave_emptied : (groups : Groups) (recording : Lists) (rank place : ℕ) (w : WaitLists) (comm r : ℕ) → HasLists groups recording w → comm < length groups → count r (list_at (all_woken groups recording rank place w (Some comm)).lists (comm_list (length recording) comm)) ≡ 0
 wave_emptied groups recording rank place w comm r h known =
     let partners = partners_of groups recording w.awaited rank place in
     let each = wakens_each w partners (room_of groups recording w h) in
-    let last : Waiting = woken_each w partners in
+    let last : WaitLists = woken_each w partners in
     let ranks : length last.awaited ≡ length recording = ap (length {A = ℕ}) each.same_awaited ∙ h.awaited in
     let none = ap (count r) (woken_there last.lists (comm_list (length last.awaited) comm) (omega arith) (omega (arith, known, h.lists, ranks, each.wakes.lists))) in
     subst (λ (n : ℕ). count r (list_at (all_woken groups recording rank place w (Some comm)).lists (comm_list n comm)) ≡ 0) ranks none
 
 -- what they cost that wait for the call
-pub three_cost : (groups : Groups) (recording : Lists) (rank place : ℕ) (w : Waiting) → 1 + length w.awaited ≤ length w.lists → ((x : Waiting) → Wakens w x → (owner : ℕ) → owner < length x.awaited → length (list_at x.lists (own_list owner)) ≤ 1) → load (all_woken groups recording rank place w None) ≤ load w + 12
+pub three_cost : (groups : Groups) (recording : Lists) (rank place : ℕ) (w : WaitLists) → 1 + length w.awaited ≤ length w.lists → ((x : WaitLists) → Wakens w x → (owner : ℕ) → owner < length x.awaited → length (list_at x.lists (own_list owner)) ≤ 1) → load (all_woken groups recording rank place w None) ≤ load w + 12
 three_cost groups recording rank place w room short = each_cost w (partners_of groups recording w.awaited rank place) room short
 
 -- where no call is there, none is woken
-pub none_woken : (groups : Groups) (recording : Lists) (rank place : ℕ) (w : Waiting) → slice_get (calls_of recording rank) place ≡ None → all_woken groups recording rank place w None ≡ w
+pub none_woken : (groups : Groups) (recording : Lists) (rank place : ℕ) (w : WaitLists) → slice_get (calls_of recording rank) place ≡ None → all_woken groups recording rank place w None ≡ w
 none_woken groups recording rank place w none =
     let sent : partner_of groups recording rank place SendHalf ≡ None = rw none refl in
     let received : partner_of groups recording rank place RecvHalf ≡ None = rw none refl in

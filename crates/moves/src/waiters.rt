@@ -28,9 +28,9 @@ impl Drop for Waiters {
 impl Model for Waiters {
     ghost use Rattle.std.specs.Prelude.{length, ◌≤◌, ◌+◌};
     ghost use Rattle.arenalist.specs.Arena.{contents};
-    ghost use Rattle.moves.specs.Waiting.{Waiting};
+    ghost use Rattle.moves.specs.Waiting.{WaitLists};
 
-    ghost Value = { Waiting };
+    ghost Value = { WaitLists };
 
     ghost view = { λ w. record { lists = contents w.lists.lists; spare = w.lists.spare; work = w.lists.work; awaited = w.awaited.items } };
 
