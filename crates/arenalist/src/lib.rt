@@ -14,7 +14,9 @@
 //!   move, and 2 for each node that `append` moves. It stays at the greatest `u64`.
 //! - With a spare node `push_back` can't be refused.
 //!
-//! Those who do not want nodes read the map by `contents`, which gives each list's values.
+//! Those who do not want nodes read the map by `contents`, which gives each list's values
+//! (`proofs/ContentsLemmas.antt` says what each call does to them). Nobody has to believe `Rings`, `Links` and `Slots`
+//! of `specs/`: they say how the lists are kept, and no public contract cites them.
 //!
 //! ```text
 //! let mut lists = Lists::new(alloc);
