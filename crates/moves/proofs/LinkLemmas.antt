@@ -1,9 +1,9 @@
 -- What links and wakes do to lists of ranks.
-use Rattle.std.proofs.Common.{◌≡◌, ℕ, zero, suc, ◌+◌, ◌<◌, ◌≤◌, ◌++◌, ◌≢◌, Some, List, [], ◌∷◌, length, replicate, drop, set, refl, sym, ap, subst, ◌∙◌, ⊎_elim, inl, inr, arith, get_or-set_same, get_or-set_other}
+use Rattle.std.proofs.Common.{◌≡◌, ℕ, zero, suc, ◌+◌, ◌<◌, ◌≤◌, ◌++◌, ◌≢◌, Some, List, [], ◌∷◌, length, replicate, drop, set, refl, ap, subst, ◌∙◌, ⊎_elim, inl, inr, arith, get_or-set_same, get_or-set_other}
 use Rattle.std.specs.Prelude.{◌⊎◌}
 use Rattle.std.specs.List.{slice_get}
 use Rattle.std.proofs.lemmas.List.{length-set, length-append}
-use Rattle.std.proofs.lemmas.Bool.{cases_eq, cases_lt, eq-eqb, ne_eqb}
+use Rattle.std.proofs.lemmas.Bool.{cases_eq}
 use Rattle.arenalist.specs.Numbers.{count, in_all, list_at, sum_to}
 use Rattle.arenalist.proofs.NumberLemmas.{count-append, count_one, count_other, in_all-set, count_in_all}
 use Rattle.arenalist.proofs.SumLemmas.{sum_both, sum_zero, sum_most, sum_count}

@@ -1,5 +1,5 @@
 -- A reading that is no laxer holds ranks back.
-use Rattle.std.proofs.Common.{◌≡◌, ℕ, Bool, true, false, ◌&&◌, ◌||◌, Option, Some, None, is_some, if◌then◌else◌, List, [], ◌∷◌, ◌++◌, flat_map, length, get_or, refl, sym, ◌∙◌, arith}
+use Rattle.std.proofs.Common.{◌≡◌, ℕ, Bool, true, false, ◌||◌, Option, Some, None, is_some, if◌then◌else◌, List, [], ◌∷◌, ◌++◌, flat_map, length, get_or, refl, sym, ◌∙◌, arith}
 use Rattle.std.specs.List.{slice_get, list_all}
 use Rattle.std.specs.Option.{option_map_or}
 use Rattle.std.proofs.lemmas.List.Folds.{list_all-append}
@@ -10,7 +10,7 @@ use Rattle.pairing.specs.declared.envelope.Half.TheVariants.{Send as SendHalf, R
 use Rattle.pairing.specs.Recordings.{Lists, calls_of}
 use Rattle.pairing.specs.Requests.{starts, completes, started_before}
 use Rattle.moves.specs.declared.need.Need.{Need}
-use Rattle.moves.specs.Runs.{State, Rule, AreSteps, start, IsReached}
+use Rattle.moves.specs.Runs.{State, start, IsReached}
 use Rattle.moves.specs.Readings.{is_eager, is_no_laxer}
 use Rattle.moves.specs.Needs.{half_needs, probe_needs, wave_needs, is_buffered, bytes_of, sends_freely, operation_needs, operation_needs_at, request_needs, needs_of_call, needs_of, is_met, may_pass, can_move}
 use Rattle.moves.specs.Stands.{StricterReadingsStandNoLater}
