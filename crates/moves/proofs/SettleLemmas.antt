@@ -310,13 +310,53 @@ links_wave reading groups recording s waves w last rank comm h needs room is = r
   waits = inr (comm, ap (λ (n : ℕ). comm_list n comm) h.kept.has_lists.awaited, needs);
 }
 
+-- what goes on where calls come to be reached: who waited waits on, or for one of these
+waits_on : (reading : Reading) (groups : Groups) (recording longer : Lists) (s t : State) (waves : Progress) (awaited : List ℕ) (N : ℕ → ℕ → Type 0) (other list : ℕ) → OnlyReaches recording longer s t N → get_or t other 0 ≡ get_or s other 0 → WaitsIn reading groups recording s waves awaited other list → WaitsIn reading groups longer t waves awaited other list ⊎ ((list ≡ own_list other) × (other < length longer) × IsWoken groups longer N other (get_or awaited other 0))
+waits_on reading groups recording longer s t waves awaited N other list only same waits =
+    let same_ranks : length recording ≡ length longer = only.goes_on.same_ranks in
+    ⊎_elim
+    (λ (own : (list ≡ own_list other) × (other < length recording) × NeedsPartner reading groups recording s other (get_or awaited other 0)).
+    let is_rank : other < length longer = omega (arith, own.1, same_ranks) in
+    ⊎_elim
+    (λ (still : NeedsPartner reading groups longer t other (get_or awaited other 0)). inl (inl (own.0, is_rank, still)))
+    (λ (new : IsWoken groups longer N other (get_or awaited other 0)). inr (own.0, is_rank, new))
+    (partner_waits_on reading groups recording longer s t N other (get_or awaited other 0) only same own.2))
+    (λ (wave : (comm : ℕ) × (list ≡ comm_list (length recording) comm) × NeedsWave groups recording s waves other comm).
+    inl (inr (wave.0, wave.1 ∙ ap (λ (n : ℕ). comm_list n wave.0) same_ranks, wave_waits_on groups recording longer s t waves other wave.0 only.goes_on same wave.2)))
+    waits
+
+-- and where it is one call, each wave is as it was but for that call
+waits_on_or_woken : (reading : Reading) (groups : Groups) (recording longer : Lists) (s t : State) (waves : Progress) (awaited : List ℕ) (rank place other list : ℕ) → OnlyReaches recording longer s t (λ someone there. (someone ≡ rank) × (there ≡ place)) → get_or t other 0 ≡ get_or s other 0 → WaitsIn reading groups recording s waves awaited other list → WaitsOrWoken reading groups longer t waves awaited rank place other list
+waits_on_or_woken reading groups recording longer s t waves awaited rank place other list only same waits =
+    ⊎_elim
+    (λ (still : WaitsIn reading groups longer t waves awaited other list). inl still)
+    (λ (new : (list ≡ own_list other) × (other < length longer) × IsWoken groups longer (λ someone there. (someone ≡ rank) × (there ≡ place)) other (get_or awaited other 0)).
+    inr (new.0, new.1, subst (λ (p : ℕ). WaitsFor groups longer rank p other (get_or awaited other 0)) new.2.is_new.1 (subst (λ (k : ℕ). WaitsFor groups longer k new.2.place other (get_or awaited other 0)) new.2.is_new.0 new.2.waits)))
+    (waits_on reading groups recording longer s t waves awaited _ other list only same waits)
+
+waves_but_one : (groups : Groups) (recording longer : Lists) (s t : State) (waves : Progress) (rank place : ℕ) → OnlyReaches recording longer s t (λ someone there. (someone ≡ rank) × (there ≡ place)) → AreWaves groups recording s waves IsNoException → AreWaves groups longer t waves (λ comm member. (member ≡ rank) × (wave_of longer rank place ≡ Some (comm, complete_of waves comm)))
+waves_but_one groups recording longer s t waves rank place only h =
+    fewer_excepted groups longer t waves _ _ (waves_on groups recording longer s t waves _ only h)
+    (λ comm member is_member e.
+    (e.1.0, subst (λ (p : ℕ). wave_of longer rank p ≡ Some (comm, complete_of waves comm)) e.1.1 (subst (λ (k : ℕ). wave_of longer k e.0 ≡ Some (comm, complete_of waves comm)) e.1.0 e.2)))
+
+lists_on : (groups : Groups) (recording longer : Lists) (w : WaitLists) → HasLists groups recording w → length recording ≡ length longer → HasLists groups longer w
+lists_on groups recording longer w h same_ranks = record {
+  lists = h.lists ∙ ap (λ (n : ℕ). 1 + n + length groups) same_ranks;
+  nodes = h.nodes ∙ same_ranks;
+  awaited = h.awaited ∙ same_ranks;
+  counts = h.counts;
+}
+
 -- the rank in hand moves on
 pub hand_moves : (reading : Reading) (groups : Groups) (recording : Lists) (s t : State) (waves : Progress) (w : WaitLists) (rank place : ℕ) → IsInHand reading groups recording s waves w rank → can_move reading groups recording s rank ≡ true → get_or s rank 0 < most_calls → t ≡ moved s rank → place ≡ get_or t rank 0 → IsReaching reading groups recording t waves w rank place
 hand_moves reading groups recording s t waves w rank place h able few is there =
     let in_s : rank < length s = omega (arith, reached_ranks (can_move reading groups recording) (length recording) s h.kept.is_reached, h.is_rank) in
     let next : get_or t rank 0 ≡ get_or s rank 0 + 1 = ap (λ (x : State). get_or x rank 0) is ∙ moved_own s rank in_s in
-    let only : OnlyReaches recording recording s t (λ other at_place. (other ≡ rank) × (at_place ≡ get_or s rank 0 + 1)) =
-    subst (λ (x : State). OnlyReaches recording recording s x (λ other at_place. (other ≡ rank) × (at_place ≡ get_or s rank 0 + 1))) (sym is) (moved_on recording s rank in_s (moved_later s rank in_s)) in
+    let at_place : get_or s rank 0 + 1 ≡ place = sym next ∙ sym there in
+    let only : OnlyReaches recording recording s t (λ other there. (other ≡ rank) × (there ≡ place)) =
+    subst (λ (p : ℕ). OnlyReaches recording recording s t (λ other there. (other ≡ rank) × (there ≡ p))) at_place
+    (subst (λ (x : State). OnlyReaches recording recording s x (λ other there. (other ≡ rank) × (there ≡ get_or s rank 0 + 1))) (sym is) (moved_on recording s rank in_s (moved_later s rank in_s))) in
     let same : (other : ℕ) → other ≢ rank → get_or t other 0 ≡ get_or s other 0 = λ other differs. ap (λ (x : State). get_or x other 0) is ∙ moved_other s rank other differs in
     record {
       has_lists = h.kept.has_lists;
@@ -325,17 +365,7 @@ hand_moves reading groups recording s t waves w rank place h able few is there =
           (λ other list is_rank later on waits.
           let differs : other ≢ rank = λ e.
           omega (arith, subst (λ (k : ℕ). 0 < count k (list_at w.lists list)) e on, count_in_all rank w.lists list, h.in_none) in
-          ⊎_elim
-          (λ (own : (list ≡ own_list other) × (other < length recording) × NeedsPartner reading groups recording s other (get_or w.awaited other 0)).
-          ⊎_elim
-          (λ (still : NeedsPartner reading groups recording t other (get_or w.awaited other 0)). inl (inl (own.0, own.1, still)))
-          (λ (new : IsWoken groups recording (λ someone at_place. (someone ≡ rank) × (at_place ≡ get_or s rank 0 + 1)) other (get_or w.awaited other 0)).
-          let at_place : new.place ≡ place = new.is_new.1 ∙ sym next ∙ sym there in
-          inr (own.0, own.1, subst (λ (p : ℕ). WaitsFor groups recording rank p other (get_or w.awaited other 0)) at_place (subst (λ (k : ℕ). WaitsFor groups recording k new.place other (get_or w.awaited other 0)) new.is_new.0 new.waits)))
-          (partner_waits_on reading groups recording recording s t _ other (get_or w.awaited other 0) only (same other differs) own.2))
-          (λ (wave : (comm : ℕ) × (list ≡ comm_list (length recording) comm) × NeedsWave groups recording s waves other comm).
-          inl (inr (wave.0, wave.1, wave_waits_on groups recording recording s t waves other wave.0 only.goes_on (same other differs) wave.2)))
-          waits)
+          waits_on_or_woken reading groups recording recording s t waves w.awaited rank place other list only (same other differs) waits)
           (λ other is_rank none rests.
           ⊎_elim
           (λ (own : other ≡ rank). inr own)
@@ -345,18 +375,13 @@ hand_moves reading groups recording s t waves w rank place h able few is there =
           (λ (own : other ≡ rank). absurd (differs own))
           rests)
           (cases_eq other rank));
-      are_waves =
-          fewer_excepted groups recording t waves _ _ (waves_on groups recording recording s t waves _ only h.kept.are_waves)
-          (λ comm member is_member e.
-          let at_place : e.0 ≡ place = e.1.1 ∙ sym next ∙ sym there in
-          (e.1.0, subst (λ (p : ℕ). wave_of recording rank p ≡ Some (comm, complete_of waves comm)) at_place (subst (λ (k : ℕ). wave_of recording k e.0 ≡ Some (comm, complete_of waves comm)) e.1.0 e.2)));
+      are_waves = waves_but_one groups recording recording s t waves rank place only h.kept.are_waves;
       is_reached = reached_step (can_move reading groups recording) (length recording) s t h.kept.is_reached (record { rank = rank; is_rank = in_s; can_move = able; moves_on = is });
       is_rank = h.is_rank;
       in_none = h.in_none;
       is_there = there;
       few = omega (arith, there, next, few);
       is_paid =
-          let at_place : get_or s rank 0 + 1 ≡ place = sym next ∙ sym there in
           let more = paid_moved recording s waves rank h.is_rank in_s in
           let after : paid recording (moved s rank) waves ≡ paid recording t waves = ap (λ (x : State). paid recording x waves) (sym is) in
           let cost : cost_of (slice_get (calls_of recording rank) (get_or s rank 0 + 1)) ≡ cost_of (slice_get (calls_of recording rank) place) = ap (λ (p : ℕ). cost_of (slice_get (calls_of recording rank) p)) at_place in
@@ -392,31 +417,16 @@ at_end_in_none reading groups recording s waves w rank h at_end = none (in_all r
 pub arrival_reaches : (reading : Reading) (groups : Groups) (recording : Lists) (s : State) (waves : Progress) (w : WaitLists) (rank place : ℕ) (call : Call) → IsSettled reading groups recording s waves w → rank < length recording → get_or s rank 0 ≡ length (calls_of recording rank) → place ≡ get_or s rank 0 → place ≤ most_calls → IsTheEnd (can_move reading groups recording) (length recording) s → IsReaching reading groups (appended recording rank call) s waves w rank place
 arrival_reaches reading groups recording s waves w rank place call h is_rank at_end there few end =
     let longer : Lists = appended recording rank call in
-    let only = arrived_there recording s rank call is_rank in
+    let only =
+    subst (λ (p : ℕ). OnlyReaches recording longer s s (λ other there. (other ≡ rank) × (there ≡ p))) (sym (there ∙ at_end)) (arrived_there recording s rank call is_rank) in
     let same_ranks : length recording ≡ length longer = only.goes_on.same_ranks in
     let in_none = at_end_in_none reading groups recording s waves w rank h at_end in
     record {
-      has_lists = record {
-        lists = h.kept.has_lists.lists ∙ ap (λ (n : ℕ). 1 + n + length groups) same_ranks;
-        nodes = h.kept.has_lists.nodes ∙ same_ranks;
-        awaited = h.kept.has_lists.awaited ∙ same_ranks;
-        counts = h.kept.has_lists.counts;
-      };
+      has_lists = lists_on groups recording longer w h.kept.has_lists same_ranks;
       linked =
           subst (λ (n : ℕ). AreListed n w.lists (WaitsOrWoken reading groups longer s waves w.awaited rank place) (λ other. Rests longer s other ⊎ (other ≡ rank))) same_ranks
           (changed (length recording) w.lists _ (WaitsOrWoken reading groups longer s waves w.awaited rank place) _ (λ other. Rests longer s other ⊎ (other ≡ rank)) h.kept.linked
-          (λ other list is_rank' later on waits.
-          ⊎_elim
-          (λ (own : (list ≡ own_list other) × (other < length recording) × NeedsPartner reading groups recording s other (get_or w.awaited other 0)).
-          ⊎_elim
-          (λ (still : NeedsPartner reading groups longer s other (get_or w.awaited other 0)). inl (inl (own.0, omega (arith, own.1, same_ranks), still)))
-          (λ (new : IsWoken groups longer (λ someone at_place. (someone ≡ rank) × (at_place ≡ length (calls_of recording rank))) other (get_or w.awaited other 0)).
-          let at_place : new.place ≡ place = new.is_new.1 ∙ sym at_end ∙ sym there in
-          inr (own.0, omega (arith, own.1, same_ranks), subst (λ (p : ℕ). WaitsFor groups longer rank p other (get_or w.awaited other 0)) at_place (subst (λ (k : ℕ). WaitsFor groups longer k new.place other (get_or w.awaited other 0)) new.is_new.0 new.waits)))
-          (partner_waits_on reading groups recording longer s s _ other (get_or w.awaited other 0) only refl own.2))
-          (λ (wave : (comm : ℕ) × (list ≡ comm_list (length recording) comm) × NeedsWave groups recording s waves other comm).
-          inl (inr (wave.0, wave.1 ∙ ap (λ (n : ℕ). comm_list n wave.0) same_ranks, wave_waits_on groups recording longer s s waves other wave.0 only.goes_on refl wave.2)))
-          waits)
+          (λ other list is_rank' later on waits. waits_on_or_woken reading groups recording longer s s waves w.awaited rank place other list only refl waits)
           (λ other is_rank' none rests.
           ⊎_elim
           (λ (own : other ≡ rank). inr own)
@@ -426,11 +436,7 @@ arrival_reaches reading groups recording s waves w rank place call h is_rank at_
           (λ (nobody : IsNobody other). absurd nobody)
           rests)
           (cases_eq other rank)));
-      are_waves =
-          fewer_excepted groups longer s waves _ _ (waves_on groups recording longer s s waves _ only h.kept.are_waves)
-          (λ comm member is_member e.
-          let at_place : e.0 ≡ place = e.1.1 ∙ sym at_end ∙ sym there in
-          (e.1.0, subst (λ (p : ℕ). wave_of longer rank p ≡ Some (comm, complete_of waves comm)) at_place (subst (λ (k : ℕ). wave_of longer k e.0 ≡ Some (comm, complete_of waves comm)) e.1.0 e.2)));
+      are_waves = waves_but_one groups recording longer s s waves rank place only h.kept.are_waves;
       is_reached = still_reached reading groups recording rank call s is_rank end;
       is_rank = omega (arith, is_rank, same_ranks);
       in_none = in_none;
@@ -450,25 +456,15 @@ arrival_waits reading groups recording s waves w rank call h is_rank behind end 
     record {
       is_empty = h.is_empty;
       kept = record {
-        has_lists = record {
-          lists = h.kept.has_lists.lists ∙ ap (λ (n : ℕ). 1 + n + length groups) same_ranks;
-          nodes = h.kept.has_lists.nodes ∙ same_ranks;
-          awaited = h.kept.has_lists.awaited ∙ same_ranks;
-          counts = h.kept.has_lists.counts;
-        };
+        has_lists = lists_on groups recording longer w h.kept.has_lists same_ranks;
         linked =
             subst (λ (n : ℕ). AreListed n w.lists (WaitsIn reading groups longer s waves w.awaited) (λ other. Rests longer s other ⊎ IsNobody other)) same_ranks
             (changed (length recording) w.lists _ (WaitsIn reading groups longer s waves w.awaited) _ (λ other. Rests longer s other ⊎ IsNobody other) h.kept.linked
             (λ other list is_rank' later on waits.
             ⊎_elim
-            (λ (own : (list ≡ own_list other) × (other < length recording) × NeedsPartner reading groups recording s other (get_or w.awaited other 0)).
-            ⊎_elim
-            (λ (still : NeedsPartner reading groups longer s other (get_or w.awaited other 0)). inl (own.0, omega (arith, own.1, same_ranks), still))
-            (λ (new : IsWoken groups longer (λ someone at_place. ⊥) other (get_or w.awaited other 0)). absurd new.is_new)
-            (partner_waits_on reading groups recording longer s s _ other (get_or w.awaited other 0) only refl own.2))
-            (λ (wave : (comm : ℕ) × (list ≡ comm_list (length recording) comm) × NeedsWave groups recording s waves other comm).
-            inr (wave.0, wave.1 ∙ ap (λ (n : ℕ). comm_list n wave.0) same_ranks, wave_waits_on groups recording longer s s waves other wave.0 only.goes_on refl wave.2))
-            waits)
+            (λ (still : WaitsIn reading groups longer s waves w.awaited other list). still)
+            (λ (new : (list ≡ own_list other) × (other < length longer) × IsWoken groups longer (λ someone there. ⊥) other (get_or w.awaited other 0)). absurd new.2.is_new)
+            (waits_on reading groups recording longer s s waves w.awaited _ other list only refl waits))
             (λ other is_rank' none rests.
             ⊎_elim
             (λ (rest : Rests recording s other). inl (rests_on recording longer s s other refl (still_there recording rank other call s is_rank behind) rest))
