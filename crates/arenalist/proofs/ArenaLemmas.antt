@@ -7,7 +7,8 @@ use Rattle.arenalist.specs.Numbers.{count, in_all, list_at, without, first_of}
 use Rattle.arenalist.specs.Arena.{IsFirst}
 use Rattle.arenalist.specs.Links.{Linked}
 use Rattle.arenalist.specs.Slots.{entries, entries_of, IsArena, entry_of}
-use Rattle.arenalist.proofs.NumberLemmas.{count-append, count_one, count_other, count_head, in_all-set, in_all-append, in_all_without, in_all_without_same, count_without, without_none, count_in_all, length_most, get_or-push_default}
+use Rattle.arenalist.proofs.NumberLemmas.{count-append, count_one, count_other, count_head, in_all-set, in_all-append, in_all_without, in_all_without_same, count_without, without_none, count_in_all, get_or-push_default}
+use Rattle.arenalist.proofs.SumLemmas.{length_most}
 use Rattle.arenalist.proofs.EntryLemmas.{entries_of_same, entries_unlinked, entries_at, at_some}
 
 -- a list with a cell more at its back, among the lists

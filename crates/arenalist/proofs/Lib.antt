@@ -1,4 +1,6 @@
 pub mod NumberLemmas
+pub mod SumLemmas
+pub mod ContentsLemmas
 pub mod RingLemmas
 pub mod OwnerLemmas
 pub mod LinkLemmas

@@ -1,11 +1,11 @@
 -- Links and lists change together.
-use Rattle.std.proofs.Common.{◌≡◌, ℕ, zero, suc, ◌+◌, ◌^◌, ◌<◌, ◌≤◌, ◌++◌, ◌≢◌, Option, Some, None, List, [], ◌∷◌, length, map, drop, get_or, set, refl, sym, ap, subst, ◌∙◌, ⊎_elim, arith}
+use Rattle.std.proofs.Common.{◌≡◌, ℕ, ◌+◌, ◌^◌, ◌<◌, ◌≤◌, ◌++◌, ◌≢◌, Option, Some, None, List, [], ◌∷◌, length, map, drop, get_or, set, refl, sym, ap, subst, ◌∙◌, ⊎_elim, arith}
 use Rattle.std.proofs.lemmas.List.{get_or_append_left, get_or_push, map-append, map-set, length-set, length-map, get_or-map, length-append, ext_get_or}
 use Rattle.std.proofs.lemmas.Bool.{cases_eq, cases_lt, ne_eqb}
 use Rattle.arenalist.specs.Numbers.{count, in_all, list_at, without, after, first_of}
 use Rattle.arenalist.specs.Rings.{Chain, IsRing, walk, rings_of, lists_of, AreLinked, nexts_linked, prevs_linked, nexts_unlinked, prevs_unlinked}
 use Rattle.arenalist.specs.Links.{AreOwned, AreLinks}
-use Rattle.arenalist.proofs.NumberLemmas.{count-append, count_one, count_other, count_head, count_in_all, count_in_two, count_drop, found_in, cut_at, at_map, in_all-append, after_cut}
+use Rattle.arenalist.proofs.NumberLemmas.{count-append, count_one, count_other, count_head, count_in_all, count_in_two, some_list, count_drop, found_in, cut_at, at_map, in_all-append, after_cut}
 use Rattle.arenalist.proofs.RingLemmas.{chain_split, ring_same, RingHead, ring_head, head_of, links, unlinks_from, lists_at, rings_walked, heads_walked, heads_linked, heads_without, nexts_length}
 use Rattle.arenalist.proofs.RingLemmas.RingHead.{Head}
 use Rattle.arenalist.proofs.OwnerLemmas.{owned_linked, owned_unlinked, owned_more, owned_listed}
@@ -63,15 +63,10 @@ pub record Behind (heads nexts prevs : List ℕ) (owners : List (Option ℕ)) (l
   pub chain : Chain nexts prevs n (after n (list_at (lists_of (rings_of heads nexts)) l)) (get_or heads l 0)
   pub apart : count (get_or heads l 0) (after n (list_at (lists_of (rings_of heads nexts)) l)) ≡ 0
 
-some_list : (lists : List (List ℕ)) (n l : ℕ) → 0 < count n (list_at lists l) → l < length lists
-some_list [] n l some = absurd (omega arith)
-some_list (xs ∷ lists) n zero some = omega arith
-some_list (xs ∷ lists) n (suc l) some = omega (arith, some_list lists n l some)
-
 pub behind : (heads nexts prevs : List ℕ) (owners : List (Option ℕ)) (l n : ℕ) → AreLinks heads nexts prevs owners → 0 < count n (list_at (lists_of (rings_of heads nexts)) l) → Behind heads nexts prevs owners l n
 behind heads nexts prevs owners l n k some =
     let lists : List (List ℕ) = lists_of (rings_of heads nexts) in
-    let l_in : l < length heads = omega (arith, some_list lists n l some, long_lists heads nexts) in
+    let l_in : l < length heads = omega (arith, some_list lists l n some, long_lists heads nexts) in
     let it = its heads nexts prevs owners l k l_in in
     let cut = cut_at n (list_at lists l) some in
     let once : count n (list_at lists l) ≤ 1 = omega (arith, count_in_all n lists l, in_rings heads nexts n, k.linked.once n) in

@@ -31,6 +31,11 @@ count_in_all r [] l = omega arith
 count_in_all r (y ∷ ys) zero = omega arith
 count_in_all r (y ∷ ys) (suc l) = omega (arith, count_in_all r ys l)
 
+pub some_list : (ls : List (List ℕ)) (l n : ℕ) → 0 < count n (list_at ls l) → l < length ls
+some_list [] l n some = absurd (omega arith)
+some_list (xs ∷ ls) zero n some = omega arith
+some_list (xs ∷ ls) (suc l) n some = omega (arith, some_list ls l n some)
+
 pub count_in_two : (r : ℕ) (ls : List (List ℕ)) (l m : ℕ) → l ≢ m → count r (list_at ls l) + count r (list_at ls m) ≤ in_all r ls
 count_in_two r [] l m h = omega arith
 count_in_two r (y ∷ ys) zero zero h = absurd (h refl)
@@ -116,54 +121,12 @@ count_drop n (x ∷ xs) = omega arith
 pub apart : (b c : ℕ) (xs : List ℕ) → count b xs ≡ 0 → 0 < count c xs → b ≢ c
 apart b c xs none some e = omega (arith, ap (λ (x : ℕ). count x xs) e)
 
-pub append_none : (xs : List ℕ) → xs ++ [] ≡ xs
-append_none [] = refl
-append_none (x ∷ xs) = ap (λ (ys : List ℕ). x ∷ ys) (append_none xs)
-
 pub at_map : (f : List ℕ → List ℕ) (rings : List (List ℕ)) (m : ℕ) → m < length rings → list_at (map f rings) m ≡ f (list_at rings m)
 at_map f rings m h = get_or-map f rings m [] [] h
 
 pub in_all-append : (x : ℕ) (ls : List (List ℕ)) (l : List ℕ) → in_all x (ls ++ l ∷ []) ≡ in_all x ls + count x l
 in_all-append x [] l = omega arith
 in_all-append x (k ∷ ks) l = omega (arith, in_all-append x ks l)
-
--- sums, to see that a list is no longer than there are cells
-abbrev sum_to : ℕ → (ℕ → ℕ) → ℕ
-sum_to zero f = 0
-sum_to (suc n) f = sum_to n f + f n
-
-sum_to_least : (n : ℕ) (f g : ℕ → ℕ) → ((k : ℕ) → k < n → f k ≤ g k) → sum_to n f ≤ sum_to n g
-sum_to_least zero f g h = omega arith
-sum_to_least (suc n) f g h = omega (arith, h n (omega arith), sum_to_least n f g (λ k l. h k (omega arith)))
-
-sum_to_both : (n : ℕ) (f g : ℕ → ℕ) → sum_to n (λ k. f k + g k) ≡ sum_to n f + sum_to n g
-sum_to_both zero f g = omega arith
-sum_to_both (suc n) f g = omega (arith, sum_to_both n f g)
-
-sum_to_none : (n x : ℕ) → n ≤ x → sum_to n (λ k. count k (x ∷ [])) ≡ 0
-sum_to_none zero x h = refl
-sum_to_none (suc n) x h = omega (arith, count_other n x (λ e. omega arith), sum_to_none n x (omega arith))
-
-sum_to_one : (n x : ℕ) → x < n → sum_to n (λ k. count k (x ∷ [])) ≡ 1
-sum_to_one zero x h = absurd (omega arith)
-sum_to_one (suc n) x h =
-    ⊎_elim
-    (λ (e : n ≡ x). let here : count n (x ∷ []) ≡ 1 = rw e (count_one x) in omega (arith, sum_to_none n x (omega arith)))
-    (λ (e : n ≡ x → ⊥). omega (arith, count_other n x e, sum_to_one n x (omega arith)))
-    (cases_eq n x)
-
-sum_to_ones : (n : ℕ) → sum_to n (λ k. 1) ≡ n
-sum_to_ones zero = refl
-sum_to_ones (suc n) = omega (arith, sum_to_ones n)
-
-sum_to_count : (n : ℕ) (xs : List ℕ) → ((r : ℕ) → 0 < count r xs → r < n) → length xs ≤ sum_to n (λ k. count k xs)
-sum_to_count n [] h = omega arith
-sum_to_count n (x ∷ xs) h =
-    let is_rank : x < n = h x (omega (arith, count_head x xs)) in
-    omega (arith, sum_to_count n xs (λ r l. h r (omega (arith, l))), sum_to_one n x is_rank, sum_to_both n (λ k. count k (x ∷ [])) (λ k. count k xs), sum_to_least n (λ k. count k (x ∷ []) + count k xs) (λ k. count k (x ∷ xs)) (λ k l. omega arith))
-
-pub length_most : (n : ℕ) (xs : List ℕ) → ((r : ℕ) → 0 < count r xs → r < n) → ((r : ℕ) → count r xs ≤ 1) → length xs ≤ n
-length_most n xs within once = omega (arith, sum_to_count n xs within, sum_to_least n (λ k. count k xs) (λ k. 1) (λ k l. once k), sum_to_ones n)
 
 -- a default at the end is not seen
 pub get_or-push_default : {X : Type 0} (d : X) (xs : List X) (i : ℕ) → get_or (xs ++ d ∷ []) i d ≡ get_or xs i d

@@ -1,11 +1,12 @@
 -- What unlinking and linking do to rings.
-use Rattle.std.proofs.Common.{◌≡◌, ℕ, zero, suc, ◌+◌, ◌<◌, ◌≤◌, ◌++◌, ◌≢◌, List, [], ◌∷◌, length, map, drop, get_or, set, refl, sym, ap, subst, ◌∙◌, ⊎_elim, inl, inr, arith, get_or-set_same, get_or-set_other}
+use Rattle.std.proofs.Common.{append-nil, ◌≡◌, ℕ, zero, suc, ◌+◌, ◌<◌, ◌≤◌, ◌++◌, ◌≢◌, List, [], ◌∷◌, length, map, drop, get_or, set, refl, sym, ap, subst, ◌∙◌, ⊎_elim, inl, inr, arith, get_or-set_same, get_or-set_other}
 use Rattle.std.specs.Prelude.{◌⊎◌, ◌==◌, if◌then◌else◌}
 use Rattle.std.proofs.lemmas.List.{length-set, length-map, get_or-map, ext_get_or, map-set, set-get_or}
 use Rattle.std.proofs.lemmas.Bool.{cases_eq, eq-eqb, ne_eqb}
 use Rattle.arenalist.specs.Numbers.{count, in_all, list_at, without}
 use Rattle.arenalist.specs.Rings.{Chain, IsRing, walk, rings_of, lists_of, AreLinked, nexts_linked, prevs_linked}
-use Rattle.arenalist.proofs.NumberLemmas.{count-append, count_one, count_other, count_head, in_all-set, count_in_all, count_in_two, found_in, cut_at, without_none, without_cut, in_all_without, count_drop, apart, append_none, at_map, length_most}
+use Rattle.arenalist.proofs.NumberLemmas.{count-append, count_one, count_other, count_head, in_all-set, count_in_all, count_in_two, found_in, cut_at, without_none, without_cut, in_all_without, count_drop, apart, at_map}
+use Rattle.arenalist.proofs.SumLemmas.{length_most}
 
 -- chains
 pub chain_same : (nexts prevs nexts' prevs' : List ℕ) (a : ℕ) (xs : List ℕ) (z : ℕ) → Chain nexts prevs a xs z → ((b : ℕ) → 0 < count b (a ∷ xs) → get_or nexts' b 0 ≡ get_or nexts b 0) → ((b : ℕ) → 0 < count b xs + count b (z ∷ []) → get_or prevs' b 0 ≡ get_or prevs b 0) → Chain nexts' prevs' a xs z
@@ -58,7 +59,7 @@ between nexts prevs h xs n [] chain once =
           (get_or-set_same nexts (get_or prevs n 0) h 0 p_in)
           (λ b some. get_or-set_other prevs h b (get_or prevs n 0) 0 (λ e. omega (arith, once b, count_one b, ap (λ (x : ℕ). count b (x ∷ [])) e)))
           (get_or-set_same prevs h (get_or prevs n 0) 0 q_in') in
-          let there : Chain (set nexts (get_or prevs n 0) h) (set prevs h (get_or prevs n 0)) h (xs ++ []) h = subst (λ (zs : List ℕ). Chain (set nexts (get_or prevs n 0) h) (set prevs h (get_or prevs n 0)) h zs h) (sym (append_none xs)) bent in
+          let there : Chain (set nexts (get_or prevs n 0) h) (set prevs h (get_or prevs n 0)) h (xs ++ []) h = subst (λ (zs : List ℕ). Chain (set nexts (get_or prevs n 0) h) (set prevs h (get_or prevs n 0)) h zs h) (sym (append-nil xs)) bent in
           subst (λ (q : ℕ). Chain (set nexts (get_or prevs n 0) q) (set prevs q (get_or prevs n 0)) h (xs ++ []) h) (sym q_is) there;
     }
 between nexts prevs h xs n (y ∷ ys) chain once =

@@ -69,8 +69,8 @@ abbrev pub linked : {T : Type 0} → List (List (ℕ × T)) → ℕ → ℕ → 
 linked lists l n v = slice_set lists l (list_at lists l ++ (n, v) ∷ [])
 
 -- the lists once all of list `from` is put behind list `to`
-abbrev pub appended : {T : Type 0} → List (List (ℕ × T)) → ℕ → ℕ → List (List (ℕ × T))
-appended lists to from = slice_set (slice_set lists to (list_at lists to ++ list_at lists from)) from []
+abbrev pub spliced : {T : Type 0} → List (List (ℕ × T)) → ℕ → ℕ → List (List (ℕ × T))
+spliced lists to from = slice_set (slice_set lists to (list_at lists to ++ list_at lists from)) from []
 
 -- the lists once the value at a node is another
 abbrev pub revalued_in : {T : Type 0} → List (ℕ × T) → ℕ → T → List (ℕ × T)

@@ -1,5 +1,5 @@
 -- Lists of numbers.
-use Rattle.std.specs.Prelude.{ℕ, ◌+◌, List, [], ◌∷◌, get_or, Option, Some, None, ◌==◌, if◌then◌else◌}
+use Rattle.std.specs.Prelude.{ℕ, zero, suc, ◌+◌, List, [], ◌∷◌, get_or, Option, Some, None, ◌==◌, if◌then◌else◌}
 
 -- how often a number stands in a list, and in all lists
 abbrev pub count : ℕ → List ℕ → ℕ
@@ -9,6 +9,11 @@ count n (x ∷ xs) = (if n == x then 1 else 0) + count n xs
 abbrev pub in_all : ℕ → List (List ℕ) → ℕ
 in_all n [] = 0
 in_all n (xs ∷ lists) = count n xs + in_all n lists
+
+-- the sum of what a function gives of the numbers below one
+abbrev pub sum_to : ℕ → (ℕ → ℕ) → ℕ
+sum_to zero f = 0
+sum_to (suc n) f = sum_to n f + f n
 
 -- the list of that number, and the empty list where there is none
 abbrev pub list_at : {X : Type 0} → List (List X) → ℕ → List X

@@ -14,7 +14,9 @@
 //!   move, and 2 for each node that `append` moves. It stays at the greatest `u64`.
 //! - With a spare node `push_back` can't be refused.
 //!
-//! Those who do not want nodes read the map by `contents`, which gives each list's values.
+//! Those who do not want nodes read the map by `contents`, which gives each list's values
+//! (`proofs/ContentsLemmas.antt` says what each call does to them). Nobody has to believe `Rings`, `Links` and `Slots`
+//! of `specs/`: they say how the lists are kept, and no public contract cites them.
 //!
 //! ```text
 //! let mut lists = Lists::new(alloc);
@@ -24,6 +26,7 @@
 //! lists.move_back(ten, b);      // a: 20      b: 10
 //! lists.append(a, b);           // a: 20 10   b:
 //! lists.list_of(ten)            // Some(a)
+//! lists.list(0)                 // a, by its number
 //! lists.pop_front(a)            // Some(20)
 //! lists.unlink(ten)             // 10, and both nodes are spare
 //! lists.work()                  // 8

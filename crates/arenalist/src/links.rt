@@ -125,6 +125,15 @@ impl Links {
         self.heads.len()
     }
 
+    /// The number of a list, in 32 bits.
+    pub(crate) fn list(&self, number: usize) -> u32
+        requires { number < length self.now.lists }
+        ensures { result ≡ number }
+    {
+        let _heads = &self.heads;
+        number as u32
+    }
+
     /// Makes a list, with a cell for its head.
     pub(crate) fn add_list(&mut self) -> Result<u32, AllocError>
         ensures list { IfOk result (λ list. list ≡ length self.old.lists) }

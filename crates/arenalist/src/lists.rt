@@ -6,7 +6,7 @@ ghost use Rattle.std.specs.Borrow.{sem};
 ghost use Rattle.std.specs.Vec.{vec_len, vec_capacity};
 ghost use Rattle.arenalist.specs.Lends.{lends_slot, lends_value};
 ghost use Rattle.arenalist.specs.Numbers.{list_at};
-ghost use Rattle.arenalist.specs.Arena.{value_at, HasNode, IsLinked, times, first_node, first_value, behind, unlinked, linked, appended, IsFirst, counted};
+ghost use Rattle.arenalist.specs.Arena.{value_at, HasNode, IsLinked, times, first_node, first_value, behind, unlinked, linked, spliced, IsFirst, counted};
 
 use crate::links::Links;
 use crate::node::{ListId, Node};
@@ -179,6 +179,14 @@ impl<T> Lists<T> {
         self.links.list_count()
     }
 
+    /// The list of that number.
+    pub fn list(&self, number: usize) -> ListId
+        requires { number < length self.now.lists }
+        ensures { result ≡ number }
+    {
+        ListId::new(self.links.list(number))
+    }
+
     /// The list that a node stands in, and None for a spare node.
     pub fn list_of(&self, node: Node) -> Option<ListId>
         ensures linked { IsSome result ↔ IsLinked self.now.lists node }
@@ -266,7 +274,7 @@ impl<T> Lists<T> {
         requires to { to < length self.old.lists }
         requires from { from < length self.old.lists }
         requires differ { to ≢ from }
-        ensures lists { self.new.lists ≡ appended self.old.lists to from }
+        ensures lists { self.new.lists ≡ spliced self.old.lists to from }
         ensures spare { self.new.spare ≡ self.old.spare }
         ensures work { self.new.work ≡ counted self.old.work (2 * length (list_at self.old.lists from)) }
     {

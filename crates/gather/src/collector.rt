@@ -91,8 +91,8 @@ impl Collector {
     ghost use Rattle.std.specs.Prelude.{List, nat_le, IfOk, OnOk, OnErr};
     ghost use Rattle.gather.specs.Collectors.{rings, kept, received_from, left_from, Steps, ReceivesFrom, KeepsWhatCame, IsFinished};
     ghost use Rattle.gather.specs.Collectors.{published, list_published, has_watches, stands_now, ShowsTheLast, PublishesRuns, TakesNothing, PublishesNothing};
-    ghost use Rattle.watches.specs.Publications.{Publishes, IsRising};
-    ghost use Rattle.watches.specs.Watches.{told_by, list_told, seen_by, list_watched, AnswersBy};
+    ghost use Rattle.watches.specs.Publications.{Publishes, AreRising};
+    ghost use Rattle.watches.specs.Watches.{publications_told, list_told, seen_by, list_watched, AnswersBy};
 
     /// The collector of these takers, of which this much is kept, and of what publishes.
     pub(crate) fn of(
@@ -135,8 +135,8 @@ impl Collector {
     pub fn publish(&mut self, wait: &impl Wait) -> Result<Told, PublishFault>
         ensures published { OnOk result (Publishes (stands_now self.old) (published self.old) (published self.new)) }
         ensures fault { OnErr result (published self.new ≡ published self.old) }
-        ensures rising { IsRising (published self.new) }
-        ensures told { IfOk result (λ told. told_by told ≡ published self.new) }
+        ensures rising { AreRising (published self.new) }
+        ensures told { IfOk result (λ told. publications_told told ≡ published self.new) }
         ensures list_told { IfOk result (λ told. list_told told ≡ list_published self.new) }
         ensures list { list_published self.new ≡ list_published self.old }
         ensures shows { ShowsTheLast self.new }

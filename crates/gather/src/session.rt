@@ -49,7 +49,7 @@ pub struct Session;
 impl Session {
     ghost use Rattle.std.specs.Prelude.{◌≤◌, ◌≢◌, ◌∷◌, Err, vec_len};
     ghost use Rattle.gather.specs.Collectors.{rings, kept, received_from, published, list_published, PublishesRuns};
-    ghost use Rattle.watches.specs.Publications.{at_start, IsRising};
+    ghost use Rattle.watches.specs.Publications.{at_start, AreRising};
     ghost use Rattle.watches.specs.Watches.{IsWatchOf};
     ghost use Rattle.watches.specs.declared.publisher.OpenFault.TheVariants.{Watch as WatchFault};
     ghost use Rattle.gather.specs.declared.session.TheConstants.{MOST_WATCHES};
@@ -73,7 +73,7 @@ impl Session {
         ensures received { IfOk result (λ ends. (rank : ℕ) → received_from ends.1 rank ≡ []) }
         ensures kept { IfOk result (λ ends. kept ends.1 ≡ nothing_kept reading head) }
         ensures published { IfOk result (λ ends. published ends.1 ≡ at_start ∷ []) }
-        ensures rising { IfOk result (λ ends. IsRising (published ends.1)) }
+        ensures rising { IfOk result (λ ends. AreRising (published ends.1)) }
         ensures passed { IfOk result (λ ends. PublishesRuns ends.1) }
         ensures watches { IfOk result (λ ends. vec_len ends.2 ≡ watches) }
         ensures watch { IfOk result (λ ends. All (IsWatchOf (ranks_of head) (list_published ends.1) (published ends.1)) ends.2.items) }

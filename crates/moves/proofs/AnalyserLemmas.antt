@@ -1,11 +1,12 @@
 -- What an analyser's stands and lists are at the start, after a call, and at any time.
 use Rattle.moves.specs.declared.reading.Reading.{Reading}
-use Rattle.std.proofs.Common.{◌≡◌, ◌≢◌, ◌↔◌, ℕ, zero, suc, ◌+◌, ◌-◌, ◌<◌, ◌≤◌, Bool, true, false, cond, eqb, Some, None, List, [], ◌∷◌, ◌++◌, length, replicate, refl, sym, ap, subst, ◌∙◌, ⊎_elim, arith, append-nil}
-use Rattle.std.specs.List.{slice_get, list_all, range_with_len}
+use Rattle.std.proofs.Common.{◌≡◌, ◌≢◌, ◌↔◌, ℕ, zero, suc, ◌+◌, ◌-◌, ◌<◌, ◌≤◌, Bool, true, false, cond, eqb, None, List, [], ◌∷◌, ◌++◌, length, replicate, refl, sym, ap, subst, ◌∙◌, ⊎_elim, arith, append-nil}
+use Rattle.std.specs.List.{list_all, range_with_len}
 use Rattle.std.proofs.lemmas.List.{length-set, length-replicate, length-append}
 use Rattle.std.proofs.lemmas.Option.{none-some}
 use Rattle.std.proofs.lemmas.Bool.{cases_eq, cases_Bool, eq-eqb, ne_eqb, false≢true}
 use Rattle.mpicall.specs.declared.call.Call.{Call}
+use Rattle.mpigroup.proofs.ListLemmas.{get_end}
 use Rattle.mpigroup.specs.Groups.{Groups, ranks_of}
 use Rattle.mpicall.specs.Ending.{ends_list}
 use Rattle.pairing.specs.Recordings.{Lists, calls_of, appended, GoesOn, is_ended, IsClosed}
@@ -15,6 +16,7 @@ use Rattle.pairing.specs.declared.added.PairFault.{PairFault}
 use Rattle.pairing.specs.declared.added.PairFault.TheVariants.{Refused, Memory}
 use Rattle.pairing.proofs.FaultLemmas.{an_ended_lawful_list_is_closed}
 use Rattle.pairing.proofs.RecordingLemmas.{calls_of-appended, calls_of-appended_other}
+use Rattle.pairing.proofs.PlacesLemmas.{no_calls}
 use Rattle.moves.specs.Runs.{State, start, IsReached, IsStuck, IsTheEnd}
 use Rattle.moves.specs.Needs.{can_move}
 use Rattle.moves.specs.Stands.{stands_of, lowest_run_over}
@@ -22,7 +24,7 @@ use Rattle.moves.specs.Arrivals.{Arrival, kept_one, kept_from, IsKeptOn, MixesSt
 use Rattle.moves.proofs.RunLemmas.{reached_start}
 use Rattle.moves.proofs.NeedLemmas.{can_pass}
 use Rattle.moves.proofs.StandLemmas.{every_maximal_run_ends_at_the_stands, reached_on}
-use Rattle.moves.proofs.ArrivalLemmas.{no_calls, mixes_are_kept_alike}
+use Rattle.moves.proofs.ArrivalLemmas.{mixes_are_kept_alike}
 use Rattle.moves.proofs.AdvanceLemmas.{stuck_end}
 
 -- what all numbers of a range pass, one of them passes
@@ -113,14 +115,11 @@ all_from p a (suc n) h =
     let first : p a ≡ true = h a (omega arith) (omega arith) in
     rw first (all_from p (a + 1) n (λ r from to. h r (omega arith) (omega arith)))
 
-last_is : (before : List Call) (last : Call) → slice_get (before ++ last ∷ []) (length before) ≡ Some last
-last_is [] last = refl
-last_is (call ∷ before) last = last_is before last
-
-closed_is_ended : (calls before : List Call) (last : Call) → calls ≡ before ++ last ∷ [] → ends_list last ≡ true → is_ended calls ≡ true
+-- a list whose last call ends it is ended
+pub closed_is_ended : (calls before : List Call) (last : Call) → calls ≡ before ++ last ∷ [] → ends_list last ≡ true → is_ended calls ≡ true
 closed_is_ended calls before last is ends =
     let place : length (before ++ last ∷ []) - 1 ≡ length before = omega (arith, length-append before (last ∷ [])) in
-    rw is (rw (place, last_is before last) ends)
+    rw is (rw (place, get_end before last) ends)
 
 -- a lawful recording is closed where each list is ended
 pub closed_where_ended : (groups : Groups) (recording : Lists) (ranks : ℕ) (all : Bool) → IsLawful groups recording → ranks ≡ length recording → all ≡ list_all (λ rank. is_ended (calls_of recording rank)) (range_with_len 0 ranks) → (all ≡ true) ↔ IsClosed recording

@@ -1,5 +1,5 @@
 -- What is kept of arrivals.
-use Rattle.std.proofs.Common.{◌≡◌, ◌≢◌, ℕ, zero, suc, ◌<◌, true, false, cond, is_none, Option, Some, None, List, [], ◌∷◌, ◌++◌, length, replicate, refl, sym, ap, subst, ◌∙◌, ⊎_elim, arith}
+use Rattle.std.proofs.Common.{◌≡◌, ◌≢◌, ℕ, suc, ◌<◌, true, false, cond, is_none, Option, Some, None, List, [], ◌∷◌, ◌++◌, length, replicate, refl, sym, ap, subst, ◌∙◌, ⊎_elim, arith}
 use Rattle.std.proofs.lemmas.List.{length-set}
 use Rattle.std.proofs.lemmas.Option.{none-some}
 use Rattle.std.proofs.lemmas.Bool.{cases_eq, cases_Bool, false≢true, eq-eqb, ne_eqb}
@@ -10,6 +10,7 @@ use Rattle.pairing.specs.Recordings.{Lists, calls_of, appended}
 use Rattle.pairing.specs.Faults.{fault_of, IsLawfulList, IsLawful}
 use Rattle.pairing.proofs.FaultLemmas.{lawful_push}
 use Rattle.pairing.proofs.RecordingLemmas.{calls_of-appended, calls_of-appended_other}
+use Rattle.pairing.proofs.PlacesLemmas.{no_calls}
 use Rattle.moves.specs.Arrivals.{Arrival, kept_one, kept_from, kept, calls_by, KeptIsLawful, MixesAreKeptAlike}
 
 length-kept_one : (groups : Groups) (recording : Lists) (arrival : Arrival) → length (kept_one groups recording arrival) ≡ length recording
@@ -52,11 +53,6 @@ lawful_one groups recording arrival lawful =
 lawful_from : (groups : Groups) (recording : Lists) (arrivals : List Arrival) → IsLawful groups recording → IsLawful groups (kept_from groups recording arrivals)
 lawful_from groups recording [] lawful = lawful
 lawful_from groups recording (arrival ∷ rest) lawful = lawful_from groups (kept_one groups recording arrival) rest (lawful_one groups recording arrival lawful)
-
-pub no_calls : (n rank : ℕ) → calls_of (replicate n []) rank ≡ []
-no_calls zero rank = refl
-no_calls (suc n) zero = refl
-no_calls (suc n) (suc rank) = no_calls n rank
 
 pub kept_is_lawful : KeptIsLawful
 kept_is_lawful groups arrivals =

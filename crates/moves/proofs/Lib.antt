@@ -13,5 +13,4 @@ pub mod ReachLemmas
 pub mod TouchLemmas
 pub mod WakeLemmas
 pub mod SettleLemmas
-pub mod RangeLemmas
 pub mod ReadingLemmas

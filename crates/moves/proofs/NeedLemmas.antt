@@ -6,7 +6,7 @@ use Rattle.std.specs.List.{slice_get, list_all}
 use Rattle.std.specs.Option.{option_map_or}
 use Rattle.std.proofs.lemmas.List.Folds.{list_all-append}
 use Rattle.std.proofs.lemmas.Option.{slice_get_within}
-use Rattle.std.proofs.lemmas.Bool.{false≢true, leb-true, le-leb}
+use Rattle.std.proofs.lemmas.Bool.{and_parts, false≢true, leb-true, le-leb}
 use Rattle.mpicall.specs.Ending.{ends_list}
 use Rattle.mpicall.specs.declared.call.Call.{Call}
 use Rattle.mpigroup.specs.Groups.{Groups, group_of}
@@ -25,10 +25,6 @@ use Rattle.moves.specs.declared.need.Need.TheVariants.{At, Lacking}
 use Rattle.moves.specs.Needs.{world_of, half_need, half_needs, probe_need, probe_needs, member_need, wave_needs, sends_freely, operation_needs, operation_needs_at, request_needs, needs_of_call, needs_of, is_met, may_pass, can_move}
 use Rattle.moves.proofs.StayLemmas.{Carries, carries_on}
 
-and_true : (a b : Bool) → (a && b) ≡ true → (a ≡ true) × (b ≡ true)
-and_true true b h = (refl, h)
-and_true false b h = cc
-
 -- a need that is met stays met as stands rise
 met_stays : (s t : State) (need : Need) → StandsNoLater s t → is_met s need ≡ true → is_met t need ≡ true
 met_stays s t (At rank place) below h =
@@ -38,7 +34,7 @@ met_stays s t (Lacking rank) below h = h
 all_met_stay : (s t : State) (needs : List Need) → StandsNoLater s t → list_all (is_met s) needs ≡ true → list_all (is_met t) needs ≡ true
 all_met_stay s t [] below h = refl
 all_met_stay s t (need ∷ needs) below h =
-    let both = and_true (is_met s need) (list_all (is_met s) needs) h in
+    let both = and_parts (is_met s need) (list_all (is_met s) needs) h in
     rw (met_stays s t need below both.0) (all_met_stay s t needs below both.1)
 
 -- whether a rank can move, by its stand
@@ -48,7 +44,7 @@ can_at reading groups recording stands rank stand = may_pass (slice_get (calls_o
 pub can_move_is_persistent : (reading : Reading) (groups : Groups) (recording : Lists) → IsPersistent (can_move reading groups recording)
 unfolding can_at
 can_move_is_persistent reading groups recording s t rank below same h =
-    let both = and_true (may_pass (slice_get (calls_of recording rank) (get_or s rank 0))) (list_all (is_met s) (needs_of reading groups recording rank (get_or s rank 0))) h in
+    let both = and_parts (may_pass (slice_get (calls_of recording rank) (get_or s rank 0))) (list_all (is_met s) (needs_of reading groups recording rank (get_or s rank 0))) h in
     let there : can_at reading groups recording t rank (get_or s rank 0) ≡ true =
     rw both.0 (all_met_stay s t (needs_of reading groups recording rank (get_or s rank 0)) below both.1) in
     subst (λ (stand : ℕ). can_at reading groups recording t rank stand ≡ true) same there
@@ -63,7 +59,7 @@ pub record CanPass (reading : Reading) (groups : Groups) (recording : Lists) (st
 pass_parts : (reading : Reading) (groups : Groups) (recording : Lists) (stands : State) (rank : ℕ) (present : Option Call) → slice_get (calls_of recording rank) (get_or stands rank 0) ≡ present → (may_pass present && list_all (is_met stands) (option_map_or (needs_of_call reading groups recording rank (get_or stands rank 0)) present [])) ≡ true → CanPass reading groups recording stands rank
 pass_parts reading groups recording stands rank None h can = cc
 pass_parts reading groups recording stands rank (Some call) h can =
-    let both = and_true (not (ends_list call)) (list_all (is_met stands) (needs_of_call reading groups recording rank (get_or stands rank 0) call)) can in
+    let both = and_parts (not (ends_list call)) (list_all (is_met stands) (needs_of_call reading groups recording rank (get_or stands rank 0) call)) can in
     record { call = call; is_present = h; is_no_end = not_true (ends_list call) both.0; needs_met = both.1 }
   where
     not_true : (b : Bool) → not b ≡ true → b ≡ false
@@ -93,17 +89,17 @@ abbrev MetOn : State → List Need → List Need → Type 0
 MetOn stands needs later = list_all (is_met stands) needs ≡ true → list_all (is_met stands) later ≡ true
 
 one_met_on : (stands : State) (need later : Need) → (is_met stands need ≡ true → is_met stands later ≡ true) → MetOn stands (need ∷ []) (later ∷ [])
-one_met_on stands need later on h = rw (on (and_true (is_met stands need) true h).0) refl
+one_met_on stands need later on h = rw (on (and_parts (is_met stands need) true h).0) refl
 
 both_met_on : (stands : State) (needs more later later_more : List Need) → MetOn stands needs later → MetOn stands more later_more → MetOn stands (needs ++ more) (later ++ later_more)
 both_met_on stands needs more later later_more on more_on h =
-    let both = and_true (list_all (is_met stands) needs) (list_all (is_met stands) more) (rw list_all-append at h) in
+    let both = and_parts (list_all (is_met stands) needs) (list_all (is_met stands) more) (rw list_all-append at h) in
     rw (list_all-append (is_met stands) later later_more, on both.0, more_on both.1) refl
 
 each_met_on : {A : Type 0} (stands : State) (need later : A → Need) → ((x : A) → is_met stands (need x) ≡ true → is_met stands (later x) ≡ true) → (xs : List A) → MetOn stands (map need xs) (map later xs)
 each_met_on stands need later on [] h = refl
 each_met_on stands need later on (x ∷ xs) h =
-    let both = and_true (is_met stands (need x)) (list_all (is_met stands) (map need xs)) h in
+    let both = and_parts (is_met stands (need x)) (list_all (is_met stands) (map need xs)) h in
     rw (on x both.0, each_met_on stands need later on xs both.1) refl
 
 all_met_on : {A : Type 0} (stands : State) (needs later : A → List Need) → ((x : A) → MetOn stands (needs x) (later x)) → (xs : List A) → MetOn stands (flat_map needs xs) (flat_map later xs)

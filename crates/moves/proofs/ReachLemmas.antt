@@ -7,7 +7,7 @@ use Rattle.std.specs.Option.{option_map_or}
 use Rattle.std.proofs.lemmas.List.Folds.{list_all-append}
 use Rattle.std.proofs.lemmas.List.{length-append}
 use Rattle.std.proofs.lemmas.Option.{slice_get_within}
-use Rattle.std.proofs.lemmas.Bool.{cases_eq, cases_Bool, false≢true, leb-true, le-leb}
+use Rattle.std.proofs.lemmas.Bool.{and_parts, and_from, cases_eq, cases_Bool, false≢true, leb-true, le-leb}
 use Rattle.mpicall.specs.declared.call.Call.{Call}
 use Rattle.mpigroup.specs.Groups.{Groups}
 use Rattle.pairing.specs.declared.envelope.Half.{Half}
@@ -26,13 +26,13 @@ use Rattle.pairing.proofs.WaveLemmas.{waves_stay, no_other_call_is_in_a_wave}
 use Rattle.moves.specs.Runs.{State, moved, StandsNoLater}
 use Rattle.moves.specs.declared.need.Need.{Need}
 use Rattle.moves.specs.declared.need.Need.TheVariants.{At, Lacking}
-use Rattle.moves.specs.declared.waves.Waves.{Waves}
+use Rattle.moves.specs.declared.progress.Progress.{Progress}
 use Rattle.moves.specs.Needs.{world_of, half_need, half_needs, probe_need, probe_needs, sends_freely, is_met}
 use Rattle.moves.specs.Waiting.{message_needs, message_needs_at, WaitsFor, IsAwaited, HasJoined, complete_of, AreWaves, IsNoException, NeedsPartner, NeedsWave, Rests}
 use Rattle.moves.proofs.RunLemmas.{below_same}
 use Rattle.moves.proofs.StayLemmas.{first_calls_stay, call_stays, wave_stays, start_stays, start_is_a_call, place_before}
 use Rattle.moves.proofs.AnalyserLemmas.{goes_on_by}
-use Rattle.moves.proofs.WaitLemmas.{and_true, and_both, start_is, index_parts}
+use Rattle.moves.proofs.WaitLemmas.{start_is, index_parts}
 
 -- The recording goes on and the stands rise so that no further call is reached but new ones.
 pub record OnlyReaches (recording longer : Lists) (s t : State) (IsNew : ℕ → ℕ → Type 0) : Type 0 where
@@ -81,9 +81,9 @@ halves_were_met : (groups : Groups) (recording longer : Lists) (s t : State) (N 
 halves_were_met groups recording longer s t N rank place half only within None met = inl refl
 halves_were_met groups recording longer s t N rank place half only within (Some m) met =
     ⊎_elim
-    (λ (was : is_met s (half_need groups recording rank place half m) ≡ true). inl (and_both (is_met s (half_need groups recording rank place half m)) true was refl))
+    (λ (was : is_met s (half_need groups recording rank place half m) ≡ true). inl (and_from (is_met s (half_need groups recording rank place half m)) true was refl))
     (λ (woken : IsWoken groups longer N rank place). inr woken)
-    (half_was_met groups recording longer s t N rank place half m (partner_of groups longer rank place half) only within refl (and_true (is_met t (half_need groups longer rank place half m)) true met).0)
+    (half_was_met groups recording longer s t N rank place half m (partner_of groups longer rank place half) only within refl (and_parts (is_met t (half_need groups longer rank place half m)) true met).0)
 
 sends_were_met : (groups : Groups) (recording longer : Lists) (s t : State) (N : ℕ → ℕ → Type 0) (rank place : ℕ) (call : Call) → OnlyReaches recording longer s t N → place < length (calls_of recording rank) → (buffered : Bool) → list_all (is_met t) (if buffered then [] else half_needs groups longer rank place SendHalf call) ≡ true → (list_all (is_met s) (if buffered then [] else half_needs groups recording rank place SendHalf call) ≡ true) ⊎ IsWoken groups longer N rank place
 sends_were_met groups recording longer s t N rank place call only within true met = inl refl
@@ -120,18 +120,18 @@ probes_were_met : (groups : Groups) (recording longer : Lists) (s t : State) (N 
 probes_were_met groups recording longer s t N rank place only within None met = inl refl
 probes_were_met groups recording longer s t N rank place only within (Some m) met =
     ⊎_elim
-    (λ (was : is_met s (probe_need groups recording rank place m) ≡ true). inl (and_both (is_met s (probe_need groups recording rank place m)) true was refl))
+    (λ (was : is_met s (probe_need groups recording rank place m) ≡ true). inl (and_from (is_met s (probe_need groups recording rank place m)) true was refl))
     (λ (woken : IsWoken groups longer N rank place). inr woken)
-    (probe_was_met groups recording longer s t N rank place m (probed_of groups longer rank place) only within refl (and_true (is_met t (probe_need groups longer rank place m)) true met).0)
+    (probe_was_met groups recording longer s t N rank place m (probed_of groups longer rank place) only within refl (and_parts (is_met t (probe_need groups longer rank place m)) true met).0)
 
 -- needs in a row that are met were met, or a new call is waited for
 both_were_met : (W : Type 0) (s t : State) (first later_first more later_more : List Need) → (list_all (is_met t) later_first ≡ true → (list_all (is_met s) first ≡ true) ⊎ W) → (list_all (is_met t) later_more ≡ true → (list_all (is_met s) more ≡ true) ⊎ W) → list_all (is_met t) (later_first ++ later_more) ≡ true → (list_all (is_met s) (first ++ more) ≡ true) ⊎ W
 both_were_met W s t first later_first more later_more first_was more_was met =
-    let both = and_true (list_all (is_met t) later_first) (list_all (is_met t) later_more) (sym (list_all-append (is_met t) later_first later_more) ∙ met) in
+    let both = and_parts (list_all (is_met t) later_first) (list_all (is_met t) later_more) (sym (list_all-append (is_met t) later_first later_more) ∙ met) in
     ⊎_elim
     (λ (one : list_all (is_met s) first ≡ true).
     ⊎_elim
-    (λ (other : list_all (is_met s) more ≡ true). inl (list_all-append (is_met s) first more ∙ and_both (list_all (is_met s) first) (list_all (is_met s) more) one other))
+    (λ (other : list_all (is_met s) more ≡ true). inl (list_all-append (is_met s) first more ∙ and_from (list_all (is_met s) first) (list_all (is_met s) more) one other))
     (λ (woken : W). inr woken)
     (more_was both.1))
     (λ (woken : W). inr woken)
@@ -206,7 +206,7 @@ partner_waits_on reading groups recording longer s t N rank start only same h =
     (λ (woken : IsWoken groups longer N rank start). inr woken)
     (still_unmet reading groups recording longer s t N rank start only (awaited_call recording rank (get_or s rank 0) start h.is_awaited) h.is_unmet)
 
-pub wave_waits_on : (groups : Groups) (recording longer : Lists) (s t : State) (waves : Waves) (rank comm : ℕ) → GoesOn recording longer → get_or t rank 0 ≡ get_or s rank 0 → NeedsWave groups recording s waves rank comm → NeedsWave groups longer t waves rank comm
+pub wave_waits_on : (groups : Groups) (recording longer : Lists) (s t : State) (waves : Progress) (rank comm : ℕ) → GoesOn recording longer → get_or t rank 0 ≡ get_or s rank 0 → NeedsWave groups recording s waves rank comm → NeedsWave groups longer t waves rank comm
 wave_waits_on groups recording longer s t waves rank comm goes_on same h =
     let within = awaited_call recording rank (get_or s rank 0) h.start h.is_awaited in
     record {
@@ -220,7 +220,7 @@ joined_on : (recording longer : Lists) (s t : State) (comm wave member : ℕ) �
 joined_on recording longer s t comm wave member goes_on no_lower h =
     (h.0, waves_stay recording longer comm wave member h.0 goes_on h.1, omega (arith, h.2, no_lower.stands member))
 
-pub waves_on : (groups : Groups) (recording longer : Lists) (s t : State) (waves : Waves) (N : ℕ → ℕ → Type 0) → OnlyReaches recording longer s t N → AreWaves groups recording s waves IsNoException → AreWaves groups longer t waves (λ comm member. (place : ℕ) × (N member place) × (wave_of longer member place ≡ Some (comm, complete_of waves comm)))
+pub waves_on : (groups : Groups) (recording longer : Lists) (s t : State) (waves : Progress) (N : ℕ → ℕ → Type 0) → OnlyReaches recording longer s t N → AreWaves groups recording s waves IsNoException → AreWaves groups longer t waves (λ comm member. (place : ℕ) × (N member place) × (wave_of longer member place ≡ Some (comm, complete_of waves comm)))
 waves_on groups recording longer s t waves N only h = record {
   completes = h.completes;
   meets = h.meets;
@@ -269,9 +269,6 @@ moved_on recording s rank is_rank later = record {
       (cases_eq other rank);
 }
 
-pub appended_other : (recording : Lists) (rank other : ℕ) (call : Call) → other ≢ rank → calls_of (appended recording rank call) other ≡ calls_of recording other
-appended_other recording rank other call differs = calls_of-appended_other recording rank other call differs
-
 pub appended_length : (recording : Lists) (rank : ℕ) (call : Call) → rank < length recording → length (calls_of (appended recording rank call) rank) ≡ length (calls_of recording rank) + 1
 appended_length recording rank call is_rank = ap (length {A = Call}) (calls_of-appended recording rank call is_rank) ∙ length-append (calls_of recording rank) (call ∷ [])
 
@@ -287,7 +284,7 @@ arrived_there recording s rank call is_rank = record {
       (λ (new : place ≡ length (calls_of recording rank)). inr (own, new))
       (λ (old : place ≢ length (calls_of recording rank)). inl (omega (arith, within', ap (λ (k : ℕ). length (calls_of recording k)) own), reached))
       (cases_eq place (length (calls_of recording rank))))
-      (λ (differs : other ≢ rank). inl (omega (arith, within, ap (length {A = Call}) (appended_other recording rank other call differs)), reached))
+      (λ (differs : other ≢ rank). inl (omega (arith, within, ap (length {A = Call}) (calls_of-appended_other recording rank other call differs)), reached))
       (cases_eq other rank);
 }
 
@@ -298,6 +295,6 @@ arrived_ahead recording s rank call is_rank behind = record {
   only = λ other place within reached.
       ⊎_elim
       (λ (own : other ≡ rank). inl (omega (arith, reached, behind, ap (λ (k : ℕ). get_or s k 0) own, ap (λ (k : ℕ). length (calls_of recording k)) own), reached))
-      (λ (differs : other ≢ rank). inl (omega (arith, within, ap (length {A = Call}) (appended_other recording rank other call differs)), reached))
+      (λ (differs : other ≢ rank). inl (omega (arith, within, ap (length {A = Call}) (calls_of-appended_other recording rank other call differs)), reached))
       (cases_eq other rank);
 }

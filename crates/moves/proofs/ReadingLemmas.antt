@@ -1,30 +1,23 @@
 -- A reading that is no laxer holds ranks back.
-use Rattle.std.proofs.Common.{◌≡◌, ℕ, Bool, true, false, ◌&&◌, ◌||◌, Option, Some, None, is_some, if◌then◌else◌, List, [], ◌∷◌, ◌++◌, flat_map, length, get_or, refl, sym, ◌∙◌, arith}
+use Rattle.std.proofs.Common.{◌≡◌, ℕ, Bool, true, false, ◌||◌, Option, Some, None, is_some, if◌then◌else◌, List, [], ◌∷◌, ◌++◌, flat_map, length, get_or, refl, sym, ◌∙◌, arith}
 use Rattle.std.specs.List.{slice_get, list_all}
 use Rattle.std.specs.Option.{option_map_or}
 use Rattle.std.proofs.lemmas.List.Folds.{list_all-append}
-use Rattle.std.proofs.lemmas.Bool.{false≢true, leb-true, le-leb}
+use Rattle.std.proofs.lemmas.Bool.{and_parts, and_from, false≢true, leb-true, le-leb}
 use Rattle.mpicall.specs.declared.call.Call.{Call}
 use Rattle.mpigroup.specs.Groups.{Groups}
 use Rattle.pairing.specs.declared.envelope.Half.TheVariants.{Send as SendHalf, Recv as RecvHalf}
 use Rattle.pairing.specs.Recordings.{Lists, calls_of}
 use Rattle.pairing.specs.Requests.{starts, completes, started_before}
 use Rattle.moves.specs.declared.need.Need.{Need}
-use Rattle.moves.specs.Runs.{State, Rule, Steps, start, IsReached}
+use Rattle.moves.specs.Runs.{State, start, IsReached}
 use Rattle.moves.specs.Readings.{is_eager, is_no_laxer}
 use Rattle.moves.specs.Needs.{half_needs, probe_needs, wave_needs, is_buffered, bytes_of, sends_freely, operation_needs, operation_needs_at, request_needs, needs_of_call, needs_of, is_met, may_pass, can_move}
 use Rattle.moves.specs.Stands.{StricterReadingsStandNoLater}
-use Rattle.moves.proofs.RunLemmas.{reached_below, reached_ranks}
+use Rattle.moves.proofs.RunLemmas.{steps_by_more, reached_below, reached_ranks}
 use Rattle.moves.proofs.NeedLemmas.{can_move_is_persistent}
 use Rattle.moves.specs.declared.reading.Reading.{Reading}
 use Rattle.moves.specs.declared.reading.Reading.TheVariants.{Strict, Eager}
-
-and_true : (a b : Bool) → (a && b) ≡ true → (a ≡ true) × (b ≡ true)
-and_true true b h = (refl, h)
-and_true false b h = cc
-
-and_both : (a b : Bool) → a ≡ true → b ≡ true → (a && b) ≡ true
-and_both a b h g = rw (h, g) refl
 
 -- what the first reading lets go, the second does
 eager_more : (first second : Reading) → is_no_laxer first second ≡ true → (bytes : Option ℕ) → is_eager first bytes ≡ true → is_eager second bytes ≡ true
@@ -47,8 +40,8 @@ left_out s false false needs more h = h
 -- the same, in a row
 in_a_row : (s : State) (xs ys zs : List Need) → (list_all (is_met s) xs ≡ true → list_all (is_met s) ys ≡ true) → list_all (is_met s) (xs ++ zs) ≡ true → list_all (is_met s) (ys ++ zs) ≡ true
 in_a_row s xs ys zs more h =
-    let both = and_true (list_all (is_met s) xs) (list_all (is_met s) zs) (sym (list_all-append (is_met s) xs zs) ∙ h) in
-    list_all-append (is_met s) ys zs ∙ and_both (list_all (is_met s) ys) (list_all (is_met s) zs) (more both.0) both.1
+    let both = and_parts (list_all (is_met s) xs) (list_all (is_met s) zs) (sym (list_all-append (is_met s) xs zs) ∙ h) in
+    list_all-append (is_met s) ys zs ∙ and_from (list_all (is_met s) ys) (list_all (is_met s) zs) (more both.0) both.1
 
 operation_more : (first second : Reading) (groups : Groups) (recording : Lists) (s : State) (rank place : ℕ) (call : Call) → is_no_laxer first second ≡ true → list_all (is_met s) (operation_needs first groups recording rank place call) ≡ true → list_all (is_met s) (operation_needs second groups recording rank place call) ≡ true
 operation_more first second groups recording s rank place call no_laxer h =
@@ -75,9 +68,9 @@ requests_more first second groups recording s rank place no_laxer (req ∷ reqs)
     let one = request_needs first groups recording rank place req in
     let other = request_needs second groups recording rank place req in
     let rest = flat_map (request_needs first groups recording rank place) reqs in
-    let both = and_true (list_all (is_met s) one) (list_all (is_met s) rest) (sym (list_all-append (is_met s) one rest) ∙ h) in
+    let both = and_parts (list_all (is_met s) one) (list_all (is_met s) rest) (sym (list_all-append (is_met s) one rest) ∙ h) in
     list_all-append (is_met s) other (flat_map (request_needs second groups recording rank place) reqs)
-    ∙ and_both (list_all (is_met s) other) (list_all (is_met s) (flat_map (request_needs second groups recording rank place) reqs))
+    ∙ and_from (list_all (is_met s) other) (list_all (is_met s) (flat_map (request_needs second groups recording rank place) reqs))
     (started_more first second groups recording s rank no_laxer (started_before recording rank place req) both.0)
     (requests_more first second groups recording s rank place no_laxer reqs both.1)
 
@@ -86,9 +79,9 @@ call_more first second groups recording s rank place call no_laxer true h = h
 call_more first second groups recording s rank place call no_laxer false h =
     let one = operation_needs first groups recording rank place call in
     let rest = flat_map (request_needs first groups recording rank place) (completes call) in
-    let both = and_true (list_all (is_met s) one) (list_all (is_met s) rest) (sym (list_all-append (is_met s) one rest) ∙ h) in
+    let both = and_parts (list_all (is_met s) one) (list_all (is_met s) rest) (sym (list_all-append (is_met s) one rest) ∙ h) in
     list_all-append (is_met s) (operation_needs second groups recording rank place call) (flat_map (request_needs second groups recording rank place) (completes call))
-    ∙ and_both (list_all (is_met s) (operation_needs second groups recording rank place call)) (list_all (is_met s) (flat_map (request_needs second groups recording rank place) (completes call)))
+    ∙ and_from (list_all (is_met s) (operation_needs second groups recording rank place call)) (list_all (is_met s) (flat_map (request_needs second groups recording rank place) (completes call)))
     (operation_more first second groups recording s rank place call no_laxer both.0)
     (requests_more first second groups recording s rank place no_laxer (completes call) both.1)
 
@@ -98,23 +91,15 @@ present_more first second groups recording s rank place no_laxer (Some call) h =
 
 move_more : (first second : Reading) (groups : Groups) (recording : Lists) (s : State) (rank : ℕ) → is_no_laxer first second ≡ true → can_move first groups recording s rank ≡ true → can_move second groups recording s rank ≡ true
 move_more first second groups recording s rank no_laxer h =
-    let both = and_true (may_pass (slice_get (calls_of recording rank) (get_or s rank 0))) (list_all (is_met s) (needs_of first groups recording rank (get_or s rank 0))) h in
-    and_both (may_pass (slice_get (calls_of recording rank) (get_or s rank 0))) (list_all (is_met s) (needs_of second groups recording rank (get_or s rank 0))) both.0
+    let both = and_parts (may_pass (slice_get (calls_of recording rank) (get_or s rank 0))) (list_all (is_met s) (needs_of first groups recording rank (get_or s rank 0))) h in
+    and_from (may_pass (slice_get (calls_of recording rank) (get_or s rank 0))) (list_all (is_met s) (needs_of second groups recording rank (get_or s rank 0))) both.0
     (present_more first second groups recording s rank (get_or s rank 0) no_laxer (slice_get (calls_of recording rank) (get_or s rank 0)) both.1)
-
--- runs of a rule that lets fewer move
-stricter_steps : (strict lax : Rule) → ((s : State) (rank : ℕ) → strict s rank ≡ true → lax s rank ≡ true) → (s : State) (states : List State) → Steps strict s states → Steps lax s states
-stricter_steps strict lax more s [] steps = steps
-stricter_steps strict lax more s (t ∷ rest) steps = (
-  record { rank = steps.0.rank; is_rank = steps.0.is_rank; can_move = more s steps.0.rank steps.0.can_move; moves_on = steps.0.moves_on },
-  stricter_steps strict lax more t rest steps.1,
-)
 
 pub stricter_readings_stand_no_later : StricterReadingsStandNoLater
 stricter_readings_stand_no_later first second groups recording s t no_laxer s_end t_end =
     let reached : IsReached (can_move second groups recording) (length recording) s = record {
       states = s_end.is_reached.states;
-      is_run = stricter_steps (can_move first groups recording) (can_move second groups recording) (λ u rank. move_more first second groups recording u rank no_laxer) (start (length recording)) s_end.is_reached.states s_end.is_reached.is_run;
+      is_run = steps_by_more (can_move first groups recording) (can_move second groups recording) (λ u rank. move_more first second groups recording u rank no_laxer) (start (length recording)) s_end.is_reached.states s_end.is_reached.is_run;
       ends_there = s_end.is_reached.ends_there;
     } in
     reached_below (can_move second groups recording) (length recording) s t (can_move_is_persistent second groups recording) t_end.is_stuck (reached_ranks (can_move second groups recording) (length recording) t t_end.is_reached) reached

@@ -6,7 +6,7 @@ use Rattle.std.proofs.lemmas.List.{length-set, length-replicate}
 use Rattle.std.specs.Option.{option_map_or}
 use Rattle.std.proofs.lemmas.Option.{none-some, same_Some}
 use Rattle.std.proofs.lemmas.Bool.{cases_eq, cases_lt, false≢true, cases_Bool}
-use Rattle.moves.specs.Runs.{State, Rule, start, moved, Step, Steps, last_of, IsRun, end_of, IsStuck, IsMaximal, IsReached, lowest, lowest_steps, StandsNoLater, IsPersistent, IsBounded, total, lowest_run, AnyEndIsTheEnd, MaximalRunsEndAlike}
+use Rattle.moves.specs.Runs.{State, Rule, start, moved, Step, AreSteps, last_state, IsRun, run_end, IsStuck, IsMaximal, IsReached, lowest, lowest_steps, StandsNoLater, IsPersistent, IsBounded, total, lowest_run, AnyEndIsTheEnd, MaximalRunsEndAlike}
 
 pub below_same : (s : State) → StandsNoLater s s
 below_same s = record { ranks = refl; stands = λ rank. omega arith }
@@ -39,7 +39,7 @@ start_below ranks s l = record { ranks = length-replicate ranks 0 ∙ sym l; sta
 length_moved : (s : State) (rank : ℕ) → length (moved s rank) ≡ length s
 length_moved s rank = length-set s rank (get_or s rank 0 + 1)
 
-pub steps_keep_ranks : (can : Rule) (s : State) (states : List State) → Steps can s states → length (last_of s states) ≡ length s
+pub steps_keep_ranks : (can : Rule) (s : State) (states : List State) → AreSteps can s states → length (last_state s states) ≡ length s
 steps_keep_ranks can s [] h = refl
 steps_keep_ranks can s (t ∷ rest) h =
     steps_keep_ranks can t rest h.1 ∙ ap length h.0.moves_on ∙ length_moved s h.0.rank
@@ -70,17 +70,17 @@ step_below can s t u persistent stuck below step =
     absurd (false≢true (sym (stuck step.rank is_rank) ∙ can_in_u)))
     (cases_lt (get_or s step.rank 0) (get_or u step.rank 0))
 
-pub steps_below : (can : Rule) (s u : State) (states : List State) → IsPersistent can → IsStuck can u → StandsNoLater s u → Steps can s states → StandsNoLater (last_of s states) u
+pub steps_below : (can : Rule) (s u : State) (states : List State) → IsPersistent can → IsStuck can u → StandsNoLater s u → AreSteps can s states → StandsNoLater (last_state s states) u
 steps_below can s u [] persistent stuck below h = below
 steps_below can s u (t ∷ rest) persistent stuck below h =
     steps_below can t u rest persistent stuck (step_below can s t u persistent stuck below h.0) h.1
 
 -- what a run reaches is below every stuck state
-pub run_below : (can : Rule) (ranks : ℕ) (u : State) (states : List State) → IsPersistent can → IsStuck can u → length u ≡ ranks → IsRun can ranks states → StandsNoLater (end_of ranks states) u
+pub run_below : (can : Rule) (ranks : ℕ) (u : State) (states : List State) → IsPersistent can → IsStuck can u → length u ≡ ranks → IsRun can ranks states → StandsNoLater (run_end ranks states) u
 run_below can ranks u states persistent stuck l h =
     steps_below can (start ranks) u states persistent stuck (start_below ranks u l) h
 
-pub run_keeps_ranks : (can : Rule) (ranks : ℕ) (states : List State) → IsRun can ranks states → length (end_of ranks states) ≡ ranks
+pub run_keeps_ranks : (can : Rule) (ranks : ℕ) (states : List State) → IsRun can ranks states → length (run_end ranks states) ≡ ranks
 run_keeps_ranks can ranks states h = steps_keep_ranks can (start ranks) states h ∙ length-replicate ranks 0
 
 pub reached_below : (can : Rule) (ranks : ℕ) (s u : State) → IsPersistent can → IsStuck can u → length u ≡ ranks → IsReached can ranks s → StandsNoLater s u
@@ -95,9 +95,9 @@ any_end_is_the_end can ranks s persistent reached stuck = record {
   is_reached = reached;
   is_stuck = stuck;
   of_all = λ states maximal.
-      below_both (end_of ranks states) s
+      below_both (run_end ranks states) s
       (run_below can ranks s states persistent stuck (reached_ranks can ranks s reached) maximal.is_run)
-      (reached_below can ranks s (end_of ranks states) persistent maximal.is_stuck (run_keeps_ranks can ranks states maximal.is_run) reached);
+      (reached_below can ranks s (run_end ranks states) persistent maximal.is_stuck (run_keeps_ranks can ranks states maximal.is_run) reached);
 }
 
 -- what a search for the first number of a range finds, and what it means that it finds none
@@ -131,13 +131,21 @@ lowest_found can s rank h = let f = found_in (can s) 0 (length s) rank h in (f.0
 pub lowest_none : (can : Rule) (s : State) → lowest can s ≡ None → IsStuck can s
 lowest_none can s h rank is_rank = none_in (can s) 0 (length s) rank h (omega arith) (omega arith)
 
-steps_on : (can : Rule) (most : ℕ) (s : State) (found : Option ℕ) → lowest can s ≡ found → ((t : State) → Steps can t (lowest_steps can most t)) → Steps can s (option_map_or (λ rank. moved s rank ∷ lowest_steps can most (moved s rank)) found [])
+-- the steps by a rule are steps by each one that lets more ranks move
+pub steps_by_more : (can more : Rule) → ((s : State) (rank : ℕ) → can s rank ≡ true → more s rank ≡ true) → (s : State) (states : List State) → AreSteps can s states → AreSteps more s states
+steps_by_more can more lets s [] steps = steps
+steps_by_more can more lets s (t ∷ rest) steps = (
+  record { rank = steps.0.rank; is_rank = steps.0.is_rank; can_move = lets s steps.0.rank steps.0.can_move; moves_on = steps.0.moves_on },
+  steps_by_more can more lets t rest steps.1,
+)
+
+steps_on : (can : Rule) (most : ℕ) (s : State) (found : Option ℕ) → lowest can s ≡ found → ((t : State) → AreSteps can t (lowest_steps can most t)) → AreSteps can s (option_map_or (λ rank. moved s rank ∷ lowest_steps can most (moved s rank)) found [])
 steps_on can most s None h rest = tt
 steps_on can most s (Some rank) h rest =
     let f = lowest_found can s rank h in
     (record { rank = rank; is_rank = f.1; can_move = f.0; moves_on = refl }, rest (moved s rank))
 
-pub lowest_steps_are_steps : (can : Rule) (most : ℕ) (s : State) → Steps can s (lowest_steps can most s)
+pub lowest_steps_are_steps : (can : Rule) (most : ℕ) (s : State) → AreSteps can s (lowest_steps can most s)
 lowest_steps_are_steps can zero s = tt
 lowest_steps_are_steps can (suc most) s = steps_on can most s (lowest can s) refl (lowest_steps_are_steps can most)
 
@@ -171,13 +179,13 @@ spent can calls s bounded below all rank is_rank =
     (λ (no : can s rank ≡ false). no)
     (cases_Bool (can s rank))
 
-ends_on : (can : Rule) (calls : List ℕ) (most : ℕ) (s : State) (found : Option ℕ) → IsBounded can calls → StandsNoLater s calls → total calls ≤ suc most + total s → lowest can s ≡ found → ((t : State) → StandsNoLater t calls → total calls ≤ most + total t → IsStuck can (last_of t (lowest_steps can most t))) → IsStuck can (last_of s (option_map_or (λ rank. moved s rank ∷ lowest_steps can most (moved s rank)) found []))
+ends_on : (can : Rule) (calls : List ℕ) (most : ℕ) (s : State) (found : Option ℕ) → IsBounded can calls → StandsNoLater s calls → total calls ≤ suc most + total s → lowest can s ≡ found → ((t : State) → StandsNoLater t calls → total calls ≤ most + total t → IsStuck can (last_state t (lowest_steps can most t))) → IsStuck can (last_state s (option_map_or (λ rank. moved s rank ∷ lowest_steps can most (moved s rank)) found []))
 ends_on can calls most s None bounded below all h rest = lowest_none can s h
 ends_on can calls most s (Some rank) bounded below all h rest =
     let f = lowest_found can s rank h in
     rest (moved s rank) (moved_below s calls rank below f.1 (bounded s rank f.0)) (omega (arith, total_moved s rank f.1))
 
-lowest_steps_end : (can : Rule) (calls : List ℕ) (most : ℕ) (s : State) → IsBounded can calls → StandsNoLater s calls → total calls ≤ most + total s → IsStuck can (last_of s (lowest_steps can most s))
+lowest_steps_end : (can : Rule) (calls : List ℕ) (most : ℕ) (s : State) → IsBounded can calls → StandsNoLater s calls → total calls ≤ most + total s → IsStuck can (last_state s (lowest_steps can most s))
 lowest_steps_end can calls zero s bounded below all = spent can calls s bounded below (omega arith)
 lowest_steps_end can calls (suc most) s bounded below all =
     ends_on can calls most s (lowest can s) bounded below all refl
@@ -193,17 +201,17 @@ pub maximal_runs_end_alike : MaximalRunsEndAlike
 maximal_runs_end_alike can calls persistent bounded =
     let maximal = lowest_run_is_maximal can calls bounded in (
       maximal,
-      any_end_is_the_end can (length calls) (end_of (length calls) (lowest_run can (length calls) (total calls))) persistent
+      any_end_is_the_end can (length calls) (run_end (length calls) (lowest_run can (length calls) (total calls))) persistent
           (record { states = lowest_run can (length calls) (total calls); is_run = maximal.is_run; ends_there = refl })
           maximal.is_stuck,
     )
 
 -- one step on from what is reached
-last_push : (s t : State) (states : List State) → last_of s (states ++ t ∷ []) ≡ t
+last_push : (s t : State) (states : List State) → last_state s (states ++ t ∷ []) ≡ t
 last_push s t [] = refl
 last_push s t (u ∷ rest) = last_push u t rest
 
-steps_push : (can : Rule) (s t : State) (states : List State) → Steps can s states → Step can (last_of s states) t → Steps can s (states ++ t ∷ [])
+steps_push : (can : Rule) (s t : State) (states : List State) → AreSteps can s states → Step can (last_state s states) t → AreSteps can s (states ++ t ∷ [])
 steps_push can s t [] steps step = (step, tt)
 steps_push can s t (u ∷ rest) steps step = (steps.0, steps_push can u t rest steps.1 step)
 

@@ -12,31 +12,33 @@ use Rattle.mpigroup.specs.Groups.{Groups, group_of}
 use Rattle.pairing.specs.Limits.{most_calls}
 use Rattle.pairing.specs.Recordings.{Lists, calls_of, appended}
 use Rattle.pairing.specs.Waves.{wave_of}
-use Rattle.arenalist.specs.Numbers.{list_at}
-use Rattle.arenalist.specs.Arena.{first_value}
+use Rattle.arenalist.specs.Numbers.{count, in_all, list_at, sum_to}
+use Rattle.arenalist.proofs.NumberLemmas.{count_in_all, found_in}
+use Rattle.arenalist.proofs.SumLemmas.{sum_least, sum_count}
+use Rattle.pairing.proofs.PlacesLemmas.{no_calls}
+use Rattle.pairing.proofs.RecordingLemmas.{calls_of-appended_other}
 use Rattle.moves.specs.Runs.{State, start, moved, IsReached, IsTheEnd, total}
 use Rattle.moves.specs.Needs.{may_pass, can_move}
-use Rattle.moves.specs.Stands.{calls_in}
+use Rattle.moves.specs.Stands.{call_count}
 use Rattle.moves.specs.Analysed.{most_touches, ranks_waiting}
-use Rattle.moves.specs.declared.waves.Waves.{Waves}
-use Rattle.moves.specs.Links.{sum_to, Entries, count, in_all, held, IsLinked}
-use Rattle.moves.specs.Waiting.{HasJoined, HasArrived, complete_of, met_of, AreWaves, IsNoException, NeedsPartner, NeedsWave, Rests, Waiting, own_list, comm_list, with_rank, with_awaited, WaitsFor, WaitsIn, HasLists, IsKept, IsNobody, IsInHand, IsSettled, IsReaching, to_do, paid, cost_of, touches_of}
+use Rattle.moves.specs.declared.progress.Progress.{Progress}
+use Rattle.moves.specs.Links.{linked_ranks, AreListed}
+use Rattle.moves.specs.Waiting.{HasJoined, HasArrived, complete_of, met_of, AreWaves, IsNoException, NeedsPartner, NeedsWave, Rests, WaitLists, own_list, comm_list, with_rank, with_awaited, WaitsFor, WaitsIn, HasLists, IsKept, IsNobody, IsInHand, IsSettled, IsReaching, to_do, paid, cost_of, touches_of}
 use Rattle.moves.proofs.RunLemmas.{get_start, reached_step, reached_ranks, total_moved, total_most}
 use Rattle.moves.proofs.StandLemmas.{reached_within}
 use Rattle.moves.proofs.NeedLemmas.{length_of_calls}
-use Rattle.moves.proofs.ArrivalLemmas.{no_calls}
 use Rattle.moves.proofs.AdvanceLemmas.{stuck_end, moved_later}
 use Rattle.moves.proofs.AnalyserLemmas.{goes_on_by, still_reached, start_end}
 use Rattle.moves.proofs.StayLemmas.{call_stays}
-use Rattle.moves.proofs.LinkLemmas.{none_linked, none_there, held_less, count_in_all, found_in, held_at, linked_woken, changed, taken, linked_at, linked_nodes, linked_behind, sum_count, sum_all}
-use Rattle.moves.proofs.TouchLemmas.{sum_least, sum_at_most_one, cost_cases, paid_ahead, paid_there, paid_moved, paid_waves, paid_waiters, paid_most}
+use Rattle.moves.proofs.LinkLemmas.{none_linked, none_there, linked_less, most_linked, linked_woken, changed, taken, linked_at, linked_nodes, linked_behind, sum_all}
+use Rattle.moves.proofs.TouchLemmas.{sum_at_most_one, cost_cases, paid_ahead, paid_there, paid_moved, paid_waves, paid_waiters, paid_most}
 use Rattle.moves.proofs.WaveLemmas.{fewer_excepted}
 use Rattle.moves.proofs.WaitLemmas.{partner_stuck, wave_stuck, resting_stuck, open_parts, open_from}
 use Rattle.moves.proofs.WakeLemmas.{most_work, Wakens, load, list_cost, all_woken, all_wakens, waiter_emptied, wave_emptied, three_cost, none_woken}
-use Rattle.moves.proofs.ReachLemmas.{OnlyReaches, IsWoken, awaited_place, partner_waits_on, wave_waits_on, waves_on, rests_on, moved_other, moved_own, moved_on, appended_other, arrived_there, arrived_ahead}
+use Rattle.moves.proofs.ReachLemmas.{OnlyReaches, IsWoken, awaited_place, partner_waits_on, wave_waits_on, waves_on, rests_on, moved_other, moved_own, moved_on, arrived_there, arrived_ahead}
 
 -- a list in which one rank alone may wait has no more than that rank
-own_short : (ranks : ℕ) (ls : List Entries) (W : ℕ → ℕ → Type 0) (R : ℕ → Type 0) (rank list : ℕ) → IsLinked ranks ls W R → 0 < list → ((other : ℕ) → W other list → other ≡ rank) → length (list_at ls list) ≤ 1
+own_short : (ranks : ℕ) (ls : List (List ℕ)) (W : ℕ → ℕ → Type 0) (R : ℕ → Type 0) (rank list : ℕ) → AreListed ranks ls W R → 0 < list → ((other : ℕ) → W other list → other ≡ rank) → length (list_at ls list) ≤ 1
 own_short ranks ls W R rank list h later only =
     let most = sum_at_most_one ranks rank (λ other. count other (list_at ls list))
     (λ other is_rank differs. none other differs (count other (list_at ls list)) refl)
@@ -48,7 +50,7 @@ own_short ranks ls W R rank list h later only =
     none other differs (suc n) e = absurd (differs (only other (h.waits other list later (omega (arith, e)))))
 
 -- a wave that was open is so while no further one of its communicator is complete
-still_open : (groups : Groups) (recording : Lists) (s : State) (waves new : Waves) (rank comm : ℕ) → complete_of new comm ≡ complete_of waves comm → NeedsWave groups recording s waves rank comm → NeedsWave groups recording s new rank comm
+still_open : (groups : Groups) (recording : Lists) (s : State) (waves new : Progress) (rank comm : ℕ) → complete_of new comm ≡ complete_of waves comm → NeedsWave groups recording s waves rank comm → NeedsWave groups recording s new rank comm
 still_open groups recording s waves new rank comm same h =
     let is_in = open_parts groups recording waves rank h.start comm h.is_joined in
     record {
@@ -58,12 +60,12 @@ still_open groups recording s waves new rank comm same h =
     }
 
 -- what waiting means while those are still to be woken that wait for a call
-abbrev WaitsOrWoken : Reading → Groups → Lists → State → Waves → List ℕ → ℕ → ℕ → ℕ → ℕ → Type 0
+abbrev WaitsOrWoken : Reading → Groups → Lists → State → Progress → List ℕ → ℕ → ℕ → ℕ → ℕ → Type 0
 WaitsOrWoken reading groups recording s waves awaited rank place other list =
     WaitsIn reading groups recording s waves awaited other list
     ⊎ ((list ≡ own_list other) × (other < length recording) × (WaitsFor groups recording rank place other (get_or awaited other 0)))
 
-waits_own : (reading : Reading) (groups : Groups) (recording : Lists) (s : State) (waves : Waves) (awaited : List ℕ) (rank place other owner : ℕ) → owner < length recording → WaitsOrWoken reading groups recording s waves awaited rank place other (own_list owner) → other ≡ owner
+waits_own : (reading : Reading) (groups : Groups) (recording : Lists) (s : State) (waves : Progress) (awaited : List ℕ) (rank place other owner : ℕ) → owner < length recording → WaitsOrWoken reading groups recording s waves awaited rank place other (own_list owner) → other ≡ owner
 waits_own reading groups recording s waves awaited rank place other owner is_rank waits =
     ⊎_elim
     (λ (old : WaitsIn reading groups recording s waves awaited other (own_list owner)).
@@ -74,7 +76,7 @@ waits_own reading groups recording s waves awaited rank place other owner is_ran
     (λ (new : (own_list owner ≡ own_list other) × (other < length recording) × (WaitsFor groups recording rank place other (get_or awaited other 0))). omega (arith, new.0))
     waits
 
-waits_comm : (reading : Reading) (groups : Groups) (recording : Lists) (s : State) (waves : Waves) (awaited : List ℕ) (rank place other comm : ℕ) → WaitsOrWoken reading groups recording s waves awaited rank place other (comm_list (length recording) comm) → NeedsWave groups recording s waves other comm
+waits_comm : (reading : Reading) (groups : Groups) (recording : Lists) (s : State) (waves : Progress) (awaited : List ℕ) (rank place other comm : ℕ) → WaitsOrWoken reading groups recording s waves awaited rank place other (comm_list (length recording) comm) → NeedsWave groups recording s waves other comm
 waits_comm reading groups recording s waves awaited rank place other comm waits =
     ⊎_elim
     (λ (old : WaitsIn reading groups recording s waves awaited other (comm_list (length recording) comm)).
@@ -89,7 +91,7 @@ waits_comm reading groups recording s waves awaited rank place other comm waits 
 
 -- what the reaching of a place costs beside the wakes of a wave: four for each half, four for a probe, and one for a
 -- change of how far its wave is
-both_cost : (reading : Reading) (groups : Groups) (recording : Lists) (s : State) (waves new : Waves) (rank place : ℕ) (w : Waiting) → IsReaching reading groups recording s waves w rank place → new.changes ≤ waves.changes + 1 → (wave_of recording rank place ≡ None → new.changes ≡ waves.changes) → load (all_woken groups recording rank place w None) + new.changes + 3 ≤ load w + waves.changes + cost_of (slice_get (calls_of recording rank) place)
+both_cost : (reading : Reading) (groups : Groups) (recording : Lists) (s : State) (waves new : Progress) (rank place : ℕ) (w : WaitLists) → IsReaching reading groups recording s waves w rank place → new.changes ≤ waves.changes + 1 → (wave_of recording rank place ≡ None → new.changes ≡ waves.changes) → load (all_woken groups recording rank place w None) + new.changes + 3 ≤ load w + waves.changes + cost_of (slice_get (calls_of recording rank) place)
 both_cost reading groups recording s waves new rank place w h changes no_change =
     let three = three_cost groups recording rank place w (omega (arith, h.has_lists.lists, h.has_lists.awaited))
     (λ x wakens owner is_rank.
@@ -104,7 +106,7 @@ both_cost reading groups recording s waves new rank place w h changes no_change 
     (cost_cases (calls_of recording rank) place)
 
 -- how far each communicator's waves are never falls
-grows : (waves new : Waves) (done : Option ℕ) → ((comm : ℕ) → done ≢ Some comm → complete_of new comm ≡ complete_of waves comm) → ((comm : ℕ) → done ≡ Some comm → complete_of new comm ≡ complete_of waves comm + 1) → (comm : ℕ) → complete_of waves comm ≤ complete_of new comm
+grows : (waves new : Progress) (done : Option ℕ) → ((comm : ℕ) → done ≢ Some comm → complete_of new comm ≡ complete_of waves comm) → ((comm : ℕ) → done ≡ Some comm → complete_of new comm ≡ complete_of waves comm + 1) → (comm : ℕ) → complete_of waves comm ≤ complete_of new comm
 grows waves new None others one comm = omega (arith, others comm (λ e. none-some comm e))
 grows waves new (Some c) others one comm =
     ⊎_elim
@@ -113,15 +115,15 @@ grows waves new (Some c) others one comm =
     (cases_eq c comm)
 
 -- the wakes of a wave are paid by the calls of it
-all_cost : (reading : Reading) (groups : Groups) (recording : Lists) (s : State) (waves new : Waves) (rank place : ℕ) (w : Waiting) (done : Option ℕ) → IsReaching reading groups recording s waves w rank place → ((comm : ℕ) → done ≢ Some comm → complete_of new comm ≡ complete_of waves comm) → ((comm : ℕ) → done ≡ Some comm → complete_of new comm ≡ complete_of waves comm + 1) → ((comm : ℕ) → done ≡ Some comm → comm < length groups) → load (all_woken groups recording rank place w done) + paid recording s waves ≤ load (all_woken groups recording rank place w None) + paid recording s new
+all_cost : (reading : Reading) (groups : Groups) (recording : Lists) (s : State) (waves new : Progress) (rank place : ℕ) (w : WaitLists) (done : Option ℕ) → IsReaching reading groups recording s waves w rank place → ((comm : ℕ) → done ≢ Some comm → complete_of new comm ≡ complete_of waves comm) → ((comm : ℕ) → done ≡ Some comm → complete_of new comm ≡ complete_of waves comm + 1) → ((comm : ℕ) → done ≡ Some comm → comm < length groups) → load (all_woken groups recording rank place w done) + paid recording s waves ≤ load (all_woken groups recording rank place w None) + paid recording s new
 all_cost reading groups recording s waves new rank place w None h others one known = omega (arith, paid_waves recording s waves new (grows waves new None others one))
 all_cost reading groups recording s waves new rank place w (Some comm) h others one known =
-    let both : Waiting = all_woken groups recording rank place w None in
+    let both : WaitLists = all_woken groups recording rank place w None in
     let wakens : Wakens w both = all_wakens groups recording rank place w None h.has_lists (λ c e. absurd (none-some c e)) in
     let ranks : length both.awaited ≡ length recording = ap (length {A = ℕ}) wakens.same_awaited ∙ h.has_lists.awaited in
     let within : comm_list (length both.awaited) comm < length both.lists = omega (arith, known comm refl, h.has_lists.lists, ranks, wakens.wakes.lists) in
     let now = linked_woken (length recording) w.lists both.lists _ _ h.linked wakens.wakes in
-    let entries : Entries = list_at both.lists (comm_list (length recording) comm) in
+    let entries : List ℕ = list_at both.lists (comm_list (length recording) comm) in
     let same : length (list_at both.lists (comm_list (length both.awaited) comm)) ≡ length entries = ap (λ (n : ℕ). length (list_at both.lists (comm_list n comm))) ranks in
     omega (
       arith,
@@ -134,15 +136,15 @@ all_cost reading groups recording s waves new rank place w (Some comm) h others 
     )
 
 -- the lists stay as many once the partners are woken
-pub partners_room : (groups : Groups) (recording : Lists) (rank place : ℕ) (w : Waiting) → HasLists groups recording w → (length (all_woken groups recording rank place w None).lists ≡ length w.lists) × (length (all_woken groups recording rank place w None).awaited ≡ length w.awaited)
+pub partners_room : (groups : Groups) (recording : Lists) (rank place : ℕ) (w : WaitLists) → HasLists groups recording w → (length (all_woken groups recording rank place w None).lists ≡ length w.lists) × (length (all_woken groups recording rank place w None).awaited ≡ length w.awaited)
 partners_room groups recording rank place w h =
     let wakens = all_wakens groups recording rank place w None h (λ comm e. absurd (none-some comm e)) in
     (wakens.wakes.lists, ap (length {A = ℕ}) wakens.same_awaited)
 
 -- the rank that has reached its call is in hand, once all that waited for it are to be looked at
-pub reach_hand : (reading : Reading) (groups : Groups) (recording : Lists) (s : State) (waves new : Waves) (w : Waiting) (rank place : ℕ) (done : Option ℕ) → IsReaching reading groups recording s waves w rank place → AreWaves groups recording s new IsNoException → ((comm : ℕ) → done ≢ Some comm → complete_of new comm ≡ complete_of waves comm) → ((comm : ℕ) → done ≡ Some comm → complete_of new comm ≡ complete_of waves comm + 1) → ((comm : ℕ) → done ≡ Some comm → comm < length groups) → new.changes ≤ waves.changes + 1 → (wave_of recording rank place ≡ None → new.changes ≡ waves.changes) → IsInHand reading groups recording s new (all_woken groups recording rank place w done) rank
+pub reach_hand : (reading : Reading) (groups : Groups) (recording : Lists) (s : State) (waves new : Progress) (w : WaitLists) (rank place : ℕ) (done : Option ℕ) → IsReaching reading groups recording s waves w rank place → AreWaves groups recording s new IsNoException → ((comm : ℕ) → done ≢ Some comm → complete_of new comm ≡ complete_of waves comm) → ((comm : ℕ) → done ≡ Some comm → complete_of new comm ≡ complete_of waves comm + 1) → ((comm : ℕ) → done ≡ Some comm → comm < length groups) → new.changes ≤ waves.changes + 1 → (wave_of recording rank place ≡ None → new.changes ≡ waves.changes) → IsInHand reading groups recording s new (all_woken groups recording rank place w done) rank
 reach_hand reading groups recording s waves new w rank place done h are others one known changes no_change =
-    let all : Waiting = all_woken groups recording rank place w done in
+    let all : WaitLists = all_woken groups recording rank place w done in
     let wakens : Wakens w all = all_wakens groups recording rank place w done h.has_lists known in
     let awaited : all.awaited ≡ w.awaited = wakens.same_awaited in
     let now = linked_woken (length recording) w.lists all.lists _ _ h.linked wakens.wakes in
@@ -190,22 +192,22 @@ reach_hand reading groups recording s waves new w rank place done h are others o
         (cases_eq c comm)
 
 -- touches are never fewer
-pub fewer_never : (waves new : Waves) (w last : Waiting) → waves.changes ≤ new.changes → min w.work most_work ≤ min last.work most_work → touches_of waves w ≤ touches_of new last
+pub fewer_never : (waves new : Progress) (w last : WaitLists) → waves.changes ≤ new.changes → min w.work most_work ≤ min last.work most_work → touches_of waves w ≤ touches_of new last
 fewer_never waves new w last changes work = omega (arith, changes, work)
 
-pub reach_counts : (reading : Reading) (groups : Groups) (recording : Lists) (s : State) (waves new : Waves) (w : Waiting) (rank place : ℕ) (done : Option ℕ) → IsReaching reading groups recording s waves w rank place → ((comm : ℕ) → done ≡ Some comm → comm < length groups) → waves.changes ≤ new.changes → touches_of waves w ≤ touches_of new (all_woken groups recording rank place w done)
+pub reach_counts : (reading : Reading) (groups : Groups) (recording : Lists) (s : State) (waves new : Progress) (w : WaitLists) (rank place : ℕ) (done : Option ℕ) → IsReaching reading groups recording s waves w rank place → ((comm : ℕ) → done ≡ Some comm → comm < length groups) → waves.changes ≤ new.changes → touches_of waves w ≤ touches_of new (all_woken groups recording rank place w done)
 reach_counts reading groups recording s waves new w rank place done h known changes =
-    let all : Waiting = all_woken groups recording rank place w done in
+    let all : WaitLists = all_woken groups recording rank place w done in
     let wakens : Wakens w all = all_wakens groups recording rank place w done h.has_lists known in
     fewer_never waves new w all changes wakens.no_less
 
 -- there is a spare node for the rank in hand
-pub hand_room : (reading : Reading) (groups : Groups) (recording : Lists) (s : State) (waves : Waves) (w : Waiting) (rank : ℕ) → IsInHand reading groups recording s waves w rank → 0 < w.spare
+pub hand_room : (reading : Reading) (groups : Groups) (recording : Lists) (s : State) (waves : Progress) (w : WaitLists) (rank : ℕ) → IsInHand reading groups recording s waves w rank → 0 < w.spare
 hand_room reading groups recording s waves w rank h =
-    omega (arith, held_less (length recording) rank w.lists _ _ h.kept.linked h.is_rank h.in_none, h.kept.has_lists.nodes)
+    omega (arith, linked_less (length recording) rank w.lists _ _ h.kept.linked h.is_rank h.in_none, h.kept.has_lists.nodes)
 
 -- the rank in hand rests
-pub hand_rests : (reading : Reading) (groups : Groups) (recording : Lists) (s : State) (waves : Waves) (w : Waiting) (rank : ℕ) → IsInHand reading groups recording s waves w rank → Rests recording s rank → IsKept reading groups recording s waves w IsNobody 0
+pub hand_rests : (reading : Reading) (groups : Groups) (recording : Lists) (s : State) (waves : Progress) (w : WaitLists) (rank : ℕ) → IsInHand reading groups recording s waves w rank → Rests recording s rank → IsKept reading groups recording s waves w IsNobody 0
 hand_rests reading groups recording s waves w rank h rests = record {
   has_lists = h.kept.has_lists;
   linked =
@@ -222,20 +224,20 @@ hand_rests reading groups recording s waves w rank h rests = record {
 }
 
 -- The rank in hand is linked where it waits.
-pub record Links (reading : Reading) (groups : Groups) (recording : Lists) (s : State) (waves : Waves) (w last : Waiting) (rank list node : ℕ) : Type 0 where
+pub record Links (reading : Reading) (groups : Groups) (recording : Lists) (s : State) (waves : Progress) (w last : WaitLists) (rank list : ℕ) : Type 0 where
   pub later : 0 < list
   pub within : list < length w.lists
   pub room : 0 < w.spare
-  pub lists : last.lists ≡ set w.lists list (list_at w.lists list ++ (node, rank) ∷ [])
+  pub lists : last.lists ≡ set w.lists list (list_at w.lists list ++ rank ∷ [])
   pub spare : last.spare ≡ w.spare - 1
   pub work : last.work ≡ min (w.work + 1) most_work
   pub long : length last.awaited ≡ length w.awaited
   pub awaited : (other : ℕ) → other ≢ rank → get_or last.awaited other 0 ≡ get_or w.awaited other 0
   pub waits : WaitsIn reading groups recording s waves last.awaited rank list
 
-pub hand_links : (reading : Reading) (groups : Groups) (recording : Lists) (s : State) (waves : Waves) (w last : Waiting) (rank list node : ℕ) → IsInHand reading groups recording s waves w rank → Links reading groups recording s waves w last rank list node → IsKept reading groups recording s waves last IsNobody 0
-hand_links reading groups recording s waves w last rank list node h links =
-    let nodes = linked_nodes w.lists last.lists list node rank links.within links.lists in
+pub hand_links : (reading : Reading) (groups : Groups) (recording : Lists) (s : State) (waves : Progress) (w last : WaitLists) (rank list : ℕ) → IsInHand reading groups recording s waves w rank → Links reading groups recording s waves w last rank list → IsKept reading groups recording s waves last IsNobody 0
+hand_links reading groups recording s waves w last rank list h links =
+    let nodes = linked_nodes w.lists last.lists list rank links.within links.lists in
     let right = changed (length recording) w.lists _ (WaitsIn reading groups recording s waves last.awaited) _ (λ other. (Rests recording s other ⊎ IsNobody other) ⊎ (other ≡ rank)) h.kept.linked
     (λ other list' is_rank later on waits.
     ⊎_elim
@@ -261,27 +263,27 @@ hand_links reading groups recording s waves w last rank list node h links =
         counts = omega (arith, nodes.1, links.work, h.kept.has_lists.counts);
       };
       linked =
-          linked_at (length recording) w.lists last.lists list node rank (WaitsIn reading groups recording s waves last.awaited) (λ other. Rests recording s other ⊎ IsNobody other) right h.is_rank h.in_none links.within (λ later. links.waits) links.lists;
+          linked_at (length recording) w.lists last.lists list rank (WaitsIn reading groups recording s waves last.awaited) (λ other. Rests recording s other ⊎ IsNobody other) right h.is_rank h.in_none links.within (λ later. links.waits) links.lists;
       are_waves = h.kept.are_waves;
       is_reached = h.kept.is_reached;
       is_paid =
-          omega (arith, h.kept.is_paid, links.work, min-le_left (w.work + 1) most_work, ap (length {A = ℕ × ℕ}) (linked_behind w.lists last.lists list node rank links.later links.lists));
+          omega (arith, h.kept.is_paid, links.work, min-le_left (w.work + 1) most_work, ap (length {A = ℕ}) (linked_behind w.lists last.lists list rank links.later links.lists));
     }
 
-pub links_counts : (reading : Reading) (groups : Groups) (recording : Lists) (s : State) (waves : Waves) (w last : Waiting) (rank list node : ℕ) → Links reading groups recording s waves w last rank list node → touches_of waves w ≤ touches_of waves last
-links_counts reading groups recording s waves w last rank list node links = omega (arith, links.work)
+pub links_counts : (reading : Reading) (groups : Groups) (recording : Lists) (s : State) (waves : Progress) (w last : WaitLists) (rank list : ℕ) → Links reading groups recording s waves w last rank list → touches_of waves w ≤ touches_of waves last
+links_counts reading groups recording s waves w last rank list links = omega (arith, links.work)
 
-pub links_partner : (reading : Reading) (groups : Groups) (recording : Lists) (s : State) (waves : Waves) (w last : Waiting) (rank place node : ℕ) → IsInHand reading groups recording s waves w rank → NeedsPartner reading groups recording s rank place → 0 < w.spare → last ≡ with_rank (with_awaited w rank place) (own_list rank) node rank → Links reading groups recording s waves w last rank (own_list rank) node
-links_partner reading groups recording s waves w last rank place node h needs room is =
-    let awaited : last.awaited ≡ set w.awaited rank place = ap (λ (x : Waiting). x.awaited) is in
+pub links_partner : (reading : Reading) (groups : Groups) (recording : Lists) (s : State) (waves : Progress) (w last : WaitLists) (rank place : ℕ) → IsInHand reading groups recording s waves w rank → NeedsPartner reading groups recording s rank place → 0 < w.spare → last ≡ with_rank (with_awaited w rank place) (own_list rank) rank → Links reading groups recording s waves w last rank (own_list rank)
+links_partner reading groups recording s waves w last rank place h needs room is =
+    let awaited : last.awaited ≡ set w.awaited rank place = ap (λ (x : WaitLists). x.awaited) is in
     let here : get_or last.awaited rank 0 ≡ place = ap (λ (xs : List ℕ). get_or xs rank 0) awaited ∙ get_or-set_same w.awaited rank place 0 (omega (arith, h.is_rank, h.kept.has_lists.awaited)) in
     record {
       later = omega arith;
       within = omega (arith, h.is_rank, h.kept.has_lists.lists);
       room = room;
-      lists = ap (λ (x : Waiting). x.lists) is;
-      spare = ap (λ (x : Waiting). x.spare) is;
-      work = ap (λ (x : Waiting). x.work) is;
+      lists = ap (λ (x : WaitLists). x.lists) is;
+      spare = ap (λ (x : WaitLists). x.spare) is;
+      work = ap (λ (x : WaitLists). x.work) is;
       long = ap (length {A = ℕ}) awaited ∙ length-set w.awaited rank place;
       awaited = λ other differs. ap (λ (xs : List ℕ). get_or xs other 0) awaited ∙ get_or-set_other w.awaited rank other place 0 differs;
       waits = inl (refl, h.is_rank, rw here needs);
@@ -292,29 +294,69 @@ comm_known [] comm h = absurd (omega (arith, h))
 comm_known (group ∷ groups) zero h = omega arith
 comm_known (group ∷ groups) (suc comm) h = omega (arith, comm_known groups comm h)
 
-pub wave_known : (groups : Groups) (recording : Lists) (s : State) (waves : Waves) (rank comm : ℕ) → NeedsWave groups recording s waves rank comm → comm < length groups
+pub wave_known : (groups : Groups) (recording : Lists) (s : State) (waves : Progress) (rank comm : ℕ) → NeedsWave groups recording s waves rank comm → comm < length groups
 wave_known groups recording s waves rank comm h = comm_known groups comm (open_parts groups recording waves rank h.start comm h.is_joined).some_member
 
-pub links_wave : (reading : Reading) (groups : Groups) (recording : Lists) (s : State) (waves : Waves) (w last : Waiting) (rank comm node : ℕ) → IsInHand reading groups recording s waves w rank → NeedsWave groups recording s waves rank comm → 0 < w.spare → last ≡ with_rank w (comm_list (length w.awaited) comm) node rank → Links reading groups recording s waves w last rank (comm_list (length w.awaited) comm) node
-links_wave reading groups recording s waves w last rank comm node h needs room is = record {
+pub links_wave : (reading : Reading) (groups : Groups) (recording : Lists) (s : State) (waves : Progress) (w last : WaitLists) (rank comm : ℕ) → IsInHand reading groups recording s waves w rank → NeedsWave groups recording s waves rank comm → 0 < w.spare → last ≡ with_rank w (comm_list (length w.awaited) comm) rank → Links reading groups recording s waves w last rank (comm_list (length w.awaited) comm)
+links_wave reading groups recording s waves w last rank comm h needs room is = record {
   later = omega arith;
   within = omega (arith, wave_known groups recording s waves rank comm needs, h.kept.has_lists.lists, h.kept.has_lists.awaited);
   room = room;
-  lists = ap (λ (x : Waiting). x.lists) is;
-  spare = ap (λ (x : Waiting). x.spare) is;
-  work = ap (λ (x : Waiting). x.work) is;
-  long = ap (λ (x : Waiting). length x.awaited) is;
-  awaited = λ other differs. ap (λ (x : Waiting). get_or x.awaited other 0) is;
+  lists = ap (λ (x : WaitLists). x.lists) is;
+  spare = ap (λ (x : WaitLists). x.spare) is;
+  work = ap (λ (x : WaitLists). x.work) is;
+  long = ap (λ (x : WaitLists). length x.awaited) is;
+  awaited = λ other differs. ap (λ (x : WaitLists). get_or x.awaited other 0) is;
   waits = inr (comm, ap (λ (n : ℕ). comm_list n comm) h.kept.has_lists.awaited, needs);
 }
 
+-- what goes on where calls come to be reached: who waited waits on, or for one of these
+waits_on : (reading : Reading) (groups : Groups) (recording longer : Lists) (s t : State) (waves : Progress) (awaited : List ℕ) (N : ℕ → ℕ → Type 0) (other list : ℕ) → OnlyReaches recording longer s t N → get_or t other 0 ≡ get_or s other 0 → WaitsIn reading groups recording s waves awaited other list → WaitsIn reading groups longer t waves awaited other list ⊎ ((list ≡ own_list other) × (other < length longer) × IsWoken groups longer N other (get_or awaited other 0))
+waits_on reading groups recording longer s t waves awaited N other list only same waits =
+    let same_ranks : length recording ≡ length longer = only.goes_on.same_ranks in
+    ⊎_elim
+    (λ (own : (list ≡ own_list other) × (other < length recording) × NeedsPartner reading groups recording s other (get_or awaited other 0)).
+    let is_rank : other < length longer = omega (arith, own.1, same_ranks) in
+    ⊎_elim
+    (λ (still : NeedsPartner reading groups longer t other (get_or awaited other 0)). inl (inl (own.0, is_rank, still)))
+    (λ (new : IsWoken groups longer N other (get_or awaited other 0)). inr (own.0, is_rank, new))
+    (partner_waits_on reading groups recording longer s t N other (get_or awaited other 0) only same own.2))
+    (λ (wave : (comm : ℕ) × (list ≡ comm_list (length recording) comm) × NeedsWave groups recording s waves other comm).
+    inl (inr (wave.0, wave.1 ∙ ap (λ (n : ℕ). comm_list n wave.0) same_ranks, wave_waits_on groups recording longer s t waves other wave.0 only.goes_on same wave.2)))
+    waits
+
+-- and where it is one call, each wave is as it was but for that call
+waits_on_or_woken : (reading : Reading) (groups : Groups) (recording longer : Lists) (s t : State) (waves : Progress) (awaited : List ℕ) (rank place other list : ℕ) → OnlyReaches recording longer s t (λ someone there. (someone ≡ rank) × (there ≡ place)) → get_or t other 0 ≡ get_or s other 0 → WaitsIn reading groups recording s waves awaited other list → WaitsOrWoken reading groups longer t waves awaited rank place other list
+waits_on_or_woken reading groups recording longer s t waves awaited rank place other list only same waits =
+    ⊎_elim
+    (λ (still : WaitsIn reading groups longer t waves awaited other list). inl still)
+    (λ (new : (list ≡ own_list other) × (other < length longer) × IsWoken groups longer (λ someone there. (someone ≡ rank) × (there ≡ place)) other (get_or awaited other 0)).
+    inr (new.0, new.1, subst (λ (p : ℕ). WaitsFor groups longer rank p other (get_or awaited other 0)) new.2.is_new.1 (subst (λ (k : ℕ). WaitsFor groups longer k new.2.place other (get_or awaited other 0)) new.2.is_new.0 new.2.waits)))
+    (waits_on reading groups recording longer s t waves awaited _ other list only same waits)
+
+waves_but_one : (groups : Groups) (recording longer : Lists) (s t : State) (waves : Progress) (rank place : ℕ) → OnlyReaches recording longer s t (λ someone there. (someone ≡ rank) × (there ≡ place)) → AreWaves groups recording s waves IsNoException → AreWaves groups longer t waves (λ comm member. (member ≡ rank) × (wave_of longer rank place ≡ Some (comm, complete_of waves comm)))
+waves_but_one groups recording longer s t waves rank place only h =
+    fewer_excepted groups longer t waves _ _ (waves_on groups recording longer s t waves _ only h)
+    (λ comm member is_member e.
+    (e.1.0, subst (λ (p : ℕ). wave_of longer rank p ≡ Some (comm, complete_of waves comm)) e.1.1 (subst (λ (k : ℕ). wave_of longer k e.0 ≡ Some (comm, complete_of waves comm)) e.1.0 e.2)))
+
+lists_on : (groups : Groups) (recording longer : Lists) (w : WaitLists) → HasLists groups recording w → length recording ≡ length longer → HasLists groups longer w
+lists_on groups recording longer w h same_ranks = record {
+  lists = h.lists ∙ ap (λ (n : ℕ). 1 + n + length groups) same_ranks;
+  nodes = h.nodes ∙ same_ranks;
+  awaited = h.awaited ∙ same_ranks;
+  counts = h.counts;
+}
+
 -- the rank in hand moves on
-pub hand_moves : (reading : Reading) (groups : Groups) (recording : Lists) (s t : State) (waves : Waves) (w : Waiting) (rank place : ℕ) → IsInHand reading groups recording s waves w rank → can_move reading groups recording s rank ≡ true → get_or s rank 0 < most_calls → t ≡ moved s rank → place ≡ get_or t rank 0 → IsReaching reading groups recording t waves w rank place
+pub hand_moves : (reading : Reading) (groups : Groups) (recording : Lists) (s t : State) (waves : Progress) (w : WaitLists) (rank place : ℕ) → IsInHand reading groups recording s waves w rank → can_move reading groups recording s rank ≡ true → get_or s rank 0 < most_calls → t ≡ moved s rank → place ≡ get_or t rank 0 → IsReaching reading groups recording t waves w rank place
 hand_moves reading groups recording s t waves w rank place h able few is there =
     let in_s : rank < length s = omega (arith, reached_ranks (can_move reading groups recording) (length recording) s h.kept.is_reached, h.is_rank) in
     let next : get_or t rank 0 ≡ get_or s rank 0 + 1 = ap (λ (x : State). get_or x rank 0) is ∙ moved_own s rank in_s in
-    let only : OnlyReaches recording recording s t (λ other at_place. (other ≡ rank) × (at_place ≡ get_or s rank 0 + 1)) =
-    subst (λ (x : State). OnlyReaches recording recording s x (λ other at_place. (other ≡ rank) × (at_place ≡ get_or s rank 0 + 1))) (sym is) (moved_on recording s rank in_s (moved_later s rank in_s)) in
+    let at_place : get_or s rank 0 + 1 ≡ place = sym next ∙ sym there in
+    let only : OnlyReaches recording recording s t (λ other there. (other ≡ rank) × (there ≡ place)) =
+    subst (λ (p : ℕ). OnlyReaches recording recording s t (λ other there. (other ≡ rank) × (there ≡ p))) at_place
+    (subst (λ (x : State). OnlyReaches recording recording s x (λ other there. (other ≡ rank) × (there ≡ get_or s rank 0 + 1))) (sym is) (moved_on recording s rank in_s (moved_later s rank in_s))) in
     let same : (other : ℕ) → other ≢ rank → get_or t other 0 ≡ get_or s other 0 = λ other differs. ap (λ (x : State). get_or x other 0) is ∙ moved_other s rank other differs in
     record {
       has_lists = h.kept.has_lists;
@@ -323,17 +365,7 @@ hand_moves reading groups recording s t waves w rank place h able few is there =
           (λ other list is_rank later on waits.
           let differs : other ≢ rank = λ e.
           omega (arith, subst (λ (k : ℕ). 0 < count k (list_at w.lists list)) e on, count_in_all rank w.lists list, h.in_none) in
-          ⊎_elim
-          (λ (own : (list ≡ own_list other) × (other < length recording) × NeedsPartner reading groups recording s other (get_or w.awaited other 0)).
-          ⊎_elim
-          (λ (still : NeedsPartner reading groups recording t other (get_or w.awaited other 0)). inl (inl (own.0, own.1, still)))
-          (λ (new : IsWoken groups recording (λ someone at_place. (someone ≡ rank) × (at_place ≡ get_or s rank 0 + 1)) other (get_or w.awaited other 0)).
-          let at_place : new.place ≡ place = new.is_new.1 ∙ sym next ∙ sym there in
-          inr (own.0, own.1, subst (λ (p : ℕ). WaitsFor groups recording rank p other (get_or w.awaited other 0)) at_place (subst (λ (k : ℕ). WaitsFor groups recording k new.place other (get_or w.awaited other 0)) new.is_new.0 new.waits)))
-          (partner_waits_on reading groups recording recording s t _ other (get_or w.awaited other 0) only (same other differs) own.2))
-          (λ (wave : (comm : ℕ) × (list ≡ comm_list (length recording) comm) × NeedsWave groups recording s waves other comm).
-          inl (inr (wave.0, wave.1, wave_waits_on groups recording recording s t waves other wave.0 only.goes_on (same other differs) wave.2)))
-          waits)
+          waits_on_or_woken reading groups recording recording s t waves w.awaited rank place other list only (same other differs) waits)
           (λ other is_rank none rests.
           ⊎_elim
           (λ (own : other ≡ rank). inr own)
@@ -343,18 +375,13 @@ hand_moves reading groups recording s t waves w rank place h able few is there =
           (λ (own : other ≡ rank). absurd (differs own))
           rests)
           (cases_eq other rank));
-      are_waves =
-          fewer_excepted groups recording t waves _ _ (waves_on groups recording recording s t waves _ only h.kept.are_waves)
-          (λ comm member is_member e.
-          let at_place : e.0 ≡ place = e.1.1 ∙ sym next ∙ sym there in
-          (e.1.0, subst (λ (p : ℕ). wave_of recording rank p ≡ Some (comm, complete_of waves comm)) at_place (subst (λ (k : ℕ). wave_of recording k e.0 ≡ Some (comm, complete_of waves comm)) e.1.0 e.2)));
+      are_waves = waves_but_one groups recording recording s t waves rank place only h.kept.are_waves;
       is_reached = reached_step (can_move reading groups recording) (length recording) s t h.kept.is_reached (record { rank = rank; is_rank = in_s; can_move = able; moves_on = is });
       is_rank = h.is_rank;
       in_none = h.in_none;
       is_there = there;
       few = omega (arith, there, next, few);
       is_paid =
-          let at_place : get_or s rank 0 + 1 ≡ place = sym next ∙ sym there in
           let more = paid_moved recording s waves rank h.is_rank in_s in
           let after : paid recording (moved s rank) waves ≡ paid recording t waves = ap (λ (x : State). paid recording x waves) (sym is) in
           let cost : cost_of (slice_get (calls_of recording rank) (get_or s rank 0 + 1)) ≡ cost_of (slice_get (calls_of recording rank) place) = ap (λ (p : ℕ). cost_of (slice_get (calls_of recording rank) p)) at_place in
@@ -366,7 +393,7 @@ cost_most None = omega arith
 cost_most (Some call) = omega arith
 
 -- the call arrives at which its rank stands
-stands_at_end : (reading : Reading) (groups : Groups) (recording : Lists) (s : State) (waves : Waves) (awaited : List ℕ) (rank list : ℕ) → get_or s rank 0 ≡ length (calls_of recording rank) → WaitsIn reading groups recording s waves awaited rank list → ⊥
+stands_at_end : (reading : Reading) (groups : Groups) (recording : Lists) (s : State) (waves : Progress) (awaited : List ℕ) (rank list : ℕ) → get_or s rank 0 ≡ length (calls_of recording rank) → WaitsIn reading groups recording s waves awaited rank list → ⊥
 stands_at_end reading groups recording s waves awaited rank list at_end waits =
     ⊎_elim
     (λ (own : (list ≡ own_list rank) × (rank < length recording) × NeedsPartner reading groups recording s rank (get_or awaited rank 0)).
@@ -375,7 +402,7 @@ stands_at_end reading groups recording s waves awaited rank list at_end waits =
     omega (arith, awaited_place recording rank (get_or s rank 0) wave.2.start wave.2.is_awaited, at_end))
     waits
 
-pub at_end_in_none : (reading : Reading) (groups : Groups) (recording : Lists) (s : State) (waves : Waves) (w : Waiting) (rank : ℕ) → IsSettled reading groups recording s waves w → get_or s rank 0 ≡ length (calls_of recording rank) → in_all rank w.lists ≡ 0
+pub at_end_in_none : (reading : Reading) (groups : Groups) (recording : Lists) (s : State) (waves : Progress) (w : WaitLists) (rank : ℕ) → IsSettled reading groups recording s waves w → get_or s rank 0 ≡ length (calls_of recording rank) → in_all rank w.lists ≡ 0
 at_end_in_none reading groups recording s waves w rank h at_end = none (in_all rank w.lists) refl
   where
     none : (n : ℕ) → in_all rank w.lists ≡ n → in_all rank w.lists ≡ 0
@@ -383,52 +410,33 @@ at_end_in_none reading groups recording s waves w rank h at_end = none (in_all r
     none (suc n) e =
         let found = found_in rank w.lists (omega (arith, e)) in
         ⊎_elim
-        (λ (first : found.0 ≡ 0). absurd (omega (arith, found.1, ap (λ (l : ℕ). count rank (list_at w.lists l)) first, ap (count rank) h.is_empty)))
-        (λ (later : found.0 ≢ 0). absurd (stands_at_end reading groups recording s waves w.awaited rank found.0 at_end (h.kept.linked.waits rank found.0 (omega arith) found.1)))
+        (λ (first : found.0 ≡ 0). absurd (omega (arith, found.2, ap (λ (l : ℕ). count rank (list_at w.lists l)) first, ap (count rank) h.is_empty)))
+        (λ (later : found.0 ≢ 0). absurd (stands_at_end reading groups recording s waves w.awaited rank found.0 at_end (h.kept.linked.waits rank found.0 (omega arith) found.2)))
         (cases_eq found.0 0)
 
-pub arrival_reaches : (reading : Reading) (groups : Groups) (recording : Lists) (s : State) (waves : Waves) (w : Waiting) (rank place : ℕ) (call : Call) → IsSettled reading groups recording s waves w → rank < length recording → get_or s rank 0 ≡ length (calls_of recording rank) → place ≡ get_or s rank 0 → place ≤ most_calls → IsTheEnd (can_move reading groups recording) (length recording) s → IsReaching reading groups (appended recording rank call) s waves w rank place
+pub arrival_reaches : (reading : Reading) (groups : Groups) (recording : Lists) (s : State) (waves : Progress) (w : WaitLists) (rank place : ℕ) (call : Call) → IsSettled reading groups recording s waves w → rank < length recording → get_or s rank 0 ≡ length (calls_of recording rank) → place ≡ get_or s rank 0 → place ≤ most_calls → IsTheEnd (can_move reading groups recording) (length recording) s → IsReaching reading groups (appended recording rank call) s waves w rank place
 arrival_reaches reading groups recording s waves w rank place call h is_rank at_end there few end =
     let longer : Lists = appended recording rank call in
-    let only = arrived_there recording s rank call is_rank in
+    let only =
+    subst (λ (p : ℕ). OnlyReaches recording longer s s (λ other there. (other ≡ rank) × (there ≡ p))) (sym (there ∙ at_end)) (arrived_there recording s rank call is_rank) in
     let same_ranks : length recording ≡ length longer = only.goes_on.same_ranks in
     let in_none = at_end_in_none reading groups recording s waves w rank h at_end in
     record {
-      has_lists = record {
-        lists = h.kept.has_lists.lists ∙ ap (λ (n : ℕ). 1 + n + length groups) same_ranks;
-        nodes = h.kept.has_lists.nodes ∙ same_ranks;
-        awaited = h.kept.has_lists.awaited ∙ same_ranks;
-        counts = h.kept.has_lists.counts;
-      };
+      has_lists = lists_on groups recording longer w h.kept.has_lists same_ranks;
       linked =
-          subst (λ (n : ℕ). IsLinked n w.lists (WaitsOrWoken reading groups longer s waves w.awaited rank place) (λ other. Rests longer s other ⊎ (other ≡ rank))) same_ranks
+          subst (λ (n : ℕ). AreListed n w.lists (WaitsOrWoken reading groups longer s waves w.awaited rank place) (λ other. Rests longer s other ⊎ (other ≡ rank))) same_ranks
           (changed (length recording) w.lists _ (WaitsOrWoken reading groups longer s waves w.awaited rank place) _ (λ other. Rests longer s other ⊎ (other ≡ rank)) h.kept.linked
-          (λ other list is_rank' later on waits.
-          ⊎_elim
-          (λ (own : (list ≡ own_list other) × (other < length recording) × NeedsPartner reading groups recording s other (get_or w.awaited other 0)).
-          ⊎_elim
-          (λ (still : NeedsPartner reading groups longer s other (get_or w.awaited other 0)). inl (inl (own.0, omega (arith, own.1, same_ranks), still)))
-          (λ (new : IsWoken groups longer (λ someone at_place. (someone ≡ rank) × (at_place ≡ length (calls_of recording rank))) other (get_or w.awaited other 0)).
-          let at_place : new.place ≡ place = new.is_new.1 ∙ sym at_end ∙ sym there in
-          inr (own.0, omega (arith, own.1, same_ranks), subst (λ (p : ℕ). WaitsFor groups longer rank p other (get_or w.awaited other 0)) at_place (subst (λ (k : ℕ). WaitsFor groups longer k new.place other (get_or w.awaited other 0)) new.is_new.0 new.waits)))
-          (partner_waits_on reading groups recording longer s s _ other (get_or w.awaited other 0) only refl own.2))
-          (λ (wave : (comm : ℕ) × (list ≡ comm_list (length recording) comm) × NeedsWave groups recording s waves other comm).
-          inl (inr (wave.0, wave.1 ∙ ap (λ (n : ℕ). comm_list n wave.0) same_ranks, wave_waits_on groups recording longer s s waves other wave.0 only.goes_on refl wave.2)))
-          waits)
+          (λ other list is_rank' later on waits. waits_on_or_woken reading groups recording longer s s waves w.awaited rank place other list only refl waits)
           (λ other is_rank' none rests.
           ⊎_elim
           (λ (own : other ≡ rank). inr own)
           (λ (differs : other ≢ rank).
           ⊎_elim
-          (λ (rest : Rests recording s other). inl (rests_on recording longer s s other refl (ap (λ (calls : List Call). slice_get calls (get_or s other 0)) (appended_other recording rank other call differs)) rest))
+          (λ (rest : Rests recording s other). inl (rests_on recording longer s s other refl (ap (λ (calls : List Call). slice_get calls (get_or s other 0)) (calls_of-appended_other recording rank other call differs)) rest))
           (λ (nobody : IsNobody other). absurd nobody)
           rests)
           (cases_eq other rank)));
-      are_waves =
-          fewer_excepted groups longer s waves _ _ (waves_on groups recording longer s s waves _ only h.kept.are_waves)
-          (λ comm member is_member e.
-          let at_place : e.0 ≡ place = e.1.1 ∙ sym at_end ∙ sym there in
-          (e.1.0, subst (λ (p : ℕ). wave_of longer rank p ≡ Some (comm, complete_of waves comm)) at_place (subst (λ (k : ℕ). wave_of longer k e.0 ≡ Some (comm, complete_of waves comm)) e.1.0 e.2)));
+      are_waves = waves_but_one groups recording longer s s waves rank place only h.kept.are_waves;
       is_reached = still_reached reading groups recording rank call s is_rank end;
       is_rank = omega (arith, is_rank, same_ranks);
       in_none = in_none;
@@ -440,7 +448,7 @@ arrival_reaches reading groups recording s waves w rank place call h is_rank at_
     }
 
 -- a call arrives that its rank has not come to
-pub arrival_waits : (reading : Reading) (groups : Groups) (recording : Lists) (s : State) (waves : Waves) (w : Waiting) (rank : ℕ) (call : Call) → IsSettled reading groups recording s waves w → rank < length recording → get_or s rank 0 < length (calls_of recording rank) → IsTheEnd (can_move reading groups recording) (length recording) s → IsSettled reading groups (appended recording rank call) s waves w
+pub arrival_waits : (reading : Reading) (groups : Groups) (recording : Lists) (s : State) (waves : Progress) (w : WaitLists) (rank : ℕ) (call : Call) → IsSettled reading groups recording s waves w → rank < length recording → get_or s rank 0 < length (calls_of recording rank) → IsTheEnd (can_move reading groups recording) (length recording) s → IsSettled reading groups (appended recording rank call) s waves w
 arrival_waits reading groups recording s waves w rank call h is_rank behind end =
     let longer : Lists = appended recording rank call in
     let only = arrived_ahead recording s rank call is_rank behind in
@@ -448,25 +456,15 @@ arrival_waits reading groups recording s waves w rank call h is_rank behind end 
     record {
       is_empty = h.is_empty;
       kept = record {
-        has_lists = record {
-          lists = h.kept.has_lists.lists ∙ ap (λ (n : ℕ). 1 + n + length groups) same_ranks;
-          nodes = h.kept.has_lists.nodes ∙ same_ranks;
-          awaited = h.kept.has_lists.awaited ∙ same_ranks;
-          counts = h.kept.has_lists.counts;
-        };
+        has_lists = lists_on groups recording longer w h.kept.has_lists same_ranks;
         linked =
-            subst (λ (n : ℕ). IsLinked n w.lists (WaitsIn reading groups longer s waves w.awaited) (λ other. Rests longer s other ⊎ IsNobody other)) same_ranks
+            subst (λ (n : ℕ). AreListed n w.lists (WaitsIn reading groups longer s waves w.awaited) (λ other. Rests longer s other ⊎ IsNobody other)) same_ranks
             (changed (length recording) w.lists _ (WaitsIn reading groups longer s waves w.awaited) _ (λ other. Rests longer s other ⊎ IsNobody other) h.kept.linked
             (λ other list is_rank' later on waits.
             ⊎_elim
-            (λ (own : (list ≡ own_list other) × (other < length recording) × NeedsPartner reading groups recording s other (get_or w.awaited other 0)).
-            ⊎_elim
-            (λ (still : NeedsPartner reading groups longer s other (get_or w.awaited other 0)). inl (own.0, omega (arith, own.1, same_ranks), still))
-            (λ (new : IsWoken groups longer (λ someone at_place. ⊥) other (get_or w.awaited other 0)). absurd new.is_new)
-            (partner_waits_on reading groups recording longer s s _ other (get_or w.awaited other 0) only refl own.2))
-            (λ (wave : (comm : ℕ) × (list ≡ comm_list (length recording) comm) × NeedsWave groups recording s waves other comm).
-            inr (wave.0, wave.1 ∙ ap (λ (n : ℕ). comm_list n wave.0) same_ranks, wave_waits_on groups recording longer s s waves other wave.0 only.goes_on refl wave.2))
-            waits)
+            (λ (still : WaitsIn reading groups longer s waves w.awaited other list). still)
+            (λ (new : (list ≡ own_list other) × (other < length longer) × IsWoken groups longer (λ someone there. ⊥) other (get_or w.awaited other 0)). absurd new.2.is_new)
+            (waits_on reading groups recording longer s s waves w.awaited _ other list only refl waits))
             (λ other is_rank' none rests.
             ⊎_elim
             (λ (rest : Rests recording s other). inl (rests_on recording longer s s other refl (still_there recording rank other call s is_rank behind) rest))
@@ -484,11 +482,11 @@ arrival_waits reading groups recording s waves w rank call h is_rank behind end 
     still_there recording rank other call s is_rank behind =
         ⊎_elim
         (λ (own : other ≡ rank). rw own (call_stays recording (appended recording rank call) rank (get_or s rank 0) (goes_on_by recording rank call is_rank) behind))
-        (λ (differs : other ≢ rank). ap (λ (calls : List Call). slice_get calls (get_or s other 0)) (appended_other recording rank other call differs))
+        (λ (differs : other ≢ rank). ap (λ (calls : List Call). slice_get calls (get_or s other 0)) (calls_of-appended_other recording rank other call differs))
         (cases_eq other rank)
 
 -- the first of the worklist is taken
-pub kept_taken : (reading : Reading) (groups : Groups) (recording : Lists) (s : State) (waves : Waves) (w new : Waiting) (rank : ℕ) → IsKept reading groups recording s waves w IsNobody 0 → first_value (list_at w.lists 0) ≡ Some rank → new.lists ≡ set w.lists 0 (drop 1 (list_at w.lists 0)) → new.spare ≡ w.spare + 1 → new.work ≡ min (w.work + 1) most_work → new.awaited ≡ w.awaited → IsInHand reading groups recording s waves new rank
+pub kept_taken : (reading : Reading) (groups : Groups) (recording : Lists) (s : State) (waves : Progress) (w new : WaitLists) (rank : ℕ) → IsKept reading groups recording s waves w IsNobody 0 → slice_get (list_at w.lists 0) 0 ≡ Some rank → new.lists ≡ set w.lists 0 (drop 1 (list_at w.lists 0)) → new.spare ≡ w.spare + 1 → new.work ≡ min (w.work + 1) most_work → new.awaited ≡ w.awaited → IsInHand reading groups recording s waves new rank
 kept_taken reading groups recording s waves w new rank h first lists spare work awaited =
     let it = taken (length recording) w.lists new.lists rank _ _ h.linked (omega (arith, h.has_lists.lists)) first lists in
     record {
@@ -519,29 +517,29 @@ kept_taken reading groups recording s waves w new rank h first lists spare work 
       in_none = it.in_none;
     }
 
-pub taken_shorter : (reading : Reading) (groups : Groups) (recording : Lists) (s : State) (waves : Waves) (w new : Waiting) (rank : ℕ) → IsKept reading groups recording s waves w IsNobody 0 → first_value (list_at w.lists 0) ≡ Some rank → new.lists ≡ set w.lists 0 (drop 1 (list_at w.lists 0)) → to_do recording s new < to_do recording s w
+pub taken_shorter : (reading : Reading) (groups : Groups) (recording : Lists) (s : State) (waves : Progress) (w new : WaitLists) (rank : ℕ) → IsKept reading groups recording s waves w IsNobody 0 → slice_get (list_at w.lists 0) 0 ≡ Some rank → new.lists ≡ set w.lists 0 (drop 1 (list_at w.lists 0)) → to_do recording s new < to_do recording s w
 taken_shorter reading groups recording s waves w new rank h first lists =
     let it = taken (length recording) w.lists new.lists rank _ _ h.linked (omega (arith, h.has_lists.lists)) first lists in
     omega (arith, it.shorter)
 
-pub links_falls : (reading : Reading) (groups : Groups) (recording : Lists) (s : State) (waves : Waves) (w last : Waiting) (rank list node : ℕ) → Links reading groups recording s waves w last rank list node → to_do recording s last ≤ to_do recording s w
-links_falls reading groups recording s waves w last rank list node links =
-    omega (arith, ap (length {A = ℕ × ℕ}) (linked_behind w.lists last.lists list node rank links.later links.lists))
+pub links_falls : (reading : Reading) (groups : Groups) (recording : Lists) (s : State) (waves : Progress) (w last : WaitLists) (rank list : ℕ) → Links reading groups recording s waves w last rank list → to_do recording s last ≤ to_do recording s w
+links_falls reading groups recording s waves w last rank list links =
+    omega (arith, ap (length {A = ℕ}) (linked_behind w.lists last.lists list rank links.later links.lists))
 
 less_to_do : (a b m l : ℕ) → a < b → l ≤ m → (k : ℕ) → (b - suc a) * (m + 1) + l < (b - a) * (m + 1) + k
 less_to_do a b m l less most k =
     let next : b - a ≡ suc (b - suc a) = omega (arith, less) in
     rw next (omega (arith, most, suc-mul (b - suc a) (m + 1)))
 
-pub moved_falls : (reading : Reading) (groups : Groups) (recording : Lists) (s t : State) (new : Waves) (w last : Waiting) (rank : ℕ) → IsInHand reading groups recording t new last rank → rank < length s → t ≡ moved s rank → to_do recording t last < to_do recording s w
+pub moved_falls : (reading : Reading) (groups : Groups) (recording : Lists) (s t : State) (new : Progress) (w last : WaitLists) (rank : ℕ) → IsInHand reading groups recording t new last rank → rank < length s → t ≡ moved s rank → to_do recording t last < to_do recording s w
 moved_falls reading groups recording s t new w last rank h is_rank is =
     let within = reached_within reading groups recording t h.kept.is_reached in
     let total_t : total t ≡ suc (total s) = ap total is ∙ total_moved s rank is_rank ∙ omega arith in
     let most = total_most t _ within.ranks within.stands in
-    rw total_t (less_to_do (total s) (calls_in recording) (length recording) (length (list_at last.lists 0)) (omega (arith, most, total_t)) (omega (arith, held_at last.lists 0, h.kept.has_lists.nodes)) (length (list_at w.lists 0)))
+    rw total_t (less_to_do (total s) (call_count recording) (length recording) (length (list_at last.lists 0)) (omega (arith, most, total_t)) (omega (arith, most_linked last.lists 0, h.kept.has_lists.nodes)) (length (list_at w.lists 0)))
 
 -- no rank can move once none is to be looked at
-pub settled_end : (reading : Reading) (groups : Groups) (recording : Lists) (s : State) (waves : Waves) (w : Waiting) → IsSettled reading groups recording s waves w → IsTheEnd (can_move reading groups recording) (length recording) s
+pub settled_end : (reading : Reading) (groups : Groups) (recording : Lists) (s : State) (waves : Progress) (w : WaitLists) → IsSettled reading groups recording s waves w → IsTheEnd (can_move reading groups recording) (length recording) s
 settled_end reading groups recording s waves w h =
     stuck_end reading groups recording s h.kept.is_reached
     (λ rank is_rank. by_all rank (omega (arith, is_rank, reached_ranks (can_move reading groups recording) (length recording) s h.kept.is_reached)) (in_all rank w.lists) refl)
@@ -555,12 +553,12 @@ settled_end reading groups recording s waves w h =
     by_all rank is_rank (suc n) e =
         let found = found_in rank w.lists (omega (arith, e)) in
         ⊎_elim
-        (λ (first : found.0 ≡ 0). absurd (omega (arith, found.1, ap (λ (l : ℕ). count rank (list_at w.lists l)) first, ap (count rank) h.is_empty)))
+        (λ (first : found.0 ≡ 0). absurd (omega (arith, found.2, ap (λ (l : ℕ). count rank (list_at w.lists l)) first, ap (count rank) h.is_empty)))
         (λ (later : found.0 ≢ 0).
         ⊎_elim
         (λ (own : (found.0 ≡ own_list rank) × (rank < length recording) × NeedsPartner reading groups recording s rank (get_or w.awaited rank 0)). partner_stuck reading groups recording s rank (get_or w.awaited rank 0) own.2)
         (λ (wave : (comm : ℕ) × (found.0 ≡ comm_list (length recording) comm) × NeedsWave groups recording s waves rank comm). wave_stuck reading groups recording s waves rank wave.0 h.kept.are_waves wave.2)
-        (h.kept.linked.waits rank found.0 (omega arith) found.1))
+        (h.kept.linked.waits rank found.0 (omega arith) found.2))
         (cases_eq found.0 0)
 
 -- a rank stands at its list's end, or before it
@@ -568,12 +566,12 @@ pub stand_within : (reading : Reading) (groups : Groups) (recording : Lists) (s 
 stand_within reading groups recording s rank reached = omega (arith, (reached_within reading groups recording s reached).stands rank, length_of_calls recording rank)
 
 -- what arrived at its rank's stand is reached
-pub arrived_reaching : (reading : Reading) (groups : Groups) (recording : Lists) (s : State) (waves : Waves) (w : Waiting) (rank place : ℕ) → HasArrived reading groups recording s waves w rank place → get_or s rank 0 ≡ place → IsReaching reading groups recording s waves w rank place
+pub arrived_reaching : (reading : Reading) (groups : Groups) (recording : Lists) (s : State) (waves : Progress) (w : WaitLists) (rank place : ℕ) → HasArrived reading groups recording s waves w rank place → get_or s rank 0 ≡ place → IsReaching reading groups recording s waves w rank place
 arrived_reaching reading groups recording s waves w rank place h there =
     rw h.is (arrival_reaches reading groups h.before s waves w rank place h.call h.settled h.is_rank (there ∙ h.is_next) (sym there) h.few (settled_end reading groups h.before s waves w h.settled))
 
 -- what arrived before its rank has come to it wakes none
-pub arrived_settled : (reading : Reading) (groups : Groups) (recording : Lists) (s : State) (waves : Waves) (w : Waiting) (rank place : ℕ) → HasArrived reading groups recording s waves w rank place → get_or s rank 0 ≢ place → IsSettled reading groups recording s waves w
+pub arrived_settled : (reading : Reading) (groups : Groups) (recording : Lists) (s : State) (waves : Progress) (w : WaitLists) (rank place : ℕ) → HasArrived reading groups recording s waves w rank place → get_or s rank 0 ≢ place → IsSettled reading groups recording s waves w
 arrived_settled reading groups recording s waves w rank place h not_there =
     rw h.is (arrival_waits reading groups h.before s waves w rank h.call h.settled h.is_rank
     (omega (arith, stand_within reading groups h.before s rank h.settled.kept.is_reached, h.is_next, not_there)) (settled_end reading groups h.before s waves w h.settled))
@@ -582,19 +580,19 @@ arrived_settled reading groups recording s waves w rank place h not_there =
 no_call_joined : (ranks comm wave member : ℕ) (s : State) → HasJoined (replicate ranks []) s comm wave member → ⊥
 no_call_joined ranks comm wave member s h = none-some h.0 (rw (no_calls ranks member) at h.1)
 
-pub new_settled : (reading : Reading) (groups : Groups) (recording : Lists) (s : State) (waves : Waves) (w : Waiting) (ranks : ℕ) → recording ≡ replicate ranks [] → s ≡ start ranks → waves.complete.items ≡ replicate (length groups) 0 → waves.met.items ≡ replicate (length groups) 0 → w.lists ≡ replicate (1 + ranks + length groups) [] → w.spare ≡ ranks → w.work ≡ 0 → waves.changes ≡ 0 → w.awaited ≡ replicate ranks 0 → IsSettled reading groups recording s waves w
+pub new_settled : (reading : Reading) (groups : Groups) (recording : Lists) (s : State) (waves : Progress) (w : WaitLists) (ranks : ℕ) → recording ≡ replicate ranks [] → s ≡ start ranks → waves.complete.items ≡ replicate (length groups) 0 → waves.met.items ≡ replicate (length groups) 0 → w.lists ≡ replicate (1 + ranks + length groups) [] → w.spare ≡ ranks → w.work ≡ 0 → waves.changes ≡ 0 → w.awaited ≡ replicate ranks 0 → IsSettled reading groups recording s waves w
 new_settled reading groups recording s waves w ranks is_empty zeros complete met lists spare work changes awaited =
     let long : length recording ≡ ranks = ap (length {A = List Call}) is_empty ∙ length-replicate ranks [] in
     let none = none_there (1 + ranks + length groups) in
     let end = start_end reading groups ranks in
     record {
-      is_empty = ap (λ (ls : List Entries). list_at ls 0) lists ∙ none.1;
+      is_empty = ap (λ (ls : List (List ℕ)). list_at ls 0) lists ∙ none.1;
       kept = record {
         has_lists = record {
-          lists = ap (length {A = Entries}) lists ∙ length-replicate (1 + ranks + length groups) [] ∙ ap (λ (n : ℕ). 1 + n + length groups) (sym long);
-          nodes = omega (arith, ap held lists, none.0, spare, long);
+          lists = ap (length {A = List ℕ}) lists ∙ length-replicate (1 + ranks + length groups) [] ∙ ap (λ (n : ℕ). 1 + n + length groups) (sym long);
+          nodes = omega (arith, ap linked_ranks lists, none.0, spare, long);
           awaited = ap (length {A = ℕ}) awaited ∙ length-replicate ranks 0 ∙ sym long;
-          counts = omega (arith, ap held lists, none.0, work);
+          counts = omega (arith, ap linked_ranks lists, none.0, work);
         };
         linked = rw lists (none_linked (length recording) (1 + ranks + length groups) _ _ (λ rank is_rank. inl (rw (is_empty, no_calls ranks rank) refl)));
         are_waves = record {
@@ -607,12 +605,12 @@ new_settled reading groups recording s waves w ranks is_empty zeros complete met
               (get_or (group_of groups comm) 0 0, rw first (slice_get-get_or (group_of groups comm) 0 0 some), λ joined. no_call_joined ranks comm (complete_of waves comm) (get_or (group_of groups comm) 0 0) s (rw is_empty at joined));
         };
         is_reached = rw (long, is_empty, zeros) end.is_reached;
-        is_paid = omega (arith, work, changes, ap (λ (ls : List Entries). length (list_at ls 0)) lists, ap (length {A = ℕ × ℕ}) none.1);
+        is_paid = omega (arith, work, changes, ap (λ (ls : List (List ℕ)). length (list_at ls 0)) lists, ap (length {A = ℕ}) none.1);
       };
     }
 
 -- the touches are no more than 22 for each call
-pub touches_within : (reading : Reading) (groups : Groups) (recording : Lists) (s : State) (waves : Waves) (w : Waiting) → IsSettled reading groups recording s waves w → touches_of waves w ≤ most_touches recording
+pub touches_within : (reading : Reading) (groups : Groups) (recording : Lists) (s : State) (waves : Progress) (w : WaitLists) → IsSettled reading groups recording s waves w → touches_of waves w ≤ most_touches recording
 touches_within reading groups recording s waves w h =
     omega (arith, min-le_left (w.work + waves.changes) most_work, h.kept.is_paid, paid_most recording s waves (λ rank. stand_within reading groups recording s rank h.kept.is_reached))
 
@@ -622,7 +620,7 @@ one_at_most true = omega arith
 one_at_most false = omega arith
 
 -- each rank that waits was linked
-pub waiting_linked : (reading : Reading) (groups : Groups) (recording : Lists) (s : State) (waves : Waves) (w : Waiting) → IsSettled reading groups recording s waves w → length s ≤ most_work → ranks_waiting recording s ≤ w.work
+pub waiting_linked : (reading : Reading) (groups : Groups) (recording : Lists) (s : State) (waves : Progress) (w : WaitLists) → IsSettled reading groups recording s waves w → length s ≤ most_work → ranks_waiting recording s ≤ w.work
 waiting_linked reading groups recording s waves w h few =
     let all : ranks_waiting recording s ≤ sum_to (length recording) (λ rank. in_all rank w.lists) =
     sum_least (length recording) _ (λ rank. in_all rank w.lists) (λ rank is_rank. stands_in rank is_rank (in_all rank w.lists) refl) in

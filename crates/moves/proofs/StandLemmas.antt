@@ -9,10 +9,10 @@ use Rattle.mpicall.specs.Ending.{ends_list}
 use Rattle.mpicall.specs.declared.call.Call.{Call}
 use Rattle.mpigroup.specs.Groups.{Groups}
 use Rattle.pairing.specs.Recordings.{Lists, calls_of, GoesOn}
-use Rattle.moves.specs.Runs.{StandsNoLater, State, Rule, start, moved, Step, Steps, last_of, end_of, IsMaximal, IsReached, IsTheEnd, lowest_run}
+use Rattle.moves.specs.Runs.{StandsNoLater, State, start, moved, Step, AreSteps, last_state, run_end, IsMaximal, IsReached, IsTheEnd, lowest_run}
 use Rattle.moves.specs.Needs.{can_move}
-use Rattle.moves.specs.Stands.{calls_in, IsRunOver, end_over, lowest_run_over, stands_of, is_at_end, EveryMaximalRunEndsAtTheStands, NoRunBringsAStuckRankToItsEnd, EveryMaximalRunBringsTheOthers, LongerRecordingsLowerNoStand, NoCallBehindTheEndIsReached}
-use Rattle.moves.proofs.RunLemmas.{maximal_runs_end_alike, run_below, reached_below, reached_ranks, get_start}
+use Rattle.moves.specs.Stands.{call_count, IsRunOver, end_over, lowest_run_over, stands_of, is_at_end, EveryMaximalRunEndsAtTheStands, NoRunBringsAStuckRankToItsEnd, EveryMaximalRunBringsTheOthers, LongerRecordingsLowerNoStand, NoCallBehindTheEndIsReached}
+use Rattle.moves.proofs.RunLemmas.{steps_by_more, maximal_runs_end_alike, run_below, reached_below, reached_ranks, get_start}
 use Rattle.moves.proofs.NeedLemmas.{can_move_is_persistent, can_move_is_bounded, can_pass, can_move_on}
 
 same_ranks : (recording : Lists) → length (map length recording) ≡ length recording
@@ -21,8 +21,8 @@ same_ranks (calls ∷ recording) = ap (λ (n : ℕ). suc n) (same_ranks recordin
 
 pub every_maximal_run_ends_at_the_stands : EveryMaximalRunEndsAtTheStands
 every_maximal_run_ends_at_the_stands reading groups recording =
-    subst (λ (ranks : ℕ). IsMaximal (can_move reading groups recording) ranks (lowest_run (can_move reading groups recording) ranks (calls_in recording))
-    × IsTheEnd (can_move reading groups recording) ranks (end_of ranks (lowest_run (can_move reading groups recording) ranks (calls_in recording))))
+    subst (λ (ranks : ℕ). IsMaximal (can_move reading groups recording) ranks (lowest_run (can_move reading groups recording) ranks (call_count recording))
+    × IsTheEnd (can_move reading groups recording) ranks (run_end ranks (lowest_run (can_move reading groups recording) ranks (call_count recording))))
     (same_ranks recording)
     (maximal_runs_end_alike (can_move reading groups recording) (map length recording) (can_move_is_persistent reading groups recording) (can_move_is_bounded reading groups recording))
 
@@ -47,7 +47,7 @@ passes_not reading groups recording s t rank place end is_there ends before step
         let differs = not_there groups recording s rank place end is_there ends can in
         rw (← same) (rw (get_or-set_same s rank (get_or s rank 0 + 1) 0 is_rank) (omega arith))
 
-steps_pass_not : (reading : Reading) (groups : Groups) (recording : Lists) (s : State) (states : List State) (rank place : ℕ) (end : Call) → slice_get (calls_of recording rank) place ≡ Some end → ends_list end ≡ true → get_or s rank 0 ≤ place → Steps (can_move reading groups recording) s states → get_or (last_of s states) rank 0 ≤ place
+steps_pass_not : (reading : Reading) (groups : Groups) (recording : Lists) (s : State) (states : List State) (rank place : ℕ) (end : Call) → slice_get (calls_of recording rank) place ≡ Some end → ends_list end ≡ true → get_or s rank 0 ≤ place → AreSteps (can_move reading groups recording) s states → get_or (last_state s states) rank 0 ≤ place
 steps_pass_not reading groups recording s [] rank place end is_there ends before steps = before
 steps_pass_not reading groups recording s (t ∷ rest) rank place end is_there ends before steps =
     steps_pass_not reading groups recording t rest rank place end is_there ends (passes_not reading groups recording s t rank place end is_there ends before steps.0) steps.1
@@ -88,20 +88,13 @@ every_maximal_run_brings_the_others reading groups recording rank states maximal
     let same = (every_maximal_run_ends_at_the_stands reading groups recording).1.of_all states maximal in
     subst (λ (s : State). is_at_end recording s rank ≡ true) (sym same) there
 
-steps_on : (can on : Rule) → ((s : State) (rank : ℕ) → can s rank ≡ true → on s rank ≡ true) → (s : State) (states : List State) → Steps can s states → Steps on s states
-steps_on can on more s [] steps = tt
-steps_on can on more s (t ∷ rest) steps = (
-  record { rank = steps.0.rank; is_rank = steps.0.is_rank; can_move = more s steps.0.rank steps.0.can_move; moves_on = steps.0.moves_on },
-  steps_on can on more t rest steps.1,
-)
-
 -- what is reached over a recording is reached over each longer one
 pub reached_on : (reading : Reading) (groups : Groups) (recording longer : Lists) (s : State) → GoesOn recording longer → IsReached (can_move reading groups recording) (length recording) s → IsReached (can_move reading groups longer) (length longer) s
 reached_on reading groups recording longer s goes_on reached =
     subst (λ (ranks : ℕ). IsReached (can_move reading groups longer) ranks s) goes_on.same_ranks
     (record {
       states = reached.states;
-      is_run = steps_on (can_move reading groups recording) (can_move reading groups longer) (λ t rank h. can_move_on reading groups recording longer t rank goes_on h) (start (length recording)) reached.states reached.is_run;
+      is_run = steps_by_more (can_move reading groups recording) (can_move reading groups longer) (λ t rank h. can_move_on reading groups recording longer t rank goes_on h) (start (length recording)) reached.states reached.is_run;
       ends_there = reached.ends_there;
     })
 

@@ -13,22 +13,18 @@ use Rattle.pairing.specs.Waves.{does_join, wave_of}
 use Rattle.pairing.proofs.RequestLemmas.{place_within}
 use Rattle.pairing.proofs.WaveLemmas.{the_call_in_a_wave_joins_it, no_other_call_is_in_a_wave}
 use Rattle.moves.specs.Runs.{State, moved}
-use Rattle.moves.specs.Stands.{calls_in}
-use Rattle.moves.specs.declared.waves.Waves.{Waves}
-use Rattle.moves.specs.Links.{Entries, count, sum_to}
+use Rattle.moves.specs.Stands.{call_count}
+use Rattle.moves.specs.declared.progress.Progress.{Progress}
+use Rattle.arenalist.specs.Numbers.{count, sum_to}
+use Rattle.arenalist.proofs.SumLemmas.{sum_least, sum_both, sum_zero, sum_count}
 use Rattle.moves.specs.Waiting.{complete_of, NeedsWave, is_done, done_of, paid_by, paid, cost_of}
 use Rattle.moves.proofs.StayLemmas.{wave_stays}
-use Rattle.moves.proofs.LinkLemmas.{sum_both, sum_zero, sum_count}
 use Rattle.moves.proofs.WaveLemmas.{earlier_place}
 use Rattle.moves.proofs.WaitLemmas.{open_parts}
 use Rattle.moves.proofs.ReachLemmas.{moved_other, moved_own, appended_length}
 use Rattle.moves.proofs.AnalyserLemmas.{goes_on_by}
 
 -- sums
-pub sum_least : (n : ℕ) (f g : ℕ → ℕ) → ((k : ℕ) → k < n → f k ≤ g k) → sum_to n f ≤ sum_to n g
-sum_least zero f g h = omega arith
-sum_least (suc n) f g h = omega (arith, h n (omega arith), sum_least n f g (λ k l. h k (omega arith)))
-
 pub sum_more : (n i m : ℕ) (f g : ℕ → ℕ) → i < n → ((k : ℕ) → k < n → k ≢ i → f k ≤ g k) → f i + m ≤ g i → sum_to n f + m ≤ sum_to n g
 sum_more zero i m f g within h more = absurd (omega arith)
 sum_more (suc n) i m f g within h more =
@@ -70,7 +66,7 @@ sum_times zero c f = omega arith
 sum_times (suc n) c f = omega (arith, sum_times n c f)
 
 -- a call whose wave was complete is so with each further one
-done_least : (waves new : Waves) (wave : Option (ℕ × ℕ)) → ((comm : ℕ) → complete_of waves comm ≤ complete_of new comm) → is_done waves wave ≤ is_done new wave
+done_least : (waves new : Progress) (wave : Option (ℕ × ℕ)) → ((comm : ℕ) → complete_of waves comm ≤ complete_of new comm) → is_done waves wave ≤ is_done new wave
 done_least waves new None h = omega arith
 done_least waves new (Some (comm, wave)) h =
     ⊎_elim
@@ -80,7 +76,7 @@ done_least waves new (Some (comm, wave)) h =
     (λ (no : nat_lt wave (complete_of waves comm) ≡ false). rw no (omega arith))
     (cases_Bool (nat_lt wave (complete_of waves comm)))
 
-done_most : (waves : Waves) (wave : Option (ℕ × ℕ)) → is_done waves wave ≤ 1
+done_most : (waves : Progress) (wave : Option (ℕ × ℕ)) → is_done waves wave ≤ 1
 done_most waves None = omega arith
 done_most waves (Some (comm, wave)) =
     ⊎_elim
@@ -88,7 +84,7 @@ done_most waves (Some (comm, wave)) =
     (λ (no : nat_lt wave (complete_of waves comm) ≡ false). rw no (omega arith))
     (cases_Bool (nat_lt wave (complete_of waves comm)))
 
-done_newly : (waves new : Waves) (comm : ℕ) → complete_of new comm ≡ complete_of waves comm + 1 → is_done waves (Some (comm, complete_of waves comm)) + 1 ≤ is_done new (Some (comm, complete_of waves comm))
+done_newly : (waves new : Progress) (comm : ℕ) → complete_of new comm ≡ complete_of waves comm + 1 → is_done waves (Some (comm, complete_of waves comm)) + 1 ≤ is_done new (Some (comm, complete_of waves comm))
 done_newly waves new comm one =
     let now : nat_lt (complete_of waves comm) (complete_of new comm) ≡ true = le-leb (suc (complete_of waves comm)) (complete_of new comm) (omega (arith, one)) in
     ⊎_elim
@@ -97,7 +93,7 @@ done_newly waves new comm one =
     (cases_Bool (nat_lt (complete_of waves comm) (complete_of waves comm)))
 
 -- a recording that goes on has as many such calls, or more
-done_on : (recording longer : Lists) (waves : Waves) (rank : ℕ) → GoesOn recording longer → done_of recording waves rank ≤ done_of longer waves rank
+done_on : (recording longer : Lists) (waves : Progress) (rank : ℕ) → GoesOn recording longer → done_of recording waves rank ≤ done_of longer waves rank
 done_on recording longer waves rank goes_on =
     let long : length (calls_of recording rank) ≤ length (calls_of longer rank) = omega (arith, ap (length {A = Call}) (goes_on.goes_on rank), length-append (calls_of recording rank) (goes_on.more rank)) in
     let same = sum_least (length (calls_of recording rank)) (λ place. is_done waves (wave_of recording rank place)) (λ place. is_done waves (wave_of longer rank place))
@@ -108,17 +104,17 @@ done_on recording longer waves rank goes_on =
 long_on : (recording longer : Lists) (rank : ℕ) → GoesOn recording longer → length (calls_of recording rank) ≤ length (calls_of longer rank)
 long_on recording longer rank goes_on = omega (arith, ap (length {A = Call}) (goes_on.goes_on rank), length-append (calls_of recording rank) (goes_on.more rank))
 
-pub paid_on : (recording longer : Lists) (s : State) (waves : Waves) (rank : ℕ) → GoesOn recording longer → paid_by recording s waves rank ≤ paid_by longer s waves rank
+pub paid_on : (recording longer : Lists) (s : State) (waves : Progress) (rank : ℕ) → GoesOn recording longer → paid_by recording s waves rank ≤ paid_by longer s waves rank
 paid_on recording longer s waves rank goes_on = omega (arith, long_on recording longer rank goes_on, done_on recording longer waves rank goes_on)
 
 -- a call arrives
-pub paid_ahead : (recording : Lists) (s : State) (waves : Waves) (rank : ℕ) (call : Call) → rank < length recording → paid recording s waves ≤ paid (appended recording rank call) s waves
+pub paid_ahead : (recording : Lists) (s : State) (waves : Progress) (rank : ℕ) (call : Call) → rank < length recording → paid recording s waves ≤ paid (appended recording rank call) s waves
 paid_ahead recording s waves rank call is_rank =
     let goes_on = goes_on_by recording rank call is_rank in
     let most = sum_least (length recording) (paid_by recording s waves) (paid_by (appended recording rank call) s waves) (λ other within. paid_on recording (appended recording rank call) s waves other goes_on) in
     subst (λ (n : ℕ). paid recording s waves ≤ sum_to n (paid_by (appended recording rank call) s waves)) goes_on.same_ranks most
 
-pub paid_there : (recording : Lists) (s : State) (waves : Waves) (rank : ℕ) (call : Call) → rank < length recording → get_or s rank 0 ≡ length (calls_of recording rank) → paid recording s waves + 16 ≤ paid (appended recording rank call) s waves
+pub paid_there : (recording : Lists) (s : State) (waves : Progress) (rank : ℕ) (call : Call) → rank < length recording → get_or s rank 0 ≡ length (calls_of recording rank) → paid recording s waves + 16 ≤ paid (appended recording rank call) s waves
 paid_there recording s waves rank call is_rank at_end =
     let goes_on = goes_on_by recording rank call is_rank in
     let most = sum_more (length recording) rank 16 (paid_by recording s waves) (paid_by (appended recording rank call) s waves) is_rank
@@ -135,7 +131,7 @@ cost_cases calls place = by_call (slice_get calls place) refl
     by_call (Some call) e = inr (ap cost_of e, slice_get_within calls place call e)
 
 -- a rank moves on
-pub paid_moved : (recording : Lists) (s : State) (waves : Waves) (rank : ℕ) → rank < length recording → rank < length s → paid recording s waves + cost_of (slice_get (calls_of recording rank) (get_or s rank 0 + 1)) ≤ paid recording (moved s rank) waves + 1
+pub paid_moved : (recording : Lists) (s : State) (waves : Progress) (rank : ℕ) → rank < length recording → rank < length s → paid recording s waves + cost_of (slice_get (calls_of recording rank) (get_or s rank 0 + 1)) ≤ paid recording (moved s rank) waves + 1
 paid_moved recording s waves rank is_rank in_s =
     let own : get_or (moved s rank) rank 0 ≡ get_or s rank 0 + 1 = moved_own s rank in_s in
     let others : (other : ℕ) → other < length recording → other ≢ rank → paid_by recording s waves other ≤ paid_by recording (moved s rank) waves other = λ other within differs. omega (arith, moved_other s rank other differs) in
@@ -147,16 +143,16 @@ paid_moved recording s waves rank is_rank in_s =
     (cost_cases (calls_of recording rank) (get_or s rank 0 + 1))
 
 -- waves come to be complete
-done_more : (recording : Lists) (waves new : Waves) (rank : ℕ) → ((comm : ℕ) → complete_of waves comm ≤ complete_of new comm) → done_of recording waves rank ≤ done_of recording new rank
+done_more : (recording : Lists) (waves new : Progress) (rank : ℕ) → ((comm : ℕ) → complete_of waves comm ≤ complete_of new comm) → done_of recording waves rank ≤ done_of recording new rank
 done_more recording waves new rank h =
     sum_least (length (calls_of recording rank)) (λ place. is_done waves (wave_of recording rank place)) (λ place. is_done new (wave_of recording rank place)) (λ place within. done_least waves new (wave_of recording rank place) h)
 
-pub paid_waves : (recording : Lists) (s : State) (waves new : Waves) → ((comm : ℕ) → complete_of waves comm ≤ complete_of new comm) → paid recording s waves ≤ paid recording s new
+pub paid_waves : (recording : Lists) (s : State) (waves new : Progress) → ((comm : ℕ) → complete_of waves comm ≤ complete_of new comm) → paid recording s waves ≤ paid recording s new
 paid_waves recording s waves new h =
     sum_least (length recording) (paid_by recording s waves) (paid_by recording s new) (λ rank within. omega (arith, done_more recording waves new rank h))
 
 -- a rank that waits for a wave has a call in the next one
-done_waiter : (groups : Groups) (recording : Lists) (s : State) (waves new : Waves) (rank comm : ℕ) → ((c : ℕ) → complete_of waves c ≤ complete_of new c) → complete_of new comm ≡ complete_of waves comm + 1 → NeedsWave groups recording s waves rank comm → done_of recording waves rank + 1 ≤ done_of recording new rank
+done_waiter : (groups : Groups) (recording : Lists) (s : State) (waves new : Progress) (rank comm : ℕ) → ((c : ℕ) → complete_of waves c ≤ complete_of new c) → complete_of new comm ≡ complete_of waves comm + 1 → NeedsWave groups recording s waves rank comm → done_of recording waves rank + 1 ≤ done_of recording new rank
 done_waiter groups recording s waves new rank comm h one needs =
     let is_in = open_parts groups recording waves rank needs.start comm needs.is_joined in
     let later = the_call_in_a_wave_joins_it recording rank needs.start comm is_in.wave is_in.there in
@@ -167,7 +163,7 @@ done_waiter groups recording s waves new rank comm h one needs =
     (λ place within differs. done_least waves new (wave_of recording rank place) h)
     (rw joined (done_newly waves new comm one))
 
-pub paid_waiters : (groups : Groups) (recording : Lists) (s : State) (waves new : Waves) (comm : ℕ) (entries : Entries) → ((c : ℕ) → complete_of waves c ≤ complete_of new c) → complete_of new comm ≡ complete_of waves comm + 1 → ((rank : ℕ) → count rank entries ≤ 1) → ((rank : ℕ) → 0 < count rank entries → rank < length recording) → ((rank : ℕ) → 0 < count rank entries → NeedsWave groups recording s waves rank comm) → paid recording s waves + 4 * length entries ≤ paid recording s new
+pub paid_waiters : (groups : Groups) (recording : Lists) (s : State) (waves new : Progress) (comm : ℕ) (entries : List ℕ) → ((c : ℕ) → complete_of waves c ≤ complete_of new c) → complete_of new comm ≡ complete_of waves comm + 1 → ((rank : ℕ) → count rank entries ≤ 1) → ((rank : ℕ) → 0 < count rank entries → rank < length recording) → ((rank : ℕ) → 0 < count rank entries → NeedsWave groups recording s waves rank comm) → paid recording s waves + 4 * length entries ≤ paid recording s new
 paid_waiters groups recording s waves new comm entries h one once ranks needs =
     let each : (rank : ℕ) → rank < length recording → paid_by recording s waves rank + 4 * count rank entries ≤ paid_by recording s new rank = λ rank within.
     ⊎_elim
@@ -177,19 +173,19 @@ paid_waiters groups recording s waves new comm entries h one once ranks needs =
     omega (arith, sum_least (length recording) (λ rank. paid_by recording s waves rank + 4 * count rank entries) (paid_by recording s new) each, sum_both (length recording) (paid_by recording s waves) (λ rank. 4 * count rank entries) (λ rank. paid_by recording s waves rank + 4 * count rank entries) (λ rank. refl), sum_times (length recording) 4 (λ rank. count rank entries), sum_count (length recording) entries ranks)
 
 -- no more is paid than 22 a call
-done_within : (recording : Lists) (waves : Waves) (rank : ℕ) → done_of recording waves rank ≤ length (calls_of recording rank)
+done_within : (recording : Lists) (waves : Progress) (rank : ℕ) → done_of recording waves rank ≤ length (calls_of recording rank)
 done_within recording waves rank = sum_ones (length (calls_of recording rank)) (λ place. is_done waves (wave_of recording rank place)) (λ place. done_most waves (wave_of recording rank place))
   where
     sum_ones : (n : ℕ) (f : ℕ → ℕ) → ((k : ℕ) → f k ≤ 1) → sum_to n f ≤ n
     sum_ones zero f h = omega arith
     sum_ones (suc n) f h = omega (arith, sum_ones n f h, h n)
 
-calls_sum : (recording : Lists) → sum_to (length recording) (λ rank. length (calls_of recording rank)) ≡ calls_in recording
+calls_sum : (recording : Lists) → sum_to (length recording) (λ rank. length (calls_of recording rank)) ≡ call_count recording
 calls_sum [] = refl
 calls_sum (calls ∷ recording) =
     sum_first (length recording) (λ rank. length (calls_of (calls ∷ recording) rank))
     ∙ ap (λ (n : ℕ). length calls + n) (calls_sum recording)
 
-pub paid_most : (recording : Lists) (s : State) (waves : Waves) → ((rank : ℕ) → get_or s rank 0 ≤ length (calls_of recording rank)) → paid recording s waves ≤ 22 * calls_in recording
+pub paid_most : (recording : Lists) (s : State) (waves : Progress) → ((rank : ℕ) → get_or s rank 0 ≤ length (calls_of recording rank)) → paid recording s waves ≤ 22 * call_count recording
 paid_most recording s waves within =
     omega (arith, sum_least (length recording) (paid_by recording s waves) (λ rank. 22 * length (calls_of recording rank)) (λ rank is_rank. omega (arith, within rank, done_within recording waves rank)), sum_times (length recording) 22 (λ rank. length (calls_of recording rank)), calls_sum recording)

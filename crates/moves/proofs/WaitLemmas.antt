@@ -1,13 +1,13 @@
 -- What looks tell, and that a rank that waits cannot move on.
 use Rattle.moves.specs.declared.reading.Reading.{Reading}
-use Rattle.std.proofs.Common.{◌≡◌, ℕ, suc, ◌+◌, ◌<◌, ◌≤◌, ◌≢◌, ◌&&◌, Bool, true, false, Option, Some, None, List, [], ◌∷◌, ◌++◌, length, map, flat_map, take, get_or, refl, sym, ap, subst, ◌∙◌, ⊎_elim, inl, inr, arith}
+use Rattle.std.proofs.Common.{◌≡◌, ℕ, suc, ◌+◌, ◌<◌, ◌≤◌, ◌≢◌, Bool, true, false, Option, Some, None, List, [], ◌∷◌, ◌++◌, length, map, flat_map, take, get_or, refl, sym, ap, subst, ◌∙◌, ⊎_elim, inl, inr, arith}
 use Rattle.std.specs.Prelude.{if◌then◌else◌, nat_le, nat_lt, is_some}
 use Rattle.std.specs.List.{slice_get, list_all}
 use Rattle.std.specs.Option.{option_map_or, option_and_then}
 use Rattle.std.proofs.lemmas.List.Folds.{list_all-append, list_all-map}
 use Rattle.std.proofs.lemmas.List.{take_all}
 use Rattle.std.proofs.lemmas.Option.{none-some, same_Some, slice_get-get_or}
-use Rattle.std.proofs.lemmas.Bool.{cases_lt, cases_Bool, false≢true, leb-true, le-leb}
+use Rattle.std.proofs.lemmas.Bool.{and_parts, and_from, false_from_ne_true, cases_lt, cases_Bool, false≢true, leb-true, le-leb}
 use Rattle.mpicall.specs.Ending.{ends_list}
 use Rattle.mpicall.specs.declared.call.Call.{Call}
 use Rattle.mpigroup.specs.Groups.{Groups, group_of}
@@ -19,30 +19,23 @@ use Rattle.pairing.proofs.PartnerLemmas.{and_then_parts}
 use Rattle.moves.specs.Runs.{State}
 use Rattle.moves.specs.declared.look.Look.{Look}
 use Rattle.moves.specs.declared.look.Look.TheVariants.{Over, Passes, Partner, Wave}
-use Rattle.moves.specs.declared.waves.Waves.{Waves}
+use Rattle.moves.specs.declared.progress.Progress.{Progress}
 use Rattle.moves.specs.Needs.{member_need, wave_needs, operation_needs, operation_needs_at, request_needs, needs_of_call, is_met, can_move}
 use Rattle.moves.specs.Waiting.{message_needs, IsAwaited, HasJoined, complete_of, met_of, AreWaves, IsNoException, is_open, open_wave, TellsOperation, TellsRequest, TellsCompleted, TellsCall, TellsRank, NeedsPartner, NeedsWave, Rests}
 use Rattle.moves.proofs.LookLemmas.{passes_more, fails_at, list_all-flat_map}
 use Rattle.moves.proofs.NeedLemmas.{can_pass, can_from_pass}
 use Rattle.moves.proofs.WaveLemmas.{met_joined, joined_met, joined_before}
 
-pub and_true : (a b : Bool) → (a && b) ≡ true → (a ≡ true) × (b ≡ true)
-and_true true b h = (refl, h)
-and_true false b h = cc
-
-pub and_both : (a b : Bool) → a ≡ true → b ≡ true → (a && b) ≡ true
-and_both a b h g = rw (h, g) refl
-
 -- each member has reached its call
 all_members : (recording : Lists) (s : State) (comm wave : ℕ) (group : List ℕ) → ((g member : ℕ) → slice_get group g ≡ Some member → HasJoined recording s comm wave member) → list_all (is_met s) (map (member_need recording comm wave) group) ≡ true
 all_members recording s comm wave [] h = refl
 all_members recording s comm wave (member ∷ group) h =
-    and_both (is_met s (member_need recording comm wave member)) (list_all (is_met s) (map (member_need recording comm wave) group))
+    and_from (is_met s (member_need recording comm wave member)) (list_all (is_met s) (map (member_need recording comm wave) group))
     (joined_met recording s comm wave member (h 0 member refl))
     (all_members recording s comm wave group (λ g. h (suc g)))
 
 -- a wave that isn't open has what it needs
-not_open_met : (groups : Groups) (recording : Lists) (s : State) (waves : Waves) (comm wave : ℕ) → AreWaves groups recording s waves IsNoException → is_open groups waves comm wave ≡ false → list_all (is_met s) (map (member_need recording comm wave) (group_of groups comm)) ≡ true
+not_open_met : (groups : Groups) (recording : Lists) (s : State) (waves : Progress) (comm wave : ℕ) → AreWaves groups recording s waves IsNoException → is_open groups waves comm wave ≡ false → list_all (is_met s) (map (member_need recording comm wave) (group_of groups comm)) ≡ true
 not_open_met groups recording s waves comm wave h closed =
     ⊎_elim
     (λ (less : wave < complete_of waves comm). all_members recording s comm wave (group_of groups comm) (λ g member. h.done comm wave g member less))
@@ -53,7 +46,7 @@ not_open_met groups recording s waves comm wave h closed =
     by_group [] e = refl
     by_group (member ∷ group) e = absurd (false≢true (sym e ∙ le-leb 1 (length (member ∷ group)) (omega arith)))
 
-wave_met : (groups : Groups) (recording : Lists) (s : State) (waves : Waves) (wave : Option (ℕ × ℕ)) → AreWaves groups recording s waves IsNoException → option_and_then (λ wave. if is_open groups waves wave.0 wave.1 then Some wave.0 else None) wave ≡ None → list_all (is_met s) (option_map_or (λ wave. map (member_need recording wave.0 wave.1) (group_of groups wave.0)) wave []) ≡ true
+wave_met : (groups : Groups) (recording : Lists) (s : State) (waves : Progress) (wave : Option (ℕ × ℕ)) → AreWaves groups recording s waves IsNoException → option_and_then (λ wave. if is_open groups waves wave.0 wave.1 then Some wave.0 else None) wave ≡ None → list_all (is_met s) (option_map_or (λ wave. map (member_need recording wave.0 wave.1) (group_of groups wave.0)) wave []) ≡ true
 wave_met groups recording s waves None h none = refl
 wave_met groups recording s waves (Some (comm, wave)) h none =
     ⊎_elim
@@ -61,20 +54,20 @@ wave_met groups recording s waves (Some (comm, wave)) h none =
     (λ (no : is_open groups waves comm wave ≡ false). not_open_met groups recording s waves comm wave h no)
     (cases_Bool (is_open groups waves comm wave))
 
-pub operation_passes : (reading : Reading) (groups : Groups) (recording : Lists) (s : State) (waves : Waves) (rank place : ℕ) (call : Call) → AreWaves groups recording s waves IsNoException → slice_get (calls_of recording rank) place ≡ Some call → list_all (is_met s) (message_needs reading groups recording rank place call) ≡ true → open_wave groups recording waves rank place ≡ None → list_all (is_met s) (operation_needs_at reading groups recording rank place) ≡ true
+pub operation_passes : (reading : Reading) (groups : Groups) (recording : Lists) (s : State) (waves : Progress) (rank place : ℕ) (call : Call) → AreWaves groups recording s waves IsNoException → slice_get (calls_of recording rank) place ≡ Some call → list_all (is_met s) (message_needs reading groups recording rank place call) ≡ true → open_wave groups recording waves rank place ≡ None → list_all (is_met s) (operation_needs_at reading groups recording rank place) ≡ true
 operation_passes reading groups recording s waves rank place call h there messages none =
     rw there
     (list_all-append (is_met s) (message_needs reading groups recording rank place call) (wave_needs groups recording rank place)
-    ∙ and_both (list_all (is_met s) (message_needs reading groups recording rank place call)) (list_all (is_met s) (wave_needs groups recording rank place)) messages (wave_met groups recording s waves (wave_of recording rank place) h none))
+    ∙ and_from (list_all (is_met s) (message_needs reading groups recording rank place call)) (list_all (is_met s) (wave_needs groups recording rank place)) messages (wave_met groups recording s waves (wave_of recording rank place) h none))
 
 -- an open wave that a call joins
-pub record IsIn (groups : Groups) (recording : Lists) (waves : Waves) (rank place comm : ℕ) : Type 0 where
+pub record IsIn (groups : Groups) (recording : Lists) (waves : Progress) (rank place comm : ℕ) : Type 0 where
   pub wave : ℕ
   pub there : wave_of recording rank place ≡ Some (comm, wave)
   pub least : complete_of waves comm ≤ wave
   pub some_member : 0 < length (group_of groups comm)
 
-pub open_parts : (groups : Groups) (recording : Lists) (waves : Waves) (rank place comm : ℕ) → open_wave groups recording waves rank place ≡ Some comm → IsIn groups recording waves rank place comm
+pub open_parts : (groups : Groups) (recording : Lists) (waves : Progress) (rank place comm : ℕ) → open_wave groups recording waves rank place ≡ Some comm → IsIn groups recording waves rank place comm
 open_parts groups recording waves rank place comm h =
     let parts = and_then_parts (λ wave. if is_open groups waves wave.0 wave.1 then Some wave.0 else None) (wave_of recording rank place) comm h in
     by_test parts.0 parts.1 (is_open groups waves parts.0.0 parts.0.1) refl parts.2
@@ -86,7 +79,7 @@ open_parts groups recording waves rank place comm h =
     by_test w there false is e = absurd (none-some comm e)
     by_test w there true is e =
         let same : w.0 ≡ comm = same_Some w.0 comm e in
-        let both = and_true (nat_le (complete_of waves w.0) w.1) (nat_lt 0 (length (group_of groups w.0))) is in
+        let both = and_parts (nat_le (complete_of waves w.0) w.1) (nat_lt 0 (length (group_of groups w.0))) is in
         record {
           wave = w.1;
           there = there ∙ ap (λ (c : ℕ). Some (c, w.1)) same;
@@ -94,14 +87,14 @@ open_parts groups recording waves rank place comm h =
           some_member = subst (λ (c : ℕ). 0 < length (group_of groups c)) same (length_some (group_of groups w.0) both.1);
         }
 
-pub open_from : (groups : Groups) (recording : Lists) (waves : Waves) (rank place comm : ℕ) → IsIn groups recording waves rank place comm → open_wave groups recording waves rank place ≡ Some comm
+pub open_from : (groups : Groups) (recording : Lists) (waves : Progress) (rank place comm : ℕ) → IsIn groups recording waves rank place comm → open_wave groups recording waves rank place ≡ Some comm
 open_from groups recording waves rank place comm h =
     let is : is_open groups waves comm h.wave ≡ true =
-    and_both (nat_le (complete_of waves comm) h.wave) (nat_lt 0 (length (group_of groups comm))) (le-leb (complete_of waves comm) h.wave h.least) (le-leb 1 (length (group_of groups comm)) (omega (arith, h.some_member))) in
+    and_from (nat_le (complete_of waves comm) h.wave) (nat_lt 0 (length (group_of groups comm))) (le-leb (complete_of waves comm) h.wave h.least) (le-leb 1 (length (group_of groups comm)) (omega (arith, h.some_member))) in
     rw (h.there, is) refl
 
 -- what an open wave needs is not met
-open_unmet : (groups : Groups) (recording : Lists) (s : State) (waves : Waves) (rank place comm : ℕ) → AreWaves groups recording s waves IsNoException → IsIn groups recording waves rank place comm → list_all (is_met s) (wave_needs groups recording rank place) ≡ true → ⊥
+open_unmet : (groups : Groups) (recording : Lists) (s : State) (waves : Progress) (rank place comm : ℕ) → AreWaves groups recording s waves IsNoException → IsIn groups recording waves rank place comm → list_all (is_met s) (wave_needs groups recording rank place) ≡ true → ⊥
 open_unmet groups recording s waves rank place comm h wave all =
     let next = h.next comm wave.some_member in
     let met : list_all (is_met s) (map (member_need recording comm wave.wave) (group_of groups comm)) ≡ true = rw wave.there at all in
@@ -138,7 +131,7 @@ awaited_met reading groups recording s rank start able h =
     let same : pass.call ≡ h.call = same_Some pass.call h.call (sym pass.is_present ∙ h.is_present) in
     let needs : list_all (is_met s) (needs_of_call reading groups recording rank place h.call) ≡ true = rw same at pass.needs_met in
     let waited : list_all (is_met s) (operation_needs reading groups recording rank place h.call ++ flat_map (request_needs reading groups recording rank place) (completes h.call)) ≡ true = rw h.starts_none at needs in
-    let both = and_true (list_all (is_met s) (operation_needs reading groups recording rank place h.call)) (list_all (is_met s) (flat_map (request_needs reading groups recording rank place) (completes h.call)))
+    let both = and_parts (list_all (is_met s) (operation_needs reading groups recording rank place h.call)) (list_all (is_met s) (flat_map (request_needs reading groups recording rank place) (completes h.call)))
     (sym (list_all-append (is_met s) (operation_needs reading groups recording rank place h.call) (flat_map (request_needs reading groups recording rank place) (completes h.call))) ∙ waited) in
     ⊎_elim
     (λ (own : start ≡ place).
@@ -155,23 +148,19 @@ awaited_met reading groups recording s rank start able h =
 operation_parts : (reading : Reading) (groups : Groups) (recording : Lists) (s : State) (rank place : ℕ) (there : Option Call) → slice_get (calls_of recording rank) place ≡ there → list_all (is_met s) (option_map_or (operation_needs reading groups recording rank place) there []) ≡ true → (list_all (is_met s) (option_map_or (message_needs reading groups recording rank place) there []) ≡ true) × (list_all (is_met s) (wave_needs groups recording rank place) ≡ true)
 operation_parts reading groups recording s rank place None e h = (refl, rw e refl)
 operation_parts reading groups recording s rank place (Some call) e h =
-    and_true (list_all (is_met s) (message_needs reading groups recording rank place call)) (list_all (is_met s) (wave_needs groups recording rank place))
+    and_parts (list_all (is_met s) (message_needs reading groups recording rank place call)) (list_all (is_met s) (wave_needs groups recording rank place))
     (sym (list_all-append (is_met s) (message_needs reading groups recording rank place call) (wave_needs groups recording rank place)) ∙ h)
-
-not_able : (b : Bool) → (b ≡ true → ⊥) → b ≡ false
-not_able true h = absurd (h refl)
-not_able false h = refl
 
 pub partner_stuck : (reading : Reading) (groups : Groups) (recording : Lists) (s : State) (rank start : ℕ) → NeedsPartner reading groups recording s rank start → can_move reading groups recording s rank ≡ false
 partner_stuck reading groups recording s rank start h =
-    not_able (can_move reading groups recording s rank)
+    false_from_ne_true (can_move reading groups recording s rank)
     (λ able.
     let parts = operation_parts reading groups recording s rank start (slice_get (calls_of recording rank) start) refl (awaited_met reading groups recording s rank start able h.is_awaited) in
     false≢true (sym h.is_unmet ∙ parts.0))
 
-pub wave_stuck : (reading : Reading) (groups : Groups) (recording : Lists) (s : State) (waves : Waves) (rank comm : ℕ) → AreWaves groups recording s waves IsNoException → NeedsWave groups recording s waves rank comm → can_move reading groups recording s rank ≡ false
+pub wave_stuck : (reading : Reading) (groups : Groups) (recording : Lists) (s : State) (waves : Progress) (rank comm : ℕ) → AreWaves groups recording s waves IsNoException → NeedsWave groups recording s waves rank comm → can_move reading groups recording s rank ≡ false
 wave_stuck reading groups recording s waves rank comm are h =
-    not_able (can_move reading groups recording s rank)
+    false_from_ne_true (can_move reading groups recording s rank)
     (λ able.
     let parts = operation_parts reading groups recording s rank h.start (slice_get (calls_of recording rank) h.start) refl (awaited_met reading groups recording s rank h.start able h.is_awaited) in
     open_unmet groups recording s waves rank h.start comm are (open_parts groups recording waves rank h.start comm h.is_joined) parts.1)
@@ -180,35 +169,35 @@ pub resting_stuck : (reading : Reading) (groups : Groups) (recording : Lists) (s
 resting_stuck reading groups recording s rank h = rw h refl
 
 -- What a look at one request, at a call and at a rank tells, from the looks that it is made of.
-pub told_request : (reading : Reading) (groups : Groups) (recording : Lists) (s : State) (waves : Waves) (rank place index start : ℕ) (look : Look) → completed_of recording rank place index ≡ Some start → TellsOperation reading groups recording s waves rank start look → TellsRequest reading groups recording s waves rank place index look
+pub told_request : (reading : Reading) (groups : Groups) (recording : Lists) (s : State) (waves : Progress) (rank place index start : ℕ) (look : Look) → completed_of recording rank place index ≡ Some start → TellsOperation reading groups recording s waves rank start look → TellsRequest reading groups recording s waves rank place index look
 told_request reading groups recording s waves rank place index start Over there h = h
 told_request reading groups recording s waves rank place index start Passes there h = rw there h
 told_request reading groups recording s waves rank place index start (Partner p) there h = (there ∙ ap (λ (k : ℕ). Some k) (sym h.0), rw h.0 h.1)
 told_request reading groups recording s waves rank place index start (Wave comm) there h = (start, there, h)
 
-pub told_completed : (reading : Reading) (groups : Groups) (recording : Lists) (s : State) (waves : Waves) (rank place index : ℕ) (call : Call) (look : Look) → look ≢ Passes → TellsRequest reading groups recording s waves rank place index look → TellsCompleted reading groups recording s waves rank place call look
+pub told_completed : (reading : Reading) (groups : Groups) (recording : Lists) (s : State) (waves : Progress) (rank place index : ℕ) (call : Call) (look : Look) → look ≢ Passes → TellsRequest reading groups recording s waves rank place index look → TellsCompleted reading groups recording s waves rank place call look
 told_completed reading groups recording s waves rank place index call Over other h = h
 told_completed reading groups recording s waves rank place index call Passes other h = absurd (other refl)
 told_completed reading groups recording s waves rank place index call (Partner p) other h = (index, h.0, h.1)
 told_completed reading groups recording s waves rank place index call (Wave comm) other h = (index, h.0, h.1, h.2)
 
-pub told_call_by_operation : (reading : Reading) (groups : Groups) (recording : Lists) (s : State) (waves : Waves) (rank place : ℕ) (call : Call) (look : Look) → slice_get (calls_of recording rank) place ≡ Some call → is_some (starts call) ≡ false → look ≢ Passes → TellsOperation reading groups recording s waves rank place look → TellsCall reading groups recording s waves rank place call look
+pub told_call_by_operation : (reading : Reading) (groups : Groups) (recording : Lists) (s : State) (waves : Progress) (rank place : ℕ) (call : Call) (look : Look) → slice_get (calls_of recording rank) place ≡ Some call → is_some (starts call) ≡ false → look ≢ Passes → TellsOperation reading groups recording s waves rank place look → TellsCall reading groups recording s waves rank place call look
 told_call_by_operation reading groups recording s waves rank place call Over there none other h = h
 told_call_by_operation reading groups recording s waves rank place call Passes there none other h = absurd (other refl)
 told_call_by_operation reading groups recording s waves rank place call (Partner p) there none other h = (record { call = call; is_present = there; starts_none = none; which = inl h.0 }, rw h.0 h.1)
 told_call_by_operation reading groups recording s waves rank place call (Wave comm) there none other h = (place, record { call = call; is_present = there; starts_none = none; which = inl refl }, h)
 
-pub told_call_by_requests : (reading : Reading) (groups : Groups) (recording : Lists) (s : State) (waves : Waves) (rank place : ℕ) (call : Call) (look : Look) → slice_get (calls_of recording rank) place ≡ Some call → is_some (starts call) ≡ false → list_all (is_met s) (operation_needs_at reading groups recording rank place) ≡ true → TellsCompleted reading groups recording s waves rank place call look → TellsCall reading groups recording s waves rank place call look
+pub told_call_by_requests : (reading : Reading) (groups : Groups) (recording : Lists) (s : State) (waves : Progress) (rank place : ℕ) (call : Call) (look : Look) → slice_get (calls_of recording rank) place ≡ Some call → is_some (starts call) ≡ false → list_all (is_met s) (operation_needs_at reading groups recording rank place) ≡ true → TellsCompleted reading groups recording s waves rank place call look → TellsCall reading groups recording s waves rank place call look
 told_call_by_requests reading groups recording s waves rank place call Over there none own h = h
 told_call_by_requests reading groups recording s waves rank place call Passes there none own h =
     let own_needs : list_all (is_met s) (operation_needs reading groups recording rank place call) ≡ true = rw there at own in
     rw none
     (list_all-append (is_met s) (operation_needs reading groups recording rank place call) (flat_map (request_needs reading groups recording rank place) (completes call))
-    ∙ and_both (list_all (is_met s) (operation_needs reading groups recording rank place call)) (list_all (is_met s) (flat_map (request_needs reading groups recording rank place) (completes call))) own_needs h)
+    ∙ and_from (list_all (is_met s) (operation_needs reading groups recording rank place call)) (list_all (is_met s) (flat_map (request_needs reading groups recording rank place) (completes call))) own_needs h)
 told_call_by_requests reading groups recording s waves rank place call (Partner p) there none own h = (record { call = call; is_present = there; starts_none = none; which = inr (h.0, h.1) }, h.2)
 told_call_by_requests reading groups recording s waves rank place call (Wave comm) there none own h = (h.1, record { call = call; is_present = there; starts_none = none; which = inr (h.0, h.2) }, h.3)
 
-pub told_rank : (reading : Reading) (groups : Groups) (recording : Lists) (s : State) (waves : Waves) (rank place : ℕ) (call : Call) (look : Look) → place ≡ get_or s rank 0 → slice_get (calls_of recording rank) place ≡ Some call → ends_list call ≡ false → TellsCall reading groups recording s waves rank place call look → TellsRank reading groups recording s waves rank look
+pub told_rank : (reading : Reading) (groups : Groups) (recording : Lists) (s : State) (waves : Progress) (rank place : ℕ) (call : Call) (look : Look) → place ≡ get_or s rank 0 → slice_get (calls_of recording rank) place ≡ Some call → ends_list call ≡ false → TellsCall reading groups recording s waves rank place call look → TellsRank reading groups recording s waves rank look
 told_rank reading groups recording s waves rank place call look stands there goes h =
     by_look look
     (subst (λ (k : ℕ). slice_get (calls_of recording rank) k ≡ Some call) stands there)

@@ -1,11 +1,11 @@
 -- What the wakes do that the reaching of a call takes.
-use Rattle.std.proofs.Common.{◌≡◌, ℕ, ◌+◌, ◌-◌, ◌*◌, ◌<◌, ◌≤◌, true, false, Option, Some, None, List, length, get_or, refl, sym, ap, subst, ◌∙◌, ⊎_elim, arith}
+use Rattle.std.proofs.Common.{◌≡◌, ℕ, zero, suc, ◌+◌, ◌-◌, ◌*◌, ◌<◌, ◌≤◌, true, false, Option, Some, None, List, [], ◌∷◌, length, get_or, refl, sym, ap, subst, ◌∙◌, ⊎_elim, arith}
 use Rattle.std.specs.Prelude.{◌^◌, min, ◌==◌, if◌then◌else◌}
 use Rattle.std.specs.List.{slice_get}
 use Rattle.std.specs.Option.{option_map, option_map_or, option_and_then}
 use Rattle.std.proofs.Math.Nat.{min-le_left}
 use Rattle.std.proofs.lemmas.List.{length-append}
-use Rattle.std.proofs.lemmas.Option.{slice_get_within, get_or_from_slice_get, slice_get-get_or}
+use Rattle.std.proofs.lemmas.Option.{none-some, same_Some, slice_get_within, get_or_from_slice_get, slice_get-get_or}
 use Rattle.std.proofs.lemmas.Bool.{cases_Bool, false≢true, eqb-true, eq-eqb}
 use Rattle.mpigroup.specs.Groups.{Groups, world_rank_of, group_rank_of}
 use Rattle.pairing.specs.declared.envelope.Envelope.{Envelope}
@@ -18,26 +18,25 @@ use Rattle.pairing.specs.Partners.{number_of, partner_of}
 use Rattle.pairing.specs.Probed.{probed_envelope, probed_envelope_at, probed_by, probed_of}
 use Rattle.pairing.proofs.PartnerLemmas.{and_then_parts, map_parts, numbered_parts, numbered_half}
 use Rattle.pairing.proofs.ProbedLemmas.{prober}
-use Rattle.arenalist.specs.Numbers.{list_at}
-use Rattle.moves.specs.Links.{count}
-use Rattle.moves.specs.Waiting.{Waiting, own_list, comm_list, woken, awaits, woken_at, woken_partner, sent_to, sees, prober_of, woken_prober, woken_comm, WaitsFor, HasLists}
-use Rattle.moves.proofs.LinkLemmas.{Wakes, wakes_none, wakes_both, wakes_list, appended_there, appended_work}
+use Rattle.arenalist.specs.Numbers.{count, list_at}
+use Rattle.moves.specs.Waiting.{WaitLists, own_list, comm_list, woken, awaits, woken_at, woken_partner, sent_to, sees, prober_of, woken_prober, woken_comm, WaitsFor, HasLists}
+use Rattle.moves.proofs.LinkLemmas.{Wakes, wakes_none, wakes_both, wakes_list, woken_there, woken_work}
 
 -- the greatest count
 abbrev pub most_work : ℕ
 most_work = 2 ^ 64 - 1
 
 -- what waking does to waiting ranks
-pub record Wakens (old new : Waiting) : Type 0 where
+pub record Wakens (old new : WaitLists) : Type 0 where
   pub wakes : Wakes old.lists new.lists
   pub same_spare : new.spare ≡ old.spare
   pub same_awaited : new.awaited ≡ old.awaited
   pub no_less : min old.work most_work ≤ min new.work most_work
 
-wakens_none : (w : Waiting) → Wakens w w
+wakens_none : (w : WaitLists) → Wakens w w
 wakens_none w = record { wakes = wakes_none w.lists; same_spare = refl; same_awaited = refl; no_less = omega arith }
 
-wakens_both : (a b c : Waiting) → Wakens a b → Wakens b c → Wakens a c
+wakens_both : (a b c : WaitLists) → Wakens a b → Wakens b c → Wakens a c
 wakens_both a b c h g = record {
   wakes = wakes_both a.lists b.lists c.lists h.wakes g.wakes;
   same_spare = g.same_spare ∙ h.same_spare;
@@ -45,20 +44,20 @@ wakens_both a b c h g = record {
   no_less = omega (arith, h.no_less, g.no_less);
 }
 
-wakens_list : (w : Waiting) (l : ℕ) → 0 < l → l < length w.lists → Wakens w (woken w l)
+wakens_list : (w : WaitLists) (l : ℕ) → 0 < l → l < length w.lists → Wakens w (woken w l)
 wakens_list w l later within = record { wakes = wakes_list w.lists l later within; same_spare = refl; same_awaited = refl; no_less = omega arith }
 
 awaits_there : (xs : List ℕ) (rank place : ℕ) (there : Option ℕ) → slice_get xs rank ≡ there → option_map_or (λ awaited. awaited == place) there false ≡ true → (rank < length xs) × (get_or xs rank 0 ≡ place)
 awaits_there xs rank place None e h = absurd (false≢true h)
 awaits_there xs rank place (Some awaited) e h = (slice_get_within xs rank awaited e, get_or_from_slice_get xs rank awaited 0 e ∙ eqb-true awaited place h)
 
-awaits_parts : (w : Waiting) (rank place : ℕ) → awaits w rank place ≡ true → (rank < length w.awaited) × (get_or w.awaited rank 0 ≡ place)
+awaits_parts : (w : WaitLists) (rank place : ℕ) → awaits w rank place ≡ true → (rank < length w.awaited) × (get_or w.awaited rank 0 ≡ place)
 awaits_parts w rank place h = awaits_there w.awaited rank place (slice_get w.awaited rank) refl h
 
-awaits_from : (w : Waiting) (rank : ℕ) → rank < length w.awaited → awaits w rank (get_or w.awaited rank 0) ≡ true
+awaits_from : (w : WaitLists) (rank : ℕ) → rank < length w.awaited → awaits w rank (get_or w.awaited rank 0) ≡ true
 awaits_from w rank within = rw (slice_get-get_or w.awaited rank 0 within) (eq-eqb (get_or w.awaited rank 0) (get_or w.awaited rank 0) refl)
 
-wakens_at : (w : Waiting) (partner : ℕ × ℕ) → 1 + length w.awaited ≤ length w.lists → Wakens w (woken_at w partner)
+wakens_at : (w : WaitLists) (partner : ℕ × ℕ) → 1 + length w.awaited ≤ length w.lists → Wakens w (woken_at w partner)
 wakens_at w partner room =
     ⊎_elim
     (λ (yes : awaits w partner.0 partner.1 ≡ true).
@@ -67,27 +66,27 @@ wakens_at w partner room =
     (λ (no : awaits w partner.0 partner.1 ≡ false). rw no (wakens_none w))
     (cases_Bool (awaits w partner.0 partner.1))
 
-wakens_partner : (w : Waiting) (partner : Option (ℕ × ℕ)) → 1 + length w.awaited ≤ length w.lists → Wakens w (woken_partner w partner)
+wakens_partner : (w : WaitLists) (partner : Option (ℕ × ℕ)) → 1 + length w.awaited ≤ length w.lists → Wakens w (woken_partner w partner)
 wakens_partner w None room = wakens_none w
 wakens_partner w (Some partner) room = wakens_at w partner room
 
 -- the rank that waits for the partner is in its list no more
-emptied_by : (w : Waiting) (rank r : ℕ) (partner : Option (ℕ × ℕ)) → rank < length w.awaited → 1 + length w.awaited ≤ length w.lists → partner ≡ Some (rank, get_or w.awaited rank 0) → count r (list_at (woken_partner w partner).lists (own_list rank)) ≡ 0
-emptied_by w rank r partner within room is = rw is (rw (awaits_from w rank within) (ap (count r) (appended_there w.lists (own_list rank) (omega arith) (omega (arith, within, room)))))
+emptied_by : (w : WaitLists) (rank r : ℕ) (partner : Option (ℕ × ℕ)) → rank < length w.awaited → 1 + length w.awaited ≤ length w.lists → partner ≡ Some (rank, get_or w.awaited rank 0) → count r (list_at (woken_partner w partner).lists (own_list rank)) ≡ 0
+emptied_by w rank r partner within room is = rw is (rw (awaits_from w rank within) (ap (count r) (woken_there w.lists (own_list rank) (omega arith) (omega (arith, within, room)))))
 
-wakens_comm : (w : Waiting) (done : Option ℕ) (comms : ℕ) → ((comm : ℕ) → done ≡ Some comm → comm_list (length w.awaited) comm < length w.lists) → Wakens w (woken_comm w done)
-wakens_comm w None comms within = wakens_none w
-wakens_comm w (Some comm) comms within = wakens_list w (comm_list (length w.awaited) comm) (omega arith) (within comm refl)
+wakens_comm : (w : WaitLists) (done : Option ℕ) → ((comm : ℕ) → done ≡ Some comm → comm_list (length w.awaited) comm < length w.lists) → Wakens w (woken_comm w done)
+wakens_comm w None within = wakens_none w
+wakens_comm w (Some comm) within = wakens_list w (comm_list (length w.awaited) comm) (omega arith) (within comm refl)
 
 -- what wakes cost: four for each rank that is woken
-abbrev pub load : Waiting → ℕ
+abbrev pub load : WaitLists → ℕ
 load w = w.work + 2 * length (list_at w.lists 0)
 
-pub list_cost : (w : Waiting) (l : ℕ) → 0 < l → l < length w.lists → load (woken w l) ≤ load w + 4 * length (list_at w.lists l)
+pub list_cost : (w : WaitLists) (l : ℕ) → 0 < l → l < length w.lists → load (woken w l) ≤ load w + 4 * length (list_at w.lists l)
 list_cost w l later within =
-    omega (arith, min-le_left (w.work + 2 * length (list_at w.lists l)) most_work, ap (length {A = ℕ × ℕ}) (appended_work w.lists l later within), length-append (list_at w.lists 0) (list_at w.lists l))
+    omega (arith, min-le_left (w.work + 2 * length (list_at w.lists l)) most_work, ap (length {A = ℕ}) (woken_work w.lists l later within), length-append (list_at w.lists 0) (list_at w.lists l))
 
-pub partner_cost : (w : Waiting) (partner : Option (ℕ × ℕ)) → 1 + length w.awaited ≤ length w.lists → ((rank : ℕ) → rank < length w.awaited → length (list_at w.lists (own_list rank)) ≤ 1) → load (woken_partner w partner) ≤ load w + 4
+pub partner_cost : (w : WaitLists) (partner : Option (ℕ × ℕ)) → 1 + length w.awaited ≤ length w.lists → ((rank : ℕ) → rank < length w.awaited → length (list_at w.lists (own_list rank)) ≤ 1) → load (woken_partner w partner) ≤ load w + 4
 partner_cost w None room short = omega arith
 partner_cost w (Some partner) room short =
     ⊎_elim
@@ -134,125 +133,118 @@ no_prober groups recording awaited rank place none = by_rank (sent_to groups rec
     by_rank None = refl
     by_rank (Some other) = by_start other (slice_get awaited other)
 
-pub none_probe : (groups : Groups) (recording : Lists) (rank place : ℕ) (w : Waiting) → ((other start : ℕ) → probed_of groups recording other start ≡ None) → w ≡ woken_prober groups recording rank place w
+pub none_probe : (groups : Groups) (recording : Lists) (rank place : ℕ) (w : WaitLists) → ((other start : ℕ) → probed_of groups recording other start ≡ None) → w ≡ woken_prober groups recording rank place w
 none_probe groups recording rank place w none = rw (no_prober groups recording w.awaited rank place none) refl
 
-room_of : (groups : Groups) (recording : Lists) (w : Waiting) → HasLists groups recording w → 1 + length w.awaited ≤ length w.lists
+room_of : (groups : Groups) (recording : Lists) (w : WaitLists) → HasLists groups recording w → 1 + length w.awaited ≤ length w.lists
 room_of groups recording w h = omega (arith, h.lists, h.awaited)
 
-room_on : (w new : Waiting) → Wakens w new → 1 + length w.awaited ≤ length w.lists → 1 + length new.awaited ≤ length new.lists
+room_on : (w new : WaitLists) → Wakens w new → 1 + length w.awaited ≤ length w.lists → 1 + length new.awaited ≤ length new.lists
 room_on w new wakens room = omega (arith, room, ap (length {A = ℕ}) wakens.same_awaited, wakens.wakes.lists)
 
--- the wakes that the reaching of a call takes, one after the other
-abbrev pub sent_woken : Groups → Lists → ℕ → ℕ → Waiting → Waiting
-sent_woken groups recording rank place w = woken_partner w (partner_of groups recording rank place SendHalf)
+-- the waiting ranks once those are to be looked at that wait for one of some calls
+abbrev pub woken_each : WaitLists → List (Option (ℕ × ℕ)) → WaitLists
+woken_each w [] = w
+woken_each w (partner ∷ more) = woken_each (woken_partner w partner) more
 
-abbrev pub received_woken : Groups → Lists → ℕ → ℕ → Waiting → Waiting
-received_woken groups recording rank place w = woken_partner (sent_woken groups recording rank place w) (partner_of groups recording rank place RecvHalf)
+wakens_each : (w : WaitLists) (partners : List (Option (ℕ × ℕ))) → 1 + length w.awaited ≤ length w.lists → Wakens w (woken_each w partners)
+wakens_each w [] room = wakens_none w
+wakens_each w (partner ∷ more) room =
+    let next : WaitLists = woken_partner w partner in
+    let first = wakens_partner w partner room in
+    wakens_both w next (woken_each next more) first (wakens_each next more (room_on w next first room))
 
-abbrev pub prober_woken : Groups → Lists → ℕ → ℕ → Waiting → Waiting
-prober_woken groups recording rank place w = woken_prober groups recording rank place (received_woken groups recording rank place w)
+each_emptied : (w : WaitLists) (partners : List (Option (ℕ × ℕ))) (i rank r : ℕ) → rank < length w.awaited → 1 + length w.awaited ≤ length w.lists → slice_get partners i ≡ Some (Some (rank, get_or w.awaited rank 0)) → count r (list_at (woken_each w partners).lists (own_list rank)) ≡ 0
+each_emptied w [] i rank r within room is = absurd (none-some (Some (rank, get_or w.awaited rank 0)) is)
+each_emptied w (partner ∷ more) zero rank r within room is =
+    let next : WaitLists = woken_partner w partner in
+    let none = emptied_by w rank r partner within room (same_Some partner (Some (rank, get_or w.awaited rank 0)) is) in
+    omega (arith, none, (wakens_each next more (room_on w next (wakens_partner w partner room) room)).wakes.fewer r (own_list rank) (omega arith))
+each_emptied w (partner ∷ more) (suc i) rank r within room is =
+    let next : WaitLists = woken_partner w partner in
+    let first = wakens_partner w partner room in
+    each_emptied next more i rank r (omega (arith, within, ap (length {A = ℕ}) first.same_awaited)) (room_on w next first room)
+    (is ∙ ap (λ (xs : List ℕ). Some (Some (rank, get_or xs rank 0))) (sym first.same_awaited))
 
-abbrev pub all_woken : Groups → Lists → ℕ → ℕ → Waiting → Option ℕ → Waiting
-all_woken groups recording rank place w done = woken_comm (prober_woken groups recording rank place w) done
+each_cost : (w : WaitLists) (partners : List (Option (ℕ × ℕ))) → 1 + length w.awaited ≤ length w.lists → ((x : WaitLists) → Wakens w x → (owner : ℕ) → owner < length x.awaited → length (list_at x.lists (own_list owner)) ≤ 1) → load (woken_each w partners) ≤ load w + 4 * length partners
+each_cost w [] room short = omega arith
+each_cost w (partner ∷ more) room short =
+    let next : WaitLists = woken_partner w partner in
+    let first = wakens_partner w partner room in
+    omega (arith, partner_cost w partner room (short w (wakens_none w)), each_cost next more (room_on w next first room) (λ x wakens. short x (wakens_both w next x first wakens)))
 
--- what each of them does
-pub record AllWaken (groups : Groups) (recording : Lists) (rank place : ℕ) (w : Waiting) : Type 0 where
-  pub sent : Wakens w (sent_woken groups recording rank place w)
-  pub received : Wakens (sent_woken groups recording rank place w) (received_woken groups recording rank place w)
-  pub prober : Wakens (received_woken groups recording rank place w) (prober_woken groups recording rank place w)
-  pub halves : Wakens w (received_woken groups recording rank place w)
-  pub all : Wakens w (prober_woken groups recording rank place w)
+-- whom the reaching of a call wakes, beside the members of a wave: who waits for it as a partner, or at a probe
+abbrev pub partners_of : Groups → Lists → List ℕ → ℕ → ℕ → List (Option (ℕ × ℕ))
+partners_of groups recording awaited rank place =
+    partner_of groups recording rank place SendHalf ∷ partner_of groups recording rank place RecvHalf ∷ prober_of groups recording awaited rank place ∷ []
 
-pub each_wakens : (groups : Groups) (recording : Lists) (rank place : ℕ) (w : Waiting) → 1 + length w.awaited ≤ length w.lists → AllWaken groups recording rank place w
-each_wakens groups recording rank place w room =
-    let sent : Wakens w (sent_woken groups recording rank place w) = wakens_partner w (partner_of groups recording rank place SendHalf) room in
-    let received : Wakens (sent_woken groups recording rank place w) (received_woken groups recording rank place w) = wakens_partner (sent_woken groups recording rank place w) (partner_of groups recording rank place RecvHalf) (room_on w (sent_woken groups recording rank place w) sent room) in
-    let halves = wakens_both w (sent_woken groups recording rank place w) (received_woken groups recording rank place w) sent received in
-    let prober : Wakens (received_woken groups recording rank place w) (prober_woken groups recording rank place w) =
-    wakens_partner (received_woken groups recording rank place w) (prober_of groups recording (received_woken groups recording rank place w).awaited rank place) (room_on w (received_woken groups recording rank place w) halves room) in
-    record {
-      sent = sent;
-      received = received;
-      prober = prober;
-      halves = halves;
-      all = wakens_both w (received_woken groups recording rank place w) (prober_woken groups recording rank place w) halves prober;
-    }
+abbrev pub all_woken : Groups → Lists → ℕ → ℕ → WaitLists → Option ℕ → WaitLists
+all_woken groups recording rank place w done = woken_comm (woken_each w (partners_of groups recording w.awaited rank place)) done
 
-last_wakens : (groups : Groups) (recording : Lists) (rank place : ℕ) (w : Waiting) (done : Option ℕ) → HasLists groups recording w → ((comm : ℕ) → done ≡ Some comm → comm < length groups) → Wakens (prober_woken groups recording rank place w) (all_woken groups recording rank place w done)
-last_wakens groups recording rank place w done h known =
-    let each = each_wakens groups recording rank place w (room_of groups recording w h) in
-    wakens_comm (prober_woken groups recording rank place w) done (length groups)
-    (λ comm e. omega (arith, known comm e, h.lists, h.awaited, each.all.wakes.lists, ap (length {A = ℕ}) each.all.same_awaited))
-
-pub all_wakens : (groups : Groups) (recording : Lists) (rank place : ℕ) (w : Waiting) (done : Option ℕ) → HasLists groups recording w → ((comm : ℕ) → done ≡ Some comm → comm < length groups) → Wakens w (all_woken groups recording rank place w done)
-all_wakens groups recording rank place w done h known =
-    let each = each_wakens groups recording rank place w (room_of groups recording w h) in
-    wakens_both w (prober_woken groups recording rank place w) (all_woken groups recording rank place w done) each.all (last_wakens groups recording rank place w done h known)
-
--- who waits for the call as a partner is in its list no more
-partner_emptied : (groups : Groups) (recording : Lists) (rank place : ℕ) (w : Waiting) (done : Option ℕ) (other r : ℕ) (half : Half) → HasLists groups recording w → ((comm : ℕ) → done ≡ Some comm → comm < length groups) → other < length recording → partner_of groups recording rank place half ≡ Some (other, get_or w.awaited other 0) → count r (list_at (all_woken groups recording rank place w done).lists (own_list other)) ≡ 0
-partner_emptied groups recording rank place w done other r SendHalf h known is_rank is =
-    let each = each_wakens groups recording rank place w (room_of groups recording w h) in
-    let last = last_wakens groups recording rank place w done h known in
-    let none = emptied_by w other r (partner_of groups recording rank place SendHalf) (omega (arith, is_rank, h.awaited)) (room_of groups recording w h) is in
-    omega (arith, none, each.received.wakes.fewer r (own_list other) (omega arith), each.prober.wakes.fewer r (own_list other) (omega arith), last.wakes.fewer r (own_list other) (omega arith))
-partner_emptied groups recording rank place w done other r RecvHalf h known is_rank is =
-    let each = each_wakens groups recording rank place w (room_of groups recording w h) in
-    let last = last_wakens groups recording rank place w done h known in
-    let first : Waiting = sent_woken groups recording rank place w in
-    let received = partner_of groups recording rank place RecvHalf in
-    let awaited : received ≡ Some (other, get_or first.awaited other 0) = is ∙ ap (λ (xs : List ℕ). Some (other, get_or xs other 0)) (sym each.sent.same_awaited) in
-    let none = emptied_by first other r received (omega (arith, is_rank, h.awaited, ap (length {A = ℕ}) each.sent.same_awaited)) (room_on w first each.sent (room_of groups recording w h)) awaited in
-    omega (arith, none, each.prober.wakes.fewer r (own_list other) (omega arith), last.wakes.fewer r (own_list other) (omega arith))
-
--- nor who waits at a probe that sees it
-prober_emptied : (groups : Groups) (recording : Lists) (rank place : ℕ) (w : Waiting) (done : Option ℕ) (other r : ℕ) → HasLists groups recording w → ((comm : ℕ) → done ≡ Some comm → comm < length groups) → other < length recording → probed_of groups recording other (get_or w.awaited other 0) ≡ Some (rank, place) → count r (list_at (all_woken groups recording rank place w done).lists (own_list other)) ≡ 0
-prober_emptied groups recording rank place w done other r h known is_rank is =
-    let each = each_wakens groups recording rank place w (room_of groups recording w h) in
-    let last = last_wakens groups recording rank place w done h known in
-    let both : Waiting = received_woken groups recording rank place w in
-    let within : other < length both.awaited = omega (arith, is_rank, h.awaited, ap (length {A = ℕ}) each.halves.same_awaited) in
-    let seen : probed_of groups recording other (get_or both.awaited other 0) ≡ Some (rank, place) = ap (λ (xs : List ℕ). probed_of groups recording other (get_or xs other 0)) each.halves.same_awaited ∙ is in
-    let none = emptied_by both other r (prober_of groups recording both.awaited rank place) within (room_on w both each.halves (room_of groups recording w h)) (prober_is groups recording both.awaited rank place other within seen) in
-    omega (arith, none, last.wakes.fewer r (own_list other) (omega arith))
-
-pub waiter_emptied : (groups : Groups) (recording : Lists) (rank place : ℕ) (w : Waiting) (done : Option ℕ) (other r : ℕ) → HasLists groups recording w → ((comm : ℕ) → done ≡ Some comm → comm < length groups) → other < length recording → WaitsFor groups recording rank place other (get_or w.awaited other 0) → count r (list_at (all_woken groups recording rank place w done).lists (own_list other)) ≡ 0
-waiter_emptied groups recording rank place w done other r h known is_rank waits =
+-- it is done one after the other
+same_awaited : (w : WaitLists) (partner : Option (ℕ × ℕ)) → (woken_partner w partner).awaited ≡ w.awaited
+same_awaited w None = refl
+same_awaited w (Some partner) =
     ⊎_elim
-    (λ (partner : (half : Half) × (partner_of groups recording rank place half ≡ Some (other, get_or w.awaited other 0))).
-    partner_emptied groups recording rank place w done other r partner.0 h known is_rank partner.1)
+    (λ (yes : awaits w partner.0 partner.1 ≡ true). rw yes refl)
+    (λ (no : awaits w partner.0 partner.1 ≡ false). rw no refl)
+    (cases_Bool (awaits w partner.0 partner.1))
+
+pub one_by_one : (groups : Groups) (recording : Lists) (rank place : ℕ) (w one two three : WaitLists) → one ≡ woken_partner w (partner_of groups recording rank place SendHalf) → two ≡ woken_partner one (partner_of groups recording rank place RecvHalf) → three ≡ woken_prober groups recording rank place two → three ≡ all_woken groups recording rank place w None
+one_by_one groups recording rank place w one two three first second third =
+    let awaited : two.awaited ≡ w.awaited =
+    ap (λ (x : WaitLists). x.awaited) second ∙ same_awaited one (partner_of groups recording rank place RecvHalf)
+    ∙ ap (λ (x : WaitLists). x.awaited) first ∙ same_awaited w (partner_of groups recording rank place SendHalf) in
+    third ∙ ap (λ (xs : List ℕ). woken_partner two (prober_of groups recording xs rank place)) awaited
+    ∙ ap (λ (x : WaitLists). woken_partner x (prober_of groups recording w.awaited rank place)) (second ∙ ap (λ (x : WaitLists). woken_partner x (partner_of groups recording rank place RecvHalf)) first)
+
+-- what all of it does
+last_wakens : (groups : Groups) (recording : Lists) (w : WaitLists) (partners : List (Option (ℕ × ℕ))) (done : Option ℕ) → HasLists groups recording w → ((comm : ℕ) → done ≡ Some comm → comm < length groups) → Wakens (woken_each w partners) (woken_comm (woken_each w partners) done)
+last_wakens groups recording w partners done h known =
+    let each = wakens_each w partners (room_of groups recording w h) in
+    wakens_comm (woken_each w partners) done
+    (λ comm e. omega (arith, known comm e, h.lists, h.awaited, each.wakes.lists, ap (length {A = ℕ}) each.same_awaited))
+
+pub all_wakens : (groups : Groups) (recording : Lists) (rank place : ℕ) (w : WaitLists) (done : Option ℕ) → HasLists groups recording w → ((comm : ℕ) → done ≡ Some comm → comm < length groups) → Wakens w (all_woken groups recording rank place w done)
+all_wakens groups recording rank place w done h known =
+    let partners = partners_of groups recording w.awaited rank place in
+    wakens_both w (woken_each w partners) (all_woken groups recording rank place w done) (wakens_each w partners (room_of groups recording w h)) (last_wakens groups recording w partners done h known)
+
+-- who waits for the call is in its list no more
+pub waiter_emptied : (groups : Groups) (recording : Lists) (rank place : ℕ) (w : WaitLists) (done : Option ℕ) (other r : ℕ) → HasLists groups recording w → ((comm : ℕ) → done ≡ Some comm → comm < length groups) → other < length recording → WaitsFor groups recording rank place other (get_or w.awaited other 0) → count r (list_at (all_woken groups recording rank place w done).lists (own_list other)) ≡ 0
+waiter_emptied groups recording rank place w done other r h known is_rank waits =
+    let within : other < length w.awaited = omega (arith, is_rank, h.awaited) in
+    ⊎_elim
+    (λ (partner : (half : Half) × (partner_of groups recording rank place half ≡ Some (other, get_or w.awaited other 0))). by_half partner.0 partner.1)
     (λ (probe : probed_of groups recording other (get_or w.awaited other 0) ≡ Some (rank, place)).
-    prober_emptied groups recording rank place w done other r h known is_rank probe)
+    by_index 2 (ap (λ (o : Option (ℕ × ℕ)). Some o) (prober_is groups recording w.awaited rank place other within probe)))
     waits
+  where
+    by_index : (i : ℕ) → slice_get (partners_of groups recording w.awaited rank place) i ≡ Some (Some (other, get_or w.awaited other 0)) → count r (list_at (all_woken groups recording rank place w done).lists (own_list other)) ≡ 0
+    by_index i is =
+        let partners = partners_of groups recording w.awaited rank place in
+        omega (arith, each_emptied w partners i other r (omega (arith, is_rank, h.awaited)) (room_of groups recording w h) is, (last_wakens groups recording w partners done h known).wakes.fewer r (own_list other) (omega arith))
+
+    by_half : (half : Half) → partner_of groups recording rank place half ≡ Some (other, get_or w.awaited other 0) → count r (list_at (all_woken groups recording rank place w done).lists (own_list other)) ≡ 0
+    by_half SendHalf is = by_index 0 (ap (λ (o : Option (ℕ × ℕ)). Some o) is)
+    by_half RecvHalf is = by_index 1 (ap (λ (o : Option (ℕ × ℕ)). Some o) is)
 
 -- who waits for the communicator's waves is in its list no more, once one of them is complete
-comm_emptied : (w : Waiting) (comm r : ℕ) → comm_list (length w.awaited) comm < length w.lists → count r (list_at (woken_comm w (Some comm)).lists (comm_list (length w.awaited) comm)) ≡ 0
-comm_emptied w comm r within = ap (count r) (appended_there w.lists (comm_list (length w.awaited) comm) (omega arith) within)
-
-pub wave_emptied : (groups : Groups) (recording : Lists) (rank place : ℕ) (w : Waiting) (comm r : ℕ) → HasLists groups recording w → comm < length groups → count r (list_at (all_woken groups recording rank place w (Some comm)).lists (comm_list (length recording) comm)) ≡ 0
+pub wave_emptied : (groups : Groups) (recording : Lists) (rank place : ℕ) (w : WaitLists) (comm r : ℕ) → HasLists groups recording w → comm < length groups → count r (list_at (all_woken groups recording rank place w (Some comm)).lists (comm_list (length recording) comm)) ≡ 0
 wave_emptied groups recording rank place w comm r h known =
-    let each = each_wakens groups recording rank place w (room_of groups recording w h) in
-    let last : Waiting = prober_woken groups recording rank place w in
-    let ranks : length last.awaited ≡ length recording = ap (length {A = ℕ}) each.all.same_awaited ∙ h.awaited in
-    let none = comm_emptied last comm r (omega (arith, known, h.lists, ranks, each.all.wakes.lists)) in
+    let partners = partners_of groups recording w.awaited rank place in
+    let each = wakens_each w partners (room_of groups recording w h) in
+    let last : WaitLists = woken_each w partners in
+    let ranks : length last.awaited ≡ length recording = ap (length {A = ℕ}) each.same_awaited ∙ h.awaited in
+    let none = ap (count r) (woken_there last.lists (comm_list (length last.awaited) comm) (omega arith) (omega (arith, known, h.lists, ranks, each.wakes.lists))) in
     subst (λ (n : ℕ). count r (list_at (all_woken groups recording rank place w (Some comm)).lists (comm_list n comm)) ≡ 0) ranks none
 
--- what the three first of them cost
-pub three_cost : (groups : Groups) (recording : Lists) (rank place : ℕ) (w : Waiting) → 1 + length w.awaited ≤ length w.lists → ((x : Waiting) → Wakens w x → (owner : ℕ) → owner < length x.awaited → length (list_at x.lists (own_list owner)) ≤ 1) → load (prober_woken groups recording rank place w) ≤ load w + 12
-three_cost groups recording rank place w room short =
-    let each = each_wakens groups recording rank place w room in
-    let first : Waiting = sent_woken groups recording rank place w in
-    let both : Waiting = received_woken groups recording rank place w in
-    omega (
-      arith,
-      partner_cost w (partner_of groups recording rank place SendHalf) room (short w (wakens_none w)),
-      partner_cost first (partner_of groups recording rank place RecvHalf) (room_on w first each.sent room) (short first each.sent),
-      partner_cost both (prober_of groups recording both.awaited rank place) (room_on w both each.halves room) (short both each.halves),
-    )
+-- what they cost that wait for the call
+pub three_cost : (groups : Groups) (recording : Lists) (rank place : ℕ) (w : WaitLists) → 1 + length w.awaited ≤ length w.lists → ((x : WaitLists) → Wakens w x → (owner : ℕ) → owner < length x.awaited → length (list_at x.lists (own_list owner)) ≤ 1) → load (all_woken groups recording rank place w None) ≤ load w + 12
+three_cost groups recording rank place w room short = each_cost w (partners_of groups recording w.awaited rank place) room short
 
 -- where no call is there, none is woken
-pub none_woken : (groups : Groups) (recording : Lists) (rank place : ℕ) (w : Waiting) → slice_get (calls_of recording rank) place ≡ None → prober_woken groups recording rank place w ≡ w
+pub none_woken : (groups : Groups) (recording : Lists) (rank place : ℕ) (w : WaitLists) → slice_get (calls_of recording rank) place ≡ None → all_woken groups recording rank place w None ≡ w
 none_woken groups recording rank place w none =
     let sent : partner_of groups recording rank place SendHalf ≡ None = rw none refl in
     let received : partner_of groups recording rank place RecvHalf ≡ None = rw none refl in

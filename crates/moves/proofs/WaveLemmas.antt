@@ -1,20 +1,21 @@
 -- How far waves are once a rank has reached its call of one.
-use Rattle.std.proofs.Common.{◌≡◌, ℕ, zero, suc, ◌+◌, ◌<◌, ◌≤◌, ◌≢◌, Bool, true, false, Option, Some, None, List, [], ◌∷◌, length, take, get_or, set, refl, sym, ap, subst, ◌∙◌, ⊎_elim, arith, get_or-set_same, get_or-set_other}
+use Rattle.std.proofs.Common.{◌≡◌, ℕ, zero, suc, ◌+◌, ◌<◌, ◌≤◌, ◌≢◌, true, false, Option, Some, None, List, [], ◌∷◌, length, take, get_or, set, refl, sym, ap, subst, ◌∙◌, ⊎_elim, arith, get_or-set_same, get_or-set_other}
 use Rattle.std.specs.List.{slice_get}
 use Rattle.std.specs.Option.{option_map, option_map_or}
 use Rattle.std.proofs.lemmas.List.{length-set, length-take}
 use Rattle.std.proofs.lemmas.Option.{none-some, same_Some, some_pair_parts, slice_get_within, slice_get-get_or}
-use Rattle.std.proofs.lemmas.Bool.{cases_eq, cases_lt, cases_Bool, false≢true, leb-true, le-leb}
+use Rattle.std.proofs.lemmas.Bool.{cases_eq, cases_lt, false≢true, leb-true, le-leb}
 use Rattle.mpigroup.specs.Groups.{Groups, group_of, world_rank_of}
 use Rattle.pairing.specs.Recordings.{Lists, calls_of}
 use Rattle.pairing.specs.Places.{places_from, count_before}
 use Rattle.pairing.specs.Waves.{joins, does_join, place_in_wave, wave_of}
 use Rattle.pairing.proofs.PartnerLemmas.{and_then_parts, map_parts}
+use Rattle.pairing.proofs.PlacesLemmas.{places_most}
 use Rattle.pairing.proofs.PlaceLemmas.{places_rise}
 use Rattle.pairing.proofs.WaveLemmas.{the_call_in_a_wave_joins_it}
 use Rattle.moves.specs.Runs.{State}
 use Rattle.moves.specs.declared.need.Need.TheVariants.{At, Lacking}
-use Rattle.moves.specs.declared.waves.Waves.{Waves}
+use Rattle.moves.specs.declared.progress.Progress.{Progress}
 use Rattle.moves.specs.Needs.{member_need, is_met}
 use Rattle.moves.specs.Waiting.{HasJoined, complete_of, met_of, AreWaves, IsNoException}
 
@@ -58,20 +59,11 @@ comm_there (group ∷ groups) (suc comm) g rank h = omega (arith, comm_there gro
 pub comm_is : (groups : Groups) (comm g rank : ℕ) → world_rank_of groups comm g ≡ Some rank → (comm < length groups) × (g < length (group_of groups comm))
 comm_is groups comm g rank h = (comm_there groups comm g rank h, slice_get_within (group_of groups comm) g rank h)
 
--- the number of a wave is no more than the place of a call in it
-places_most : {A : Type 0} (n : ℕ) (test : A → Bool) (xs : List A) → length (places_from n test xs) ≤ length xs
-places_most n test [] = omega arith
-places_most n test (x ∷ xs) =
-    ⊎_elim
-    (λ (here : test x ≡ true). rw here (omega (arith, places_most (n + 1) test xs)))
-    (λ (fails : test x ≡ false). rw fails (omega (arith, places_most (n + 1) test xs)))
-    (cases_Bool (test x))
-
 -- whom the waves except: the rank's call that was just reached
-abbrev pub IsNew : Lists → Waves → ℕ → ℕ → ℕ → ℕ → Type 0
+abbrev pub IsNew : Lists → Progress → ℕ → ℕ → ℕ → ℕ → Type 0
 IsNew recording waves rank place comm member = (member ≡ rank) × (wave_of recording rank place ≡ Some (comm, complete_of waves comm))
 
-pub fewer_excepted : (groups : Groups) (recording : Lists) (s : State) (waves : Waves) (E F : ℕ → ℕ → Type 0) → AreWaves groups recording s waves E → ((comm member : ℕ) → world_rank_of groups comm (met_of waves comm) ≡ Some member → E comm member → F comm member) → AreWaves groups recording s waves F
+pub fewer_excepted : (groups : Groups) (recording : Lists) (s : State) (waves : Progress) (E F : ℕ → ℕ → Type 0) → AreWaves groups recording s waves E → ((comm member : ℕ) → world_rank_of groups comm (met_of waves comm) ≡ Some member → E comm member → F comm member) → AreWaves groups recording s waves F
 fewer_excepted groups recording s waves E F h on = record {
   completes = h.completes;
   meets = h.meets;
@@ -82,12 +74,12 @@ fewer_excepted groups recording s waves E F h on = record {
       (next.0, next.1, λ joined. on comm next.0 next.1 (next.2 joined));
 }
 
-pub joins_none : (groups : Groups) (recording : Lists) (s : State) (waves : Waves) (rank place : ℕ) → AreWaves groups recording s waves (IsNew recording waves rank place) → wave_of recording rank place ≡ None → AreWaves groups recording s waves IsNoException
+pub joins_none : (groups : Groups) (recording : Lists) (s : State) (waves : Progress) (rank place : ℕ) → AreWaves groups recording s waves (IsNew recording waves rank place) → wave_of recording rank place ≡ None → AreWaves groups recording s waves IsNoException
 joins_none groups recording s waves rank place h none =
     fewer_excepted groups recording s waves (IsNew recording waves rank place) IsNoException h
     (λ comm member is e. none-some (comm, complete_of waves comm) (sym none ∙ e.1))
 
-pub joins_another : (groups : Groups) (recording : Lists) (s : State) (waves : Waves) (rank place comm wave : ℕ) → AreWaves groups recording s waves (IsNew recording waves rank place) → wave_of recording rank place ≡ Some (comm, wave) → ((complete_of waves comm ≡ wave) × (world_rank_of groups comm (met_of waves comm) ≡ Some rank) → ⊥) → AreWaves groups recording s waves IsNoException
+pub joins_another : (groups : Groups) (recording : Lists) (s : State) (waves : Progress) (rank place comm wave : ℕ) → AreWaves groups recording s waves (IsNew recording waves rank place) → wave_of recording rank place ≡ Some (comm, wave) → ((complete_of waves comm ≡ wave) × (world_rank_of groups comm (met_of waves comm) ≡ Some rank) → ⊥) → AreWaves groups recording s waves IsNoException
 joins_another groups recording s waves rank place comm wave h there not_wanting =
     fewer_excepted groups recording s waves (IsNew recording waves rank place) IsNoException h
     (λ other member is e.
@@ -98,7 +90,7 @@ joins_another groups recording s waves rank place comm wave h there not_wanting 
     ))
 
 -- The rank whose call was wanting has reached it. Then so have the members from it on up to some one.
-pub record Passes (groups : Groups) (recording : Lists) (s : State) (waves : Waves) (rank place comm wave missing : ℕ) : Type 0 where
+pub record Passes (groups : Groups) (recording : Lists) (s : State) (waves : Progress) (rank place comm wave missing : ℕ) : Type 0 where
   pub before : AreWaves groups recording s waves (IsNew recording waves rank place)
   pub there : wave_of recording rank place ≡ Some (comm, wave)
   pub is_next : complete_of waves comm ≡ wave
@@ -107,11 +99,11 @@ pub record Passes (groups : Groups) (recording : Lists) (s : State) (waves : Wav
   pub least : met_of waves comm + 1 ≤ missing
   pub met : (g member : ℕ) → met_of waves comm + 1 ≤ g → g < missing → world_rank_of groups comm g ≡ Some member → is_met s (member_need recording comm wave member) ≡ true
 
-passer_joined : (groups : Groups) (recording : Lists) (s : State) (waves : Waves) (rank place comm wave missing : ℕ) → Passes groups recording s waves rank place comm wave missing → HasJoined recording s comm wave rank
+passer_joined : (groups : Groups) (recording : Lists) (s : State) (waves : Progress) (rank place comm wave missing : ℕ) → Passes groups recording s waves rank place comm wave missing → HasJoined recording s comm wave rank
 passer_joined groups recording s waves rank place comm wave missing p =
     (place, the_call_in_a_wave_joins_it recording rank place comm wave p.there, omega (arith, p.stands_there))
 
-passed : (groups : Groups) (recording : Lists) (s : State) (waves : Waves) (rank place comm wave missing g member : ℕ) → Passes groups recording s waves rank place comm wave missing → g < missing → world_rank_of groups comm g ≡ Some member → HasJoined recording s comm wave member
+passed : (groups : Groups) (recording : Lists) (s : State) (waves : Progress) (rank place comm wave missing g member : ℕ) → Passes groups recording s waves rank place comm wave missing → g < missing → world_rank_of groups comm g ≡ Some member → HasJoined recording s comm wave member
 passed groups recording s waves rank place comm wave missing g member p less is =
     ⊎_elim
     (λ (before : g < met_of waves comm). subst (λ (w : ℕ). HasJoined recording s comm w member) p.is_next (p.before.met comm g member before is))
@@ -125,11 +117,11 @@ passed groups recording s waves rank place comm wave missing g member p less is 
     (cases_lt g (met_of waves comm))
 
 -- another communicator's next member is not the one
-other_comm : (groups : Groups) (recording : Lists) (s : State) (waves : Waves) (rank place comm wave missing other member : ℕ) → Passes groups recording s waves rank place comm wave missing → other ≢ comm → IsNew recording waves rank place other member → ⊥
+other_comm : (groups : Groups) (recording : Lists) (s : State) (waves : Progress) (rank place comm wave missing other member : ℕ) → Passes groups recording s waves rank place comm wave missing → other ≢ comm → IsNew recording waves rank place other member → ⊥
 other_comm groups recording s waves rank place comm wave missing other member p differs e =
     differs (sym (some_pair_parts comm other wave (complete_of waves other) (sym p.there ∙ e.1)).0)
 
-pub passes_on : (groups : Groups) (recording : Lists) (s : State) (old new : Waves) (rank place comm wave missing : ℕ) → Passes groups recording s old rank place comm wave missing → missing < length (group_of groups comm) → ((member : ℕ) → world_rank_of groups comm missing ≡ Some member → is_met s (member_need recording comm wave member) ≡ false) → new.complete.items ≡ old.complete.items → new.met.items ≡ set old.met.items comm missing → AreWaves groups recording s new IsNoException
+pub passes_on : (groups : Groups) (recording : Lists) (s : State) (old new : Progress) (rank place comm wave missing : ℕ) → Passes groups recording s old rank place comm wave missing → missing < length (group_of groups comm) → ((member : ℕ) → world_rank_of groups comm missing ≡ Some member → is_met s (member_need recording comm wave member) ≡ false) → new.complete.items ≡ old.complete.items → new.met.items ≡ set old.met.items comm missing → AreWaves groups recording s new IsNoException
 passes_on groups recording s old new rank place comm wave missing p some unmet complete met =
     let known = comm_is groups comm (met_of old comm) rank p.wanting in
     let same : (c : ℕ) → complete_of new c ≡ complete_of old c = λ c. ap (λ (xs : List ℕ). get_or xs c 0) complete in
@@ -159,7 +151,7 @@ passes_on groups recording s old new rank place comm wave missing p some unmet c
           (cases_eq c comm);
     }
 
-pub passes_wave : (groups : Groups) (recording : Lists) (s : State) (old new : Waves) (rank place comm wave missing next : ℕ) → Passes groups recording s old rank place comm wave missing → length (group_of groups comm) ≤ missing → next ≤ length (group_of groups comm) → ((g member : ℕ) → 0 ≤ g → g < next → world_rank_of groups comm g ≡ Some member → is_met s (member_need recording comm (wave + 1) member) ≡ true) → ((member : ℕ) → world_rank_of groups comm next ≡ Some member → is_met s (member_need recording comm (wave + 1) member) ≡ false) → new.complete.items ≡ set old.complete.items comm (wave + 1) → new.met.items ≡ set old.met.items comm next → AreWaves groups recording s new IsNoException
+pub passes_wave : (groups : Groups) (recording : Lists) (s : State) (old new : Progress) (rank place comm wave missing next : ℕ) → Passes groups recording s old rank place comm wave missing → length (group_of groups comm) ≤ missing → next ≤ length (group_of groups comm) → ((g member : ℕ) → 0 ≤ g → g < next → world_rank_of groups comm g ≡ Some member → is_met s (member_need recording comm (wave + 1) member) ≡ true) → ((member : ℕ) → world_rank_of groups comm next ≡ Some member → is_met s (member_need recording comm (wave + 1) member) ≡ false) → new.complete.items ≡ set old.complete.items comm (wave + 1) → new.met.items ≡ set old.met.items comm next → AreWaves groups recording s new IsNoException
 passes_wave groups recording s old new rank place comm wave missing next p whole most met_next unmet complete met =
     let known = comm_is groups comm (met_of old comm) rank p.wanting in
     let here : met_of new comm ≡ next = ap (λ (xs : List ℕ). get_or xs comm 0) met ∙ get_or-set_same old.met.items comm next 0 (omega (arith, known.0, p.before.meets)) in
@@ -204,6 +196,7 @@ passes_wave groups recording s old new rank place comm wave missing next p whole
           (cases_eq c comm);
     }
 
+-- the number of a wave is no more than the place of a call in it
 pub wave_few : (recording : Lists) (rank place comm wave : ℕ) → wave_of recording rank place ≡ Some (comm, wave) → wave ≤ place
 wave_few recording rank place comm wave h =
     let at_place = and_then_parts (λ call. option_map (λ joined. (joined, count_before (does_join joined) (calls_of recording rank) place)) (joins call)) (slice_get (calls_of recording rank) place) (comm, wave) h in

@@ -5,10 +5,10 @@ use Rattle.moves.specs.declared.reading.Reading.{Reading}
 use Rattle.mpigroup.specs.Groups.{Groups}
 use Rattle.pairing.specs.Recordings.{Lists, calls_of}
 use Rattle.pairing.specs.Requests.{waits_for}
-use Rattle.moves.specs.Links.{sum_to}
+use Rattle.arenalist.specs.Numbers.{sum_to}
 use Rattle.moves.specs.Needs.{may_pass}
 use Rattle.moves.specs.Runs.{State, total}
-use Rattle.moves.specs.Stands.{calls_in}
+use Rattle.moves.specs.Stands.{call_count}
 
 -- the groups of a run's communicators, the calls of each rank that were accepted, the ranks' stands, how much was
 -- done in the arena in which waiting ranks are linked (1 for each link and each unlink, as the arena counts it), and
@@ -32,7 +32,7 @@ requests_in recording = total (map requests_of recording)
 
 -- the most touches: 24 for each call that was accepted, and for each request that a wait among them names
 abbrev pub most_touches : Lists → ℕ
-most_touches recording = 24 * (calls_in recording + requests_in recording)
+most_touches recording = 24 * (call_count recording + requests_in recording)
 
 -- how many ranks wait: each has a call where it stands, and not the one that ends its list
 abbrev pub ranks_waiting : Lists → State → ℕ

@@ -7,13 +7,13 @@ use Rattle.mpicall.specs.Ending.{ends_list}
 use Rattle.mpicall.specs.declared.call.Call.{Call}
 use Rattle.mpigroup.specs.Groups.{Groups}
 use Rattle.pairing.specs.Recordings.{Lists, calls_of, GoesOn}
-use Rattle.moves.specs.Runs.{State, IsRun, end_of, IsMaximal, IsTheEnd, StandsNoLater, total, lowest_run}
+use Rattle.moves.specs.Runs.{State, IsRun, run_end, IsMaximal, IsTheEnd, StandsNoLater, total, lowest_run}
 use Rattle.moves.specs.Readings.{is_no_laxer}
 use Rattle.moves.specs.Needs.{can_move}
 
 -- how many calls the recording has
-abbrev pub calls_in : Lists → ℕ
-calls_in recording = total (map length recording)
+abbrev pub call_count : Lists → ℕ
+call_count recording = total (map length recording)
 
 -- a run over a recording: each of its steps moves a rank whose present call needs nothing that is not reached
 abbrev pub IsRunOver : Reading → Groups → Lists → List State → Type 0
@@ -21,11 +21,11 @@ IsRunOver reading groups recording states = IsRun (can_move reading groups recor
 
 -- the last state of a run over a recording
 abbrev pub end_over : Lists → List State → State
-end_over recording states = end_of (length recording) states
+end_over recording states = run_end (length recording) states
 
 -- the run over a recording that always moves the lowest rank that can move
 abbrev pub lowest_run_over : Reading → Groups → Lists → List State
-lowest_run_over reading groups recording = lowest_run (can_move reading groups recording) (length recording) (calls_in recording)
+lowest_run_over reading groups recording = lowest_run (can_move reading groups recording) (length recording) (call_count recording)
 
 -- the stands of a recording: the last state of that run
 abbrev pub stands_of : Reading → Groups → Lists → State

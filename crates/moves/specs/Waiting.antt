@@ -1,7 +1,7 @@
 -- What a rank waits for that cannot move on: the partner of one of its messages, the send that its probe sees,
 -- or a wave.
 use Rattle.moves.specs.declared.reading.Reading.{Reading}
-use Rattle.std.specs.Prelude.{min, ◌≡◌, ℕ, ◌+◌, ◌-◌, ◌*◌, ◌<◌, ◌≤◌, ◌⊎◌, Bool, true, false, ◌&&◌, nat_le, nat_lt, Option, Some, None, is_some, option_and_then, if◌then◌else◌, List, [], ◌++◌, length, flat_map, slice_get, slice_index, slice_set, ◌==◌}
+use Rattle.std.specs.Prelude.{min, ◌≡◌, ℕ, ◌+◌, ◌-◌, ◌*◌, ◌<◌, ◌≤◌, ◌⊎◌, Bool, true, false, ◌&&◌, nat_le, nat_lt, Option, Some, None, is_some, option_and_then, if◌then◌else◌, List, [], ◌∷◌, ◌++◌, length, flat_map, slice_get, slice_index, slice_set, ◌==◌}
 use Rattle.std.specs.List.{list_all}
 use Rattle.std.specs.Option.{option_map_or}
 use Rattle.mpicall.specs.declared.call.Call.{Call}
@@ -9,7 +9,7 @@ use Rattle.mpigroup.specs.Groups.{Groups, group_of, world_rank_of}
 use Rattle.pairing.specs.declared.envelope.Half.{Half}
 use Rattle.pairing.specs.declared.envelope.Half.TheVariants.{Send as SendHalf, Recv as RecvHalf}
 use Rattle.pairing.specs.Limits.{most_calls}
-use Rattle.pairing.specs.Recordings.{Lists, calls_of, appended as with_call}
+use Rattle.pairing.specs.Recordings.{Lists, calls_of, appended}
 use Rattle.pairing.specs.Partners.{partner_of}
 use Rattle.pairing.specs.Envelopes.{message_of}
 use Rattle.pairing.specs.Probed.{probed_of}
@@ -19,13 +19,13 @@ use Rattle.pairing.specs.Waves.{place_in_wave, wave_of}
 use Rattle.moves.specs.declared.look.Look.{Look}
 use Rattle.moves.specs.declared.look.Look.TheVariants.{Over, Passes, Partner, Wave}
 use Rattle.moves.specs.declared.need.Need.{Need}
-use Rattle.moves.specs.declared.waves.Waves.{Waves}
-use Rattle.moves.specs.Links.{sum_to, Entries, in_all, held, IsLinked}
+use Rattle.moves.specs.declared.progress.Progress.{Progress}
+use Rattle.moves.specs.Links.{linked_ranks, AreListed}
 use Rattle.moves.specs.Needs.{half_needs, probe_needs, sends_freely, operation_needs_at, request_needs, needs_of_call, is_met, may_pass, can_move}
 use Rattle.moves.specs.Runs.{State, IsReached, total}
-use Rattle.moves.specs.Stands.{calls_in}
-use Rattle.arenalist.specs.Numbers.{list_at}
-use Rattle.arenalist.specs.Arena.{linked, appended, counted}
+use Rattle.moves.specs.Stands.{call_count}
+use Rattle.arenalist.specs.Numbers.{in_all, list_at, sum_to}
+use Rattle.arenalist.specs.Arena.{counted}
 
 -- what the messages of the call at a place need: the partners of its halves, and the send that it probes for
 abbrev pub message_needs : Reading → Groups → Lists → ℕ → ℕ → Call → List Need
@@ -51,15 +51,15 @@ HasJoined recording stands comm wave rank = (place : ℕ) × (place_in_wave reco
 
 -- how many waves of the communicator are complete, and how many members, from the first on, have reached
 -- their calls of the next one
-abbrev pub complete_of : Waves → ℕ → ℕ
+abbrev pub complete_of : Progress → ℕ → ℕ
 complete_of waves comm = slice_index waves.complete.items comm
 
-abbrev pub met_of : Waves → ℕ → ℕ
+abbrev pub met_of : Progress → ℕ → ℕ
 met_of waves comm = slice_index waves.met.items comm
 
 -- Each member has reached its calls of the complete waves, and so many members theirs of the next wave. The
 -- member behind those has not, unless it is excepted.
-pub record AreWaves (groups : Groups) (recording : Lists) (stands : State) (waves : Waves) (IsExcepted : ℕ → ℕ → Type 0) : Type 0 where
+pub record AreWaves (groups : Groups) (recording : Lists) (stands : State) (waves : Progress) (IsExcepted : ℕ → ℕ → Type 0) : Type 0 where
   pub completes : length waves.complete.items ≡ length groups
   pub meets : length waves.met.items ≡ length groups
   pub done : (comm wave g member : ℕ) → wave < complete_of waves comm → world_rank_of groups comm g ≡ Some member → HasJoined recording stands comm wave member
@@ -72,31 +72,31 @@ abbrev pub IsNoException : ℕ → ℕ → Type 0
 IsNoException comm member = ⊥
 
 -- the wave isn't complete
-abbrev pub is_open : Groups → Waves → ℕ → ℕ → Bool
+abbrev pub is_open : Groups → Progress → ℕ → ℕ → Bool
 is_open groups waves comm wave = nat_le (complete_of waves comm) wave && nat_lt 0 (length (group_of groups comm))
 
 -- the communicator of the wave that the call at the place joins, where that wave isn't complete
-abbrev pub open_wave : Groups → Lists → Waves → ℕ → ℕ → Option ℕ
+abbrev pub open_wave : Groups → Lists → Progress → ℕ → ℕ → Option ℕ
 open_wave groups recording waves rank place =
     option_and_then (λ wave. if is_open groups waves wave.0 wave.1 then Some wave.0 else None) (wave_of recording rank place)
 
 -- Touches, and what pays for them. A call that is accepted pays 3, one that is reached 13, one that is passed 2,
 -- and one whose wave is complete 4.
-abbrev pub is_done : Waves → Option (ℕ × ℕ) → ℕ
+abbrev pub is_done : Progress → Option (ℕ × ℕ) → ℕ
 is_done waves None = 0
 is_done waves (Some wave) = if nat_lt wave.1 (complete_of waves wave.0) then 1 else 0
 
-abbrev pub done_of : Lists → Waves → ℕ → ℕ
+abbrev pub done_of : Lists → Progress → ℕ → ℕ
 done_of recording waves rank = sum_to (length (calls_of recording rank)) (λ place. is_done waves (wave_of recording rank place))
 
 abbrev pub reached_of : Lists → State → ℕ → ℕ
 reached_of recording stands rank = min (length (calls_of recording rank)) (slice_index stands rank + 1)
 
-abbrev pub paid_by : Lists → State → Waves → ℕ → ℕ
+abbrev pub paid_by : Lists → State → Progress → ℕ → ℕ
 paid_by recording stands waves rank =
     3 * length (calls_of recording rank) + 13 * reached_of recording stands rank + 2 * slice_index stands rank + 4 * done_of recording waves rank
 
-abbrev pub paid : Lists → State → Waves → ℕ
+abbrev pub paid : Lists → State → Progress → ℕ
 paid recording stands waves = sum_to (length recording) (paid_by recording stands waves)
 
 -- what the reaching of a place spends: less where no call is there
@@ -105,14 +105,14 @@ cost_of None = 3
 cost_of (Some call) = 16
 
 -- what is told of the operation of the call at a place: that its needs are met, or what it waits for
-abbrev pub TellsOperation : Reading → Groups → Lists → State → Waves → ℕ → ℕ → Look → Type 0
+abbrev pub TellsOperation : Reading → Groups → Lists → State → Progress → ℕ → ℕ → Look → Type 0
 TellsOperation reading groups recording stands waves rank place Over = ⊥
 TellsOperation reading groups recording stands waves rank place Passes = list_all (is_met stands) (operation_needs_at reading groups recording rank place) ≡ true
 TellsOperation reading groups recording stands waves rank place (Partner start) = (start ≡ place) × (list_all (is_met stands) (message_needs_at reading groups recording rank place) ≡ false)
 TellsOperation reading groups recording stands waves rank place (Wave comm) = open_wave groups recording waves rank place ≡ Some comm
 
 -- the same of the operation that the call at a place completes with that index
-abbrev pub TellsRequest : Reading → Groups → Lists → State → Waves → ℕ → ℕ → ℕ → Look → Type 0
+abbrev pub TellsRequest : Reading → Groups → Lists → State → Progress → ℕ → ℕ → ℕ → Look → Type 0
 TellsRequest reading groups recording stands waves rank place index Over = ⊥
 TellsRequest reading groups recording stands waves rank place index Passes =
     list_all (is_met stands) (option_map_or (operation_needs_at reading groups recording rank) (completed_of recording rank place index) []) ≡ true
@@ -122,7 +122,7 @@ TellsRequest reading groups recording stands waves rank place index (Wave comm) 
     (start : ℕ) × (completed_of recording rank place index ≡ Some start) × (open_wave groups recording waves rank start ≡ Some comm)
 
 -- the same of the operations that the call at a place completes
-abbrev pub TellsCompleted : Reading → Groups → Lists → State → Waves → ℕ → ℕ → Call → Look → Type 0
+abbrev pub TellsCompleted : Reading → Groups → Lists → State → Progress → ℕ → ℕ → Call → Look → Type 0
 TellsCompleted reading groups recording stands waves rank place call Over = ⊥
 TellsCompleted reading groups recording stands waves rank place call Passes = list_all (is_met stands) (flat_map (request_needs reading groups recording rank place) (completes call)) ≡ true
 TellsCompleted reading groups recording stands waves rank place call (Partner start) =
@@ -131,7 +131,7 @@ TellsCompleted reading groups recording stands waves rank place call (Wave comm)
     (index start : ℕ) × (completed_of recording rank place index ≡ Some start) × (open_wave groups recording waves rank start ≡ Some comm)
 
 -- the same of the call at a place
-abbrev pub TellsCall : Reading → Groups → Lists → State → Waves → ℕ → ℕ → Call → Look → Type 0
+abbrev pub TellsCall : Reading → Groups → Lists → State → Progress → ℕ → ℕ → Call → Look → Type 0
 TellsCall reading groups recording stands waves rank place call Over = ⊥
 TellsCall reading groups recording stands waves rank place call Passes = list_all (is_met stands) (needs_of_call reading groups recording rank place call) ≡ true
 TellsCall reading groups recording stands waves rank place call (Partner start) =
@@ -146,7 +146,7 @@ pub record NeedsPartner (reading : Reading) (groups : Groups) (recording : Lists
   pub is_unmet : list_all (is_met stands) (message_needs_at reading groups recording rank start) ≡ false
 
 -- such an operation joins a wave of the communicator that isn't complete
-pub record NeedsWave (groups : Groups) (recording : Lists) (stands : State) (waves : Waves) (rank comm : ℕ) : Type 0 where
+pub record NeedsWave (groups : Groups) (recording : Lists) (stands : State) (waves : Progress) (rank comm : ℕ) : Type 0 where
   pub start : ℕ
   pub is_awaited : IsAwaited recording rank (slice_index stands rank) start
   pub is_joined : open_wave groups recording waves rank start ≡ Some comm
@@ -156,16 +156,16 @@ pub record NeedsWave (groups : Groups) (recording : Lists) (stands : State) (wav
 abbrev pub Rests : Lists → State → ℕ → Type 0
 Rests recording stands rank = may_pass (slice_get (calls_of recording rank) (slice_index stands rank)) ≡ false
 
-abbrev pub TellsRank : Reading → Groups → Lists → State → Waves → ℕ → Look → Type 0
+abbrev pub TellsRank : Reading → Groups → Lists → State → Progress → ℕ → Look → Type 0
 TellsRank reading groups recording stands waves rank Over = Rests recording stands rank
 TellsRank reading groups recording stands waves rank Passes = can_move reading groups recording stands rank ≡ true
 TellsRank reading groups recording stands waves rank (Partner start) = NeedsPartner reading groups recording stands rank start
 TellsRank reading groups recording stands waves rank (Wave comm) = NeedsWave groups recording stands waves rank comm
 
--- What the waiting ranks are seen as: the lists, how many nodes are spare, how much was done in the lists,
--- and for each rank the place of the operation for whose partner it waits, or waited last; at a probe its own.
-pub record Waiting : Type 0 where
-  pub lists : List Entries
+-- What the waiting ranks are seen as: the lists, how many more ranks have room in them, how much was done in the
+-- lists, and for each rank the place of the operation for whose partner it waits, or waited last; at a probe its own.
+pub record WaitLists : Type 0 where
+  pub lists : List (List ℕ)
   pub spare : ℕ
   pub work : ℕ
   pub awaited : List ℕ
@@ -178,36 +178,36 @@ abbrev pub comm_list : ℕ → ℕ → ℕ
 comm_list ranks comm = 1 + ranks + comm
 
 -- the waiting ranks once those of a list are to be looked at
-abbrev pub woken : Waiting → ℕ → Waiting
+abbrev pub woken : WaitLists → ℕ → WaitLists
 woken w list = record {
-  lists = appended w.lists 0 list;
+  lists = slice_set (slice_set w.lists 0 (list_at w.lists 0 ++ list_at w.lists list)) list [];
   spare = w.spare;
   work = counted w.work (2 * length (list_at w.lists list));
   awaited = w.awaited;
 }
 
--- once a rank is put into a list, in the node
-abbrev pub with_rank : Waiting → ℕ → ℕ → ℕ → Waiting
-with_rank w list node rank = record {
-  lists = linked w.lists list node rank;
+-- once a rank is put into a list
+abbrev pub with_rank : WaitLists → ℕ → ℕ → WaitLists
+with_rank w list rank = record {
+  lists = slice_set w.lists list (list_at w.lists list ++ rank ∷ []);
   spare = w.spare - 1;
   work = counted w.work 1;
   awaited = w.awaited;
 }
 
 -- and once it is said for which operation's partner the rank waits
-abbrev pub with_awaited : Waiting → ℕ → ℕ → Waiting
+abbrev pub with_awaited : WaitLists → ℕ → ℕ → WaitLists
 with_awaited w rank place = record { lists = w.lists; spare = w.spare; work = w.work; awaited = slice_set w.awaited rank place }
 
 -- the rank is known to wait, or to have waited last, for the partner of its operation at that place
-abbrev pub awaits : Waiting → ℕ → ℕ → Bool
+abbrev pub awaits : WaitLists → ℕ → ℕ → Bool
 awaits w rank place = option_map_or (λ awaited. awaited == place) (slice_get w.awaited rank) false
 
 -- the waiting ranks once the one is to be looked at that waits for a call as the partner of its own
-abbrev pub woken_at : Waiting → ℕ × ℕ → Waiting
+abbrev pub woken_at : WaitLists → ℕ × ℕ → WaitLists
 woken_at w partner = if awaits w partner.0 partner.1 then woken w (own_list partner.0) else w
 
-abbrev pub woken_partner : Waiting → Option (ℕ × ℕ) → Waiting
+abbrev pub woken_partner : WaitLists → Option (ℕ × ℕ) → WaitLists
 woken_partner w partner = option_map_or (woken_at w) partner w
 
 -- the rank of the world that the call at the place sends its message to
@@ -229,11 +229,11 @@ prober_of groups recording awaited rank place =
     (sent_to groups recording rank place)
 
 -- the waiting ranks once that one is to be looked at
-abbrev pub woken_prober : Groups → Lists → ℕ → ℕ → Waiting → Waiting
+abbrev pub woken_prober : Groups → Lists → ℕ → ℕ → WaitLists → WaitLists
 woken_prober groups recording rank place w = woken_partner w (prober_of groups recording w.awaited rank place)
 
 -- and once those are to be looked at that wait for the waves of a communicator, if it is one
-abbrev pub woken_comm : Waiting → Option ℕ → Waiting
+abbrev pub woken_comm : WaitLists → Option ℕ → WaitLists
 woken_comm w comm = option_map_or (λ comm. woken w (comm_list (length w.awaited) comm)) comm w
 
 -- The other rank waits for the call at the place: as the partner of its operation at `start`, or as the send that
@@ -244,32 +244,32 @@ WaitsFor groups recording rank place other start =
     ⊎ (probed_of groups recording other start ≡ Some (rank, place))
 
 -- the rank waits in that list, for a partner or for a wave
-abbrev pub WaitsIn : Reading → Groups → Lists → State → Waves → List ℕ → ℕ → ℕ → Type 0
+abbrev pub WaitsIn : Reading → Groups → Lists → State → Progress → List ℕ → ℕ → ℕ → Type 0
 WaitsIn reading groups recording stands waves awaited rank list =
     ((list ≡ own_list rank) × (rank < length recording) × NeedsPartner reading groups recording stands rank (slice_index awaited rank))
     ⊎ ((comm : ℕ) × (list ≡ comm_list (length recording) comm) × NeedsWave groups recording stands waves rank comm)
 
--- there is a list for each rank and for each communicator, and a node for each rank; what stands in a list was
+-- there is a list for each rank and for each communicator, and room for each rank; what stands in a list was
 -- counted when it was put there
-pub record HasLists (groups : Groups) (recording : Lists) (waiting : Waiting) : Type 0 where
+pub record HasLists (groups : Groups) (recording : Lists) (waiting : WaitLists) : Type 0 where
   pub lists : length waiting.lists ≡ 1 + length recording + length groups
-  pub nodes : waiting.spare + held waiting.lists ≡ length recording
+  pub nodes : waiting.spare + linked_ranks waiting.lists ≡ length recording
   pub awaited : length waiting.awaited ≡ length recording
-  pub counts : counted (held waiting.lists) 0 ≤ waiting.work
+  pub counts : counted (linked_ranks waiting.lists) 0 ≤ waiting.work
 
 -- the touches: what was done in the lists, and each change of how far a wave is
-abbrev pub touches_of : Waves → Waiting → ℕ
+abbrev pub touches_of : Progress → WaitLists → ℕ
 touches_of waves waiting = counted waiting.work waves.changes
 
 -- what is spent: the touches, and two for each rank that is to be looked at
-abbrev pub spent : Waves → Waiting → ℕ
+abbrev pub spent : Progress → WaitLists → ℕ
 spent waves waiting = waiting.work + waves.changes + 2 * length (list_at waiting.lists 0)
 
 -- What holds between looks: each rank is to be looked at, or waits rightly, or rests. Some may be excepted
 -- from resting. What is spent is paid, and so much more is left.
-pub record IsKept (reading : Reading) (groups : Groups) (recording : Lists) (stands : State) (waves : Waves) (waiting : Waiting) (IsExcepted : ℕ → Type 0) (left : ℕ) : Type 0 where
+pub record IsKept (reading : Reading) (groups : Groups) (recording : Lists) (stands : State) (waves : Progress) (waiting : WaitLists) (IsExcepted : ℕ → Type 0) (left : ℕ) : Type 0 where
   pub has_lists : HasLists groups recording waiting
-  pub linked : IsLinked (length recording) waiting.lists (WaitsIn reading groups recording stands waves waiting.awaited) (λ rank. Rests recording stands rank ⊎ IsExcepted rank)
+  pub linked : AreListed (length recording) waiting.lists (WaitsIn reading groups recording stands waves waiting.awaited) (λ rank. Rests recording stands rank ⊎ IsExcepted rank)
   pub are_waves : AreWaves groups recording stands waves IsNoException
   pub is_reached : IsReached (can_move reading groups recording) (length recording) stands
   pub is_paid : spent waves waiting + left ≤ paid recording stands waves
@@ -278,20 +278,20 @@ abbrev pub IsNobody : ℕ → Type 0
 IsNobody rank = ⊥
 
 -- the rank was taken off the worklist to be looked at
-pub record IsInHand (reading : Reading) (groups : Groups) (recording : Lists) (stands : State) (waves : Waves) (waiting : Waiting) (rank : ℕ) : Type 0 where
+pub record IsInHand (reading : Reading) (groups : Groups) (recording : Lists) (stands : State) (waves : Progress) (waiting : WaitLists) (rank : ℕ) : Type 0 where
   pub kept : IsKept reading groups recording stands waves waiting (λ other. other ≡ rank) 1
   pub is_rank : rank < length recording
   pub in_none : in_all rank waiting.lists ≡ 0
 
 -- no rank is to be looked at
-pub record IsSettled (reading : Reading) (groups : Groups) (recording : Lists) (stands : State) (waves : Waves) (waiting : Waiting) : Type 0 where
+pub record IsSettled (reading : Reading) (groups : Groups) (recording : Lists) (stands : State) (waves : Progress) (waiting : WaitLists) : Type 0 where
   pub kept : IsKept reading groups recording stands waves waiting IsNobody 0
   pub is_empty : list_at waiting.lists 0 ≡ []
 
 -- The rank has just reached its call at the place: the ranks that wait for it are still to be woken.
-pub record IsReaching (reading : Reading) (groups : Groups) (recording : Lists) (stands : State) (waves : Waves) (waiting : Waiting) (rank place : ℕ) : Type 0 where
+pub record IsReaching (reading : Reading) (groups : Groups) (recording : Lists) (stands : State) (waves : Progress) (waiting : WaitLists) (rank place : ℕ) : Type 0 where
   pub has_lists : HasLists groups recording waiting
-  pub linked : IsLinked (length recording) waiting.lists
+  pub linked : AreListed (length recording) waiting.lists
       (λ other list. WaitsIn reading groups recording stands waves waiting.awaited other list
       ⊎ ((list ≡ own_list other) × (other < length recording) × (WaitsFor groups recording rank place other (slice_index waiting.awaited other))))
       (λ other. Rests recording stands other ⊎ (other ≡ rank))
@@ -304,15 +304,15 @@ pub record IsReaching (reading : Reading) (groups : Groups) (recording : Lists) 
   pub is_paid : spent waves waiting + cost_of (slice_get (calls_of recording rank) place) ≤ paid recording stands waves
 
 -- The rank's call has arrived at the place, and no rank was to be looked at before.
-pub record HasArrived (reading : Reading) (groups : Groups) (recording : Lists) (stands : State) (waves : Waves) (waiting : Waiting) (rank place : ℕ) : Type 0 where
+pub record HasArrived (reading : Reading) (groups : Groups) (recording : Lists) (stands : State) (waves : Progress) (waiting : WaitLists) (rank place : ℕ) : Type 0 where
   pub before : Lists
   pub call : Call
-  pub is : recording ≡ with_call before rank call
+  pub is : recording ≡ appended before rank call
   pub settled : IsSettled reading groups before stands waves waiting
   pub is_rank : rank < length before
   pub is_next : place ≡ length (calls_of before rank)
   pub few : place ≤ most_calls
 
 -- what settling still has to do, at most: a call that is not passed makes each rank be looked at
-abbrev pub to_do : Lists → State → Waiting → ℕ
-to_do recording stands waiting = (calls_in recording - total stands) * (length recording + 1) + length (list_at waiting.lists 0)
+abbrev pub to_do : Lists → State → WaitLists → ℕ
+to_do recording stands waiting = (call_count recording - total stands) * (length recording + 1) + length (list_at waiting.lists 0)

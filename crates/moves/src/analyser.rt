@@ -15,10 +15,10 @@ ghost use Rattle.moves.specs.Arrivals.{IsKeptOn};
 ghost use Rattle.moves.specs.Analysed.{most_touches, ranks_waiting};
 
 use crate::need::stand_of;
+use crate::progress::Progress;
 use crate::reading::Reading;
 use crate::settle::arrive;
 use crate::waiters::Waiters;
-use crate::waves::Waves;
 use mpicall::record::Record;
 use mpigroup::head::Head;
 pub use pairing::added::PairFault as OfferFault;
@@ -35,7 +35,7 @@ pub struct Analyser {
     reading: Reading,
     pairs: Pairs,
     stands: Vec<u32>,
-    waves: Waves,
+    waves: Progress,
     waiters: Waiters,
 }
 
@@ -98,7 +98,7 @@ impl Analyser {
     {
         let (ranks, comms) = (head.ranks(), head.comms());
         let stands = vec![in alloc; 0u32; usize::from(ranks)]?;
-        let waves = Waves::new(alloc, comms)?;
+        let waves = Progress::new(alloc, comms)?;
         let waiters = Waiters::new(alloc, ranks, comms)?;
         let pairs = Pairs::new(alloc, head)?;
         Ok(Analyser {

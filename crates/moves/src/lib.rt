@@ -20,7 +20,8 @@
 //!
 //! The definitions stand in `specs/`, to be read in the order of docs/DEFINITIONS.md: `Needs` says what a
 //! call needs before its rank moves on, `Runs` and `Stands` where runs end. Which calls send, receive, start,
-//! complete and join is said by the tables of `pairing`, so a further call is a clause there.
+//! complete and join is said by the tables of `pairing`, so a further call is a clause there. Nobody has to believe
+//! `Waiting` and `Links`: they say how the analyser keeps its lists, and no public contract cites them.
 //!
 //! A rank that cannot move on is linked where it waits: for the partner of one of its messages, for the send that
 //! its probe would see, or for a communicator's next wave. A call that is reached puts those that wait for it onto
@@ -47,9 +48,9 @@ pub mod arrival;
 pub mod held_back;
 mod look;
 pub mod need;
+mod progress;
 pub mod reading;
 pub mod run;
 mod settle;
 pub mod stand;
 mod waiters;
-mod waves;

@@ -12,8 +12,8 @@ ghost use Rattle.moves.specs.Needs.{half_needs, probe_needs, is_met};
 ghost use Rattle.moves.specs.Waiting.{message_needs, AreWaves, IsNoException, TellsOperation, TellsRequest, TellsCompleted, TellsCall, TellsRank};
 
 use crate::need::{Need, is_met, stand_of};
+use crate::progress::Progress;
 use crate::reading::{Reading, sends_freely};
-use crate::waves::Waves;
 use pairing::envelope::Half;
 use pairing::pairs::Pairs;
 use pairing::stored::StoredCall;
@@ -115,7 +115,7 @@ fn look_at_operation(
     reading: Reading,
     pairs: &Pairs,
     stands: &[u32],
-    waves: &Waves,
+    waves: &Progress,
     rank: u16,
     place: u32,
     call: &StoredCall<'_>,
@@ -138,7 +138,7 @@ fn look_at_start(
     reading: Reading,
     pairs: &Pairs,
     stands: &[u32],
-    waves: &Waves,
+    waves: &Progress,
     rank: u16,
     start: u32,
 ) -> Look
@@ -156,7 +156,7 @@ fn look_at_request(
     reading: Reading,
     pairs: &Pairs,
     stands: &[u32],
-    waves: &Waves,
+    waves: &Progress,
     rank: u16,
     place: u32,
     index: usize,
@@ -175,7 +175,7 @@ fn look_at_requests(
     reading: Reading,
     pairs: &Pairs,
     stands: &[u32],
-    waves: &Waves,
+    waves: &Progress,
     rank: u16,
     place: u32,
     call: &StoredCall<'_>,
@@ -198,7 +198,7 @@ fn look_at_call(
     reading: Reading,
     pairs: &Pairs,
     stands: &[u32],
-    waves: &Waves,
+    waves: &Progress,
     rank: u16,
     place: u32,
     call: &StoredCall<'_>,
@@ -231,7 +231,7 @@ pub(crate) fn look_at(
     reading: Reading,
     pairs: &Pairs,
     stands: &[u32],
-    waves: &Waves,
+    waves: &Progress,
     rank: u16,
 ) -> Look
     requires waves { AreWaves pairs.now.groups pairs.now.recording stands.now waves.now IsNoException }

@@ -8,9 +8,9 @@ ghost use Rattle.moves.specs.Waiting.{comm_list, sent_to, sees, prober_of, woken
 
 use crate::look::{Look, look_at};
 use crate::need::stand_of;
+use crate::progress::Progress;
 use crate::reading::Reading;
 use crate::waiters::Waiters;
-use crate::waves::Waves;
 use pairing::envelope::Half;
 use pairing::pairs::Pairs;
 
@@ -92,7 +92,7 @@ fn reach(
     reading: Reading,
     pairs: &Pairs,
     stands: &[u32],
-    waves: &mut Waves,
+    waves: &mut Progress,
     waiters: &mut Waiters,
     rank: u16,
     place: u32,
@@ -114,7 +114,7 @@ fn settle_one(
     reading: Reading,
     pairs: &Pairs,
     stands: &mut Vec<u32>,
-    waves: &mut Waves,
+    waves: &mut Progress,
     waiters: &mut Waiters,
     rank: u16,
 ) -> bool
@@ -150,7 +150,7 @@ fn settle_rank(
     reading: Reading,
     pairs: &Pairs,
     stands: &mut Vec<u32>,
-    waves: &mut Waves,
+    waves: &mut Progress,
     waiters: &mut Waiters,
     rank: u16,
 )
@@ -168,7 +168,7 @@ fn settle(
     reading: Reading,
     pairs: &Pairs,
     stands: &mut Vec<u32>,
-    waves: &mut Waves,
+    waves: &mut Progress,
     waiters: &mut Waiters,
 )
     requires { IsKept reading pairs.now.groups pairs.now.recording stands.old.items waves.old waiters.old IsNobody 0 }
@@ -187,7 +187,7 @@ pub(crate) fn arrive(
     reading: Reading,
     pairs: &Pairs,
     stands: &mut Vec<u32>,
-    waves: &mut Waves,
+    waves: &mut Progress,
     waiters: &mut Waiters,
     rank: u16,
     place: u32,

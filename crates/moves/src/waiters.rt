@@ -1,13 +1,11 @@
 //! Ranks to look at, and ranks that wait.
 
-ghost use Rattle.std.specs.Prelude.{◌≡◌, ◌≢◌, ◌+◌, ◌*◌, ◌<◌, ◌≤◌, ℕ, [], ◌∷◌, ◌++◌, length, drop, replicate, get_or, slice_set, slice_get, slice_index, Some, None, IfOk, IfNone, IfSome, OnOk, OnErr, OnSome};
+ghost use Rattle.std.specs.Prelude.{◌≡◌, ◌+◌, ◌<◌, ◌≤◌, [], length, drop, replicate, slice_get, slice_set, IfOk, IfNone, OnOk, OnSome};
 ghost use Rattle.arenalist.specs.Numbers.{list_at};
-ghost use Rattle.arenalist.specs.Arena.{first_value, linked, appended, counted};
-ghost use Rattle.moves.specs.Links.{AreIds};
+ghost use Rattle.arenalist.specs.Arena.{counted};
 ghost use Rattle.moves.specs.Waiting.{own_list, comm_list, woken, with_rank, with_awaited, woken_at};
 
 use arenalist::lists::Lists;
-use arenalist::node::{ListId, Node};
 use std::alloc::{AllocError, Global};
 use std::marker::Model;
 
@@ -15,7 +13,6 @@ use std::marker::Model;
 /// ranks that wait for its waves. A rank stands in one list at most.
 pub(crate) struct Waiters {
     lists: Lists<u16>,
-    ids: Vec<ListId>,
     awaited: Vec<u32>,
 }
 
@@ -23,7 +20,6 @@ impl Drop for Waiters {
     fn drop(self) {
         let Waiters {
             lists: _,
-            ids: _,
             awaited: _,
         } = self;
     }
@@ -31,37 +27,32 @@ impl Drop for Waiters {
 
 impl Model for Waiters {
     ghost use Rattle.std.specs.Prelude.{length, ◌≤◌, ◌+◌};
-    ghost use Rattle.moves.specs.Links.{AreIds};
-    ghost use Rattle.moves.specs.Waiting.{Waiting};
+    ghost use Rattle.arenalist.specs.Arena.{contents};
+    ghost use Rattle.moves.specs.Waiting.{WaitLists};
 
-    ghost Value = { Waiting };
+    ghost Value = { WaitLists };
 
-    ghost view = { λ w. record { lists = w.lists.lists; spare = w.lists.spare; work = w.lists.work; awaited = w.awaited.items } };
+    ghost view = { λ w. record { lists = contents w.lists.lists; spare = w.lists.spare; work = w.lists.work; awaited = w.awaited.items } };
 
-    ghost invariant = { λ w. AreIds w.ids.items (length w.lists.lists) × (1 + length w.awaited.items ≤ length w.lists.lists) };
+    ghost invariant = { λ w. 1 + length w.awaited.items ≤ length w.lists.lists };
 }
 
-/// Makes so many lists, and answers their numbers.
-fn make_lists(
-    alloc: Global,
-    lists: &mut Lists<u16>,
-    count: usize,
-) -> Result<Vec<ListId>, AllocError>
+/// Makes so many lists.
+fn make_lists(lists: &mut Lists<u16>, count: usize) -> Result<(), AllocError>
     requires { lists.old.lists ≡ [] }
-    ensures ids { IfOk result (λ ids. AreIds ids.items count) }
     ensures lists { OnOk result (lists.new.lists ≡ replicate count []) }
     ensures spare { OnOk result (lists.new.spare ≡ lists.old.spare) }
     ensures work { OnOk result (lists.new.work ≡ lists.old.work) }
 {
-    let mut ids = Vec::new(alloc);
     for _number in 0..count {
-        ids.push(lists.new_list()?)?;
+        lists.new_list()?;
     }
-    Ok(ids)
+    Ok(())
 }
 
 impl Waiters {
     /// No rank waits or is to be looked at.
+    #[tactic(auto, using(arenalist::proofs::ContentsLemmas::contents_none))]
     pub(crate) fn new(alloc: Global, ranks: u16, comms: u16) -> Result<Waiters, AllocError>
         ensures lists { IfOk result (λ waiters. waiters.lists ≡ replicate (1 + ranks + comms) []) }
         ensures spare { IfOk result (λ waiters. waiters.spare ≡ ranks) }
@@ -69,18 +60,10 @@ impl Waiters {
         ensures awaited { IfOk result (λ waiters. waiters.awaited ≡ replicate ranks 0) }
     {
         let mut lists = Lists::new(alloc);
-        let ids = make_lists(
-            alloc,
-            &mut lists,
-            1 + usize::from(ranks) + usize::from(comms),
-        )?;
+        make_lists(&mut lists, 1 + usize::from(ranks) + usize::from(comms))?;
         lists.reserve(usize::from(ranks))?;
         let awaited = vec![in alloc; 0u32; usize::from(ranks)]?;
-        Ok(Waiters {
-            lists,
-            ids,
-            awaited,
-        })
+        Ok(Waiters { lists, awaited })
     }
 
     /// How much was done in the lists.
@@ -93,23 +76,24 @@ impl Waiters {
     /// Takes the next rank to look at off the worklist.
     pub(crate) fn next(&mut self) -> Option<u16>
         requires { 0 < length self.old.lists }
-        ensures value { result ≡ first_value (list_at self.old.lists 0) }
+        ensures value { result ≡ slice_get (list_at self.old.lists 0) 0 }
         ensures lists { self.new.lists ≡ slice_set self.old.lists 0 (drop 1 (list_at self.old.lists 0)) }
         ensures spare { OnSome result (self.new.spare ≡ self.old.spare + 1) }
         ensures work { OnSome result (self.new.work ≡ counted self.old.work 1) }
         ensures awaited { self.new.awaited ≡ self.old.awaited }
         ensures none { IfNone result (self.new ≡ self.old) }
     {
-        self.lists.pop_front(self.ids[0])
+        self.lists.pop_front(self.lists.list(0))
     }
 
-    /// Puts a rank into a list, in a spare node.
-    fn put(&mut self, list: usize, rank: u16) -> Node
+    /// Puts a rank into a list, where there is room.
+    #[tactic(auto, using(arenalist::proofs::ContentsLemmas::contents_linked))]
+    fn put(&mut self, list: usize, rank: u16)
         requires list { list < length self.old.lists }
         requires room { 0 < self.old.spare }
-        ensures { self.new ≡ with_rank self.old list result rank }
+        ensures { self.new ≡ with_rank self.old list rank }
     {
-        self.lists.push_reserved(self.ids[list], rank)
+        self.lists.push_reserved(self.lists.list(list), rank);
     }
 
     /// The place of the operation for whose partner the rank waits, or waited last, or of the probe at which it does.
@@ -121,32 +105,33 @@ impl Waiters {
 
     /// Links a rank where it waits for the partner of its operation at the place, or for the send that its probe
     /// there sees.
-    pub(crate) fn wait_for_partner(&mut self, rank: u16, place: u32) -> Node
+    pub(crate) fn wait_for_partner(&mut self, rank: u16, place: u32)
         requires is_rank { rank < length self.old.awaited }
         requires room { 0 < self.old.spare }
-        ensures { self.new ≡ with_rank (with_awaited self.old rank place) (own_list rank) result rank }
+        ensures { self.new ≡ with_rank (with_awaited self.old rank place) (own_list rank) rank }
     {
         self.awaited[usize::from(rank)] = place;
-        self.put(1 + usize::from(rank), rank)
+        self.put(1 + usize::from(rank), rank);
     }
 
     /// Links a rank where it waits for a wave of the communicator.
-    pub(crate) fn wait_for_wave(&mut self, rank: u16, comm: u16) -> Node
+    pub(crate) fn wait_for_wave(&mut self, rank: u16, comm: u16)
         requires list { comm_list (length self.old.awaited) comm < length self.old.lists }
         requires room { 0 < self.old.spare }
-        ensures { self.new ≡ with_rank self.old (comm_list (length self.old.awaited) comm) result rank }
+        ensures { self.new ≡ with_rank self.old (comm_list (length self.old.awaited) comm) rank }
     {
         let list = 1 + self.awaited.len() + usize::from(comm);
-        self.put(list, rank)
+        self.put(list, rank);
     }
 
     /// Puts the ranks of a list onto the worklist.
+    #[tactic(auto, using(arenalist::proofs::ContentsLemmas::contents_spliced, arenalist::proofs::ContentsLemmas::length_at))]
     fn wake(&mut self, list: usize)
         requires later { 0 < list }
         requires list { list < length self.old.lists }
         ensures { self.new ≡ woken self.old list }
     {
-        self.lists.append(self.ids[0], self.ids[list]);
+        self.lists.append(self.lists.list(0), self.lists.list(list));
     }
 
     /// Wakes a rank if it waits for the partner of its operation at the place, or for the send that its probe there

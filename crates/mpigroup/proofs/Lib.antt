@@ -1,3 +1,4 @@
+pub mod ListLemmas
 pub mod LineLemmas
 pub mod MemberLemmas
 pub mod ReadingLemmas

@@ -5,6 +5,7 @@ use Rattle.std.proofs.lemmas.Iterator.Adapters.{position_from-zero}
 use Rattle.std.proofs.lemmas.Option.{slice_get_within}
 use Rattle.std.proofs.lemmas.Bool.{cases_Bool, eqb-true, eqb-false, eq-eqb, ne_eqb, or_left, or_right}
 use Rattle.mpicall.specs.Number.{is_canonical, value_of}
+use Rattle.mpigroup.proofs.ListLemmas.{slice_get-set_same, slice_get-set_other}
 use Rattle.mpigroup.specs.Places.{told_place, is_free, new_member}
 use Rattle.mpigroup.specs.declared.group.TheConstants.{NO_PLACE}
 
@@ -43,19 +44,6 @@ from-none p (x ∷ xs) i is = elim (cases_Bool (p x)) [
   | inl holds ↦ absurd (let e = rw holds at is in cc)
   | inr fails ↦ rw fails (from-none p xs (i + 1) (rw fails at is))
 ]
-
--- a table that is written at one rank
-slice_get-set_same : (xs : List ℕ) (i y : ℕ) → i < length xs → slice_get (set xs i y) i ≡ Some y
-slice_get-set_same [] i y h = absurd (omega arith)
-slice_get-set_same (x ∷ xs) zero y h = refl
-slice_get-set_same (x ∷ xs) (suc i) y h = slice_get-set_same xs i y (omega arith)
-
-slice_get-set_other : (xs : List ℕ) (i j y : ℕ) → j ≢ i → slice_get (set xs i y) j ≡ slice_get xs j
-slice_get-set_other [] i j y other = refl
-slice_get-set_other (x ∷ xs) zero zero y other = absurd (other refl)
-slice_get-set_other (x ∷ xs) zero (suc j) y other = refl
-slice_get-set_other (x ∷ xs) (suc i) zero y other = refl
-slice_get-set_other (x ∷ xs) (suc i) (suc j) y other = slice_get-set_other xs i j y (λ e. other (ap suc e))
 
 -- a table without a place, before there is a member
 no_place : (n rank : ℕ) → told_place (slice_get (replicate n NO_PLACE) rank) ≡ None

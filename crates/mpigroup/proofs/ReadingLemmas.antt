@@ -10,7 +10,7 @@ use Rattle.mpigroup.specs.declared.limits.TheConstants.{MOST_COMMS}
 use Rattle.mpigroup.specs.declared.fault.HeadFault.{HeadFault}
 use Rattle.mpigroup.specs.declared.fault.ReadFault.{ReadFault}
 use Rattle.mpigroup.specs.declared.fault.ReadFault.TheVariants.{Text, Memory}
-use Rattle.mpigroup.specs.Codes.{IsFaultOf}
+use Rattle.mpigroup.specs.Codes.{IsHeadFaultOf}
 use Rattle.mpigroup.specs.HeadText.{is_group, is_head_line, is_comm, checked_group, group_of_fields, group_of_line, at_line, put_front, put_line, groups_of_lines}
 
 -- the groups behind others, or the first fault there
@@ -68,9 +68,9 @@ AreRead-push ranks number all groups line left group so_far is =
     }
 
 -- the fault of a line is that of all lines
-fault_of_line : (groups : Groups) (reading : Result (List ℕ) HeadFault) (more all : Result Groups HeadFault) (fault : ReadFault) → behind_groups groups (put_line reading more) ≡ all → IsFaultOf reading fault → IsFaultOf all fault
+fault_of_line : (groups : Groups) (reading : Result (List ℕ) HeadFault) (more all : Result Groups HeadFault) (fault : ReadFault) → behind_groups groups (put_line reading more) ≡ all → IsHeadFaultOf reading fault → IsHeadFaultOf all fault
 fault_of_line groups reading more all (Text fault) same is = sym same ∙ ap (λ r. behind_groups groups (put_line r more)) is
 fault_of_line groups reading more all Memory same is = tt
 
-pub IsFaultOf-line : (ranks number : ℕ) (all : Result Groups HeadFault) (groups : Groups) (line : List ℕ) (left : List (List ℕ)) (fault : ReadFault) → AreRead ranks number all groups (line ∷ left) → IsFaultOf (at_line number (group_of_line ranks number line)) fault → IsFaultOf all fault
-IsFaultOf-line ranks number all groups line left fault so_far is = fault_of_line groups _ _ all fault so_far.same is
+pub IsHeadFaultOf-line : (ranks number : ℕ) (all : Result Groups HeadFault) (groups : Groups) (line : List ℕ) (left : List (List ℕ)) (fault : ReadFault) → AreRead ranks number all groups (line ∷ left) → IsHeadFaultOf (at_line number (group_of_line ranks number line)) fault → IsHeadFaultOf all fault
+IsHeadFaultOf-line ranks number all groups line left fault so_far is = fault_of_line groups _ _ all fault so_far.same is

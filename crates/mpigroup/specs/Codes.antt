@@ -16,6 +16,6 @@ code_of_head TooManyComms = codes "H5"
 code_of_head LineForm = codes "H6"
 
 -- a fault that is told of a text is the one that the text has; want of memory says nothing of it
-abbrev pub IsFaultOf : {T : Type 0} → Result T HeadFault → ReadFault → Type 0
-IsFaultOf reading (Text fault) = reading ≡ Err fault
-IsFaultOf reading Memory = ⊤
+abbrev pub IsHeadFaultOf : {T : Type 0} → Result T HeadFault → ReadFault → Type 0
+IsHeadFaultOf reading (Text fault) = reading ≡ Err fault
+IsHeadFaultOf reading Memory = ⊤

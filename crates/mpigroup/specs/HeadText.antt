@@ -61,13 +61,13 @@ group_of_line ranks number line =
     else (if is_head_line line then group_of_fields ranks (split_fields (body_of line)) else Err LineForm)
 
 -- a fault at a line, by its number from 1
-abbrev pub fault_at : ℕ → HeadFaultKind → HeadFault
-fault_at number kind = record { line = number; kind = kind }
+abbrev pub fault_on_line : ℕ → HeadFaultKind → HeadFault
+fault_on_line number kind = record { line = number; kind = kind }
 
 -- what a line gives, with the line's number at its fault
 abbrev pub at_line : {T : Type 0} → ℕ → Result T HeadFaultKind → Result T HeadFault
 at_line number (Ok value) = Ok value
-at_line number (Err kind) = Err (fault_at number kind)
+at_line number (Err kind) = Err (fault_on_line number kind)
 
 -- one more group in front
 abbrev pub put_front : List ℕ → Result Groups HeadFault → Result Groups HeadFault
@@ -92,7 +92,7 @@ groups_behind (Err fault) lines = Err fault
 
 -- the groups that a head's lines give, or the first fault
 abbrev pub head_of_lines : List (List ℕ) → Result Groups HeadFault
-head_of_lines [] = Err (fault_at 1 FirstLine)
+head_of_lines [] = Err (fault_on_line 1 FirstLine)
 head_of_lines (first ∷ others) = groups_behind (at_line 1 (ranks_of_line first)) others
 
 -- the groups that a head gives, or its first fault

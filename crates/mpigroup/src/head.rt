@@ -5,7 +5,7 @@ ghost use Rattle.std.specs.List.{range_with_len};
 ghost use Rattle.std.specs.Option.{option_copied};
 ghost use Rattle.mpigroup.specs.Groups.{group_of, ranks_of, size_of, world_rank_of, group_rank_of};
 ghost use Rattle.mpigroup.specs.Heads.{AreSound, IsGroup};
-ghost use Rattle.mpigroup.specs.Codes.{IsFaultOf};
+ghost use Rattle.mpigroup.specs.Codes.{IsHeadFaultOf};
 ghost use Rattle.mpicall.specs.Lines.{lines_of};
 ghost use Rattle.mpigroup.specs.HeadText.{groups_of_lines, read_head};
 
@@ -59,7 +59,7 @@ fn read_further(alloc: Global, ranks: u16, text: &[u8]) -> Result<Vec<Group>, Re
     requires most { ranks ≤ MOST_RANKS }
     ensures ok { IfOk result (λ groups. groups_of_lines ranks 2 (lines_of text.now) ≡ Ok groups.items) }
     ensures sound { IfOk result (λ groups. AreSound ranks groups.items) }
-    ensures fault { IfErr result (IsFaultOf (groups_of_lines ranks 2 (lines_of text.now))) }
+    ensures fault { IfErr result (IsHeadFaultOf (groups_of_lines ranks 2 (lines_of text.now))) }
 {
     let mut groups = Vec::new(alloc);
     let mut number = 2;
@@ -77,7 +77,7 @@ impl Head {
     #[tactic(auto, unfolding(crate::specs::HeadText::read_head))]
     pub fn read(alloc: Global, text: &[u8]) -> Result<Head, ReadFault>
         ensures ok { IfOk result (λ head. read_head text.now ≡ Ok head) }
-        ensures fault { IfErr result (IsFaultOf (read_head text.now)) }
+        ensures fault { IfErr result (IsHeadFaultOf (read_head text.now)) }
     {
         let (first, others) = split_line(text).ok_or(HeadFaultKind::FirstLine.at(1))?;
         let ranks = read_ranks(first).map_err(|kind| kind.at(1))?;

@@ -15,6 +15,9 @@
 //!   least and none twice.
 //! - [`split::split_groups`] answers the groups of `specs/Splits.antt`, or want of memory.
 //!
+//! Nobody has to believe `specs/Places.antt`: it says how a group's ranks are looked up, and no public contract cites
+//! it.
+//!
 //! In the code alone it is seen that no look-up searches a group or takes memory.
 //!
 //! ```text

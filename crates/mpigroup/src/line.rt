@@ -4,7 +4,7 @@ ghost use Rattle.std.specs.Prelude.{◌≡◌, [], ◌∷◌, ◌==◌, ◌≤�
 ghost use Rattle.std.specs.List.{list_all};
 ghost use Rattle.mpicall.specs.Spelling.{line_feed};
 ghost use Rattle.mpicall.specs.Number.{is_canonical};
-ghost use Rattle.mpigroup.specs.Codes.{IsFaultOf};
+ghost use Rattle.mpigroup.specs.Codes.{IsHeadFaultOf};
 ghost use Rattle.mpicall.specs.Lines.{lines_of};
 ghost use Rattle.mpigroup.specs.HeadText.{is_head_line, ranks_of_fields, ranks_of_line, group_of_fields, group_of_line, at_line};
 ghost use Rattle.mpigroup.specs.Places.{new_member};
@@ -126,7 +126,7 @@ fn read_members(
     requires some { 1 ≤ ranks }
     requires few { ranks ≤ MOST_RANKS }
     ensures ok { IfOk result (λ group. group_of_fields ranks (codes "comm" ∷ numbers.entry) ≡ Ok group) }
-    ensures fault { IfErr result (IsFaultOf (at_line line (group_of_fields ranks (codes "comm" ∷ numbers.entry)))) }
+    ensures fault { IfErr result (IsHeadFaultOf (at_line line (group_of_fields ranks (codes "comm" ∷ numbers.entry)))) }
 {
     let mut members = Vec::new(alloc);
     let mut places = vec![in alloc; NO_PLACE; usize::from(ranks)]?;
@@ -153,7 +153,7 @@ pub(crate) fn read_group(
     requires some { 1 ≤ ranks }
     requires few { ranks ≤ MOST_RANKS }
     ensures ok { IfOk result (λ group. group_of_line ranks number line.now ≡ Ok group) }
-    ensures fault { IfErr result (IsFaultOf (at_line number (group_of_line ranks number line.now))) }
+    ensures fault { IfErr result (IsHeadFaultOf (at_line number (group_of_line ranks number line.now))) }
 {
     if number > u32::from(MOST_COMMS) {
         return Err(HeadFaultKind::TooManyComms.at(number));

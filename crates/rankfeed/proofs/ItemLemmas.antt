@@ -1,6 +1,6 @@
 -- Items in order: what one more item changes, and what order means.
-use Rattle.std.proofs.Common.{◌≡◌, Bool, true, false, not, ◌&&◌, Option, Some, None, List, [], ◌∷◌, ◌++◌, refl, sym, ap, ◌∙◌}
-use Rattle.std.proofs.lemmas.Bool.{false≢true}
+use Rattle.std.proofs.Common.{◌≡◌, true, false, not, Option, Some, None, List, [], ◌∷◌, ◌++◌, refl, sym, ap, ◌∙◌}
+use Rattle.std.proofs.lemmas.Bool.{and_parts, and_from, false≢true}
 use Rattle.std.proofs.lemmas.Option.{none-some}
 use Rattle.mpicall.specs.declared.call.Call.{Call}
 use Rattle.mpicall.specs.declared.fault.SourceFault.{SourceFault}
@@ -18,22 +18,9 @@ last_behind-append before (x ∷ xs) ys = last_behind-append (Some x) xs ys
 pub last_item-push : (xs : List Item) (x : Item) → last_item (xs ++ x ∷ []) ≡ Some x
 last_item-push xs x = last_behind-append None xs (x ∷ [])
 
--- both parts of a conjunction
-first_part : (a b : Bool) → (a && b) ≡ true → a ≡ true
-first_part true b h = refl
-first_part false b h = absurd (false≢true h)
-
-second_part : (a b : Bool) → (a && b) ≡ true → b ≡ true
-second_part true b h = h
-second_part false b h = absurd (false≢true h)
-
-both_parts : (a b : Bool) → a ≡ true → b ≡ true → (a && b) ≡ true
-both_parts true b h k = k
-both_parts false b h k = absurd (false≢true h)
-
 follow_on-push : (before : Option Item) (xs : List Item) (x : Item) → follow_on before xs ≡ true → may_follow (last_behind before xs) x ≡ true → follow_on before (xs ++ x ∷ []) ≡ true
-follow_on-push before [] x h k = both_parts _ _ k refl
-follow_on-push before (y ∷ ys) x h k = both_parts _ _ (first_part _ _ h) (follow_on-push (Some y) ys x (second_part _ _ h) k)
+follow_on-push before [] x h k = and_from _ _ k refl
+follow_on-push before (y ∷ ys) x h k = and_from _ _ (and_parts _ _ h).0 (follow_on-push (Some y) ys x (and_parts _ _ h).1 k)
 
 pub in_order_push : (xs : List Item) (x : Item) → are_in_order xs ≡ true → may_follow (last_item xs) x ≡ true → are_in_order (xs ++ x ∷ []) ≡ true
 in_order_push xs x h k = follow_on-push None xs x h k
@@ -67,11 +54,11 @@ torn_may_follow xs fault k = torn_follows (last_item xs) fault k
 
 follow_on-split : (before : Option Item) (xs ys : List Item) → follow_on before (xs ++ ys) ≡ true → follow_on (last_behind before xs) ys ≡ true
 follow_on-split before [] ys h = h
-follow_on-split before (x ∷ xs) ys h = follow_on-split (Some x) xs ys (second_part _ _ h)
+follow_on-split before (x ∷ xs) ys h = follow_on-split (Some x) xs ys (and_parts _ _ h).1
 
 -- of items in order, the next may follow those before it
 pub next_may_follow : (xs ys : List Item) (x : Item) → are_in_order (xs ++ x ∷ ys) ≡ true → may_follow (last_item xs) x ≡ true
-next_may_follow xs ys x h = first_part _ _ (follow_on-split None xs (x ∷ ys) h)
+next_may_follow xs ys x h = (and_parts _ _ (follow_on-split None xs (x ∷ ys) h)).0
 
 none_behind_mark : (earlier : Ending) (after : List Item) → follow_on (Some (Mark earlier)) after ≡ true → after ≡ []
 none_behind_mark earlier [] h = refl
@@ -80,9 +67,9 @@ none_behind_mark earlier (x ∷ xs) h = absurd (false≢true h)
 none_behind : (call : Call) (after : List Item) → follow_on (Some (Entry call)) after ≡ true → ends_list call ≡ true → calls_among after ≡ []
 none_behind call [] h f = refl
 none_behind call (Entry next ∷ xs) h f =
-    let k : not (ends_list call) ≡ true = first_part (not (ends_list call)) (follow_on (Some (Entry next)) xs) h in
+    let k : not (ends_list call) ≡ true = (and_parts (not (ends_list call)) (follow_on (Some (Entry next)) xs) h).0 in
     absurd (false≢true (sym (ap not f) ∙ k))
-none_behind call (Mark end ∷ xs) h f = ap calls_among (none_behind_mark end xs (second_part _ _ h))
+none_behind call (Mark end ∷ xs) h f = ap calls_among (none_behind_mark end xs (and_parts _ _ h).1)
 
 list_end_before : (before : Option Item) → may_follow before (Mark Sealed) ≡ true → item_ends_list before ≡ true
 list_end_before None h = absurd (false≢true h)
@@ -92,9 +79,9 @@ list_end_before (Some (Mark earlier)) h = absurd (false≢true h)
 -- what order means
 pub is_feed : (items : List Item) → are_in_order items ≡ true → IsFeed items
 is_feed items h = record {
-  mark_is_last = λ before after earlier e. none_behind_mark earlier after (second_part _ _ (follow_on-split None before (Mark earlier ∷ after) (rw e at h)));
-  none_behind_list_end = λ before after call e f. none_behind call after (second_part _ _ (follow_on-split None before (Entry call ∷ after) (rw e at h))) f;
-  sealed_behind_list_end = λ before after e. list_end_before (last_item before) (first_part _ _ (follow_on-split None before (Mark Sealed ∷ after) (rw e at h)));
+  mark_is_last = λ before after earlier e. none_behind_mark earlier after (and_parts _ _ (follow_on-split None before (Mark earlier ∷ after) (rw e at h))).1;
+  none_behind_list_end = λ before after call e f. none_behind call after (and_parts _ _ (follow_on-split None before (Entry call ∷ after) (rw e at h))).1 f;
+  sealed_behind_list_end = λ before after e. list_end_before (last_item before) (and_parts _ _ (follow_on-split None before (Mark Sealed ∷ after) (rw e at h))).0;
 }
 
 -- what the two ends know of one more item

@@ -7,7 +7,6 @@ use Rattle.rankfeed.specs.declared.item.Item.TheVariants.{Entry, Mark}
 use Rattle.rankfeed.specs.declared.answer.PutFault.{PutFault}
 use Rattle.rankfeed.specs.declared.answer.PutFault.TheVariants.{Full, Closed}
 use Rattle.rankfeed.specs.declared.answer.Came.{Came}
-use Rattle.rankfeed.specs.declared.answer.Came.TheVariants as Came
 use Rattle.rankfeed.specs.declared.answer.Took.{Took}
 use Rattle.rankfeed.specs.declared.answer.Took.TheVariants.{Record, Empty, Sealed, Torn}
 

@@ -23,6 +23,10 @@
 //! The module `channel` has the same calls over a bounded channel, by the same definitions; there most
 //! calls may wait.
 //!
+//! The definitions stand in `specs/`: `Items` says what a feed carries, `Answers` what its answers mean, `Rings` and
+//! `Channels` what contracts see of the two ends. Nobody has to believe the rule in `Relays`: of it contracts see
+//! `left_in` alone, what a taker of a channel knows to be left.
+//!
 //! ```text
 //! let (mut feed, mut taker) = Feed::open(alloc, rank, 64)?;
 //! feed.put(record, wait)?;                          // in one thread

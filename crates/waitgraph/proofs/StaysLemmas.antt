@@ -18,7 +18,7 @@ use Rattle.pairing.specs.Requests.{started_before}
 use Rattle.pairing.proofs.PlaceLemmas.{nth_place, places-append, slice_get-front}
 use Rattle.moves.specs.declared.need.Need.{Need}
 use Rattle.moves.specs.declared.need.Need.TheVariants.{At, Lacking}
-use Rattle.moves.specs.Runs.{State, start, moved, Step, Steps, last_of, IsReached}
+use Rattle.moves.specs.Runs.{State, start, moved, Step, AreSteps, last_state, IsReached}
 use Rattle.moves.specs.Needs.{needs_of_call, is_met, can_move}
 use Rattle.moves.specs.Stands.{stands_of, lowest_run_over}
 use Rattle.moves.proofs.RunLemmas.{reached_below, reached_ranks, get_start}
@@ -234,7 +234,7 @@ step_bound reading groups recording later h set closed t u bound step k outside 
     (λ (differs : k ≢ step.rank). rw (get_or-set_other t step.rank k (get_or t step.rank 0 + 1) 0 differs) (bound k outside))
     (cases_eq k step.rank))
 
-steps_bound : (reading : Reading) (groups : Groups) (recording later : Lists) (h : Parted recording later) (set : Set) → Closed reading groups recording set → (t : State) (states : List State) → Bound set (stands_of reading groups recording) t → Steps (can_move reading groups later) t states → Bound set (stands_of reading groups recording) (last_of t states)
+steps_bound : (reading : Reading) (groups : Groups) (recording later : Lists) (h : Parted recording later) (set : Set) → Closed reading groups recording set → (t : State) (states : List State) → Bound set (stands_of reading groups recording) t → AreSteps (can_move reading groups later) t states → Bound set (stands_of reading groups recording) (last_state t states)
 steps_bound reading groups recording later h set closed t [] bound steps = bound
 steps_bound reading groups recording later h set closed t (u ∷ rest) bound steps =
     steps_bound reading groups recording later h set closed u rest (step_bound reading groups recording later h set closed t u bound steps.0) steps.1
@@ -264,7 +264,7 @@ moves_too reading groups recording later h u r can =
           (onto_on recording later h u) first within (λ req start'. earlier h.before recording r (get_or u r 0) req start' h.to_open within) pass.is_present pass.needs_met;
     })
 
-steps_too : (reading : Reading) (groups : Groups) (recording later : Lists) (h : Parted recording later) (s : State) (states : List State) → Steps (can_move reading groups recording) s states → Steps (can_move reading groups later) s states
+steps_too : (reading : Reading) (groups : Groups) (recording later : Lists) (h : Parted recording later) (s : State) (states : List State) → AreSteps (can_move reading groups recording) s states → AreSteps (can_move reading groups later) s states
 steps_too reading groups recording later h s [] steps = steps
 steps_too reading groups recording later h s (t ∷ rest) steps = (
   record { rank = steps.0.rank; is_rank = steps.0.is_rank; can_move = moves_too reading groups recording later h s steps.0.rank steps.0.can_move; moves_on = steps.0.moves_on },

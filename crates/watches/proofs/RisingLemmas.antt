@@ -1,6 +1,7 @@
 -- No stand falls along the publications.
-use Rattle.std.proofs.Common.{◌≡◌, ℕ, ◌<◌, Bool, true, false, ◌&&◌, if◌then◌else◌, nat_le, nat_lt, List, [], ◌∷◌, ◌++◌, Option, Some, None, sum, refl, arith, slice_index, slice_get, suc, IfSome}
+use Rattle.std.proofs.Common.{◌≡◌, ℕ, ◌<◌, Bool, true, false, if◌then◌else◌, nat_le, nat_lt, List, [], ◌∷◌, ◌++◌, Option, Some, None, sum, refl, arith, slice_index, slice_get, suc, IfSome}
 use Rattle.std.specs.List.{range_with_len}
+use Rattle.std.proofs.lemmas.Bool.{and_parts, and_from}
 use Rattle.std.proofs.lemmas.Bool.Decides.{nat_tests}
 use Rattle.std.proofs.lemmas.List.Sums.{AllPass-from_list_all, list_all-from_AllPass}
 use Rattle.mpigroup.specs.declared.limits.TheConstants.{MOST_RANKS}
@@ -17,13 +18,6 @@ then_of false r e = absurd cc
 then_is : (b r : Bool) → b ≡ true → r ≡ true → (if b then r else false) ≡ true
 then_is b r e f = rw e f
 
-both_of : (b r : Bool) → (b && r) ≡ true → (b ≡ true) × (r ≡ true)
-both_of true r e = (refl, e)
-both_of false r e = absurd cc
-
-both_are : (b r : Bool) → b ≡ true → r ≡ true → (b && r) ≡ true
-both_are b r e f = rw e f
-
 no_lower_self : (xs : List ℕ) → is_no_lower xs xs ≡ true
 unfolding is_no_lower
 no_lower_self xs = list_all-from_AllPass (λ rank. nat_le (slice_index xs rank) (slice_index xs rank)) (range_with_len 0 MOST_RANKS) (λ k d below. grind (arith, nat_tests))
@@ -38,14 +32,14 @@ no_lower_trans xs ys zs p q =
     let q'' = q' k d below in grind (arith, nat_tests, p'', q''))
 
 further_is_no_lower : (xs ys : List ℕ) → is_further xs ys ≡ true → is_no_lower xs ys ≡ true
-further_is_no_lower xs ys e = (both_of (is_no_lower xs ys) (nat_lt (sum xs) (sum ys)) e).0
+further_is_no_lower xs ys e = (and_parts (is_no_lower xs ys) (nat_lt (sum xs) (sum ys)) e).0
 
 pub further_is_more : (xs ys : List ℕ) → is_further xs ys ≡ true → sum xs < sum ys
 further_is_more xs ys e =
-    let more = (both_of (is_no_lower xs ys) (nat_lt (sum xs) (sum ys)) e).1 in grind (arith, nat_tests, more)
+    let more = (and_parts (is_no_lower xs ys) (nat_lt (sum xs) (sum ys)) e).1 in grind (arith, nat_tests, more)
 
 pub further_is : (xs ys : List ℕ) → is_no_lower xs ys ≡ true → sum xs < sum ys → is_further xs ys ≡ true
-further_is xs ys within more = both_are (is_no_lower xs ys) (nat_lt (sum xs) (sum ys)) within (grind (arith, nat_tests, more))
+further_is xs ys within more = and_from (is_no_lower xs ys) (nat_lt (sum xs) (sum ys)) within (grind (arith, nat_tests, more))
 
 -- what may stand behind the last of a list
 abbrev pub may_follow : Option Stands → Stands → Bool

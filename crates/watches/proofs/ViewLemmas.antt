@@ -4,20 +4,20 @@ use mathlib.Core.Option.{some}
 use lib.ListN.{get_elem?}
 use Rattle.left_right.specs.Register.{Admits, Turns, TurnsAt, Forks, Merges}
 use Rattle.atomic_table.proofs.Lists.{at_set, at_snoc}
-use Rattle.watches.specs.Shown.{KnowOneList, SeesList, nobody, name_of}
+use Rattle.watches.specs.Shown.{KnowOneList, SeesList, nobody, list_shown}
 use Rattle.watches.specs.declared.publication.Publication.{Publication}
 use Rattle.watches.specs.declared.board.View.{View}
 
 abbrev Knows : Publication → View → Type 0
-Knows x v = (v ≡ nobody) ⊎ (v ≡ name_of x)
+Knows x v = (v ≡ nobody) ⊎ (v ≡ list_shown x)
 
-knows_still : (x y : Publication) (v : View) → name_of y ≡ name_of x → Knows x v → Knows y v
-knows_still x y v same k = ⊎_elim (λ (n : v ≡ nobody). inl n) (λ (e : v ≡ name_of x). inr (e ∙ sym same)) k
+knows_still : (x y : Publication) (v : View) → list_shown y ≡ list_shown x → Knows x v → Knows y v
+knows_still x y v same k = ⊎_elim (λ (n : v ≡ nobody). inl n) (λ (e : v ≡ list_shown x). inr (e ∙ sym same)) k
 
-pub sees : (seat : ℕ) (v : View) (x y : Publication) → name_of y ≡ name_of x → TurnsAt KnowOneList seat v x y SeesList
+pub sees : (seat : ℕ) (v : View) (x y : Publication) → list_shown y ≡ list_shown x → TurnsAt KnowOneList seat v x y SeesList
 sees seat v x y same views h at = (
-  name_of y,
-  (λ j u e. ⊎_elim (λ (t : (j ≡ seat) × (name_of y ≡ u)). inr (sym t.1)) (λ (t : (j ≢ seat) × (get_elem? views j ≡ some u)). knows_still x y u same (h j u t.1)) (at_set views seat j (name_of y) u e)),
+  list_shown y,
+  (λ j u e. ⊎_elim (λ (t : (j ≡ seat) × (list_shown y ≡ u)). inr (sym t.1)) (λ (t : (j ≢ seat) × (get_elem? views j ≡ some u)). knows_still x y u same (h j u t.1)) (at_set views seat j (list_shown y) u e)),
   (knows_still x y v same (h seat v at), refl),
 )
 

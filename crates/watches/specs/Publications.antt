@@ -25,8 +25,8 @@ is_rising (x ∷ []) = true
 is_rising (x ∷ y ∷ ys) = if is_further x.places y.places then is_rising (y ∷ ys) else false
 
 -- the first are the stands 0, and each is further than the one before it
-abbrev pub IsRising : List Stands → Type 0
-IsRising list = (slice_get list 0 ≡ Some at_start) × (is_rising list ≡ true)
+abbrev pub AreRising : List Stands → Type 0
+AreRising list = (slice_get list 0 ≡ Some at_start) × (is_rising list ≡ true)
 
 -- no rank stands lower in the later stands, where there are any
 abbrev pub NeverFalls : Option Stands → Option Stands → Type 0

@@ -11,13 +11,13 @@ abbrev pub nobody : View
 nobody = record { known = 0; number = 0; log_name = 0; cells_name = 0 }
 
 -- the list of a publication
-abbrev pub name_of : Publication → View
-name_of p = record { known = 1; number = (book_of p).number; log_name = (book_of p).log_name; cells_name = (book_of p).cells_name }
+abbrev pub list_shown : Publication → View
+list_shown p = record { known = 1; number = (book_of p).number; log_name = (book_of p).log_name; cells_name = (book_of p).cells_name }
 
 -- whoever knows a list knows that of the publication on the board
 abbrev pub KnowOneList : Publication → List View → Type 0
-KnowOneList shown views = (seat : ℕ) (view : View) → get_elem? views seat ≡ some view → (view ≡ nobody) ⊎ (view ≡ name_of shown)
+KnowOneList shown views = (seat : ℕ) (view : View) → get_elem? views seat ≡ some view → (view ≡ nobody) ⊎ (view ≡ list_shown shown)
 
 -- who turns the board, or looks at it, then knows the list of what it shows, and knew no other
 abbrev pub SeesList : View → Publication → Publication → View → Type 0
-SeesList before old new after = ((before ≡ nobody) ⊎ (before ≡ name_of new)) × (after ≡ name_of new)
+SeesList before old new after = ((before ≡ nobody) ⊎ (before ≡ list_shown new)) × (after ≡ list_shown new)

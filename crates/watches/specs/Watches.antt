@@ -20,8 +20,8 @@ abbrev pub ranks_watched : Watch → ℕ
 ranks_watched watch = watch.ranks
 
 -- the publications that are told of
-abbrev pub told_by : Told → List Stands
-told_by told = list_of told.publication
+abbrev pub publications_told : Told → List Stands
+publications_told told = list_of told.publication
 
 -- which session's list they are of
 abbrev pub list_told : Told → Book

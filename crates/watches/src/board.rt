@@ -4,7 +4,7 @@ ghost use Rattle.std.specs.Prelude.{◌≡◌, ◌<◌, ◌≤◌, ◌⊎◌, If
 ghost use Rattle.left_right.specs.Sides.{view};
 ghost use Rattle.mpigroup.specs.declared.limits.TheConstants.{MOST_RANKS};
 ghost use Rattle.watches.specs.Published.{list_of, book_of};
-ghost use Rattle.watches.specs.Shown.{name_of, nobody};
+ghost use Rattle.watches.specs.Shown.{list_shown, nobody};
 
 use crate::publication::Publication;
 use crate::watch::Watch;
@@ -80,9 +80,9 @@ type BoardWriter = Writer<Publication, (), View, OneList>;
 /// waits for those that still read that copy, and takes no memory.
 fn turn(writer: BoardWriter, next: &Publication, wait: &impl Wait) -> BoardWriter
     requires list { book_of next.now ≡ book_of writer.desk.shown.value }
-    requires names { (view writer.desk.place ≡ nobody) ⊎ (view writer.desk.place ≡ name_of writer.desk.shown.value) }
+    requires names { (view writer.desk.place ≡ nobody) ⊎ (view writer.desk.place ≡ list_shown writer.desk.shown.value) }
     ensures shown { result.desk.shown.value ≡ next.now }
-    ensures names { view result.desk.place ≡ name_of next.now }
+    ensures names { view result.desk.place ≡ list_shown next.now }
 {
     let mut writer = writer;
     let (open, mut spare) = writer.desk.open(wait);
@@ -94,7 +94,7 @@ fn turn(writer: BoardWriter, next: &Publication, wait: &impl Wait) -> BoardWrite
 /// The last publication, shown to watches. It is not `Drop`: end it by `end`.
 pub struct Board {
     writer: BoardWriter,
-    ghost names: { view writer.desk.place ≡ name_of writer.desk.shown.value },
+    ghost names: { view writer.desk.place ≡ list_shown writer.desk.shown.value },
 }
 
 impl Board {

@@ -10,7 +10,21 @@
 //!   answers for a rank never fall.
 //!
 //! Sessions of the crate `gather` publish by it. The definitions stand in `specs/`: `Stands` says what a state that
-//! some run passes is, `Publications` what is published, `Watches` what is read.
+//! some run passes is, `Publications` what is published, `Publishers` and `Watches` what contracts see of those who
+//! publish and read. Nobody has to believe `Shown` and `Boards`: they say how the board is kept, and no public contract
+//! cites them.
+//!
+//! ```text
+//! let (mut publisher, mut watches) = Publisher::open(alloc, 2, 1, wait)?;
+//! let mut stands = Stands::at_start();
+//! stands.set(&analyser);                  // rank 0 stands at 1, rank 1 at 0
+//! publisher.publish(&stands, wait)?;
+//! watches[0].read(0)                      // Ok(Some(1)), and never less from then on
+//! watches[0].read(2)                      // Ok(None): there is no such rank
+//! publisher.covers(&watches[0])           // true
+//! publisher.withdraw(wait);
+//! watches[0].read(0)                      // Err(Gone)
+//! ```
 #![tactic(auto)]
 
 mod append;

@@ -78,9 +78,9 @@ impl Publisher {
     ghost use Rattle.std.specs.Prelude.{◌≢◌, Err, OnOk, OnErr, is_some, true, false, length, nat_le};
     ghost use Rattle.watches.specs.declared.publisher.OpenFault.TheVariants.{Watch as WatchFault};
     ghost use Rattle.watches.specs.declared.stands.Stands.{Stands as StandsValue};
-    ghost use Rattle.watches.specs.Publications.{at_start, IsRising, Publishes};
+    ghost use Rattle.watches.specs.Publications.{at_start, AreRising, Publishes};
     ghost use Rattle.watches.specs.Publishers.{published_by, book_published, is_watched, IsShown};
-    ghost use Rattle.watches.specs.Watches.{told_by, list_told, seen_by, list_watched, AnswersBy};
+    ghost use Rattle.watches.specs.Watches.{publications_told, list_told, seen_by, list_watched, AnswersBy};
 
     /// A new list, whose first publication are the stands 0 everywhere, and so many watches.
     pub fn open(
@@ -91,7 +91,7 @@ impl Publisher {
     ) -> Result<(Publisher, Vec<Watch>), OpenFault>
         requires { ranks ≤ MOST_RANKS }
         ensures published { IfOk result (λ ends. published_by ends.0 ≡ at_start ∷ []) }
-        ensures rising { IfOk result (λ ends. IsRising (published_by ends.0)) }
+        ensures rising { IfOk result (λ ends. AreRising (published_by ends.0)) }
         ensures len { IfOk result (λ ends. vec_len ends.1 ≡ watches) }
         ensures watches { IfOk result (λ ends. All (IsWatchOf ranks (book_published ends.0) (at_start ∷ [])) ends.1.items) }
         ensures unwatched { watches ≡ 0 → result ≢ Err WatchFault }
@@ -128,8 +128,8 @@ impl Publisher {
     pub fn publish(&mut self, stands: &Stands, wait: &impl Wait) -> Result<Told, PublishFault>
         ensures ok { OnOk result (Publishes stands.now (published_by self.old) (published_by self.new)) }
         ensures err { OnErr result (published_by self.new ≡ published_by self.old) }
-        ensures rising { IsRising (published_by self.new) }
-        ensures told { IfOk result (λ told. told_by told ≡ published_by self.new) }
+        ensures rising { AreRising (published_by self.new) }
+        ensures told { IfOk result (λ told. publications_told told ≡ published_by self.new) }
         ensures list_told { IfOk result (λ told. list_told told ≡ book_published self.new) }
         ensures list { book_published self.new ≡ book_published self.old }
         ensures shown { IsShown self.new }

@@ -28,7 +28,7 @@ ghost use Rattle.left_right.specs.Sides.{view};
 ghost use Rattle.mpigroup.specs.declared.limits.TheConstants.{MOST_RANKS};
 ghost use Rattle.watches.specs.Published.{list_of, book_of};
 ghost use Rattle.watches.specs.Publications.{last_of, NeverFalls};
-ghost use Rattle.watches.specs.Shown.{name_of};
+ghost use Rattle.watches.specs.Shown.{list_shown};
 
 use crate::board::{OneList, Sees, View};
 use crate::publication::Publication;
@@ -51,7 +51,7 @@ pub struct Watch {
     known: Publication,
     ghost few: { ranks ≤ MOST_RANKS },
     ghost there: { is_some reader ≡ true },
-    ghost same: { ForSome reader (λ reader. view reader.place ≡ name_of known) },
+    ghost same: { ForSome reader (λ reader. view reader.place ≡ list_shown known) },
 }
 
 /// What is told of a publication. Threads may share it.
@@ -61,10 +61,10 @@ pub struct Told {
 }
 
 impl Told {
-    ghost use Rattle.watches.specs.Watches.{told_by, list_told};
+    ghost use Rattle.watches.specs.Watches.{publications_told, list_told};
 
     pub(crate) fn of(publication: &Publication) -> Told
-        ensures told { told_by result ≡ list_of publication.now }
+        ensures told { publications_told result ≡ list_of publication.now }
         ensures list { list_told result ≡ book_of publication.now }
     {
         Told {
@@ -76,8 +76,8 @@ impl Told {
 /// Looks at the board, and keeps what is shown there if it is later than what is known. It tells whether the
 /// board was there.
 fn look(reader: BoardReader, known: &mut Publication) -> (BoardReader, bool)
-    requires same { view reader.place ≡ name_of known.old }
-    ensures same { view result.0.place ≡ name_of known.new }
+    requires same { view reader.place ≡ list_shown known.old }
+    ensures same { view result.0.place ≡ list_shown known.new }
     ensures this { IsPrefix (list_of known.old) (list_of known.new) }
     ensures gone { result.1 ≡ false → known.new ≡ known.old }
     ensures list { book_of known.new ≡ book_of known.old }
@@ -92,11 +92,11 @@ fn look(reader: BoardReader, known: &mut Publication) -> (BoardReader, bool)
 }
 
 impl Watch {
-    ghost use Rattle.watches.specs.Watches.{seen_by, list_watched, ranks_watched, told_by, list_told, IsWatchOf, ReadsAt};
+    ghost use Rattle.watches.specs.Watches.{seen_by, list_watched, ranks_watched, publications_told, list_told, IsWatchOf, ReadsAt};
 
     pub(crate) fn new(ranks: u16, reader: BoardReader, known: Publication) -> Watch
         requires few { ranks ≤ MOST_RANKS }
-        requires same { view reader.place ≡ name_of known }
+        requires same { view reader.place ≡ list_shown known }
         ensures { IsWatchOf ranks (book_of known) (list_of known) result }
     {
         Watch {
@@ -144,8 +144,8 @@ impl Watch {
     #[tactic(auto, using(crate::proofs::RisingLemmas::never_falls))]
     pub fn learn(&mut self, told: &Told)
         requires { list_told told.now ≡ list_watched self.old }
-        ensures told { IsPrefix (told_by told.now) (seen_by self.new) }
-        ensures no_less { NeverFalls (last_of (told_by told.now)) (last_of (seen_by self.new)) }
+        ensures told { IsPrefix (publications_told told.now) (seen_by self.new) }
+        ensures no_less { NeverFalls (last_of (publications_told told.now)) (last_of (seen_by self.new)) }
         ensures grows { IsPrefix (seen_by self.old) (seen_by self.new) }
         ensures never_falls { NeverFalls (last_of (seen_by self.old)) (last_of (seen_by self.new)) }
         ensures list { list_watched self.new ≡ list_watched self.old }

@@ -6,7 +6,7 @@ use Rattle.moves.specs.Runs.{IsTheEnd, StandsNoLater}
 use Rattle.moves.specs.Needs.{can_move}
 use Rattle.moves.specs.Readings.{is_no_laxer}
 use Rattle.moves.specs.Stands.{stands_earlier}
-use Rattle.moves.proofs.RangeLemmas.{kept_more, kept_no_more}
+use Rattle.mpigroup.proofs.ListLemmas.{filter_more, filter_no_more}
 use Rattle.moves.proofs.ReadingLemmas.{stricter_readings_stand_no_later}
 use Rattle.moves.proofs.held_back.held_back.Goals.{then-stands_earlier+in_ok-push, else-stands_earlier}
 use Rattle.moves.proofs.held_back.held_back.Goals as goal
@@ -18,11 +18,11 @@ loop-rank-preserved c =
           ap (λ v. v.items) w.ranks-is
           ∙ w.in_ok-push.ensures.items
           ∙ ap (λ (so_far : List ℕ). so_far ++ c.loop-rank.rank ∷ []) c.loop-rank.invariant
-          ∙ sym (kept_more (stands_earlier c.args.first.now.stands c.args.second.now.stands) c.loop-rank.rank (sym c.stands_earlier.ensures ∙ w.if-stands_earlier.true))
+          ∙ sym (filter_more (stands_earlier c.args.first.now.stands c.args.second.now.stands) c.loop-rank.rank (sym c.stands_earlier.ensures ∙ w.if-stands_earlier.true))
       | else-stands_earlier w ↦
           ap (λ v. v.items) w.ranks-is
           ∙ c.loop-rank.invariant
-          ∙ sym (kept_no_more (stands_earlier c.args.first.now.stands c.args.second.now.stands) c.loop-rank.rank (sym c.stands_earlier.ensures ∙ w.if-stands_earlier.false))
+          ∙ sym (filter_no_more (stands_earlier c.args.first.now.stands c.args.second.now.stands) c.loop-rank.rank (sym c.stands_earlier.ensures ∙ w.if-stands_earlier.false))
     ]
 
 -- both stand where every run ends, over the same calls

@@ -1,10 +1,8 @@
 use Rattle.std.proofs.Common.{◌≡◌, ◌+◌, ◌<◌, ℕ, Option, Some, None, length, ap, subst, ◌∙◌, arith}
 use Rattle.std.specs.Prelude.{IfSome}
 use Rattle.std.proofs.lemmas.Option.{none-some, same_Some}
-use Rattle.pairing.specs.Partners.{partner_of}
-use Rattle.pairing.specs.declared.envelope.Half.TheVariants.{Recv as RecvHalf}
-use Rattle.moves.specs.Waiting.{Waiting, woken_partner, woken_prober, woken_comm, comm_list}
-use Rattle.moves.proofs.WakeLemmas.{all_woken}
+use Rattle.moves.specs.Waiting.{WaitLists, woken_comm, comm_list}
+use Rattle.moves.proofs.WakeLemmas.{all_woken, one_by_one}
 use Rattle.moves.proofs.SettleLemmas.{partners_room, reach_hand, reach_counts}
 use Rattle.moves.proofs.settle.reach.Goals as goal
 
@@ -21,18 +19,18 @@ pub wake_members-requires : goal.wake_members-requires
 wake_members-requires c =
     let p = c.args.pairs.now in
     let w = c.args.waiters.now in
-    let both : c.wake_prober.new.waiters ≡ all_woken p.groups p.recording c.args.rank c.args.place w None = c.wake_prober.ensures ∙ ap (woken_prober p.groups p.recording c.args.rank c.args.place) (c.wake_partner-2.ensures ∙ ap (λ (x : Waiting). woken_partner x (partner_of p.groups p.recording c.args.rank c.args.place RecvHalf)) c.wake_partner.ensures) in
+    let both = one_by_one p.groups p.recording c.args.rank c.args.place w c.wake_partner.new.waiters c.wake_partner-2.new.waiters c.wake_prober.new.waiters c.wake_partner.ensures c.wake_partner-2.ensures c.wake_prober.ensures in
     let room = partners_room p.groups p.recording c.args.rank c.args.place w c.requires.has_lists in
     if_known c.reach-complete.result (length p.groups) (length c.wake_prober.new.waiters.awaited) (length c.wake_prober.new.waiters.lists)
-    (omega (arith, room.0, room.1, ap (λ (x : Waiting). length x.lists) both, ap (λ (x : Waiting). length x.awaited) both, c.requires.has_lists.lists, c.requires.has_lists.awaited))
+    (omega (arith, room.0, room.1, ap (λ (x : WaitLists). length x.lists) both, ap (λ (x : WaitLists). length x.awaited) both, c.requires.has_lists.lists, c.requires.has_lists.awaited))
     c.reach-complete.ensures.comm
 
 pub returns : goal.returns
 returns c =
     let p = c.args.pairs.now in
     let w = c.args.waiters.now in
-    let both : c.wake_prober.new.waiters ≡ all_woken p.groups p.recording c.args.rank c.args.place w None = c.wake_prober.ensures ∙ ap (woken_prober p.groups p.recording c.args.rank c.args.place) (c.wake_partner-2.ensures ∙ ap (λ (x : Waiting). woken_partner x (partner_of p.groups p.recording c.args.rank c.args.place RecvHalf)) c.wake_partner.ensures) in
-    let all : c.wake_members.new.waiters ≡ all_woken p.groups p.recording c.args.rank c.args.place w c.reach-complete.result = c.wake_members.ensures ∙ ap (λ (x : Waiting). woken_comm x c.reach-complete.result) both in
+    let both = one_by_one p.groups p.recording c.args.rank c.args.place w c.wake_partner.new.waiters c.wake_partner-2.new.waiters c.wake_prober.new.waiters c.wake_partner.ensures c.wake_partner-2.ensures c.wake_prober.ensures in
+    let all : c.wake_members.new.waiters ≡ all_woken p.groups p.recording c.args.rank c.args.place w c.reach-complete.result = c.wake_members.ensures ∙ ap (λ (x : WaitLists). woken_comm x c.reach-complete.result) both in
     let is_known = known (length p.groups) c.reach-complete.result c.reach-complete.ensures.comm in
     record {
       in_hand =

@@ -35,15 +35,15 @@ pub returns-in-Partner-clause-kept : goal.returns-in-Partner-clause-kept
 returns-in-Partner-clause-kept c = λ stays.
     let p = c.args.pairs.now in
     let needs : NeedsPartner c.args.reading p.groups p.recording c.args.stands.now.items c.args.rank c.in-Partner.place = subst (λ (s : State). NeedsPartner c.args.reading p.groups p.recording s c.args.rank c.in-Partner.place) c.deref.ensures.value c.in-Partner.ensures.tells in
-    hand_links c.args.reading p.groups p.recording c.args.stands.now.items c.args.waves.now c.args.waiters.now c.wait_for_partner.new.self c.args.rank (own_list c.args.rank) c.wait_for_partner.result c.requires
-    (links_partner c.args.reading p.groups p.recording c.args.stands.now.items c.args.waves.now c.args.waiters.now c.wait_for_partner.new.self c.args.rank c.in-Partner.place c.wait_for_partner.result c.requires needs (hand_room c.args.reading p.groups p.recording c.args.stands.now.items c.args.waves.now c.args.waiters.now c.args.rank c.requires) c.wait_for_partner.ensures)
+    hand_links c.args.reading p.groups p.recording c.args.stands.now.items c.args.waves.now c.args.waiters.now c.wait_for_partner.new.self c.args.rank (own_list c.args.rank) c.requires
+    (links_partner c.args.reading p.groups p.recording c.args.stands.now.items c.args.waves.now c.args.waiters.now c.wait_for_partner.new.self c.args.rank c.in-Partner.place c.requires needs (hand_room c.args.reading p.groups p.recording c.args.stands.now.items c.args.waves.now c.args.waiters.now c.args.rank c.requires) c.wait_for_partner.ensures)
 
 pub returns-in-Wave-clause-kept : goal.returns-in-Wave-clause-kept
 returns-in-Wave-clause-kept c = λ stays.
     let p = c.args.pairs.now in
     let needs : NeedsWave p.groups p.recording c.args.stands.now.items c.args.waves.now c.args.rank c.in-Wave.comm = subst (λ (s : State). NeedsWave p.groups p.recording s c.args.waves.now c.args.rank c.in-Wave.comm) c.deref.ensures.value c.in-Wave.ensures.tells in
-    hand_links c.args.reading p.groups p.recording c.args.stands.now.items c.args.waves.now c.args.waiters.now c.wait_for_wave.new.self c.args.rank (comm_list (length c.args.waiters.now.awaited) c.in-Wave.comm) c.wait_for_wave.result c.requires
-    (links_wave c.args.reading p.groups p.recording c.args.stands.now.items c.args.waves.now c.args.waiters.now c.wait_for_wave.new.self c.args.rank c.in-Wave.comm c.wait_for_wave.result c.requires needs (hand_room c.args.reading p.groups p.recording c.args.stands.now.items c.args.waves.now c.args.waiters.now c.args.rank c.requires) c.wait_for_wave.ensures)
+    hand_links c.args.reading p.groups p.recording c.args.stands.now.items c.args.waves.now c.args.waiters.now c.wait_for_wave.new.self c.args.rank (comm_list (length c.args.waiters.now.awaited) c.in-Wave.comm) c.requires
+    (links_wave c.args.reading p.groups p.recording c.args.stands.now.items c.args.waves.now c.args.waiters.now c.wait_for_wave.new.self c.args.rank c.in-Wave.comm c.requires needs (hand_room c.args.reading p.groups p.recording c.args.stands.now.items c.args.waves.now c.args.waiters.now c.args.rank c.requires) c.wait_for_wave.ensures)
 
 pub returns-in-Passes-clause-falls : goal.returns-in-Passes-clause-falls
 returns-in-Passes-clause-falls c = λ passes.

@@ -1,13 +1,13 @@
 use Rattle.std.proofs.Common.{◌≡◌, sym, ap, ◌∙◌}
 use Rattle.logbook.specs.Pages.{Book}
 use Rattle.watches.specs.Published.{book_of}
-use Rattle.watches.specs.Shown.{name_of}
+use Rattle.watches.specs.Shown.{list_shown}
 use Rattle.watches.specs.declared.publication.Publication.{Publication}
 use Rattle.watches.proofs.ViewLemmas.{sees}
 use Rattle.watches.proofs.board.turn.Goals as goal
 
 -- publications of one list have its name
-same_name : (x y : Publication) → book_of y ≡ book_of x → name_of y ≡ name_of x
+same_name : (x y : Publication) → book_of y ≡ book_of x → list_shown y ≡ list_shown x
 same_name x y same = ap (λ (b : Book). record { known = 1; number = b.number; log_name = b.log_name; cells_name = b.cells_name }) same
 
 pub show_as-requires : goal.show_as-requires

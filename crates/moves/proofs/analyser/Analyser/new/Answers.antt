@@ -1,5 +1,4 @@
 use Rattle.std.proofs.Common.{◌≡◌, ◌+◌, List, [], length, replicate, sym, ap, ◌∙◌, rules}
-use Rattle.moves.specs.Links.{Entries}
 use Rattle.moves.specs.Runs.{start}
 use Rattle.moves.proofs.SettleLemmas.{new_settled, settled_end}
 use Rattle.moves.proofs.analyser.Analyser.new.Goals as goal
@@ -11,7 +10,7 @@ invariant_of-result c =
     new_settled c.args.reading c.in_ok-pairs.pairs.groups c.in_ok-pairs.pairs.recording c.in_ok-stands.stands.items c.in_ok-waves.waves c.in_ok-waiters.waiters c.ranks-ranks.result
     (c.in_ok-pairs.ensures.recording ∙ ap (λ n. replicate n []) (sym c.ranks-ranks.ensures.value)) zeros
     (c.in_ok-waves.ensures.complete ∙ ap (λ n. replicate n 0) comms) (c.in_ok-waves.ensures.met ∙ ap (λ n. replicate n 0) comms)
-    (c.in_ok-waiters.ensures.lists ∙ ap (λ n. replicate {A = Entries} (1 + c.ranks-ranks.result + n) []) comms) c.in_ok-waiters.ensures.spare c.in_ok-waiters.ensures.work c.in_ok-waves.ensures.changes c.in_ok-waiters.ensures.awaited
+    (c.in_ok-waiters.ensures.lists ∙ ap (λ n. replicate {A = List _} (1 + c.ranks-ranks.result + n) []) comms) c.in_ok-waiters.ensures.spare c.in_ok-waiters.ensures.work c.in_ok-waves.ensures.changes c.in_ok-waiters.ensures.awaited
 
 pub returns-clause-end : goal.returns-clause-end
 returns-clause-end c =
@@ -21,5 +20,5 @@ returns-clause-end c =
     new_settled c.args.reading c.in_ok-pairs.pairs.groups c.in_ok-pairs.pairs.recording c.in_ok-stands.stands.items c.in_ok-waves.waves c.in_ok-waiters.waiters c.ranks-ranks.result
     (c.in_ok-pairs.ensures.recording ∙ ap (λ n. replicate n []) (sym c.ranks-ranks.ensures.value)) zeros
     (c.in_ok-waves.ensures.complete ∙ ap (λ n. replicate n 0) comms) (c.in_ok-waves.ensures.met ∙ ap (λ n. replicate n 0) comms)
-    (c.in_ok-waiters.ensures.lists ∙ ap (λ n. replicate {A = Entries} (1 + c.ranks-ranks.result + n) []) comms) c.in_ok-waiters.ensures.spare c.in_ok-waiters.ensures.work c.in_ok-waves.ensures.changes c.in_ok-waiters.ensures.awaited in
+    (c.in_ok-waiters.ensures.lists ∙ ap (λ n. replicate {A = List _} (1 + c.ranks-ranks.result + n) []) comms) c.in_ok-waiters.ensures.spare c.in_ok-waiters.ensures.work c.in_ok-waves.ensures.changes c.in_ok-waiters.ensures.awaited in
     settled_end c.args.reading c.in_ok-pairs.pairs.groups c.in_ok-pairs.pairs.recording c.in_ok-stands.stands.items c.in_ok-waves.waves c.in_ok-waiters.waiters settled

@@ -1,4 +1,4 @@
-//! Waves: which of them are complete where the ranks stand.
+//! How far the waves are: which of them are complete where the ranks stand.
 
 ghost use Rattle.std.specs.Prelude.{◌≡◌, ◌≢◌, ◌+◌, ◌<◌, ◌≤◌, ◌↔◌, ℕ, Some, None, true, false, length, replicate, slice_index, IfOk, IfSome};
 ghost use Rattle.mpigroup.specs.Groups.{group_of, world_rank_of};
@@ -17,15 +17,15 @@ use std::alloc::{AllocError, Global};
 /// That number only rises within a wave, and each member is passed once, so members are looked at no more than three
 /// times for each call in a wave. `changes` counts how often one of these numbers was changed for a call that was
 /// reached.
-pub(crate) struct Waves {
+pub(crate) struct Progress {
     pub complete: Vec<u32>,
     pub met: Vec<u16>,
     pub changes: u64,
 }
 
-impl Drop for Waves {
+impl Drop for Progress {
     fn drop(self) {
-        let Waves {
+        let Progress {
             complete: _,
             met: _,
             changes: _,
@@ -77,14 +77,14 @@ fn next_missing(pairs: &Pairs, stands: &[u32], comm: u16, wave: u32, from: u16) 
     members
 }
 
-impl Waves {
+impl Progress {
     /// No wave of so many communicators is complete.
-    pub(crate) fn new(alloc: Global, comms: u16) -> Result<Waves, AllocError>
+    pub(crate) fn new(alloc: Global, comms: u16) -> Result<Progress, AllocError>
         ensures complete { IfOk result (λ waves. waves.complete.items ≡ replicate comms 0) }
         ensures met { IfOk result (λ waves. waves.met.items ≡ replicate comms 0) }
         ensures changes { IfOk result (λ waves. waves.changes ≡ 0) }
     {
-        Ok(Waves {
+        Ok(Progress {
             complete: vec![in alloc; 0u32; usize::from(comms)]?,
             met: vec![in alloc; 0u16; usize::from(comms)]?,
             changes: 0,

@@ -2,7 +2,7 @@ use Rattle.std.proofs.Common.{◌≡◌, ◌+◌, ℕ, length, set, refl, sym, a
 use Rattle.mpigroup.specs.Groups.{Groups, group_of}
 use Rattle.moves.specs.Waiting.{met_of}
 use Rattle.moves.proofs.WaveLemmas.{comm_is, wave_few, Passes, passes_on, passes_wave}
-use Rattle.moves.proofs.waves.Waves.reach.Goals as goal
+use Rattle.moves.proofs.progress.Progress.reach.Goals as goal
 
 pub returns-then-missing-members-clause-waves : goal.returns-then-missing-members-clause-waves
 returns-then-missing-members-clause-waves c =

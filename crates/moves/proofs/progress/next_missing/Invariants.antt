@@ -1,7 +1,7 @@
 use Rattle.std.proofs.Common.{◌≡◌, ◌<◌, ◌≤◌, ℕ, Some, true}
 use Rattle.mpigroup.specs.Groups.{world_rank_of}
 use Rattle.moves.specs.Needs.{member_need, is_met}
-use Rattle.moves.proofs.waves.next_missing.Given as goal
+use Rattle.moves.proofs.progress.next_missing.Given as goal
 
 -- each member so far has reached its call
 abbrev pub invariant-loop-g : goal.invariant-loop-g
