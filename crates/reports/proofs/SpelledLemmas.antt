@@ -9,7 +9,7 @@ use Rattle.mpicall.specs.Limits.{in_ranges}
 use Rattle.mpicall.specs.Lines.{body_of, most_bytes}
 use Rattle.mpicall.specs.Spelling.{space, line_feed, fields_of, spelling}
 use Rattle.mpicall.specs.declared.call.Call.{Call}
-use Rattle.reports.specs.Pages.{with_fields}
+use Rattle.reports.specs.Printing.{with_fields}
 use Rattle.reports.specs.TextReport.{line}
 
 -- what is joined behind bytes
