@@ -1,6 +1,6 @@
 -- From what is known of a call's needs over one recording to its needs over another.
 use Rattle.moves.specs.declared.reading.Reading.{Reading}
-use Rattle.std.proofs.Common.{◌≡◌, ℕ, ◌<◌, ◌≤◌, Bool, true, false, ◌&&◌, Option, Some, None, unwrap_or, is_some, if◌then◌else◌, List, [], ◌∷◌, ◌++◌, map, flat_map, take, refl, sym, ap, subst, ◌∙◌, arith}
+use Rattle.std.proofs.Common.{◌≡◌, ℕ, ◌<◌, ◌≤◌, Bool, true, false, Option, Some, None, unwrap_or, is_some, if◌then◌else◌, List, [], ◌∷◌, ◌++◌, map, flat_map, take, refl, sym, ap, subst, ◌∙◌, arith}
 use Rattle.std.specs.List.{slice_get, list_all}
 use Rattle.std.specs.Option.{option_map, option_map_or}
 use Rattle.std.proofs.lemmas.List.Folds.{list_all-append}

@@ -1,15 +1,9 @@
-use Rattle.moves.specs.declared.reading.Reading.{Reading}
 use Rattle.std.proofs.Common.{◌≡◌, ◌<◌, ◌≤◌, ℕ, suc, ◌+◌, Some, List, [], ◌∷◌, ◌++◌, length, take, sym, ap, ◌∙◌, arith}
 use Rattle.std.specs.List.{slice_get}
 use Rattle.std.proofs.lemmas.List.{take_all}
 use Rattle.std.proofs.lemmas.Option.{none-some, slice_get-get_or, slice_get_within, get_or_from_slice_get}
 use Rattle.std.proofs.Math.Seq.{take-suc}
-use Rattle.mpigroup.specs.Groups.{Groups, ranks_of}
-use Rattle.pairing.specs.Recordings.{Lists}
-use Rattle.moves.specs.Needs.{can_move}
-use Rattle.moves.specs.Stands.{stands_of}
-use Rattle.moves.proofs.RunLemmas.{reached_ranks}
-use Rattle.moves.proofs.StandLemmas.{every_maximal_run_ends_at_the_stands}
+use Rattle.mpigroup.specs.Groups.{ranks_of}
 use Rattle.waitgraph.proofs.StuckLemmas.{rank_count}
 use Rattle.waitgraph.proofs.graph.stands_of.Goals.{in-Some+in_ok-push, in_default}
 use Rattle.waitgraph.proofs.graph.stands_of.Goals as goal

@@ -1,12 +1,9 @@
-use Rattle.std.proofs.Common.{◌≡◌, ◌≤◌, ℕ, Option, Some, List, [], ◌++◌, length, flat_map, get_or, refl, ap, ◌∙◌, arith}
+use Rattle.std.proofs.Common.{◌≡◌, ◌≤◌, ℕ, Option, Some, List, [], ◌++◌, length, flat_map, get_or, ap, ◌∙◌, arith}
 use Rattle.std.specs.List.{slice_get, filter}
 use Rattle.std.specs.Option.{option_map_or}
 use Rattle.std.proofs.lemmas.List.{take_all}
 use Rattle.std.proofs.lemmas.Option.{slice_get-get_or}
-use Rattle.mpicall.specs.declared.call.Call.{Call}
-use Rattle.pairing.specs.Recordings.{Lists, calls_of}
-use Rattle.pairing.specs.Requests.{completes, started_before}
-use Rattle.pairing.specs.Pairs.{completed_of}
+use Rattle.pairing.specs.Requests.{completes}
 use Rattle.moves.specs.declared.need.Need.{Need}
 use Rattle.moves.specs.Needs.{request_needs, operation_needs_at}
 use Rattle.moves.proofs.WaitLemmas.{start_is}
