@@ -24,15 +24,6 @@ kept_lists kept listed none (x ∷ xs) =
       | inr goes ↦ rw (goes, none x goes) (kept_lists kept listed none xs)
     ]
 
--- what is listed of one more
-pub one_listed : {A B : Type 0} (listed : A → List B) (xs : List A) (i : ℕ) (x : A) (before so_far later : List B) → slice_get xs i ≡ Some x → so_far ≡ before ++ flat_map listed (take i xs) → later ≡ so_far ++ listed x → later ≡ before ++ flat_map listed (take (i + 1) xs)
-one_listed {A} {B} listed xs i x before so_far later there h pushed =
-    let within : i < length xs = slice_get_within xs i x there in
-    let next : i + 1 ≡ suc i = omega arith in
-    rw (pushed, h, next, take-suc xs i x within, get_or_from_slice_get xs i x x there)
-    (append_assoc before (flat_map listed (take i xs)) (listed x)
-    ∙ ap (λ (zs : List B). before ++ zs) (sym (flat_map-append listed (take i xs) (x ∷ []) ∙ ap (λ (zs : List B). flat_map listed (take i xs) ++ zs) (append-nil (listed x)))))
-
 none_there : {A : Type 0} (xs : List A) (i : ℕ) → slice_get xs i ≡ None → length xs ≤ i
 none_there [] i h = omega arith
 none_there {A} (x ∷ xs) i h =
