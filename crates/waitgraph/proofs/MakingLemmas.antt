@@ -1,12 +1,7 @@
 -- Communicators that waves make, by what is known of them.
-use Rattle.std.proofs.Common.{◌≡◌, ℕ, Bool, true, Option, Some, None, inl, inr, refl, ap, ◌∙◌, arith}
-use Rattle.std.specs.Prelude.{if◌then◌else◌}
-use Rattle.std.proofs.lemmas.Bool.{cases_Bool}
+use Rattle.std.proofs.Common.{◌≡◌, ℕ, true, Option, Some, None, arith}
 use Rattle.std.proofs.lemmas.Bool.Decides.{nat_tests}
-use Rattle.mpigroup.specs.Groups.{Groups}
-use Rattle.pairing.specs.Recordings.{Lists}
-use Rattle.waitgraph.specs.Makings.{is_same_making, is_wrong_making, known_of, IsKnown}
-use Rattle.waitgraph.specs.declared.finding.group.Known.{Known}
+use Rattle.waitgraph.specs.Makings.{is_same_making}
 use Rattle.waitgraph.specs.declared.finding.making.Making.{Making}
 
 made : ℕ → ℕ → Option ℕ → ℕ → Making
