@@ -14,7 +14,7 @@ use Rattle.waitgraph.specs.Causes.{causes_of}
 use Rattle.waitgraph.specs.Findings.{findings_of}
 use Rattle.waitgraph.specs.Stuck.{stuck_of}
 use Rattle.waitgraph.specs.Verdicts.{verdict_of}
-use Rattle.reports.specs.ArrayTexts.{listed, elements_text, key_text}
+use Rattle.reports.specs.ArrayTexts.{values_text, elements_text, key_text}
 use Rattle.reports.specs.JsonReport.{each, cause_data, finding_data, rank_data, report_data, json_report}
 use Rattle.reports.specs.TextReport.{verdict_text}
 
@@ -23,12 +23,12 @@ abbrev behind : Bool → List Data → Bool
 behind later [] = later
 behind later (value ∷ values) = true
 
-listed_more : (later : Bool) (values : List Data) (value : Data) → listed later (values ++ value ∷ []) ≡ listed later values ++ (comma_if (behind later values) ++ compact_text value)
-listed_more later [] value = ap (λ (text : List ℕ). comma_if later ++ text) (append-nil (compact_text value))
-listed_more later (first ∷ values) value =
-    ap (λ (text : List ℕ). comma_if later ++ (compact_text first ++ text)) (listed_more true values value ∙ ap (λ (b : Bool). listed true values ++ (comma_if b ++ compact_text value)) (always values))
-    ∙ ap (λ (text : List ℕ). comma_if later ++ text) (sym (append_assoc (compact_text first) (listed true values) (44 ∷ compact_text value)))
-    ∙ sym (append_assoc (comma_if later) (compact_text first ++ listed true values) (44 ∷ compact_text value))
+values_more : (later : Bool) (values : List Data) (value : Data) → values_text later (values ++ value ∷ []) ≡ values_text later values ++ (comma_if (behind later values) ++ compact_text value)
+values_more later [] value = ap (λ (text : List ℕ). comma_if later ++ text) (append-nil (compact_text value))
+values_more later (first ∷ values) value =
+    ap (λ (text : List ℕ). comma_if later ++ (compact_text first ++ text)) (values_more true values value ∙ ap (λ (b : Bool). values_text true values ++ (comma_if b ++ compact_text value)) (always values))
+    ∙ ap (λ (text : List ℕ). comma_if later ++ text) (sym (append_assoc (compact_text first) (values_text true values) (44 ∷ compact_text value)))
+    ∙ sym (append_assoc (comma_if later) (compact_text first ++ values_text true values) (44 ∷ compact_text value))
   where
     always : (values : List Data) → behind true values ≡ true
     always [] = refl
@@ -50,31 +50,31 @@ one_written {A} told elements i none before so_far later h pushed within =
     let here = compact_text (told (get_or elements i none)) in
     let more : elements_text told (take (i + 1) elements) ≡ elements_text told (take i elements) ++ (comma_if (nat_lt 0 i) ++ here) =
     ap (λ (some : List A). elements_text told some) (take_more elements i none within)
-    ∙ ap (λ (values : List Data). listed false values) (map-append told (take i elements) (get_or elements i none ∷ []))
-    ∙ listed_more false (map told (take i elements)) (told (get_or elements i none))
+    ∙ ap (λ (values : List Data). values_text false values) (map-append told (take i elements) (get_or elements i none ∷ []))
+    ∙ values_more false (map told (take i elements)) (told (get_or elements i none))
     ∙ ap (λ (b : Bool). elements_text told (take i elements) ++ (comma_if b ++ here)) (some_before told elements i within) in
     pushed
     ∙ ap (λ (text : List ℕ). text ++ (comma_if (nat_lt 0 i) ++ here)) h
     ∙ append_assoc before (elements_text told (take i elements)) (comma_if (nat_lt 0 i) ++ here)
     ∙ ap (λ (text : List ℕ). before ++ text) (sym more)
 
-items_listed : (later : Bool) (values : List Data) → items_text later (items_of values) ≡ listed later values ++ 93 ∷ []
-items_listed later [] = refl
-items_listed later (value ∷ values) =
-    ap (λ (text : List ℕ). comma_if later ++ (compact_text value ++ text)) (items_listed true values)
-    ∙ ap (λ (text : List ℕ). comma_if later ++ text) (sym (append_assoc (compact_text value) (listed true values) (93 ∷ [])))
-    ∙ sym (append_assoc (comma_if later) (compact_text value ++ listed true values) (93 ∷ []))
+items_values : (later : Bool) (values : List Data) → items_text later (items_of values) ≡ values_text later values ++ 93 ∷ []
+items_values later [] = refl
+items_values later (value ∷ values) =
+    ap (λ (text : List ℕ). comma_if later ++ (compact_text value ++ text)) (items_values true values)
+    ∙ ap (λ (text : List ℕ). comma_if later ++ text) (sym (append_assoc (compact_text value) (values_text true values) (93 ∷ [])))
+    ∙ sym (append_assoc (comma_if later) (compact_text value ++ values_text true values) (93 ∷ []))
 
 -- a member whose value is an array, with what comes behind it
-array_member : (key : List ℕ) (values : List Data) (rest : Members) (behind : List ℕ) → members_text true (member key (array (items_of values)) rest) ++ behind ≡ 44 ∷ (compact_text (string key) ++ 58 ∷ 91 ∷ (listed false values ++ 93 ∷ (members_text true rest ++ behind)))
+array_member : (key : List ℕ) (values : List Data) (rest : Members) (behind : List ℕ) → members_text true (member key (array (items_of values)) rest) ++ behind ≡ 44 ∷ (compact_text (string key) ++ 58 ∷ 91 ∷ (values_text false values ++ 93 ∷ (members_text true rest ++ behind)))
 array_member key values rest behind =
     let items = items_text false (items_of values) in
     ap (λ (text : List ℕ). 44 ∷ text)
     (append_assoc (compact_text (string key)) (58 ∷ 91 ∷ (items ++ members_text true rest)) behind
     ∙ ap (λ (text : List ℕ). compact_text (string key) ++ 58 ∷ 91 ∷ text)
     (append_assoc items (members_text true rest) behind
-    ∙ ap (λ (text : List ℕ). text ++ (members_text true rest ++ behind)) (items_listed false values)
-    ∙ append_assoc (listed false values) (93 ∷ []) (members_text true rest ++ behind)))
+    ∙ ap (λ (text : List ℕ). text ++ (members_text true rest ++ behind)) (items_values false values)
+    ∙ append_assoc (values_text false values) (93 ∷ []) (members_text true rest ++ behind)))
 
 verdict_member : (verdict : List ℕ) → members_text true (member (codes "verdict") (string verdict) no_members) ++ line_feed ∷ [] ≡ 44 ∷ (compact_text (string (codes "verdict")) ++ 58 ∷ (compact_text (string verdict) ++ codes "}\n"))
 verdict_member verdict =

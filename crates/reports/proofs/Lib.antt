@@ -2,4 +2,4 @@ pub mod LineLemmas
 pub mod JsonLemmas
 pub mod ArrayLemmas
 pub mod SpelledLemmas
-pub mod TellingLemmas
+pub mod PrintingLemmas

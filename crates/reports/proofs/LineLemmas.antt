@@ -1,8 +1,9 @@
 -- The line of a call is ASCII, so that it is text.
-use Rattle.std.proofs.Common.{◌≡◌, ℕ, zero, suc, ◌<◌, ◌/◌, ◌%◌, ◌==◌, Bool, true, false, cond, ◌&&◌, nat_lt, pos, negsuc, ℤ, Some, None, List, [], ◌∷◌, map, refl, arith, lit<}
+use Rattle.std.proofs.Common.{◌≡◌, ℕ, zero, suc, ◌<◌, ◌/◌, ◌%◌, ◌==◌, Bool, true, false, cond, nat_lt, pos, negsuc, ℤ, Some, None, List, [], ◌∷◌, map, refl, arith, lit<}
 use Rattle.std.specs.Fmt.{decimal, signed_decimal, digits, digits_onto, digit_glyph}
 use Rattle.std.specs.List.{join_with_byte, list_all}
 use Rattle.std.specs.Str.{IsAscii, IsUtf8}
+use Rattle.std.proofs.lemmas.Bool.{and_parts}
 use Rattle.std.proofs.lemmas.Bool.Decides.{nat_tests}
 use Rattle.std.proofs.lemmas.Str.{IsAscii-append, IsUtf8-from_ascii}
 use Rattle.std.proofs.lemmas.Str.Ascii.{IsAscii-nil, IsAscii-cons}
@@ -48,18 +49,13 @@ signed_ascii (negsuc n) = IsAscii-cons 45 (decimal (suc n)) (lit< tt) (decimal_a
 abbrev is_small : List ℕ → Bool
 is_small text = list_all (λ b. nat_lt b 128) text
 
-both_true : (a b : Bool) → (a && b) ≡ true → (a ≡ true) × (b ≡ true)
-both_true true true e = (refl, refl)
-both_true true false e = cc
-both_true false b e = cc
-
 below : (b : ℕ) → nat_lt b 128 ≡ true → b < 128
 below b h = grind (arith, nat_tests)
 
 small_ascii : (text : List ℕ) → is_small text ≡ true → IsAscii text
 small_ascii [] h = IsAscii-nil
 small_ascii (b ∷ text) h =
-    let parts = both_true (nat_lt b 128) (is_small text) h in
+    let parts = and_parts (nat_lt b 128) (is_small text) h in
     IsAscii-cons b text (below b parts.0) (small_ascii text parts.1)
 
 collective_small : (collective : Collective) → is_small (collective_text collective) ≡ true

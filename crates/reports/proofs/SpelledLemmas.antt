@@ -9,7 +9,7 @@ use Rattle.mpicall.specs.Limits.{in_ranges}
 use Rattle.mpicall.specs.Lines.{body_of, most_bytes}
 use Rattle.mpicall.specs.Spelling.{space, line_feed, fields_of, spelling}
 use Rattle.mpicall.specs.declared.call.Call.{Call}
-use Rattle.reports.specs.Pages.{with_fields}
+use Rattle.reports.specs.Printing.{with_fields}
 use Rattle.reports.specs.TextReport.{line}
 
 -- what is joined behind bytes
@@ -67,7 +67,3 @@ spelling_some call = omega (arith, length-append (join_with_byte space (fields_o
 -- so there is no end of the room before it is written
 pub never_full : (call : Call) (taken : List ℕ) (n : ℕ) → in_ranges call ≡ true → taken ≡ take n (spelling call) → most_bytes < length taken → ⊥
 never_full call taken n h is full = omega (arith, spelling_fits call h, length-take n (spelling call), ap length is)
-
--- a body is shorter than its line
-pub body_fits : (call : Call) → in_ranges call ≡ true → length (body_of (spelling call)) < most_bytes
-body_fits call h = omega (arith, spelling_fits call h, spelling_some call, length-take (length (spelling call) - 1) (spelling call))

@@ -16,4 +16,5 @@
 
 mod json;
 pub mod report;
+mod stand;
 mod word;

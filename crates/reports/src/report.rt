@@ -15,6 +15,7 @@ use thiserror::Error;
 use waitgraph::graph::Graph;
 
 mod page;
+mod printer;
 pub(crate) mod spelled;
 mod text;
 

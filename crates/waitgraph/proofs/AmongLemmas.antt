@@ -2,10 +2,10 @@
 use Rattle.std.proofs.Common.{inl, inr, ◌≡◌, ◌≢◌, ℕ, zero, suc, ◌+◌, ◌<◌, ◌≤◌, ◌⊎◌, Bool, true, false, Option, Some, None, List, [], ◌∷◌, ◌++◌, refl, sym, ap, subst, ◌∙◌, ⊎_elim, arith}
 use Rattle.std.specs.List.{slice_get, filter, filter_map, cons_option, list_all, range_with_len}
 use Rattle.std.proofs.lemmas.Option.{none-some, same_Some}
-use Rattle.std.proofs.lemmas.Bool.{cases_Bool, cases_eq, false≢true}
+use Rattle.std.proofs.lemmas.Bool.{and_parts, cases_Bool, cases_eq, false≢true}
 use Rattle.moves.specs.declared.need.Need.{Need}
 use Rattle.waitgraph.specs.Stuck.{comes_before, with_need, with_needs, are_in_order}
-use Rattle.waitgraph.proofs.OrderLemmas.{before_total, stays_in_order, and_true}
+use Rattle.waitgraph.proofs.OrderLemmas.{before_total, stays_in_order}
 
 -- the need is one of the list
 abbrev pub Among : {A : Type 0} → A → List A → Type 0
@@ -104,8 +104,8 @@ among_kept need p (x ∷ xs) (inr h) passes =
 -- what all pass, one of them passes
 pub among_all : (need : Need) (p : Need → Bool) (xs : List Need) → Among need xs → list_all p xs ≡ true → p need ≡ true
 among_all need p [] h all = absurd h
-among_all need p (x ∷ xs) (inl e) all = ap p (sym e) ∙ (and_true (p x) (list_all p xs) all).0
-among_all need p (x ∷ xs) (inr h) all = among_all need p xs h (and_true (p x) (list_all p xs) all).1
+among_all need p (x ∷ xs) (inl e) all = ap p (sym e) ∙ (and_parts (p x) (list_all p xs) all).0
+among_all need p (x ∷ xs) (inr h) all = among_all need p xs h (and_parts (p x) (list_all p xs) all).1
 
 -- where not all pass, one fails
 pub one_fails : (p : Need → Bool) (xs : List Need) → list_all p xs ≡ false → (need : Need) × Among need xs × (p need ≡ false)

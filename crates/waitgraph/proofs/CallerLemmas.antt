@@ -1,11 +1,9 @@
 -- Members without a call in a wave: nothing is found of them in it, nor in those behind it.
-use Rattle.std.proofs.Common.{◌≡◌, ℕ, ◌+◌, ◌<◌, ◌≤◌, Bool, false, Option, Some, None, List, [], ◌∷◌, ◌++◌, inl, inr, length, flat_map, take, suc, refl, sym, ap, ◌∙◌, append-nil, append_assoc, arith}
+use Rattle.std.proofs.Common.{◌≡◌, ℕ, ◌≤◌, Bool, false, Option, Some, None, List, [], ◌∷◌, ◌++◌, inl, inr, length, flat_map, refl, sym, ap, ◌∙◌, arith}
 use Rattle.std.specs.Prelude.{is_some, option_and_then}
 use Rattle.std.specs.List.{filter, slice_get}
 use Rattle.std.proofs.lemmas.Bool.{cases_Bool, cases_lt}
-use Rattle.std.proofs.lemmas.Grind.{flat_map-append}
-use Rattle.std.proofs.lemmas.Option.{none-some, slice_get-get_or, slice_get_past, slice_get_within, get_or_from_slice_get}
-use Rattle.std.proofs.Math.Seq.{take-suc}
+use Rattle.std.proofs.lemmas.Option.{none-some, slice_get-get_or, slice_get_past}
 use Rattle.mpicall.specs.declared.call.Call.{Call}
 use Rattle.mpigroup.specs.Groups.{Groups, world_rank_of}
 use Rattle.pairing.specs.Recordings.{Lists, calls_of}
@@ -23,15 +21,6 @@ kept_lists kept listed none (x ∷ xs) =
       | inl stays ↦ rw stays (ap (λ rest. listed x ++ rest) (kept_lists kept listed none xs))
       | inr goes ↦ rw (goes, none x goes) (kept_lists kept listed none xs)
     ]
-
--- what is listed of one more
-pub one_listed : {A B : Type 0} (listed : A → List B) (xs : List A) (i : ℕ) (x : A) (before so_far later : List B) → slice_get xs i ≡ Some x → so_far ≡ before ++ flat_map listed (take i xs) → later ≡ so_far ++ listed x → later ≡ before ++ flat_map listed (take (i + 1) xs)
-one_listed {A} {B} listed xs i x before so_far later there h pushed =
-    let within : i < length xs = slice_get_within xs i x there in
-    let next : i + 1 ≡ suc i = omega arith in
-    rw (pushed, h, next, take-suc xs i x within, get_or_from_slice_get xs i x x there)
-    (append_assoc before (flat_map listed (take i xs)) (listed x)
-    ∙ ap (λ (zs : List B). before ++ zs) (sym (flat_map-append listed (take i xs) (x ∷ []) ∙ ap (λ (zs : List B). flat_map listed (take i xs) ++ zs) (append-nil (listed x)))))
 
 none_there : {A : Type 0} (xs : List A) (i : ℕ) → slice_get xs i ≡ None → length xs ≤ i
 none_there [] i h = omega arith

@@ -18,11 +18,6 @@ pub record HasWay (walks : Walks) (home rank : ℕ) (ranks : List ℕ) : Type 0 
   pub begins : ranks ≡ rank ∷ rest
   pub is_way : IsWay walks home (rank ∷ rest)
 
--- how the way goes on
-way_from : Walks → ℕ → ℕ → ℕ → Option ℕ → Option (List ℕ)
-way_from walks most home rank present =
-    option_and_then (λ next. if next == home then Some (rank ∷ []) else option_map (λ ranks. rank ∷ ranks) (way_home walks most home next)) present
-
 mapped : (rank : ℕ) (o : Option (List ℕ)) (ranks : List ℕ) → option_map (λ more. rank ∷ more) o ≡ Some ranks → (more : List ℕ) × (o ≡ Some more) × (ranks ≡ rank ∷ more)
 mapped rank None ranks h = absurd (none-some ranks h)
 mapped rank (Some more) ranks h = (more, refl, sym (same_Some (rank ∷ more) ranks h))

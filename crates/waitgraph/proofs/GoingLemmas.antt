@@ -3,7 +3,7 @@ use Rattle.std.proofs.Common.{◌≡◌, ℕ, zero, suc, ◌<◌, ◌≤◌, Boo
 use Rattle.std.specs.List.{slice_get, list_all}
 use Rattle.std.proofs.lemmas.List.{take_all}
 use Rattle.std.proofs.lemmas.Option.{none-some, same_Some, slice_get-get_or}
-use Rattle.std.proofs.lemmas.Bool.{cases_Bool, false≢true}
+use Rattle.std.proofs.lemmas.Bool.{and_parts, not-true, cases_Bool, false≢true}
 use Rattle.moves.specs.declared.need.Need.{Need}
 use Rattle.moves.specs.declared.need.Need.TheVariants.{At, Lacking}
 use Rattle.waitgraph.specs.Least.{Set}
@@ -12,7 +12,7 @@ use Rattle.waitgraph.specs.Loose.{standing_of, is_on, are_loose, is_held_at, are
 use Rattle.waitgraph.specs.declared.standing.Standing.{Standing}
 use Rattle.waitgraph.specs.declared.standing.Standing.TheVariants.{AtFinalize, AtOpen, Stuck}
 use Rattle.waitgraph.specs.declared.onward.Onward.{Onward}
-use Rattle.waitgraph.proofs.SweepLemmas.{and_true, the_loose_are_the_least}
+use Rattle.waitgraph.proofs.SweepLemmas.{the_loose_are_the_least}
 
 -- a need of the list
 record Stands (needs : List Need) (test : Need → Bool) (passes : Bool) : Type 0 where
@@ -109,24 +109,16 @@ find_first test (first ∷ needs) zero need there none passes =
     let so : test first ≡ true = ap test here ∙ passes in
     rw so (ap (λ (n : Need). Some n) here)
 find_first test (first ∷ needs) (suc index) need there none passes =
-    let both = and_true (not (test first)) (list_all (λ n. not (test n)) (take index needs)) none in
-    let fails : test first ≡ false = not_true (test first) both.0 in
+    let both = and_parts (not (test first)) (list_all (λ n. not (test n)) (take index needs)) none in
+    let fails : test first ≡ false = not-true (test first) both.0 in
     rw fails (find_first test needs index need there both.1 passes)
-  where
-    not_true : (b : Bool) → not b ≡ true → b ≡ false
-    not_true true h = cc
-    not_true false h = refl
 
 pub find_none : (test : Need → Bool) (needs : List Need) → list_all (λ n. not (test n)) needs ≡ true → find test needs ≡ None
 find_none test [] none = refl
 find_none test (first ∷ needs) none =
-    let both = and_true (not (test first)) (list_all (λ n. not (test n)) needs) none in
-    let fails : test first ≡ false = not_true (test first) both.0 in
+    let both = and_parts (not (test first)) (list_all (λ n. not (test n)) needs) none in
+    let fails : test first ≡ false = not-true (test first) both.0 in
     rw fails (find_none test needs both.1)
-  where
-    not_true : (b : Bool) → not b ≡ true → b ≡ false
-    not_true true h = cc
-    not_true false h = refl
 
 -- the walk goes on by the first need by which it does, and by none where there is none
 pub onward_found : (opened held : Set) (needs : List Need) (index : ℕ) (need d : Need) (answer : Onward) → index < length needs → need ≡ get_or needs index d → list_all (λ n. not (goes_on opened held n)) (take index needs) ≡ true → goes_on opened held need ≡ true → answer ≡ onward opened need → Some answer ≡ onward_by opened held needs

@@ -1,12 +1,7 @@
 -- Communicators that waves make, by what is known of them.
-use Rattle.std.proofs.Common.{◌≡◌, ℕ, Bool, true, Option, Some, None, inl, inr, refl, ap, ◌∙◌, arith}
-use Rattle.std.specs.Prelude.{if◌then◌else◌}
-use Rattle.std.proofs.lemmas.Bool.{cases_Bool}
+use Rattle.std.proofs.Common.{◌≡◌, ℕ, true, Option, Some, None, arith}
 use Rattle.std.proofs.lemmas.Bool.Decides.{nat_tests}
-use Rattle.mpigroup.specs.Groups.{Groups}
-use Rattle.pairing.specs.Recordings.{Lists}
-use Rattle.waitgraph.specs.Makings.{is_same_making, is_wrong_making, known_of, IsKnown}
-use Rattle.waitgraph.specs.declared.finding.group.Known.{Known}
+use Rattle.waitgraph.specs.Makings.{is_same_making}
 use Rattle.waitgraph.specs.declared.finding.making.Making.{Making}
 
 made : ℕ → ℕ → Option ℕ → ℕ → Making
@@ -31,18 +26,3 @@ same_made c d v w None None m n h =
 same_making : (making other : Making) → is_same_making making other ≡ true → making ≡ other
 unfolding made
 same_making making other h = same_made making.comm other.comm making.wave other.wave making.colour other.colour making.new other.new h
-
--- what is known stays so with one more
-pub known_more : (groups : Groups) (recording : Lists) (known later : Known) (making : Making) (is_wrong : Bool) →
-    IsKnown groups recording known → is_wrong ≡ is_wrong_making groups recording making →
-    ((other : Making) → known_of later other ≡ (if is_same_making making other then Some is_wrong else known_of known other)) →
-    IsKnown groups recording later
-known_more groups recording known later making is_wrong are is put other =
-    elim (cases_Bool (is_same_making making other)) [
-      | inl same ↦
-          let there : known_of later other ≡ Some is_wrong = put other ∙ rw same refl in
-          rw there (is ∙ ap (is_wrong_making groups recording) (same_making making other same))
-      | inr apart ↦
-          let there : known_of later other ≡ known_of known other = put other ∙ rw apart refl in
-          rw there (are other)
-    ]

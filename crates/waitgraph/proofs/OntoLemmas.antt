@@ -1,10 +1,10 @@
 -- From what is known of a call's needs over one recording to its needs over another.
 use Rattle.moves.specs.declared.reading.Reading.{Reading}
-use Rattle.std.proofs.Common.{◌≡◌, ℕ, ◌<◌, ◌≤◌, Bool, true, false, ◌&&◌, Option, Some, None, unwrap_or, is_some, if◌then◌else◌, List, [], ◌∷◌, ◌++◌, map, flat_map, take, refl, sym, ap, subst, ◌∙◌, arith}
+use Rattle.std.proofs.Common.{◌≡◌, ℕ, ◌<◌, ◌≤◌, Bool, true, false, Option, Some, None, unwrap_or, is_some, if◌then◌else◌, List, [], ◌∷◌, ◌++◌, map, flat_map, take, refl, sym, ap, subst, ◌∙◌, arith}
 use Rattle.std.specs.List.{slice_get, list_all}
 use Rattle.std.specs.Option.{option_map, option_map_or}
 use Rattle.std.proofs.lemmas.List.Folds.{list_all-append}
-use Rattle.std.proofs.lemmas.Bool.{false≢true}
+use Rattle.std.proofs.lemmas.Bool.{and_parts, false≢true}
 use Rattle.mpicall.specs.declared.call.Call.{Call}
 use Rattle.mpicall.specs.declared.call.Call.TheVariants.{Open}
 use Rattle.mpigroup.specs.Groups.{Groups, group_of, group_rank_of}
@@ -39,25 +39,21 @@ pub record Same (first second : Lists) (rank calls : ℕ) : Type 0 where
   pub call : (place : ℕ) → place < calls → slice_get (calls_of second rank) place ≡ slice_get (calls_of first rank) place
   pub front : (place : ℕ) → place ≤ calls → take place (calls_of second rank) ≡ take place (calls_of first rank)
 
-and_true : (a b : Bool) → (a && b) ≡ true → (a ≡ true) × (b ≡ true)
-and_true true b h = (refl, h)
-and_true false b h = cc
-
 abbrev On : (Need → Bool) → (Need → Bool) → List Need → List Need → Type 0
 On p q needs later = list_all p needs ≡ true → list_all q later ≡ true
 
 one_on : (p q : Need → Bool) (need later : Need) → (p need ≡ true → q later ≡ true) → On p q (need ∷ []) (later ∷ [])
-one_on p q need later on h = rw (on (and_true (p need) true h).0) refl
+one_on p q need later on h = rw (on (and_parts (p need) true h).0) refl
 
 both_on : (p q : Need → Bool) (needs more later later_more : List Need) → On p q needs later → On p q more later_more → On p q (needs ++ more) (later ++ later_more)
 both_on p q needs more later later_more on more_on h =
-    let both = and_true (list_all p needs) (list_all p more) (rw list_all-append at h) in
+    let both = and_parts (list_all p needs) (list_all p more) (rw list_all-append at h) in
     rw (list_all-append q later later_more, on both.0, more_on both.1) refl
 
 each_on : {A : Type 0} (p q : Need → Bool) (need later : A → Need) → ((x : A) → p (need x) ≡ true → q (later x) ≡ true) → (xs : List A) → On p q (map need xs) (map later xs)
 each_on p q need later on [] h = refl
 each_on p q need later on (x ∷ xs) h =
-    let both = and_true (p (need x)) (list_all p (map need xs)) h in
+    let both = and_parts (p (need x)) (list_all p (map need xs)) h in
     rw (on x both.0, each_on p q need later on xs both.1) refl
 
 all_on : {A : Type 0} (p q : Need → Bool) (needs later : A → List Need) → ((x : A) → On p q (needs x) (later x)) → (xs : List A) → On p q (flat_map needs xs) (flat_map later xs)

@@ -1,8 +1,8 @@
 -- The order of needs, and what adding a need does to a list that is in order.
-use Rattle.std.proofs.Common.{◌≡◌, Bool, true, false, ◌&&◌, List, [], ◌∷◌, ◌++◌, refl, ◌∙◌, ⊎_elim, arith}
+use Rattle.std.proofs.Common.{◌≡◌, Bool, true, false, List, [], ◌∷◌, ◌++◌, refl, ◌∙◌, ⊎_elim, arith}
 use Rattle.std.specs.Cmp.{IsStrictWeakOrder}
 use Rattle.std.specs.List.{filter, list_all}
-use Rattle.std.proofs.lemmas.Bool.{cases_Bool}
+use Rattle.std.proofs.lemmas.Bool.{and_parts, cases_Bool}
 use Rattle.std.proofs.lemmas.Bool.Decides.{nat_tests}
 use Rattle.std.proofs.lemmas.List.Folds.{list_all-append}
 use Rattle.moves.specs.declared.need.Need.{Need}
@@ -46,22 +46,18 @@ pub is_order : IsStrictWeakOrder comes_before
 is_order = record { one_way = before_asym; chain = before_chain }
 
 -- both of two tests
-pub and_true : (a b : Bool) → (a && b) ≡ true → (a ≡ true) × (b ≡ true)
-and_true true b h = (refl, h)
-and_true false b h = cc
-
 -- what comes behind one that comes behind the need
 all_behind : (need x : Need) (xs : List Need) → comes_before need x ≡ true → list_all (comes_before x) xs ≡ true → list_all (comes_before need) xs ≡ true
 all_behind need x [] h k = refl
 all_behind need x (y ∷ ys) h k =
-    let both = and_true (comes_before x y) (list_all (comes_before x) ys) k in
+    let both = and_parts (comes_before x y) (list_all (comes_before x) ys) k in
     rw (before_trans need x y h both.0) (all_behind need x ys h both.1)
 
 -- what all pass, those that are kept pass
 kept_pass : (p q : Need → Bool) (xs : List Need) → list_all p xs ≡ true → list_all p (filter q xs) ≡ true
 kept_pass p q [] h = refl
 kept_pass p q (x ∷ xs) h =
-    let both = and_true (p x) (list_all p xs) h in
+    let both = and_parts (p x) (list_all p xs) h in
     ⊎_elim
     (λ (is : q x ≡ true). rw is (rw both.0 (kept_pass p q xs both.1)))
     (λ (is : q x ≡ false). rw is (kept_pass p q xs both.1))
@@ -79,7 +75,7 @@ kept_are q (x ∷ xs) =
 kept_in_order : (q : Need → Bool) (xs : List Need) → are_in_order xs ≡ true → are_in_order (filter q xs) ≡ true
 kept_in_order q [] h = refl
 kept_in_order q (x ∷ xs) h =
-    let both = and_true (list_all (comes_before x) xs) (are_in_order xs) h in
+    let both = and_parts (list_all (comes_before x) xs) (are_in_order xs) h in
     ⊎_elim
     (λ (is : q x ≡ true). rw is (rw (kept_pass (comes_before x) q xs both.0) (kept_in_order q xs both.1)))
     (λ (is : q x ≡ false). rw is (kept_in_order q xs both.1))
@@ -89,8 +85,8 @@ kept_in_order q (x ∷ xs) h =
 around : (need : Need) (xs ys : List Need) → are_in_order xs ≡ true → list_all (λ other. comes_before other need) xs ≡ true → list_all (comes_before need) ys ≡ true → are_in_order ys ≡ true → are_in_order (xs ++ need ∷ ys) ≡ true
 around need [] ys order before behind rest = rw behind rest
 around need (x ∷ xs) ys order before behind rest =
-    let both = and_true (list_all (comes_before x) xs) (are_in_order xs) order in
-    let first = and_true (comes_before x need) (list_all (λ other. comes_before other need) xs) before in
+    let both = and_parts (list_all (comes_before x) xs) (are_in_order xs) order in
+    let first = and_parts (comes_before x need) (list_all (λ other. comes_before other need) xs) before in
     let all : list_all (comes_before x) (xs ++ need ∷ ys) ≡ true =
     list_all-append (comes_before x) xs (need ∷ ys) ∙ rw (both.0, first.0) (all_behind x need ys first.0 behind) in
     rw all (around need xs ys both.1 first.1 behind rest)

@@ -2,7 +2,7 @@
 use Rattle.std.proofs.Common.{inl, inr, ◌≡◌, suc, ◌+◌, ◌⊎◌, Bool, true, false, Some, List, [], ◌∷◌, refl, sym, ap, subst, ◌∙◌, arith}
 use Rattle.std.specs.List.{dedup, dedup_from, list_all}
 use Rattle.std.specs.List.Sorted.{IsPermutation, IsSortedBy}
-use Rattle.std.proofs.lemmas.Bool.{cases_Bool, false≢true}
+use Rattle.std.proofs.lemmas.Bool.{and_parts, cases_Bool, false≢true}
 use Rattle.std.proofs.lemmas.List.Sorted.{Contains-permutation, IsPermutation-sym}
 use Rattle.std.proofs.lemmas.Option.{slice_get_within, slice_get-get_or, get_or_from_slice_get}
 use Rattle.std.proofs.lemmas.Bool.Decides.{nat_tests}
@@ -10,7 +10,7 @@ use Rattle.moves.specs.declared.need.Need.{Need}
 use Rattle.moves.specs.declared.need.Need.TheVariants.{At, Lacking}
 use Rattle.moves.specs.contracts.need.NeedPartialEq.TheImpl as need_eq
 use Rattle.waitgraph.specs.Stuck.{comes_before, in_order, are_in_order}
-use Rattle.waitgraph.proofs.OrderLemmas.{before_asym, before_trans, before_total, and_true}
+use Rattle.waitgraph.proofs.OrderLemmas.{before_asym, before_trans, before_total}
 use Rattle.waitgraph.proofs.AmongLemmas.{Among, among_in, in_among, among_all, with_needs_from, with_needs_new, with_needs_in_order}
 
 -- a test that holds of a need and itself alone
@@ -113,8 +113,8 @@ same_in_order [] [] order other to from = refl
 same_in_order [] (y ∷ ys) order other to from = absurd (from y (inl refl))
 same_in_order (x ∷ xs) [] order other to from = absurd (to x (inl refl))
 same_in_order (x ∷ xs) (y ∷ ys) order other to from =
-    let one = and_true (list_all (comes_before x) xs) (are_in_order xs) order in
-    let two = and_true (list_all (comes_before y) ys) (are_in_order ys) other in
+    let one = and_parts (list_all (comes_before x) xs) (are_in_order xs) order in
+    let two = and_parts (list_all (comes_before y) ys) (are_in_order ys) other in
     let first : x ≡ y = same_first x y xs ys one.0 two.0 (to x (inl refl)) (from y (inl refl)) in
     let rest : xs ≡ ys =
     same_in_order xs ys one.1 two.1

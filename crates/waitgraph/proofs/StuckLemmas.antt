@@ -93,7 +93,8 @@ stuck_low reading groups recording rank ends stuck =
 pub stuck_from : (reading : Reading) (groups : Groups) (recording : Lists) (rank : ℕ) → StandsBefore reading groups recording rank → is_stuck reading groups recording rank ≡ true
 stuck_from reading groups recording rank present = rw (present.is_present, present.is_no_end) refl
 
-rank_count : (reading : Reading) (groups : Groups) (recording : Lists) → length (stands_of reading groups recording) ≡ length recording
+-- there is a stand for each rank
+pub rank_count : (reading : Reading) (groups : Groups) (recording : Lists) → length (stands_of reading groups recording) ≡ length recording
 rank_count reading groups recording =
     reached_ranks (can_move reading groups recording) (length recording) (stands_of reading groups recording) (every_maximal_run_ends_at_the_stands reading groups recording).1.is_reached
 

@@ -1,5 +1,5 @@
 -- The walk back to where it began, step by step.
-use Rattle.std.proofs.Common.{◌≡◌, ℕ, suc, ◌+◌, ◌-◌, ◌<◌, ◌≤◌, ◌≢◌, true, false, ◌==◌, Option, Some, None, List, [], ◌∷◌, ◌++◌, refl, sym, ap, append_assoc, arith}
+use Rattle.std.proofs.Common.{◌≡◌, ℕ, suc, ◌+◌, ◌-◌, ◌<◌, ◌≢◌, true, false, ◌==◌, Option, Some, None, List, [], ◌∷◌, ◌++◌, refl, sym, ap, append_assoc, arith}
 use Rattle.std.specs.Prelude.{option_map}
 use Rattle.std.proofs.lemmas.Bool.Decides.{nat_tests}
 use Rattle.waitgraph.specs.Causes.{Walks, next_in, way_home}
@@ -27,9 +27,3 @@ way_on walks n step home rank next ranks within is other =
     let left : n - step ≡ suc (n - (step + 1)) = omega arith in
     let test : (next == home) ≡ false = grind (arith, nat_tests) in
     rw (left, is, test) (joined ranks rank (way_home walks (n - (step + 1)) home next))
-
--- after all steps there is none
-pub no_steps : (walks : Walks) (n step home rank : ℕ) (ranks : List ℕ) → n ≤ step → option_map (λ more. ranks ++ more) (way_home walks (n - step) home rank) ≡ None
-no_steps walks n step home rank ranks past =
-    let left : n - step ≡ 0 = omega arith in
-    rw left refl

@@ -14,7 +14,6 @@ use mpicall::word::Word;
 use pairing::pairs::Pairs;
 use std::alloc::{AllocError, Global};
 
-mod extent;
 pub mod group;
 pub mod kind;
 mod making;

@@ -26,6 +26,7 @@
 #![tactic(auto)]
 
 pub mod cause;
+mod extent;
 pub mod finding;
 pub mod graph;
 pub mod loose;

@@ -4,6 +4,7 @@ ghost use Rattle.std.specs.Prelude.{◌≡◌, ◌<◌, IfOk, length};
 ghost use Rattle.std.specs.List.{list_any};
 ghost use Rattle.waitgraph.specs.Held.{is_left_open, left_open_in, leaves_open, standing_at, standings_at};
 
+use crate::extent::calls;
 use crate::unmet::stand_of;
 use mpicall::call::Call;
 use pairing::pairs::Pairs;
@@ -32,7 +33,7 @@ fn leaves_open(call: &StoredCall<'_>) -> bool
 pub(crate) fn is_left_open(pairs: &Pairs, rank: u16) -> bool
     ensures { result ≡ is_left_open pairs.now.recording rank }
 {
-    let count = pairs.accepted(rank).unwrap_or(0);
+    let count = calls(pairs, rank);
     if count == 0 {
         return false;
     }

@@ -1,6 +1,6 @@
 //! Needs that aren't met where the ranks stand.
 
-ghost use Rattle.std.specs.Prelude.{◌≡◌, [], ◌∷◌, ◌++◌, Some, length, map, flat_map, slice_get, slice_index, IfOk, OnOk};
+ghost use Rattle.std.specs.Prelude.{◌≡◌, [], ◌∷◌, ◌++◌, Some, map, flat_map, slice_get, slice_index, IfOk, OnOk};
 ghost use Rattle.std.specs.List.{filter};
 ghost use Rattle.std.specs.Option.{option_map_or};
 ghost use Rattle.std.specs.Ordering.{is_lt};
@@ -8,9 +8,10 @@ ghost use Rattle.mpigroup.specs.Groups.{group_of};
 ghost use Rattle.pairing.specs.Recordings.{calls_of};
 ghost use Rattle.pairing.specs.Requests.{completes};
 ghost use Rattle.pairing.specs.Pairs.{completed_of};
-ghost use Rattle.moves.specs.Needs.{world_of, half_need, half_needs, probe_need, probe_needs, member_need, wave_needs, operation_needs, operation_needs_at, request_needs, needs_of_call, needs_of};
+ghost use Rattle.moves.specs.Needs.{world_of, half_needs, probe_needs, member_need, wave_needs, operation_needs, operation_needs_at, request_needs, needs_of_call, needs_of};
 ghost use Rattle.waitgraph.specs.Stuck.{comes_before, in_order, is_unmet, unmet_at, UnmetNeedsAreToldInOrder, StuckRanksWaitForStuckRanks};
 
+use crate::extent::members;
 use moves::need::{Need, is_met};
 use moves::reading::{Reading, sends_freely};
 use mpigroup::head::Head;
@@ -64,23 +65,16 @@ fn add_unmet(unmet: &mut Vec<Need>, stands: &[u32], need: Need) -> Result<(), Al
     Ok(())
 }
 
-fn world_of(head: &Head, comm: u16, peer: u16) -> u16
-    ensures { result ≡ world_of head.now comm peer }
+/// What a message needs: that the call is reached that it goes with; where there is none, its peer lacks it.
+fn message_need(head: &Head, call: Option<(u16, u32)>, message: &Message) -> Need
+    ensures { result ≡ option_map_or (λ call. Need.At call.0 call.1) call (Need.Lacking (world_of head.now message.now.comm message.now.peer)) }
 {
-    head.world_rank(comm, peer).unwrap_or(peer)
-}
-
-/// What a message needs by one of its halves.
-fn half_need(pairs: &Pairs, rank: u16, place: u32, half: Half, message: &Message) -> Need
-    ensures { result ≡ half_need pairs.now.groups pairs.now.recording rank place half message.now }
-{
-    match pairs.partner(rank, place, half) {
-        Some((other, there)) => Need::At {
-            rank: other,
-            place: there,
-        },
+    match call {
+        Some((rank, place)) => Need::At { rank, place },
         None => Need::Lacking {
-            rank: world_of(pairs.head(), message.comm, message.peer),
+            rank: head
+                .world_rank(message.comm, message.peer)
+                .unwrap_or(message.peer),
         },
     }
 }
@@ -98,25 +92,10 @@ fn add_half_needs(
 {
     match call.message(half) {
         Some(message) => {
-            let need = half_need(pairs, rank, place, half, &message);
-            add_unmet(unmet, stands, need)
+            let partner = pairs.partner(rank, place, half);
+            add_unmet(unmet, stands, message_need(pairs.head(), partner, &message))
         }
         None => Ok(()),
-    }
-}
-
-/// What a probe needs for its message.
-fn probe_need(pairs: &Pairs, rank: u16, place: u32, message: &Message) -> Need
-    ensures { result ≡ probe_need pairs.now.groups pairs.now.recording rank place message.now }
-{
-    match pairs.probed(rank, place) {
-        Some((other, there)) => Need::At {
-            rank: other,
-            place: there,
-        },
-        None => Need::Lacking {
-            rank: world_of(pairs.head(), message.comm, message.peer),
-        },
     }
 }
 
@@ -132,8 +111,8 @@ fn add_probe_needs(
 {
     match call.probed() {
         Some(message) => {
-            let need = probe_need(pairs, rank, place, &message);
-            add_unmet(unmet, stands, need)
+            let sent = pairs.probed(rank, place);
+            add_unmet(unmet, stands, message_need(pairs.head(), sent, &message))
         }
         None => Ok(()),
     }
@@ -153,12 +132,6 @@ fn member_need(pairs: &Pairs, comm: u16, wave: u32, g: u16, member: u16) -> Need
     }
 }
 
-fn members(head: &Head, comm: u16) -> u16
-    ensures { result ≡ length (group_of head.now comm) }
-{
-    head.size(comm).unwrap_or(0)
-}
-
 /// Adds what the wave still needs of each member of its communicator.
 fn add_member_needs(
     unmet: &mut Vec<Need>,
@@ -169,9 +142,8 @@ fn add_member_needs(
 ) -> Result<(), AllocError>
     ensures { OnOk result (unmet.new.items ≡ unmet.old.items ++ filter (is_unmet stands.now) (map (member_need pairs.now.recording comm wave) (group_of pairs.now.groups comm))) }
 {
-    let head = pairs.head();
-    for g in 0..members(head, comm) {
-        if let Some(member) = head.world_rank(comm, g) {
+    for g in 0..members(pairs, comm) {
+        if let Some(member) = pairs.head().world_rank(comm, g) {
             let need = member_need(pairs, comm, wave, g, member);
             add_unmet(unmet, stands, need)?;
         }

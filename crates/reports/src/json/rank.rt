@@ -1,10 +1,9 @@
 //! Stuck ranks as JSON.
 
-ghost use Rattle.std.specs.Prelude.{◌≡◌, ◌++◌, slice_index, IfOk, OnOk, string_bytes};
+ghost use Rattle.std.specs.Prelude.{◌≡◌, ◌++◌, IfOk, OnOk, string_bytes};
 ghost use Rattle.std.specs.List.{join_with_byte};
 ghost use Rattle.serde_json.specs.View.{view};
 ghost use Rattle.mpicall.specs.Spelling.{space};
-ghost use Rattle.moves.specs.Stands.{stands_of};
 ghost use Rattle.waitgraph.specs.Graphs.{IsGraphOf};
 ghost use Rattle.reports.specs.ArrayTexts.{elements_text};
 ghost use Rattle.reports.specs.JsonReport.{rank_data};
@@ -14,17 +13,12 @@ ghost use Rattle.reports.specs.TextReport.{present_fields};
 use crate::json::element::push_element;
 use crate::json::line::line_text;
 use crate::json::need::needs_value;
+use crate::stand::stand_of;
 use moves::analyser::Analyser;
 use moves::need::Need;
 use serde_json::{Value, json};
 use std::alloc::{AllocError, Global};
 use waitgraph::graph::Graph;
-
-fn stand_of(analyser: &Analyser, rank: u16) -> u32
-    ensures { result ≡ slice_index (stands_of analyser.now.reading analyser.now.groups analyser.now.recording) rank }
-{
-    analyser.stand(rank).unwrap_or(0)
-}
 
 /// The call at which a rank stands; no text where its list is at its end.
 fn present_text(alloc: Global, analyser: &Analyser, rank: u16) -> Result<String, AllocError>

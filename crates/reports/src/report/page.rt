@@ -1,16 +1,13 @@
 //! Bytes of a report that wait until an output is given them.
 
-ghost use Rattle.std.specs.Prelude.{◌≡◌, ◌+◌, ◌≤◌, ◌<◌, [], ◌∷◌, ◌++◌, ℕ, List, length, OnOk, OnErr};
+ghost use Rattle.std.specs.Prelude.{◌≡◌, ◌+◌, ◌≤◌, ◌<◌, [], ◌∷◌, ◌++◌, length};
 ghost use Rattle.std.specs.Fmt.{decimal};
-ghost use Rattle.std.specs.Io.KnownBytes.{Appends};
-ghost use Rattle.mpicall.specs.Device.{CountsFailure, AppendsBeginning};
 ghost use Rattle.mpicall.specs.Spelling.{space, fields_of};
 ghost use Rattle.mpicall.specs.Word.{text_of};
-ghost use Rattle.reports.specs.Pages.{with_fields, Tells};
+ghost use Rattle.reports.specs.Printing.{with_fields};
 
 use crate::report::spelled::SpelledCall;
 use itoa::Buffer;
-use mpicall::device::{DeviceFault, Output, write_all};
 use mpicall::record::Record;
 use mpicall::word::Word;
 use std::marker::Model;
@@ -49,30 +46,22 @@ impl Page {
         }
     }
 
-    /// Gives all bytes to the output.
-    pub(crate) fn flush<O: Output>(&mut self, out: &mut O) -> Result<(), DeviceFault>
-        ensures ok { OnOk result (Appends (O.written out.old) (O.written out.new) self.old) }
-        ensures none_left { OnOk result (self.new ≡ []) }
-        ensures fault { OnErr result (AppendsBeginning (O.written out.old) (O.written out.new) self.old) }
-        ensures count { CountsFailure (O.failures out.old) (O.failures out.new) result }
+    pub(crate) fn as_slice(&self) -> &[u8]
+        ensures { result.now ≡ self.now }
     {
-        write_all(out, &self.bytes[..self.len])?;
-        self.len = 0;
-        Ok(())
+        &self.bytes[..self.len]
     }
 
-    /// Gives the bytes to the output where a line may not have room; after a fault the output has a beginning
-    /// of them, whatever comes behind.
-    pub(crate) fn make_room<O: Output>(&mut self, out: &mut O) -> Result<(), DeviceFault>
-        ensures ok { OnOk result (Tells (O.written out.old) self.old (O.written out.new) self.new []) }
-        ensures room { OnOk result (length self.new + ROOM_BYTES ≤ PAGE_BYTES) }
-        ensures fault { OnErr result ((text : List ℕ) → AppendsBeginning (O.written out.old) (O.written out.new) (self.old ++ text)) }
-        ensures count { CountsFailure (O.failures out.old) (O.failures out.new) result }
+    pub(crate) fn len(&self) -> usize
+        ensures { result ≡ length self.now }
     {
-        if self.len > PAGE_BYTES - ROOM_BYTES {
-            self.flush(out)?;
-        }
-        Ok(())
+        self.len
+    }
+
+    pub(crate) fn clear(&mut self)
+        ensures { self.new ≡ [] }
+    {
+        self.len = 0;
     }
 
     pub(crate) fn push(&mut self, byte: u8)

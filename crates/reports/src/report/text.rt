@@ -1,21 +1,20 @@
 //! The report as text: a line with the verdict, and then a line for each unmet need, each cause and each
 //! finding.
 
-ghost use Rattle.std.specs.Prelude.{◌≡◌, ◌+◌, ◌≤◌, [], ◌∷◌, ◌++◌, flat_map, length, slice_index, OnOk, OnErr};
+ghost use Rattle.std.specs.Prelude.{◌≡◌, ◌+◌, ◌≤◌, [], ◌∷◌, ◌++◌, flat_map, length};
 ghost use Rattle.std.specs.Option.{option_map_or};
 ghost use Rattle.std.specs.Fmt.{decimal};
-ghost use Rattle.std.specs.Io.KnownBytes.{Appends};
-ghost use Rattle.mpicall.specs.Device.{CountsFailure, AppendsBeginning};
 ghost use Rattle.mpicall.specs.Spelling.{space, fields_of};
-ghost use Rattle.moves.specs.Stands.{stands_of};
 ghost use Rattle.waitgraph.specs.Causes.{CycleOf, MissingOf, view_of};
 ghost use Rattle.reports.specs.FindingTexts.{finding_fields};
 ghost use Rattle.waitgraph.specs.Graphs.{IsGraphOf};
-ghost use Rattle.reports.specs.Pages.{with_fields, Tells};
+ghost use Rattle.reports.specs.Printing.{with_fields, Ends, Prints};
 ghost use Rattle.waitgraph.specs.Places.{call_at};
 ghost use Rattle.reports.specs.TextReport.{cause_line, finding_line, need_fields, rank_lines, text_report, unmet_line, verdict_line};
 
 use crate::report::page::{PAGE_BYTES, Page, ROOM_BYTES};
+use crate::report::printer::Printer;
+use crate::stand::stand_of;
 use moves::analyser::Analyser;
 use moves::need::Need;
 use mpicall::device::{DeviceFault, Output};
@@ -67,15 +66,6 @@ fn push_need(page: &mut Page, need: &Need)
     }
 }
 
-fn stand_of(analyser: &Analyser, rank: u16) -> u32
-    ensures { result ≡ slice_index (stands_of analyser.now.reading analyser.now.groups analyser.now.recording) rank }
-{
-    match analyser.stand(rank) {
-        Some(stand) => stand,
-        None => 0,
-    }
-}
-
 /// Adds the line of one unmet need of a rank.
 fn push_unmet(page: &mut Page, analyser: &Analyser, rank: u16, need: &Need)
     requires { length page.old + ROOM_BYTES ≤ PAGE_BYTES }
@@ -92,121 +82,101 @@ fn push_unmet(page: &mut Page, analyser: &Analyser, rank: u16, need: &Need)
     page.push(b'\n');
 }
 
+#[tactic(auto, using(crate::proofs::PrintingLemmas::prints_pushed))]
 fn write_unmet<O: Output>(
-    page: &mut Page,
+    printer: &mut Printer,
     out: &mut O,
     analyser: &Analyser,
     rank: u16,
     need: &Need,
-) -> Result<(), DeviceFault>
-    ensures ok { OnOk result (Tells (O.written out.old) page.old (O.written out.new) page.new (unmet_line analyser.now.reading analyser.now.groups analyser.now.recording rank need.now)) }
-    ensures fault { OnErr result (AppendsBeginning (O.written out.old) (O.written out.new) (page.old ++ unmet_line analyser.now.reading analyser.now.groups analyser.now.recording rank need.now)) }
-    ensures count { CountsFailure (O.failures out.old) (O.failures out.new) result }
+)
+    ensures { Prints O.written O.failures out.old printer.old out.new printer.new (unmet_line analyser.now.reading analyser.now.groups analyser.now.recording rank need.now) }
 {
-    page.make_room(out)?;
-    push_unmet(page, analyser, rank, need);
-    Ok(())
+    printer.make_room(out);
+    push_unmet(&mut printer.page, analyser, rank, need);
 }
 
 /// Writes a line for each of the needs of a rank.
+#[tactic(auto, using(crate::proofs::PrintingLemmas::prints_none, crate::proofs::PrintingLemmas::prints_next))]
 fn write_needs<O: Output>(
-    page: &mut Page,
+    printer: &mut Printer,
     out: &mut O,
     analyser: &Analyser,
     rank: u16,
     needs: &[Need],
-) -> Result<(), DeviceFault>
-    ensures ok { OnOk result (Tells (O.written out.old) page.old (O.written out.new) page.new (flat_map (unmet_line analyser.now.reading analyser.now.groups analyser.now.recording rank) needs.now)) }
-    ensures fault { OnErr result (AppendsBeginning (O.written out.old) (O.written out.new) (page.old ++ flat_map (unmet_line analyser.now.reading analyser.now.groups analyser.now.recording rank) needs.now)) }
-    ensures count { CountsFailure (O.failures out.old) (O.failures out.new) result }
+)
+    ensures { Prints O.written O.failures out.old printer.old out.new printer.new (flat_map (unmet_line analyser.now.reading analyser.now.groups analyser.now.recording rank) needs.now) }
 {
     for need in needs {
-        write_unmet(page, out, analyser, rank, need)?;
+        write_unmet(printer, out, analyser, rank, need);
     }
-    Ok(())
 }
 
 /// Writes a line for each unmet need of a rank.
 fn write_rank<O: Output>(
-    page: &mut Page,
+    printer: &mut Printer,
     out: &mut O,
     analyser: &Analyser,
     graph: &Graph,
     rank: u16,
-) -> Result<(), DeviceFault>
+)
     requires { IsGraphOf analyser.now.reading analyser.now.groups analyser.now.recording graph.now }
-    ensures ok { OnOk result (Tells (O.written out.old) page.old (O.written out.new) page.new (rank_lines analyser.now.reading analyser.now.groups analyser.now.recording rank)) }
-    ensures fault { OnErr result (AppendsBeginning (O.written out.old) (O.written out.new) (page.old ++ rank_lines analyser.now.reading analyser.now.groups analyser.now.recording rank)) }
-    ensures count { CountsFailure (O.failures out.old) (O.failures out.new) result }
+    ensures { Prints O.written O.failures out.old printer.old out.new printer.new (rank_lines analyser.now.reading analyser.now.groups analyser.now.recording rank) }
 {
-    write_needs(page, out, analyser, rank, graph.unmet(rank))
+    write_needs(printer, out, analyser, rank, graph.unmet(rank));
 }
 
 /// Writes the lines of some ranks.
+#[tactic(auto, using(crate::proofs::PrintingLemmas::prints_none, crate::proofs::PrintingLemmas::prints_next))]
 fn write_ranks<O: Output>(
-    page: &mut Page,
+    printer: &mut Printer,
     out: &mut O,
     analyser: &Analyser,
     graph: &Graph,
     ranks: &[u16],
-) -> Result<(), DeviceFault>
+)
     requires { IsGraphOf analyser.now.reading analyser.now.groups analyser.now.recording graph.now }
-    ensures ok { OnOk result (Tells (O.written out.old) page.old (O.written out.new) page.new (flat_map (rank_lines analyser.now.reading analyser.now.groups analyser.now.recording) ranks.now)) }
-    ensures fault { OnErr result (AppendsBeginning (O.written out.old) (O.written out.new) (page.old ++ flat_map (rank_lines analyser.now.reading analyser.now.groups analyser.now.recording) ranks.now)) }
-    ensures count { CountsFailure (O.failures out.old) (O.failures out.new) result }
+    ensures { Prints O.written O.failures out.old printer.old out.new printer.new (flat_map (rank_lines analyser.now.reading analyser.now.groups analyser.now.recording) ranks.now) }
 {
     for rank in ranks {
-        write_rank(page, out, analyser, graph, *rank)?;
+        write_rank(printer, out, analyser, graph, *rank);
     }
-    Ok(())
 }
 
 /// Writes a text that has room.
-fn write_piece<O: Output>(page: &mut Page, out: &mut O, text: &[u8]) -> Result<(), DeviceFault>
+#[tactic(auto, using(crate::proofs::PrintingLemmas::prints_pushed))]
+fn write_piece<O: Output>(printer: &mut Printer, out: &mut O, text: &[u8])
     requires { length text.now ≤ ROOM_BYTES }
-    ensures ok { OnOk result (Tells (O.written out.old) page.old (O.written out.new) page.new (text.now)) }
-    ensures fault { OnErr result (AppendsBeginning (O.written out.old) (O.written out.new) (page.old ++ text.now)) }
-    ensures count { CountsFailure (O.failures out.old) (O.failures out.new) result }
+    ensures { Prints O.written O.failures out.old printer.old out.new printer.new text.now }
 {
-    page.make_room(out)?;
-    page.push_all(text);
-    Ok(())
+    printer.make_room(out);
+    printer.page.push_all(text);
 }
 
 /// Writes a rank as a further field.
-fn write_rank_field<O: Output>(page: &mut Page, out: &mut O, rank: u16) -> Result<(), DeviceFault>
-    ensures ok { OnOk result (Tells (O.written out.old) page.old (O.written out.new) page.new (space ∷ decimal rank)) }
-    ensures fault { OnErr result (AppendsBeginning (O.written out.old) (O.written out.new) (page.old ++ space ∷ decimal rank)) }
-    ensures count { CountsFailure (O.failures out.old) (O.failures out.new) result }
+#[tactic(auto, using(crate::proofs::PrintingLemmas::prints_pushed))]
+fn write_rank_field<O: Output>(printer: &mut Printer, out: &mut O, rank: u16)
+    ensures { Prints O.written O.failures out.old printer.old out.new printer.new (space ∷ decimal rank) }
 {
-    page.make_room(out)?;
-    page.push_number(u32::from(rank));
-    Ok(())
+    printer.make_room(out);
+    printer.page.push_number(u32::from(rank));
 }
 
-fn write_rank_fields<O: Output>(
-    page: &mut Page,
-    out: &mut O,
-    ranks: &[u16],
-) -> Result<(), DeviceFault>
-    ensures ok { OnOk result (Tells (O.written out.old) page.old (O.written out.new) page.new (flat_map (λ rank. space ∷ decimal rank) ranks.now)) }
-    ensures fault { OnErr result (AppendsBeginning (O.written out.old) (O.written out.new) (page.old ++ flat_map (λ rank. space ∷ decimal rank) ranks.now)) }
-    ensures count { CountsFailure (O.failures out.old) (O.failures out.new) result }
+#[tactic(auto, using(crate::proofs::PrintingLemmas::prints_none, crate::proofs::PrintingLemmas::prints_next))]
+fn write_rank_fields<O: Output>(printer: &mut Printer, out: &mut O, ranks: &[u16])
+    ensures { Prints O.written O.failures out.old printer.old out.new printer.new (flat_map (λ rank. space ∷ decimal rank) ranks.now) }
 {
     for rank in ranks {
-        write_rank_field(page, out, *rank)?;
+        write_rank_field(printer, out, *rank);
     }
-    Ok(())
 }
 
-fn write_cycle<O: Output>(page: &mut Page, out: &mut O, ranks: &[u16]) -> Result<(), DeviceFault>
-    ensures ok { OnOk result (Tells (O.written out.old) page.old (O.written out.new) page.new (cause_line (CycleOf ranks.now))) }
-    ensures fault { OnErr result (AppendsBeginning (O.written out.old) (O.written out.new) (page.old ++ cause_line (CycleOf ranks.now))) }
-    ensures count { CountsFailure (O.failures out.old) (O.failures out.new) result }
+fn write_cycle<O: Output>(printer: &mut Printer, out: &mut O, ranks: &[u16])
+    ensures { Prints O.written O.failures out.old printer.old out.new printer.new (cause_line (CycleOf ranks.now)) }
 {
-    write_piece(page, out, b"cycle")?;
-    write_rank_fields(page, out, ranks)?;
-    write_piece(page, out, b"\n")
+    write_piece(printer, out, b"cycle");
+    write_rank_fields(printer, out, ranks);
+    write_piece(printer, out, b"\n");
 }
 
 fn push_missing(page: &mut Page, rank: u16, peer: u16)
@@ -219,45 +189,30 @@ fn push_missing(page: &mut Page, rank: u16, peer: u16)
     page.push(b'\n');
 }
 
-fn write_missing<O: Output>(
-    page: &mut Page,
-    out: &mut O,
-    rank: u16,
-    peer: u16,
-) -> Result<(), DeviceFault>
-    ensures ok { OnOk result (Tells (O.written out.old) page.old (O.written out.new) page.new (cause_line (MissingOf rank peer))) }
-    ensures fault { OnErr result (AppendsBeginning (O.written out.old) (O.written out.new) (page.old ++ cause_line (MissingOf rank peer))) }
-    ensures count { CountsFailure (O.failures out.old) (O.failures out.new) result }
+#[tactic(auto, using(crate::proofs::PrintingLemmas::prints_pushed))]
+fn write_missing<O: Output>(printer: &mut Printer, out: &mut O, rank: u16, peer: u16)
+    ensures { Prints O.written O.failures out.old printer.old out.new printer.new (cause_line (MissingOf rank peer)) }
 {
-    page.make_room(out)?;
-    push_missing(page, rank, peer);
-    Ok(())
+    printer.make_room(out);
+    push_missing(&mut printer.page, rank, peer);
 }
 
-fn write_cause<O: Output>(page: &mut Page, out: &mut O, cause: &Cause) -> Result<(), DeviceFault>
-    ensures ok { OnOk result (Tells (O.written out.old) page.old (O.written out.new) page.new (cause_line (view_of cause.now))) }
-    ensures fault { OnErr result (AppendsBeginning (O.written out.old) (O.written out.new) (page.old ++ cause_line (view_of cause.now))) }
-    ensures count { CountsFailure (O.failures out.old) (O.failures out.new) result }
+fn write_cause<O: Output>(printer: &mut Printer, out: &mut O, cause: &Cause)
+    ensures { Prints O.written O.failures out.old printer.old out.new printer.new (cause_line (view_of cause.now)) }
 {
     match *cause {
-        Cause::Cycle(ref ranks) => write_cycle(page, out, ranks),
-        Cause::Missing { rank, peer } => write_missing(page, out, rank, peer),
+        Cause::Cycle(ref ranks) => write_cycle(printer, out, ranks),
+        Cause::Missing { rank, peer } => write_missing(printer, out, rank, peer),
     }
 }
 
-fn write_causes<O: Output>(
-    page: &mut Page,
-    out: &mut O,
-    causes: &[Cause],
-) -> Result<(), DeviceFault>
-    ensures ok { OnOk result (Tells (O.written out.old) page.old (O.written out.new) page.new (flat_map (λ cause. cause_line (view_of cause)) causes.now)) }
-    ensures fault { OnErr result (AppendsBeginning (O.written out.old) (O.written out.new) (page.old ++ flat_map (λ cause. cause_line (view_of cause)) causes.now)) }
-    ensures count { CountsFailure (O.failures out.old) (O.failures out.new) result }
+#[tactic(auto, using(crate::proofs::PrintingLemmas::prints_none, crate::proofs::PrintingLemmas::prints_next))]
+fn write_causes<O: Output>(printer: &mut Printer, out: &mut O, causes: &[Cause])
+    ensures { Prints O.written O.failures out.old printer.old out.new printer.new (flat_map (λ cause. cause_line (view_of cause)) causes.now) }
 {
     for cause in causes {
-        write_cause(page, out, cause)?;
+        write_cause(printer, out, cause);
     }
-    Ok(())
 }
 
 /// Adds a word for what is wrong in a wave, and the wave and the member.
@@ -329,52 +284,37 @@ fn push_finding(page: &mut Page, finding: &Finding)
     page.push(b'\n');
 }
 
-fn write_finding<O: Output>(
-    page: &mut Page,
-    out: &mut O,
-    finding: &Finding,
-) -> Result<(), DeviceFault>
-    ensures ok { OnOk result (Tells (O.written out.old) page.old (O.written out.new) page.new (finding_line finding.now)) }
-    ensures fault { OnErr result (AppendsBeginning (O.written out.old) (O.written out.new) (page.old ++ finding_line finding.now)) }
-    ensures count { CountsFailure (O.failures out.old) (O.failures out.new) result }
+#[tactic(auto, using(crate::proofs::PrintingLemmas::prints_pushed))]
+fn write_finding<O: Output>(printer: &mut Printer, out: &mut O, finding: &Finding)
+    ensures { Prints O.written O.failures out.old printer.old out.new printer.new (finding_line finding.now) }
 {
-    page.make_room(out)?;
-    push_finding(page, finding);
-    Ok(())
+    printer.make_room(out);
+    push_finding(&mut printer.page, finding);
 }
 
-fn write_findings<O: Output>(
-    page: &mut Page,
-    out: &mut O,
-    findings: &[Finding],
-) -> Result<(), DeviceFault>
-    ensures ok { OnOk result (Tells (O.written out.old) page.old (O.written out.new) page.new (flat_map finding_line findings.now)) }
-    ensures fault { OnErr result (AppendsBeginning (O.written out.old) (O.written out.new) (page.old ++ flat_map finding_line findings.now)) }
-    ensures count { CountsFailure (O.failures out.old) (O.failures out.new) result }
+#[tactic(auto, using(crate::proofs::PrintingLemmas::prints_none, crate::proofs::PrintingLemmas::prints_next))]
+fn write_findings<O: Output>(printer: &mut Printer, out: &mut O, findings: &[Finding])
+    ensures { Prints O.written O.failures out.old printer.old out.new printer.new (flat_map finding_line findings.now) }
 {
     for finding in findings {
-        write_finding(page, out, finding)?;
+        write_finding(printer, out, finding);
     }
-    Ok(())
 }
 
 /// Writes the report of a run as text, by way of a page in place; after a fault a beginning of it was
 /// written.
-#[tactic(auto, unfolding(crate::specs::TextReport::text_report))]
 pub(crate) fn write_text<O: Output>(
     analyser: &Analyser,
     graph: &Graph,
     out: &mut O,
 ) -> Result<(), DeviceFault>
     requires { IsGraphOf analyser.now.reading analyser.now.groups analyser.now.recording graph.now }
-    ensures ok { OnOk result (Appends (O.written out.old) (O.written out.new) (text_report analyser.now.reading analyser.now.groups analyser.now.recording)) }
-    ensures fault { OnErr result (AppendsBeginning (O.written out.old) (O.written out.new) (text_report analyser.now.reading analyser.now.groups analyser.now.recording)) }
-    ensures count { CountsFailure (O.failures out.old) (O.failures out.new) result }
+    ensures { Ends (O.written out.old) (O.failures out.old) (O.written out.new) (O.failures out.new) (text_report analyser.now.reading analyser.now.groups analyser.now.recording) result }
 {
-    let mut page = Page::new();
-    push_verdict(&mut page, graph.verdict());
-    write_ranks(&mut page, out, analyser, graph, graph.stuck())?;
-    write_causes(&mut page, out, graph.causes())?;
-    write_findings(&mut page, out, graph.findings())?;
-    page.flush(out)
+    let mut printer = Printer::new();
+    push_verdict(&mut printer.page, graph.verdict());
+    write_ranks(&mut printer, out, analyser, graph, graph.stuck());
+    write_causes(&mut printer, out, graph.causes());
+    write_findings(&mut printer, out, graph.findings());
+    printer.finish(out)
 }

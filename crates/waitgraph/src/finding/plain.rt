@@ -7,7 +7,7 @@ ghost use Rattle.pairing.specs.Requests.{starts};
 ghost use Rattle.waitgraph.specs.Places.{call_at, over_places};
 ghost use Rattle.waitgraph.specs.Findings.{request_at, requests_of, group_at, wrong_groups_of};
 
-use crate::finding::extent::{calls, ranks};
+use crate::extent::{calls, ranks};
 use pairing::pairs::Pairs;
 use pairing::stored::StoredCall;
 

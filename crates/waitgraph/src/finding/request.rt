@@ -7,8 +7,8 @@ ghost use Rattle.waitgraph.specs.Places.{call_at, over_places};
 ghost use Rattle.waitgraph.specs.Marks.{is_place, completes_at, marks_at, is_marked};
 ghost use Rattle.waitgraph.specs.Findings.{request_at, requests_of};
 
+use crate::extent::{calls, ranks};
 use crate::finding::Finding;
-use crate::finding::extent::{calls, ranks};
 use crate::standing::is_left_open;
 use pairing::pairs::Pairs;
 use std::alloc::{AllocError, Global};

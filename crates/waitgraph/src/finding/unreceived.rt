@@ -5,8 +5,8 @@ ghost use Rattle.pairing.specs.Envelopes.{message_of};
 ghost use Rattle.waitgraph.specs.Places.{call_at, over_places};
 ghost use Rattle.waitgraph.specs.Findings.{is_unreceived, may_yet_receive, receiver_of, unreceived_at, unreceived_of};
 
+use crate::extent::{calls, ranks};
 use crate::finding::Finding;
-use crate::finding::extent::{calls, ranks};
 use crate::standing::is_left_open;
 use pairing::envelope::Half;
 use pairing::pairs::Pairs;

@@ -1,22 +1,12 @@
-use Rattle.moves.specs.declared.reading.Reading.{Reading}
 use Rattle.std.proofs.Common.{◌≡◌, ◌<◌, ◌≤◌, ℕ, suc, ◌+◌, Some, List, [], ◌∷◌, ◌++◌, length, take, sym, ap, ◌∙◌, arith}
 use Rattle.std.specs.List.{slice_get}
 use Rattle.std.proofs.lemmas.List.{take_all}
 use Rattle.std.proofs.lemmas.Option.{none-some, slice_get-get_or, slice_get_within, get_or_from_slice_get}
 use Rattle.std.proofs.Math.Seq.{take-suc}
-use Rattle.mpigroup.specs.Groups.{Groups, ranks_of}
-use Rattle.pairing.specs.Recordings.{Lists}
-use Rattle.moves.specs.Needs.{can_move}
-use Rattle.moves.specs.Stands.{stands_of}
-use Rattle.moves.proofs.RunLemmas.{reached_ranks}
-use Rattle.moves.proofs.StandLemmas.{every_maximal_run_ends_at_the_stands}
+use Rattle.mpigroup.specs.Groups.{ranks_of}
+use Rattle.waitgraph.proofs.StuckLemmas.{rank_count}
 use Rattle.waitgraph.proofs.graph.stands_of.Goals.{in-Some+in_ok-push, in_default}
 use Rattle.waitgraph.proofs.graph.stands_of.Goals as goal
-
--- there is a stand for each rank
-stand_for_each : (reading : Reading) (groups : Groups) (recording : Lists) → length (stands_of reading groups recording) ≡ length recording
-stand_for_each reading groups recording =
-    reached_ranks (can_move reading groups recording) (length recording) (stands_of reading groups recording) (every_maximal_run_ends_at_the_stands reading groups recording).1.is_reached
 
 one_more : (stands : List ℕ) (rank stand : ℕ) → slice_get stands rank ≡ Some stand → take rank stands ++ stand ∷ [] ≡ take (rank + 1) stands
 one_more stands rank stand h =
@@ -35,7 +25,7 @@ loop-rank-preserved c = record {
             ∙ one_more c.args.analyser.now.stands c.loop-rank.rank w.in-Some.stand (sym c.stand.ensures.value ∙ w.in-Some.is)
         | in_default w ↦
             let each : length c.args.analyser.now.stands ≡ length c.args.analyser.now.recording =
-            ap (λ (s : List ℕ). length s) c.stand.ensures.stands ∙ stand_for_each c.args.analyser.now.reading c.args.analyser.now.groups c.args.analyser.now.recording in
+            ap (λ (s : List ℕ). length s) c.stand.ensures.stands ∙ rank_count c.args.analyser.now.reading c.args.analyser.now.groups c.args.analyser.now.recording in
             absurd (none-some _ (sym w.in_default.is ∙ c.stand.ensures.value ∙ slice_get-get_or c.args.analyser.now.stands c.loop-rank.rank 0 (omega (arith, each, c.head.ensures.ranks, ap ranks_of c.head.ensures.value, c.ranks-rank-end.ensures.value, c.loop-rank-test.true))))
       ];
   told = λ some. c.stand.ensures.stands;
@@ -45,6 +35,6 @@ pub returns : goal.returns
 returns c =
     let told = c.loop-rank.invariant.told (omega (arith, c.ranks-rank-end.ensures.least, c.loop-rank-test.false)) in
     let each : length c.args.analyser.now.stands ≡ length c.args.analyser.now.recording =
-    ap (λ (s : List ℕ). length s) told ∙ stand_for_each c.args.analyser.now.reading c.args.analyser.now.groups c.args.analyser.now.recording in
+    ap (λ (s : List ℕ). length s) told ∙ rank_count c.args.analyser.now.reading c.args.analyser.now.groups c.args.analyser.now.recording in
     let whole : length c.args.analyser.now.stands ≤ c.loop-rank.rank = omega (arith, each, c.head.ensures.ranks, ap ranks_of c.head.ensures.value, c.ranks-rank-end.ensures.value, c.loop-rank-test.false) in
     c.loop-rank.invariant.so_far ∙ take_all c.loop-rank.rank c.args.analyser.now.stands whole ∙ told

@@ -1,21 +1,15 @@
-use Rattle.std.proofs.Common.{◌≡◌, ◌≤◌, ℕ, Option, Some, List, [], ◌++◌, length, flat_map, get_or, refl, ap, ◌∙◌, arith}
+use Rattle.std.proofs.Common.{◌≡◌, ◌≤◌, ℕ, Option, Some, List, [], ◌++◌, length, flat_map, get_or, ap, ◌∙◌, arith}
 use Rattle.std.specs.List.{slice_get, filter}
 use Rattle.std.specs.Option.{option_map_or}
 use Rattle.std.proofs.lemmas.List.{take_all}
 use Rattle.std.proofs.lemmas.Option.{slice_get-get_or}
-use Rattle.mpicall.specs.declared.call.Call.{Call}
-use Rattle.pairing.specs.Recordings.{Lists, calls_of}
-use Rattle.pairing.specs.Requests.{completes, started_before}
-use Rattle.pairing.specs.Pairs.{completed_of}
+use Rattle.pairing.specs.Requests.{completes}
 use Rattle.moves.specs.declared.need.Need.{Need}
 use Rattle.moves.specs.Needs.{request_needs, operation_needs_at}
+use Rattle.moves.proofs.WaitLemmas.{start_is}
 use Rattle.waitgraph.specs.Stuck.{is_unmet}
 use Rattle.waitgraph.proofs.AddingLemmas.{add_one_list}
 use Rattle.waitgraph.proofs.unmet.add_completed_needs.Goals as goal
-
--- the start of the request with that index
-start_is : (recording : Lists) (rank place index req : ℕ) (call : Call) → slice_get (calls_of recording rank) place ≡ Some call → slice_get (completes call) index ≡ Some req → completed_of recording rank place index ≡ started_before recording rank place req
-start_is recording rank place index req call there named = rw (there, named) refl
 
 pub loop-index-preserved : goal.loop-index-preserved
 loop-index-preserved c =

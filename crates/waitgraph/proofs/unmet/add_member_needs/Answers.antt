@@ -15,19 +15,18 @@ loop-g-preserved c =
     elim c.match-world_rank.branch [
       | in-Some+in_ok-add_unmet w ↦
           let there : world_rank_of c.args.pairs.now.groups c.args.comm c.loop-g.g ≡ Some w.in-Some.member =
-          rw c.head-head.ensures.value at (sym c.world_rank.ensures ∙ w.in-Some.is) in
+          rw c.head.ensures.value at (sym c.world_rank.ensures ∙ w.in-Some.is) in
           ap (λ v. v.items) w.unmet-is
           ∙ w.in_ok-add_unmet.ensures
           ∙ ap (λ (need : Need). c.loop-g.unmet.items ++ filter (is_unmet c.args.stands.now) (need ∷ [])) w.member_need-need.ensures
           ∙ ap (λ (needs : List Need). needs ++ filter (is_unmet c.args.stands.now) (member_need c.args.pairs.now.recording c.args.comm c.args.wave w.in-Some.member ∷ [])) c.loop-g.invariant
           ∙ add_one c.args.stands.now c.args.unmet.now.items (member_need c.args.pairs.now.recording c.args.comm c.args.wave) (group_of c.args.pairs.now.groups c.args.comm) c.loop-g.g w.in-Some.member there
       | in_default w ↦
-          absurd (none-some _ (sym w.in_default.is ∙ c.world_rank.ensures ∙ slice_get-get_or (group_of c.head-head.result.now c.args.comm) c.loop-g.g 0 (omega (arith, c.members-g-end.ensures, c.loop-g-test.true))))
+          absurd (none-some _ (sym w.in_default.is ∙ c.world_rank.ensures ∙ slice_get-get_or (group_of c.head.result.now c.args.comm) c.loop-g.g 0 (rw c.head.ensures.value (omega (arith, c.members-g-end.ensures, c.loop-g-test.true)))))
     ]
 
 pub returns : goal.returns
 returns c =
-    let there : length (group_of c.head-head.result.now c.args.comm) ≤ c.loop-g.g = omega (arith, c.members-g-end.ensures, c.loop-g-test.false) in
-    let whole : length (group_of c.args.pairs.now.groups c.args.comm) ≤ c.loop-g.g = rw c.head-head.ensures.value at there in
+    let whole : length (group_of c.args.pairs.now.groups c.args.comm) ≤ c.loop-g.g = omega (arith, c.members-g-end.ensures, c.loop-g-test.false) in
     c.loop-g.invariant
     ∙ ap (λ (members : List ℕ). c.args.unmet.now.items ++ filter (is_unmet c.args.stands.now) (map (member_need c.args.pairs.now.recording c.args.comm c.args.wave) members)) (take_all c.loop-g.g (group_of c.args.pairs.now.groups c.args.comm) whole)

@@ -1,7 +1,7 @@
 use Rattle.std.proofs.Common.{List, ℕ, ◌∷◌, [], ◌++◌, codes, ap, ◌∙◌}
 use Rattle.mpicall.specs.Spelling.{line_feed}
 use Rattle.reports.specs.FindingTexts.{finding_fields}
-use Rattle.reports.specs.Pages.{with_fields}
+use Rattle.reports.specs.Printing.{with_fields}
 use Rattle.reports.proofs.SpelledLemmas.{line_put}
 use Rattle.reports.proofs.report.text.push_finding.Goals as goal
 
