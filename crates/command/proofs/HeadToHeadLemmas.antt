@@ -1,6 +1,6 @@
 -- Two ranks that send to each other before either receives: what the words ask for, what the texts of the files say,
 -- and what comes of it.
-use Rattle.std.proofs.Common.{◌≡◌, ◌≢◌, ◌∙◌, ℕ, Bool, true, false, Option, Some, None, Result, Ok, Err, IfSome, List, [], ◌∷◌, ap, codes, inl, inr, length, map, refl, subst, sym, string_bytes, Bor}
+use Rattle.std.proofs.Common.{◌≡◌, ◌≢◌, ◌∙◌, ℕ, Bool, true, false, Option, Some, None, Ok, Err, IfSome, List, [], ◌∷◌, ap, codes, inl, inr, length, map, refl, subst, sym, Bor}
 use Rattle.std.proofs.lemmas.List.{length-map}
 use Rattle.std.specs.Fmt.{digits}
 use Rattle.clap.specs.Faults.{fault_of, flags_fault, walk_fault, defaults_fault}
