@@ -4,3 +4,4 @@ pub mod FrontLemmas
 pub mod TextLemmas
 pub mod EndLemmas
 pub mod LintLemmas
+pub mod HeadToHeadLemmas

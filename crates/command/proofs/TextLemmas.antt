@@ -10,7 +10,7 @@ use Rattle.mpigroup.proofs.FrontLemmas.{read_head-front}
 use Rattle.mpigroup.specs.Groups.{Groups}
 use Rattle.mpigroup.specs.HeadText.{read_head}
 use Rattle.mpigroup.specs.declared.fault.HeadFault.{HeadFault}
-use Rattle.runs.specs.Runs.{RefusesFeeds}
+use Rattle.runs.specs.Runs.{RefusesFeeds, StopsWhereAllowed}
 use Rattle.runs.specs.Told.{RefusesOver, Tells}
 use Rattle.runs.specs.Written.{IsReportOver}
 use Rattle.gather.specs.declared.fault.Refusal.{Refusal}
@@ -92,9 +92,9 @@ module _ (told : Text → Option Text) (head : Text) (files : List (Bor Text)) w
 
   -- the fault of a run over the files' sources
   pub run_fault_says : {I : Type 0} (left : I → Option Text) (may_stop : ℕ → ℕ → Type 0) (sources : List (Source I)) (groups : Groups) (fault : RunFault) →
-      IsCounted told head files groups → RefusesFeeds left may_stop sources groups fault → ((texts : List Text) → map (λ file. told file.now) files ≡ map Some texts → RefusesOver groups (map trace_of texts) fault) → IsFaultOfCheck told head files (of_run fault)
-  run_fault_says left may_stop sources groups run.Memory counted fed refuses = tt
-  run_fault_says left may_stop sources groups (run.Unproved rank) counted fed refuses = (subst (λ n. rank < n) (sym counted.one_a_rank) fed, (groups, counted))
-  run_fault_says left may_stop sources groups run.Write counted fed refuses = tt
-  run_fault_says left may_stop sources groups (run.Refused refusal) counted fed refuses =
-      by_failure refusal (is_failure refusal.fault) (record { groups = groups; counted = counted; of_traces = refuses }) refl
+      IsCounted told head files groups → RefusesFeeds left may_stop sources groups fault → StopsWhereAllowed may_stop fault → ((rank line : ℕ) → may_stop rank line → ⊥) → ((texts : List Text) → map (λ file. told file.now) files ≡ map Some texts → RefusesOver groups (map trace_of texts) fault) → IsFaultOfCheck told head files (of_run fault)
+  run_fault_says left may_stop sources groups run.Memory counted fed stops never refuses = tt
+  run_fault_says left may_stop sources groups (run.Unproved rank) counted fed stops never refuses = (subst (λ n. rank < n) (sym counted.one_a_rank) fed, (groups, counted))
+  run_fault_says left may_stop sources groups run.Write counted fed stops never refuses = tt
+  run_fault_says left may_stop sources groups (run.Refused refusal) counted fed stops never refuses =
+      by_failure refusal (is_failure refusal.fault) (record { groups = groups; counted = counted; unstopped = λ is. never _ _ (stops is); of_traces = refuses }) refl

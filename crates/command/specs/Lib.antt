@@ -12,3 +12,5 @@ pub mod Answer
 pub mod Texts
 pub mod Given
 pub mod Lints
+pub mod Shelves
+pub mod HeadToHead

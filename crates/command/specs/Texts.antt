@@ -89,10 +89,12 @@ pub record IsCounted (told : List ℕ → Option (List ℕ)) (head : List ℕ) (
   pub is_head : IsHeadOf (told head) groups
   pub one_a_rank : length files ≡ ranks_of groups
 
--- there is one file a rank; and where their texts are told, the refusal is that of the traces which these hold
+-- there is one file a rank, and no gate stopped the reading; and where their texts are told, the refusal is that of
+-- the traces which these hold
 pub record IsRefusalOfRun (told : List ℕ → Option (List ℕ)) (head : List ℕ) (files : List (Bor (List ℕ))) (refusal : Refusal) : Type 0 where
   pub groups : Groups
   pub counted : IsCounted told head files groups
+  pub unstopped : refusal.fault ≢ OfSource GateStopped
   pub of_traces : (texts : List (List ℕ)) → map (λ file. told file.now) files ≡ map Some texts → IsRefusalOver groups (map trace_of texts) refusal
 
 -- Which fault a check tells: of the head, before its ranks are counted; of their number, before a file of theirs is
@@ -110,9 +112,3 @@ IsFaultOfCheck told head files (LintFailed fault) = ⊥
 IsFaultOfCheck told head files Memory = ⊤
 IsFaultOfCheck told head files (Unproved rank) = (rank < length files) × ((groups : Groups) × IsCounted told head files groups)
 IsFaultOfCheck told head files Write = ⊤
-
--- the fault isn't that a gate stopped the reading
-abbrev pub IsOfNoGate : Fault → Type 0
-IsOfNoGate (Refused refusal) = refusal.fault ≢ OfSource GateStopped
-IsOfNoGate (Failed refusal) = refusal.fault ≢ OfSource GateStopped
-IsOfNoGate fault = ⊤

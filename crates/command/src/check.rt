@@ -1,6 +1,6 @@
 //! `mpiwait check`: the head of a run and its traces are opened and read, and the run's report written.
 
-ghost use Rattle.std.specs.Prelude.{◌≡◌, ℕ, List, Some, IfOk, IfErr, OnOk, map, option_map};
+ghost use Rattle.std.specs.Prelude.{◌≡◌, ℕ, List, Some, All, IfOk, IfErr, OnOk, map, option_map};
 ghost use Rattle.std.specs.Io.KnownBytes.{Keeps, prepend_known};
 ghost use Rattle.mpicall.specs.Source.{coming};
 ghost use Rattle.mpicall.specs.Trace.{trace_of};
@@ -8,7 +8,7 @@ ghost use Rattle.mpigroup.specs.HeadText.{read_head};
 ghost use Rattle.runs.specs.Told.{AreFresh};
 ghost use Rattle.command.specs.Front.{IsFrontFault, IsFrontOf};
 ghost use Rattle.command.specs.Outputs.{LeavesOutput};
-ghost use Rattle.command.specs.Texts.{IsFaultOfCheck, IsFaultOfFront, IsFaultOfHead, IsFaultOfOpening, IsHeadOf, IsOfNoGate, IsVerdictOfTexts, WritesReport};
+ghost use Rattle.command.specs.Texts.{IsFaultOfCheck, IsFaultOfFront, IsFaultOfHead, IsFaultOfOpening, IsHeadOf, IsVerdictOfTexts, WritesReport};
 
 use crate::capacity::Capacity;
 use crate::fault::Fault;
@@ -102,7 +102,9 @@ fn open_sources<'a, P: Opener>(
 const READER_STACK: usize = 256 * 1024;
 
 /// How the files that the paths name are read: each by a thread where a read of one may wait, else by turns.
-fn read_by<P: Opener>(opener: &P, paths: &[&str]) -> ReadBy {
+fn read_by<P: Opener>(opener: &P, paths: &[&str]) -> ReadBy
+    ensures { result ≡ ReadBy.Turns → All (λ path. P.never_waits opener.now path.now) paths.now }
+{
     for path in paths {
         if opener.waits(path) {
             return ReadBy::Threads {
@@ -139,9 +141,6 @@ pub fn check<'a, P: Opener, O: Output, R: Threads + Wait + Sync>(
     ensures written { IfOk result (WritesReport O.written out.old out.new reading format (P.told opener.now head.now) (map (λ file. P.told opener.now file.now) files.now)) }
     ensures no_write_failed { OnOk result (O.failures out.new ≡ O.failures out.old) }
     ensures output { IfErr result (LeavesOutput O.written O.failures out.old out.new) }
-
-    // No gate stops the reading.
-    ensures unstopped { IfErr result IsOfNoGate }
 {
     let head = open_head(alloc, opener, head)?;
     if files.len() != usize::from(head.ranks()) {

@@ -3,7 +3,9 @@
 //!
 //! - `given::run` runs it on the words of the process and gives what ends the process with the status.
 //! - `program::program` runs it on words that are texts, and gives the status.
-//! - `opener::Opener` is what opens the files that the words name; `opener::Disk` opens those of the machine.
+//! - `opener::Opener` is what opens the files that the words name; `opener::Disk` opens those of the machine, and
+//!   `shelf::Shelf` those in memory, whose texts it tells.
+//! - `head_to_head::two_that_send_first` runs it over such files, and says what comes of it.
 //!
 //! What stands on both outputs at the end, by the words and by the texts of the files, is the contract of
 //! `program`; that of `given::run` says the same of some words. The definitions stand in `specs/`: `Asked` for
@@ -14,11 +16,13 @@ pub mod capacity;
 mod check;
 pub mod fault;
 pub mod given;
+pub mod head_to_head;
 pub mod limit;
 mod lint;
 mod number;
 pub mod opener;
 pub mod program;
+pub mod shelf;
 pub mod status;
 mod text;
 pub mod words;

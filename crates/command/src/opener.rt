@@ -1,6 +1,6 @@
 //! Opening the files that the command line names.
 
-ghost use Rattle.std.specs.Prelude.{◌≡◌, ℕ, Option, None, List, IfNone, IfSome};
+ghost use Rattle.std.specs.Prelude.{◌≡◌, ℕ, false, ⊤, Option, None, List, IfNone, IfSome};
 
 use mpicall::counted::Counted;
 use mpicall::device::Input;
@@ -8,11 +8,14 @@ use std::fs;
 use std::rt::Files;
 
 /// What opens the inputs that paths name: `told` is the text of the file with a path, where the opener
-/// tells it.
+/// tells it, and `never_waits` what it says of a file of which no read waits for another program.
 pub trait Opener {
     type In: Input + Drop + Send;
 
     ghost told: { Self → List ℕ → Option (List ℕ) };
+
+    /// Without a word of its own an opener says nothing.
+    ghost never_waits: { Self → List ℕ → Type 0 } = { λ opener path. ⊤ };
 
     /// The input that a path names, from its first byte on; None where it can't be opened. A file whose text is
     /// told can be.
@@ -22,7 +25,8 @@ pub trait Opener {
 
     /// Whether a read of the file with a path may wait for another program, as one of a pipe does. The answer
     /// decides how files are read, and nothing of what is said of them.
-    fn waits(&self, path: &str) -> bool;
+    fn waits(&self, path: &str) -> bool
+        ensures { result ≡ false → never_waits self.now path.now };
 }
 
 /// The files of the machine. What they hold is not told.

@@ -26,7 +26,6 @@ use Rattle.rankfeed.specs.declared.ring.Taker.{Taker}
 use Rattle.gather.specs.Answers.{fault_of_rank, fault_behind, or_behind, refusal_or, refusal_from, refusal_of, lists_of}
 use Rattle.gather.specs.declared.fault.Refusal.{Refusal}
 use Rattle.gather.specs.declared.collector.Collector.{Collector}
-use Rattle.gather.specs.declared.outcome.Outcome.{Outcome}
 use Rattle.gather.specs.Collectors.{rings, kept, received_from}
 use Rattle.gather.specs.Closes.{IsOutcomeOver, Closes}
 use Rattle.gather.specs.Concluded.{Concludes, IsOutcomeOfKept}
@@ -213,7 +212,7 @@ drained first now receipts missing are names calm lowest none all = record {
   all = all;
 }
 
-outcome_told : (reading : Reading) (groups : Groups) (takers : List Taker) (kept : Kept) (receipts : List (Option Receipt)) (outcome : Outcome) → AreDrained takers kept receipts → kept.reading ≡ reading → kept.groups ≡ groups → IsOutcomeOfKept kept outcome → IsOutcomeOver reading groups (traces_held receipts) outcome
+outcome_told : (reading : Reading) (groups : Groups) (takers : List Taker) (kept : Kept) (receipts : List (Option Receipt)) (outcome : Analysed) → AreDrained takers kept receipts → kept.reading ≡ reading → kept.groups ≡ groups → IsOutcomeOfKept kept outcome → IsOutcomeOver reading groups (traces_held receipts) outcome
 outcome_told reading groups takers kept receipts outcome are alike same of_kept =
     let recording = recording_told takers kept receipts are of_kept.no_refusal in record {
       no_refusal = ap (λ (gs : Groups). refusal_of gs (traces_held receipts)) (sym same) ∙ sym (refusal_told takers kept receipts are) ∙ of_kept.no_refusal;
@@ -224,7 +223,7 @@ outcome_told reading groups takers kept receipts outcome are alike same of_kept 
     }
 
 -- what is concluded of what is kept is the answer over the receipts
-pub concluded : (reading : Reading) (groups : Groups) (takers : List Taker) (kept : Kept) (receipts : List (Option Receipt)) (answer : Result Outcome CloseFault) → (kept.wanted ≡ false → AreDrained takers kept receipts) → kept.reading ≡ reading → kept.groups ≡ groups → Concludes kept answer → Closes reading groups receipts answer
+pub concluded : (reading : Reading) (groups : Groups) (takers : List Taker) (kept : Kept) (receipts : List (Option Receipt)) (answer : Result Analysed CloseFault) → (kept.wanted ≡ false → AreDrained takers kept receipts) → kept.reading ≡ reading → kept.groups ≡ groups → Concludes kept answer → Closes reading groups receipts answer
 concluded reading groups takers kept receipts (Err Memory) drained alike same is = tt
 concluded reading groups takers kept receipts (Err (Unproved rank)) drained alike same is = absurd is
 concluded reading groups takers kept receipts (Err (Refused refusal)) drained alike same is =
@@ -236,7 +235,7 @@ concluded reading groups takers kept receipts (Ok outcome) drained alike same is
     let are = drained is.0 in (are.present, outcome_told reading groups takers kept receipts outcome are alike same is.1)
 
 -- where nothing is wrong with what is kept, the outcome of its records is concluded
-pub of_outcome : (kept : Kept) (analyser : Analysed) (answer : Result Outcome CloseFault) → kept.wanted ≡ false → refusal_kept kept ≡ None → IsClosed kept.recording → analyser.reading ≡ kept.reading → analyser.groups ≡ kept.groups → analyser.recording ≡ kept.recording → IfOk answer (λ outcome. outcome.analyser ≡ analyser) → IfErr answer (λ fault. fault ≡ Memory) → Concludes kept answer
+pub of_outcome : (kept : Kept) (analyser : Analysed) (answer : Result Analysed CloseFault) → kept.wanted ≡ false → refusal_kept kept ≡ None → IsClosed kept.recording → analyser.reading ≡ kept.reading → analyser.groups ≡ kept.groups → analyser.recording ≡ kept.recording → IfOk answer (λ outcome. outcome ≡ analyser) → IfErr answer (λ fault. fault ≡ Memory) → Concludes kept answer
 of_outcome kept analyser (Err Memory) calm none closed reading groups recording ok fault = tt
 of_outcome kept analyser (Err (Unproved rank)) calm none closed reading groups recording ok fault = cc
 of_outcome kept analyser (Err (Refused refusal)) calm none closed reading groups recording ok fault = cc
@@ -252,7 +251,7 @@ of_outcome kept analyser (Ok outcome) calm none closed reading groups recording 
 )
 
 -- want of memory comes first
-pub memory_first : (kept : Kept) (answer : Result Outcome CloseFault) → kept.wanted ≡ true → Concludes kept answer → answer ≡ Err Memory
+pub memory_first : (kept : Kept) (answer : Result Analysed CloseFault) → kept.wanted ≡ true → Concludes kept answer → answer ≡ Err Memory
 memory_first kept (Err Memory) wanted is = refl
 memory_first kept (Err (Unproved rank)) wanted is = absurd is
 memory_first kept (Err (Refused refusal)) wanted is = absurd (false≢true (sym is.0 ∙ wanted))

@@ -9,20 +9,20 @@ use Rattle.gather.specs.Answers.{refusal_of, lists_of}
 use Rattle.gather.specs.Receipts.{first_missing, traces_held}
 use Rattle.gather.specs.declared.outcome.CloseFault.{CloseFault}
 use Rattle.gather.specs.declared.outcome.CloseFault.TheVariants.{Memory, Unproved, Refused}
-use Rattle.gather.specs.declared.outcome.Outcome.{Outcome}
+use Rattle.moves.specs.Analysed.{Analysed}
 
 -- no rank has a fault over the traces, and the outcome is that of their records: each rank's once, in order, and none
 -- behind its end record, which is its last
-pub record IsOutcomeOver (reading : Reading) (groups : Groups) (traces : List Trace) (outcome : Outcome) : Type 0 where
+pub record IsOutcomeOver (reading : Reading) (groups : Groups) (traces : List Trace) (outcome : Analysed) : Type 0 where
   pub no_refusal : refusal_of groups traces ≡ None
-  pub same_reading : outcome.analyser.reading ≡ reading
-  pub same_groups : outcome.analyser.groups ≡ groups
-  pub recording : outcome.analyser.recording ≡ lists_of traces
+  pub same_reading : outcome.reading ≡ reading
+  pub same_groups : outcome.groups ≡ groups
+  pub recording : outcome.recording ≡ lists_of traces
   pub closed : IsClosed (lists_of traces)
 
 -- Unproved tells the lowest rank without a receipt. With a receipt for each, the answer is the refusal of the
 -- lowest rank that has a fault over the traces that the receipts hold, or else the outcome of their records.
-abbrev pub Closes : Reading → Groups → List (Option Receipt) → Result Outcome CloseFault → Type 0
+abbrev pub Closes : Reading → Groups → List (Option Receipt) → Result Analysed CloseFault → Type 0
 Closes reading groups receipts (Err Memory) = ⊤
 Closes reading groups receipts (Err (Unproved rank)) = first_missing receipts ≡ Some rank
 Closes reading groups receipts (Err (Refused refusal)) = (first_missing receipts ≡ None) × (refusal_of groups (traces_held receipts) ≡ Some refusal)

@@ -11,6 +11,7 @@ ghost use Rattle.gather.specs.declared.outcome.CloseFault.TheVariants.{Memory};
 use crate::fault::Refusal;
 use moves::analyser::Analyser;
 use std::alloc::Global;
+use std::marker::Model;
 use thiserror::Error;
 use waitgraph::graph::Graph;
 use waitgraph::verdict::Verdict;
@@ -29,12 +30,10 @@ pub enum CloseFault {
 }
 
 /// What is said of a run whose calls were all accepted. Each rank's last call is its end record, and none comes
-/// behind that.
+/// behind that. Contracts see what its analyser has.
 pub struct Outcome {
     analyser: Analyser,
     graph: Graph,
-    ghost closed: { ∥ IsClosed analyser.recording ∥₁ },
-    ghost waits: { IsGraphOf analyser.reading analyser.groups analyser.recording graph },
 }
 
 impl Drop for Outcome {
@@ -46,11 +45,23 @@ impl Drop for Outcome {
     }
 }
 
+impl Model for Outcome {
+    ghost use Rattle.pairing.specs.Recordings.{IsClosed};
+    ghost use Rattle.moves.specs.Analysed.{Analysed};
+    ghost use Rattle.waitgraph.specs.Graphs.{IsGraphOf};
+
+    ghost Value = { Analysed };
+
+    ghost view = { λ o. o.analyser };
+
+    ghost invariant = { λ o. ∥ IsClosed o.analyser.recording ∥₁ × IsGraphOf o.analyser.reading o.analyser.groups o.analyser.recording o.graph };
+}
+
 impl Outcome {
     /// The outcome of these calls. It takes memory for the wait graph.
     pub(crate) fn of(alloc: Global, analyser: Analyser) -> Result<Outcome, CloseFault>
         requires { IsClosed analyser.recording }
-        ensures ok { IfOk result (λ outcome. outcome.analyser ≡ analyser) }
+        ensures ok { IfOk result (λ outcome. outcome ≡ analyser) }
         ensures fault { IfErr result (λ fault. fault ≡ Memory) }
     {
         match Graph::of(alloc, &analyser) {
@@ -62,23 +73,23 @@ impl Outcome {
     /// Whether the run can hang: exactly if some rank is held. Where no list was left open, that is so exactly if
     /// some rank is stuck.
     pub fn verdict(&self) -> Verdict
-        ensures value { result ≡ verdict_of self.now.analyser.reading self.now.analyser.groups self.now.analyser.recording }
-        ensures hang { (result ≡ Hang) ↔ SomeRankIsHeld self.now.analyser.reading self.now.analyser.groups self.now.analyser.recording }
-        ensures closed { is_some_left_open self.now.analyser.recording ≡ false → (result ≡ Hang) ↔ SomeRankIsStuck self.now.analyser.reading self.now.analyser.groups self.now.analyser.recording }
+        ensures value { result ≡ verdict_of self.now.reading self.now.groups self.now.recording }
+        ensures hang { (result ≡ Hang) ↔ SomeRankIsHeld self.now.reading self.now.groups self.now.recording }
+        ensures closed { is_some_left_open self.now.recording ≡ false → (result ≡ Hang) ↔ SomeRankIsStuck self.now.reading self.now.groups self.now.recording }
     {
         self.graph.verdict()
     }
 
     /// The calls of all ranks.
     pub fn analyser(&self) -> &Analyser
-        ensures { result.now ≡ self.now.analyser }
+        ensures { result.now ≡ self.now }
     {
         &self.analyser
     }
 
     /// Who waits for whom, and why.
     pub fn graph(&self) -> &Graph
-        ensures { IsGraphOf self.now.analyser.reading self.now.analyser.groups self.now.analyser.recording result.now }
+        ensures { IsGraphOf self.now.reading self.now.groups self.now.recording result.now }
     {
         &self.graph
     }

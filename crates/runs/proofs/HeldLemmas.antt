@@ -42,7 +42,7 @@ use Rattle.runs.specs.Told.{is_from_outside}
 use Rattle.gather.specs.declared.fault.RankFault.{RankFault}
 use Rattle.gather.specs.declared.fault.RankFault.TheVariants.{OfCall, OfSource}
 use Rattle.gather.specs.declared.fault.Refusal.{Refusal}
-use Rattle.gather.specs.declared.outcome.Outcome.{Outcome}
+use Rattle.moves.specs.Analysed.{Analysed}
 use Rattle.runs.specs.declared.threads.Fed.{Fed}
 use Rattle.gather.proofs.CloseLemmas.{own_none, behind_none}
 use Rattle.gather.proofs.FedLemmas.{marked_calls, marked_end}
@@ -347,21 +347,21 @@ mapped_length : {A B : Type 0} (f : A → B) (xs : List A) → length (map f xs)
 mapped_length f [] = refl
 mapped_length f (x ∷ xs) = ap suc (mapped_length f xs)
 
-accepts_at : {I : Type 0} (left : I → Option (List ℕ)) (may_stop : ℕ → ℕ → Type 0) (sources : List (Source I)) (reading : Reading) (groups : Groups) (outcome : Outcome) → IsOutcomeOfFeeds left may_stop sources reading groups outcome → (rank : ℕ) → rank < length sources → AcceptsRank groups rank (told_by left sources rank) (calls_of outcome.analyser.recording rank)
+accepts_at : {I : Type 0} (left : I → Option (List ℕ)) (may_stop : ℕ → ℕ → Type 0) (sources : List (Source I)) (reading : Reading) (groups : Groups) (outcome : Analysed) → IsOutcomeOfFeeds left may_stop sources reading groups outcome → (rank : ℕ) → rank < length sources → AcceptsRank groups rank (told_by left sources rank) (calls_of outcome.recording rank)
 accepts_at left may_stop sources reading groups outcome is rank within =
     let source = found_at sources rank within in
     let items = found_at is.items rank (omega (arith, within, one_list_a_source left may_stop 0 sources is.items is.fed)) in
     let trace : slice_get (map trace_of_items is.items) rank ≡ Some (trace_of_items items.0) = mapped_at trace_of_items is.items rank items.0 items.1 in
-    let calls : calls_of outcome.analyser.recording rank ≡ calls_among items.0 =
+    let calls : calls_of outcome.recording rank ≡ calls_among items.0 =
     ap (λ (lists : Lists). calls_of lists rank) is.over.recording ∙ calls_at (map trace_of_items is.items) rank (trace_of_items items.0) trace in
     let none : fault_of_rank groups rank (trace_of_items items.0) ≡ None =
     let e : 0 + rank ≡ rank = omega arith in subst (λ (n : ℕ). fault_of_rank groups n (trace_of_items items.0) ≡ None) e (no_faults groups 0 (map trace_of_items is.items) rank (trace_of_items items.0) is.over.no_refusal trace) in
-    subst (λ (told : Option Trace). AcceptsRank groups rank told (calls_of outcome.analyser.recording rank)) (told_here left sources rank source.0 source.1)
-    (accepts_told groups rank (coming left source.0) (may_stop (0 + rank)) items.0 (calls_of outcome.analyser.recording rank) (fed_at left may_stop 0 sources is.items rank source.0 items.0 is.fed source.1 items.1) calls none)
+    subst (λ (told : Option Trace). AcceptsRank groups rank told (calls_of outcome.recording rank)) (told_here left sources rank source.0 source.1)
+    (accepts_told groups rank (coming left source.0) (may_stop (0 + rank)) items.0 (calls_of outcome.recording rank) (fed_at left may_stop 0 sources is.items rank source.0 items.0 is.fed source.1 items.1) calls none)
 
-pub accepts_all : {I : Type 0} (left : I → Option (List ℕ)) (may_stop : ℕ → ℕ → Type 0) (sources : List (Source I)) (reading : Reading) (groups : Groups) (outcome : Outcome) → length sources ≡ ranks_of groups → IsOutcomeOfFeeds left may_stop sources reading groups outcome → AcceptsAll groups (told_by left sources) outcome.analyser.recording
+pub accepts_all : {I : Type 0} (left : I → Option (List ℕ)) (may_stop : ℕ → ℕ → Type 0) (sources : List (Source I)) (reading : Reading) (groups : Groups) (outcome : Analysed) → length sources ≡ ranks_of groups → IsOutcomeOfFeeds left may_stop sources reading groups outcome → AcceptsAll groups (told_by left sources) outcome.recording
 accepts_all left may_stop sources reading groups outcome one is =
-    let count : length outcome.analyser.recording ≡ length sources =
+    let count : length outcome.recording ≡ length sources =
     ap (λ (lists : Lists). length lists) is.over.recording ∙ mapped_length (λ (t : Trace). t.records) (map trace_of_items is.items) ∙ mapped_length trace_of_items is.items ∙ one_list_a_source left may_stop 0 sources is.items is.fed in record {
       one_a_rank = count ∙ one;
       closed = subst IsClosed (sym is.over.recording) is.over.closed;
@@ -481,7 +481,7 @@ module _ {I : Type 0} (left : I → Option (List ℕ)) (may_stop : ℕ → ℕ �
       let every : first_missing (map receipt_of fed) ≡ None = ap first_missing (sym is) ∙ present in
       rw is (fed_by_threads left may_stop 0 sources feeds fed are whole every)
 
-  outcome_of_feeds : (outcome : Outcome) → AreFedFrom left may_stop sources feeds fed → map rank_of feeds ≡ range_with_len 0 (ranks_of groups) → kept collector ≡ nothing_kept reading groups → IsSameSession collector now → receipts ≡ map receipt_of fed → (first_missing receipts ≡ None) × IsOutcomeOver (kept now).reading (kept now).groups (traces_held receipts) outcome → IsOutcomeOfFeeds left may_stop sources reading groups outcome
+  outcome_of_feeds : (outcome : Analysed) → AreFedFrom left may_stop sources feeds fed → map rank_of feeds ≡ range_with_len 0 (ranks_of groups) → kept collector ≡ nothing_kept reading groups → IsSameSession collector now → receipts ≡ map receipt_of fed → (first_missing receipts ≡ None) × IsOutcomeOver (kept now).reading (kept now).groups (traces_held receipts) outcome → IsOutcomeOfFeeds left may_stop sources reading groups outcome
   outcome_of_feeds outcome are ranks first same is answer =
       let head : (kept now).groups ≡ groups = same.groups ∙ ap (λ (k : Kept). k.groups) first in
       let alike : (kept now).reading ≡ reading = same.reading ∙ ap (λ (k : Kept). k.reading) first in
@@ -512,18 +512,18 @@ module _ {I : Type 0} (left : I → Option (List ℕ)) (may_stop : ℕ → ℕ �
       let count : length receipts ≡ ranks_of groups = ap (λ (rs : List (Option Receipt)). length rs) is ∙ mapped_length receipt_of fed ∙ fed_count sources feeds fed are ∙ one in
       omega (arith, count, missing_rank receipts rank missing)
 
-  pub closes_well : (answer : Result Outcome CloseFault) → AreFedFrom left may_stop sources feeds fed → map rank_of feeds ≡ range_with_len 0 (ranks_of groups) → kept collector ≡ nothing_kept reading groups → IsSameSession collector now → receipts ≡ map receipt_of fed → Closes (kept now).reading (kept now).groups receipts answer → IfOk answer (IsOutcomeOfFeeds left may_stop sources reading groups)
+  pub closes_well : (answer : Result Analysed CloseFault) → AreFedFrom left may_stop sources feeds fed → map rank_of feeds ≡ range_with_len 0 (ranks_of groups) → kept collector ≡ nothing_kept reading groups → IsSameSession collector now → receipts ≡ map receipt_of fed → Closes (kept now).reading (kept now).groups receipts answer → IfOk answer (IsOutcomeOfFeeds left may_stop sources reading groups)
   closes_well (Ok outcome) are ranks first same is answer = outcome_of_feeds outcome are ranks first same is answer
   closes_well (Err fault) are ranks first same is answer = tt
 
-  pub closes_refusing : (answer : Result Outcome CloseFault) → AreFedFrom left may_stop sources feeds fed → length sources ≡ ranks_of groups → map rank_of feeds ≡ range_with_len 0 (ranks_of groups) → kept collector ≡ nothing_kept reading groups → IsSameSession collector now → receipts ≡ map receipt_of fed → Closes (kept now).reading (kept now).groups receipts answer → IfErr answer (λ fault. RefusesFeeds left may_stop sources groups (of_close fault))
+  pub closes_refusing : (answer : Result Analysed CloseFault) → AreFedFrom left may_stop sources feeds fed → length sources ≡ ranks_of groups → map rank_of feeds ≡ range_with_len 0 (ranks_of groups) → kept collector ≡ nothing_kept reading groups → IsSameSession collector now → receipts ≡ map receipt_of fed → Closes (kept now).reading (kept now).groups receipts answer → IfErr answer (λ fault. RefusesFeeds left may_stop sources groups (of_close fault))
   closes_refusing (Ok outcome) are one ranks first same is answer = tt
   closes_refusing (Err Memory) are one ranks first same is answer = tt
   closes_refusing (Err (Unproved rank)) are one ranks first same is answer = unproved_rank rank are one is answer
   closes_refusing (Err (Refused refusal)) are one ranks first same is answer = refusal_of_feeds refusal are ranks first same is answer
 
 -- and no rank is stopped where it may not be
-pub refusing_stops : {I : Type 0} (left : I → Option (List ℕ)) (may_stop : ℕ → ℕ → Type 0) (sources : List (Source I)) (groups : Groups) (answer : Result Outcome CloseFault) → IfErr answer (λ fault. RefusesFeeds left may_stop sources groups (of_close fault)) → IfErr answer (λ fault. StopsWhereAllowed may_stop (of_close fault))
+pub refusing_stops : {I : Type 0} (left : I → Option (List ℕ)) (may_stop : ℕ → ℕ → Type 0) (sources : List (Source I)) (groups : Groups) (answer : Result Analysed CloseFault) → IfErr answer (λ fault. RefusesFeeds left may_stop sources groups (of_close fault)) → IfErr answer (λ fault. StopsWhereAllowed may_stop (of_close fault))
 refusing_stops left may_stop sources groups (Ok outcome) refuses = tt
 refusing_stops left may_stop sources groups (Err Memory) refuses = tt
 refusing_stops left may_stop sources groups (Err (Unproved rank)) refuses = tt

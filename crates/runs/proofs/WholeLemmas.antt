@@ -23,7 +23,7 @@ use Rattle.runs.specs.Turns.{IsReadOf, AreReadOf}
 use Rattle.gather.specs.declared.fault.Refusal.{Refusal}
 use Rattle.gather.specs.declared.outcome.CloseFault.{CloseFault}
 use Rattle.gather.specs.declared.outcome.CloseFault.TheVariants.{Memory, Unproved, Refused}
-use Rattle.gather.specs.declared.outcome.Outcome.{Outcome}
+use Rattle.moves.specs.Analysed.{Analysed}
 use Rattle.gather.proofs.CloseLemmas.{own_none, behind_none, same_sealed, same_torn, torn_has_fault}
 use Rattle.gather.proofs.FedLemmas.{marked_end}
 
@@ -107,7 +107,7 @@ module _ {I : Type 0} (left : I → Option (List ℕ)) (may_stop : ℕ → ℕ �
       λ rank is_rank. an_ended_lawful_list_is_closed kept.groups rank (calls_of kept.recording rank) (lawful rank is_rank) (all.ended none rank is_rank)
 
   module _ (reading : Reading) (groups : Groups) where
-    outcome_read : (outcome : Outcome) → AreReadOf left may_stop sources kept → kept.reading ≡ reading → kept.groups ≡ groups → kept.wanted ≡ false → IsOutcomeOfKept kept outcome → IsOutcomeOfFeeds left may_stop sources reading groups outcome
+    outcome_read : (outcome : Analysed) → AreReadOf left may_stop sources kept → kept.reading ≡ reading → kept.groups ≡ groups → kept.wanted ≡ false → IsOutcomeOfKept kept outcome → IsOutcomeOfFeeds left may_stop sources reading groups outcome
     outcome_read outcome read alike same calm is =
         let all = read_whole read calm in
         let recording = all.recording is.no_refusal in
@@ -132,11 +132,11 @@ module _ {I : Type 0} (left : I → Option (List ℕ)) (may_stop : ℕ → ℕ �
           over = ap (λ (gs : Groups). refusal_of gs (map trace_of_items all.items)) (sym same) ∙ sym all.refusal ∙ is;
         }
 
-    pub concludes_well : (answer : Result Outcome CloseFault) → AreReadOf left may_stop sources kept → kept.reading ≡ reading → kept.groups ≡ groups → Concludes kept answer → IfOk answer (IsOutcomeOfFeeds left may_stop sources reading groups)
+    pub concludes_well : (answer : Result Analysed CloseFault) → AreReadOf left may_stop sources kept → kept.reading ≡ reading → kept.groups ≡ groups → Concludes kept answer → IfOk answer (IsOutcomeOfFeeds left may_stop sources reading groups)
     concludes_well (Ok outcome) read alike same c = outcome_read outcome read alike same c.0 c.1
     concludes_well (Err fault) read alike same c = tt
 
-    pub concludes_refusing : (answer : Result Outcome CloseFault) → AreReadOf left may_stop sources kept → kept.reading ≡ reading → kept.groups ≡ groups → Concludes kept answer → IfErr answer (λ fault. RefusesFeeds left may_stop sources groups (of_close fault))
+    pub concludes_refusing : (answer : Result Analysed CloseFault) → AreReadOf left may_stop sources kept → kept.reading ≡ reading → kept.groups ≡ groups → Concludes kept answer → IfErr answer (λ fault. RefusesFeeds left may_stop sources groups (of_close fault))
     concludes_refusing (Ok outcome) read alike same c = tt
     concludes_refusing (Err Memory) read alike same c = tt
     concludes_refusing (Err (Unproved rank)) read alike same c = absurd c

@@ -20,7 +20,7 @@ use Rattle.gather.specs.declared.fault.RunFault.{RunFault}
 use Rattle.gather.specs.declared.fault.RunFault.TheVariants.{Memory, Unproved, Refused, Write}
 use Rattle.gather.specs.declared.outcome.CloseFault.{CloseFault}
 use Rattle.gather.specs.declared.outcome.CloseFault.TheVariants as close
-use Rattle.gather.specs.declared.outcome.Outcome.{Outcome}
+use Rattle.moves.specs.Analysed.{Analysed}
 use Rattle.runs.specs.declared.threads.Fed.{Fed}
 
 -- a later time of the same session: its feeds, its reading and its head are as they were
@@ -52,7 +52,7 @@ AreFedBy left may_stop rank (source ∷ sources) (items ∷ rest) =
 AreFedBy left may_stop rank sources items = ⊥
 
 -- the outcome is that of items such as are read of these sources, one list a rank
-pub record IsOutcomeOfFeeds {I : Type 0} (left : I → Option (List ℕ)) (may_stop : ℕ → ℕ → Type 0) (sources : List (Source I)) (reading : Reading) (groups : Groups) (outcome : Outcome) : Type 0 where
+pub record IsOutcomeOfFeeds {I : Type 0} (left : I → Option (List ℕ)) (may_stop : ℕ → ℕ → Type 0) (sources : List (Source I)) (reading : Reading) (groups : Groups) (outcome : Analysed) : Type 0 where
   pub items : List (List Item)
   pub fed : AreFedBy left may_stop 0 sources items
   pub over : IsOutcomeOver reading groups (map trace_of_items items) outcome

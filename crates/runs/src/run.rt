@@ -186,10 +186,10 @@ fn report<O: Output>(
     format: Format,
     out: &mut O,
 ) -> Result<Verdict, RunFault>
-    ensures value { IfOk result (λ verdict. verdict ≡ verdict_of outcome.now.analyser.reading outcome.now.analyser.groups outcome.now.analyser.recording) }
-    ensures written { OnOk result (Appends (O.written out.old) (O.written out.new) (report_of format outcome.now.analyser.reading outcome.now.analyser.groups outcome.now.analyser.recording)) }
+    ensures value { IfOk result (λ verdict. verdict ≡ verdict_of outcome.now.reading outcome.now.groups outcome.now.recording) }
+    ensures written { OnOk result (Appends (O.written out.old) (O.written out.new) (report_of format outcome.now.reading outcome.now.groups outcome.now.recording)) }
     ensures no_write_failed { OnOk result (O.failures out.new ≡ O.failures out.old) }
-    ensures fault { IfErr result (LeavesReport O.written O.failures out.old out.new (report_of format outcome.now.analyser.reading outcome.now.analyser.groups outcome.now.analyser.recording)) }
+    ensures fault { IfErr result (LeavesReport O.written O.failures out.old out.new (report_of format outcome.now.reading outcome.now.groups outcome.now.recording)) }
 {
     match write_report(alloc, outcome.analyser(), outcome.graph(), format, out) {
         Ok(()) => Ok(outcome.verdict()),

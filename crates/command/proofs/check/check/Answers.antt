@@ -27,6 +27,8 @@ returns-in-Err-clause-fault g c =
     let says = run_fault_says (g.P.Opener.told c.args.opener.now) c.args.head.now c.args.files.now g.P.In.Input.left _ _ c.in_ok-head.head c.in-Err.fault
     (record { is_head = c.in_ok-head.ensures.head; one_a_rank = search rules })
     c.in-Err.ensures.fed
+    c.in-Err.ensures.stopped
+    (λ rank line may. may)
     (λ texts files_are. c.in-Err.ensures.refused (map trace_of texts)
     (tells_texts _ (λ file. g.P.Opener.told c.args.opener.now file.now) c.args.files.now texts c.in_ok-sources.ensures.told files_are)) in
     rw (c.from-in-Err.ensures) says

@@ -3,6 +3,7 @@ use Rattle.std.proofs.Common.{◌≡◌, ◌↔◌, ◌<◌, ℕ, false, length,
 use mathlib.Core.Bool.{Bool-set}
 use Rattle.std.proofs.Math.Logic.{∥∥₁_elim}
 use Rattle.mpigroup.specs.Groups.{Groups}
+use Rattle.moves.specs.Analysed.{Analysed}
 use Rattle.moves.specs.declared.reading.Reading.{Reading}
 use Rattle.pairing.specs.Recordings.{Lists, IsClosed}
 use Rattle.waitgraph.specs.Held.{is_held, is_some_left_open}
@@ -27,20 +28,20 @@ hang_by_stuck reading groups recording closed none =
     )
 
 pub returns-clause-value : goal.returns-clause-value
-returns-clause-value c = c.verdict.ensures ∙ ap₂ verdict_by c.args.self.now.waits.held c.args.self.now.waits.left_open
+returns-clause-value c =
+    subst (λ (a : Analysed). c.verdict.result ≡ verdict_of a.reading a.groups a.recording) c.self.view_is
+    (c.verdict.ensures ∙ ap₂ verdict_by c.self.invariant.1.held c.self.invariant.1.left_open)
 
 pub returns-clause-hang : goal.returns-clause-hang
 returns-clause-hang c =
-    let reading = c.args.self.now.analyser.reading in
-    let groups = c.args.self.now.analyser.groups in
-    let recording = c.args.self.now.analyser.recording in
-    let same = c.verdict.ensures ∙ ap₂ verdict_by c.args.self.now.waits.held c.args.self.now.waits.left_open in
-    subst (λ (verdict : Verdict). (verdict ≡ Hang) ↔ SomeRankIsHeld reading groups recording) (sym same) (hang_tells_of_a_held_rank reading groups recording)
+    let same = c.verdict.ensures ∙ ap₂ verdict_by c.self.invariant.1.held c.self.invariant.1.left_open in
+    subst (λ (a : Analysed). (c.verdict.result ≡ Hang) ↔ SomeRankIsHeld a.reading a.groups a.recording) c.self.view_is
+    (subst (λ (verdict : Verdict). (verdict ≡ Hang) ↔ SomeRankIsHeld c.self.inside.analyser.reading c.self.inside.analyser.groups c.self.inside.analyser.recording) (sym same)
+    (hang_tells_of_a_held_rank c.self.inside.analyser.reading c.self.inside.analyser.groups c.self.inside.analyser.recording))
 
 pub returns-clause-closed : goal.returns-clause-closed
-returns-clause-closed c none =
-    let reading = c.args.self.now.analyser.reading in
-    let groups = c.args.self.now.analyser.groups in
-    let recording = c.args.self.now.analyser.recording in
-    let same = c.verdict.ensures ∙ ap₂ verdict_by c.args.self.now.waits.held c.args.self.now.waits.left_open in
-    subst (λ (verdict : Verdict). (verdict ≡ Hang) ↔ SomeRankIsStuck reading groups recording) (sym same) (hang_by_stuck reading groups recording c.args.self.now.closed none)
+returns-clause-closed c =
+    let same = c.verdict.ensures ∙ ap₂ verdict_by c.self.invariant.1.held c.self.invariant.1.left_open in
+    subst (λ (a : Analysed). is_some_left_open a.recording ≡ false → (c.verdict.result ≡ Hang) ↔ SomeRankIsStuck a.reading a.groups a.recording) c.self.view_is
+    (λ none. subst (λ (verdict : Verdict). (verdict ≡ Hang) ↔ SomeRankIsStuck c.self.inside.analyser.reading c.self.inside.analyser.groups c.self.inside.analyser.recording) (sym same)
+    (hang_by_stuck c.self.inside.analyser.reading c.self.inside.analyser.groups c.self.inside.analyser.recording c.self.invariant.0 none))
