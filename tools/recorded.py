@@ -149,9 +149,9 @@ def look_up(frame):
     if not plus:
         return short(frame)
     place = int(offset, 16) - 1
-    line = said_by("addr2line", "-e", module, hex(place)).strip()
-    if line and not line.startswith("??"):
-        return short(line.split(" (")[0])
+    line = said_by("addr2line", "-e", module, hex(place)).strip().split(" (")[0]
+    if not line.startswith("??") and line.rpartition(":")[2].isdecimal():  # else `??:0', or `FILE:?' without -g
+        return short(line)
     name = f"{Path(module).name}+0x{offset}"
     function = next((function for start, end, function in functions(module) if start <= place < end), None)
     return f"{shortened(function)} ({name})" if function else name

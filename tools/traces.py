@@ -19,6 +19,7 @@ NO_PROBE = "probes that found a message: the checker has no word for them"
 WORDS = {"any": "MPI_ANY_SOURCE", "null": "MPI_PROC_NULL"}
 
 UNTOLD = "receives with a wildcard that no call completed"
+FAILED = "stopped a call answered an error"  # what the recorder writes behind such a call
 
 
 class WrongCall(Exception):
@@ -81,6 +82,9 @@ class Trace:
         if word not in ("stopped", "full"):
             self._call = (word, site)
         self._told = self._told_after(place)
+        behind = place + 1 + len(self._told)
+        if behind < len(self.journal.lines) and self.journal.lines[behind] == FAILED:
+            return  # what it did isn't known
         if word in MAKERS:
             self._make(self._makings[place])
         elif word in COLLECTIVES:

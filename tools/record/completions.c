@@ -168,8 +168,10 @@ int MPI_Waitall(int count, MPI_Request handles[], MPI_Status statuses[]) {
 }
 ALSO_PMPI(Waitall)
 
+/* Where no statuses are wanted of more than 64 requests, MPICH 4.0 takes all for those of sends and receives, which
+ * ours aren't (make_distinct). */
 int MPI_Testall(int count, MPI_Request handles[], int *done, MPI_Status statuses[]) {
-    bool begun = BEGINS, needed = begun && ask(count, handles);
+    bool begun = BEGINS, needed = begun && (ask(count, handles) || count > 64);
     MPI_Status *told = place_for(statuses, needed, MPI_STATUSES_IGNORE);
     int result = CALL(Testall, (count, handles, done, told));
     if (!begun || result != MPI_SUCCESS)
