@@ -1,6 +1,6 @@
 -- What an analyser's stands and lists are at the start, after a call, and at any time.
 use Rattle.moves.specs.declared.reading.Reading.{Reading}
-use Rattle.std.proofs.Common.{◌≡◌, ◌≢◌, ◌↔◌, ℕ, zero, suc, ◌+◌, ◌-◌, ◌<◌, ◌≤◌, Bool, true, false, cond, eqb, None, List, [], ◌∷◌, ◌++◌, length, replicate, refl, sym, ap, subst, ◌∙◌, ⊎_elim, arith, append-nil}
+use Rattle.std.proofs.Common.{◌≡◌, ◌≢◌, ◌↔◌, ℕ, zero, suc, ◌+◌, ◌-◌, ◌<◌, ◌≤◌, Bool, true, false, cond, eqb, Option, Some, None, Ok, Err, IfSome, List, [], ◌∷◌, ◌++◌, length, replicate, refl, sym, ap, subst, ◌∙◌, ⊎_elim, arith, append-nil}
 use Rattle.std.specs.List.{list_all, range_with_len}
 use Rattle.std.proofs.lemmas.List.{length-set, length-replicate, length-append}
 use Rattle.std.proofs.lemmas.Option.{none-some}
@@ -13,6 +13,7 @@ use Rattle.pairing.specs.Recordings.{Lists, calls_of, appended, GoesOn, is_ended
 use Rattle.pairing.specs.Faults.{fault_of, IsLawful}
 use Rattle.pairing.specs.Pairs.{TellsFault}
 use Rattle.pairing.specs.declared.added.PairFault.{PairFault}
+use Rattle.pairing.specs.declared.fault.CallFault.{CallFault}
 use Rattle.pairing.specs.declared.added.PairFault.TheVariants.{Refused, Memory}
 use Rattle.pairing.proofs.FaultLemmas.{an_ended_lawful_list_is_closed}
 use Rattle.pairing.proofs.RecordingLemmas.{calls_of-appended, calls_of-appended_other}
@@ -96,6 +97,11 @@ kept_from_more groups recording (first ∷ rest) arrival = kept_from_more groups
 kept_on : (groups : Groups) (old new : Lists) (arrival : Arrival) → new ≡ kept_one groups old arrival → IsKeptOn groups old new arrival
 kept_on groups old new arrival h arrivals is =
     h ∙ ap (λ (recording : Lists). kept_one groups recording arrival) is ∙ sym (kept_from_more groups (replicate (ranks_of groups) []) arrivals arrival)
+
+-- a call that was taken has no fault, since it would have been refused
+pub accepted_none : {A : Type 0} (first : Option CallFault) (x : A) → IfSome first (λ fault. Ok x ≡ Err (Refused fault)) → first ≡ None
+accepted_none None x refused = refl
+accepted_none (Some fault) x refused = cc
 
 pub accepted_kept : (groups : Groups) (old new : Lists) (rank : ℕ) (call : Call) → fault_of groups rank (calls_of old rank) call ≡ None → new ≡ appended old rank call → IsKeptOn groups old new (rank, call)
 accepted_kept groups old new rank call none is =

@@ -118,7 +118,6 @@ impl Analyser {
         ensures reading { self.new.reading ≡ self.old.reading }
         ensures groups { self.new.groups ≡ self.old.groups }
         ensures ok { OnOk result (self.new.recording ≡ appended self.old.recording rank call.now) }
-        ensures lawful { OnOk result (fault_of self.old.groups rank (calls_of self.old.recording rank) call.now ≡ None) }
         ensures refused { IfSome (fault_of self.old.groups rank (calls_of self.old.recording rank) call.now) (λ fault. result ≡ Err (Refused fault)) }
         ensures fault { IfErr result (TellsFault (fault_of self.old.groups rank (calls_of self.old.recording rank) call.now)) }
         ensures err { OnErr result (self.new ≡ self.old) }
@@ -173,10 +172,16 @@ impl Analyser {
         ensures value { result.now ≡ self.now.groups }
         ensures ranks { length self.now.recording ≡ ranks_of self.now.groups }
         ensures lawful { IsLawful self.now.groups self.now.recording }
+    {
+        self.pairs.head()
+    }
+
+    /// The ranks stand where every maximal run over the calls that were accepted ends. A law: it does nothing.
+    pub fn stands_are_the_end(&self)
         ensures end { IsTheEnd (can_move self.now.reading self.now.groups self.now.recording) (length self.now.recording) self.now.stands }
         ensures stands { self.now.stands ≡ stands_of self.now.reading self.now.groups self.now.recording }
     {
-        self.pairs.head()
+        let _stands = self.stands.len();
     }
 
     /// The calls that were accepted, with what each means for the others.

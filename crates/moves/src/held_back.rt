@@ -27,6 +27,8 @@ pub fn held_back(alloc: Global, first: &Analyser, second: &Analyser) -> Result<V
     ensures no_later { StandsNoLater first.now.stands second.now.stands }
     ensures value { IfOk result (λ ranks. ranks.items ≡ filter (stands_earlier first.now.stands second.now.stands) (range_with_len 0 (length first.now.recording))) }
 {
+    first.stands_are_the_end();
+    second.stands_are_the_end();
     let most = first.head().ranks().min(second.head().ranks());
     let mut ranks = Vec::new(alloc);
     for rank in 0..most {

@@ -334,7 +334,6 @@ impl Pairs {
         requires is_rank { rank < length self.old.recording }
         requires is_next { place ≡ length (calls_of self.old.recording rank) }
         ensures ok { OnOk result (self.new ≡ with_call self.old rank call.now) }
-        ensures lawful { OnOk result (fault_of self.old.groups rank (calls_of self.old.recording rank) call.now ≡ None) }
         ensures refused { IfSome (fault_of self.old.groups rank (calls_of self.old.recording rank) call.now) (λ fault. result ≡ Err (Refused fault)) }
         ensures fault { IfErr result (TellsFault (fault_of self.old.groups rank (calls_of self.old.recording rank) call.now)) }
         ensures err { OnErr result (self.new ≡ self.old) }
@@ -372,7 +371,6 @@ impl Pairs {
         requires is_rank { rank < length self.old.recording }
         requires is_next { place ≡ length (calls_of self.old.recording rank) }
         ensures ok { OnOk result (self.new ≡ with_call self.old rank call.now) }
-        ensures lawful { OnOk result (fault_of self.old.groups rank (calls_of self.old.recording rank) call.now ≡ None) }
         ensures added { IfOk result (λ added. added ≡ added_at self.new rank place) }
         ensures refused { IfSome (fault_of self.old.groups rank (calls_of self.old.recording rank) call.now) (λ fault. result ≡ Err (Refused fault)) }
         ensures fault { IfErr result (TellsFault (fault_of self.old.groups rank (calls_of self.old.recording rank) call.now)) }

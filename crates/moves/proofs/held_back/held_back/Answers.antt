@@ -33,7 +33,7 @@ no_later first second groups recording readings first_end second_end =
     (subst (λ (r : Lists). IsTheEnd (can_move second.reading second.groups r) (length r) second.stands) (sym recording) second_end))
 
 pub returns-clause-no_later : goal.returns-clause-no_later
-returns-clause-no_later c = no_later c.args.first.now c.args.second.now c.requires.groups c.requires.recording c.requires.readings c.head.ensures.end c.head-2.ensures.end
+returns-clause-no_later c = no_later c.args.first.now c.args.second.now c.requires.groups c.requires.recording c.requires.readings c.stands_are_the_end.ensures.end c.stands_are_the_end-2.ensures.end
 
 pub returns-in_err-push-clause-no_later : goal.returns-in_err-push-clause-no_later
-returns-in_err-push-clause-no_later c = no_later c.args.first.now c.args.second.now c.requires.groups c.requires.recording c.requires.readings c.head.ensures.end c.head-2.ensures.end
+returns-in_err-push-clause-no_later c = no_later c.args.first.now c.args.second.now c.requires.groups c.requires.recording c.requires.readings c.stands_are_the_end.ensures.end c.stands_are_the_end-2.ensures.end

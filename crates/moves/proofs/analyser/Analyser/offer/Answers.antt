@@ -8,7 +8,7 @@ use Rattle.moves.specs.Needs.{can_move}
 use Rattle.moves.specs.Stands.{stands_of}
 use Rattle.moves.specs.Arrivals.{IsKeptOn}
 use Rattle.moves.specs.Waiting.{IsSettled, touches_of}
-use Rattle.moves.proofs.AnalyserLemmas.{end_stands, accepted_kept, refused_kept}
+use Rattle.moves.proofs.AnalyserLemmas.{end_stands, accepted_none, accepted_kept, refused_kept}
 use Rattle.moves.proofs.SettleLemmas.{settled_end, touches_within}
 use Rattle.moves.proofs.analyser.Analyser.offer.Goals as goal
 
@@ -30,7 +30,7 @@ pub returns-in-Ok-clause-kept : goal.returns-in-Ok-clause-kept
 returns-in-Ok-clause-kept c other =
     let a = c.self.inside in
     subst (λ (b : Analysed). IsKeptOn b.groups b.recording c.admit.new.self.recording (c.args.rank, c.args.call.now)) c.self.view_is
-    (accepted_kept a.pairs.groups a.pairs.recording c.admit.new.self.recording c.args.rank c.args.call.now c.in-Ok.ensures.lawful (ap (λ (p : Paired). p.recording) c.in-Ok.ensures.ok))
+    (accepted_kept a.pairs.groups a.pairs.recording c.admit.new.self.recording c.args.rank c.args.call.now (accepted_none _ _ c.in-Ok.ensures.refused) (ap (λ (p : Paired). p.recording) c.in-Ok.ensures.ok))
 
 pub returns-in-Ok-clause-end : goal.returns-in-Ok-clause-end
 returns-in-Ok-clause-end c =

@@ -5,7 +5,7 @@ use Rattle.moves.specs.Analysed.{Analysed}
 use Rattle.moves.specs.Stands.{stands_of}
 use Rattle.moves.proofs.AnalyserLemmas.{end_stands}
 use Rattle.moves.proofs.SettleLemmas.{settled_end}
-use Rattle.moves.proofs.analyser.Analyser.head.Goals as goal
+use Rattle.moves.proofs.analyser.Analyser.stands_are_the_end.Goals as goal
 
 pub returns-clause-end : goal.returns-clause-end
 returns-clause-end c =
