@@ -29,6 +29,8 @@ static struct {
     char *window, *at;
 } journal;
 
+bool journal_has_call;
+
 static void say(const char *text) {
     fprintf(stderr, "mpiwait-record: rank %d: %s\n", journal.rank, text);
 }
@@ -133,6 +135,7 @@ void journal_call(const char *word, int count, const Field *fields, int site) {
         word = "full", count = 0;
     }
     put_line(word, count, fields, site);
+    journal_has_call = true;
 }
 
 void journal_told(const char *word, int count, const Field *fields) {
