@@ -68,7 +68,7 @@ class Trace:
         line = self.journal.lines[place]
         if line.startswith("="):
             return True
-        if self.count == MOST_LINES - 1:
+        if self.count == MOST_LINES - 1 and split_line(line)[0] != "finalize":
             self.end = "full"
             return False
         try:

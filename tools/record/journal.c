@@ -15,7 +15,7 @@ enum {
     FIRST_WINDOW = 1 << 16, /* so much of the journal is mapped at first, */
     WINDOW = 1 << 20,       /* and at most at a time */
     LONGEST_LINE = 1 << 15,
-    MOST_CALLS = 1000000, /* a trace has no more */
+    MOST_CALLS = 1000001, /* a trace has one less, since it has no MPI_Init */
     COUNTS = 1 << 14,     /* bytes of the counts */
     DIGITS = 12
 };
