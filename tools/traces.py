@@ -23,7 +23,7 @@ FAILED = "stopped a call answered an error"  # what the recorder writes behind s
 
 
 class WrongCall(Exception):
-    """A call names what no trace can say: MPI answers it with an error."""
+    """A call that MPI answers with an error, as one that names what no trace can say."""
 
 
 class Trace:
@@ -43,6 +43,7 @@ class Trace:
         self._left_requests = set()  # those whose calls aren't in the trace
         self._untold = 0
         self._told = []  # what the present call told
+        self._fails = False  # the present call answered an error
         self._call = ("", 0)
         self._makings = {making.place: making for making in scan.makings}
 
@@ -67,7 +68,7 @@ class Trace:
         line = self.journal.lines[place]
         if line.startswith("="):
             return True
-        if self.count == MOST_LINES - 1:
+        if self.count == MOST_LINES - 1 and split_line(line)[0] != "finalize":
             self.end = "full"
             return False
         try:
@@ -83,8 +84,7 @@ class Trace:
             self._call = (word, site)
         self._told = self._told_after(place)
         behind = place + 1 + len(self._told)
-        if behind < len(self.journal.lines) and self.journal.lines[behind] == FAILED:
-            return  # what it did isn't known
+        self._fails = behind < len(self.journal.lines) and self.journal.lines[behind] == FAILED
         if word in MAKERS:
             self._make(self._makings[place])
         elif word in COLLECTIVES:
@@ -100,6 +100,12 @@ class Trace:
         return told
 
     def _put(self, line):
+        """Writes a call. What one did that answered an error isn't known."""
+        if self._fails:
+            raise WrongCall("answered an error")
+        self._write(line)
+
+    def _write(self, line):
         word, site = self._call
         self.trace.write(line + "\n")
         self.calls.write(f"{mpi_name(word)} {site}\n")
@@ -110,11 +116,11 @@ class Trace:
         if self.end == "full" or self.journal.lines and split_line(self.journal.lines[-1])[0] == "full":
             self.end = "full"
         if self.end == "finalize":
-            self._put("finalize")
+            self._write("finalize")
             if self._untold:
                 self.left["P", UNTOLD] = self._untold
         elif self.checker.knows("open"):
-            self._put("open")
+            self._write("open")
         self.trace.close()
         self.calls.close()
 

@@ -15,7 +15,7 @@ enum {
     FIRST_WINDOW = 1 << 16, /* so much of the journal is mapped at first, */
     WINDOW = 1 << 20,       /* and at most at a time */
     LONGEST_LINE = 1 << 15,
-    MOST_CALLS = 1000000, /* a trace has no more */
+    MOST_CALLS = 1000001, /* a trace has one less, since it has no MPI_Init */
     COUNTS = 1 << 14,     /* bytes of the counts */
     DIGITS = 12
 };
@@ -28,6 +28,8 @@ static struct {
     size_t size; /* of the window */
     char *window, *at;
 } journal;
+
+bool journal_has_call;
 
 static void say(const char *text) {
     fprintf(stderr, "mpiwait-record: rank %d: %s\n", journal.rank, text);
@@ -133,6 +135,7 @@ void journal_call(const char *word, int count, const Field *fields, int site) {
         word = "full", count = 0;
     }
     put_line(word, count, fields, site);
+    journal_has_call = true;
 }
 
 void journal_told(const char *word, int count, const Field *fields) {

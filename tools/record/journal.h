@@ -28,6 +28,9 @@ const char *journal_open(const char *folder, int rank, int ranks, const char *li
 void journal_call(const char *word, int count, const Field *fields, int site);
 void journal_told(const char *word, int count, const Field *fields);
 
+/* Whether a line says the call that is recorded: set by journal_call, unset where a call begins. */
+extern bool journal_has_call;
+
 /* The rank's calls from here on aren't known; the program runs on. */
 void journal_stop(const char *why);
 void journal_close(void);

@@ -16,13 +16,16 @@ static Field tag_from(int source, int tag) {
 
 static bool is_wild(int source, int tag) { return peer(source) == ANY || tag_from(source, tag) == ANY; }
 
+/* A wrong type or count is left to the call, which answers an error. */
 static Field bytes(int count, MPI_Datatype type) {
     int size;
+    if (type == MPI_DATATYPE_NULL)
+        return UNKNOWN;
     inside++;
     int result = REAL(Type_size)(type, &size);
     inside--;
     long long all = (long long)count * size;
-    return result != MPI_SUCCESS || size == MPI_UNDEFINED || all > INT_MAX ? UNKNOWN : all;
+    return result != MPI_SUCCESS || size == MPI_UNDEFINED || all < 0 || all > INT_MAX ? UNKNOWN : all;
 }
 
 static void tell_message(bool wild, int result, const MPI_Status *status) {

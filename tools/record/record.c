@@ -39,13 +39,14 @@ bool begins(void *caller) {
         return false;
     }
     here = site_of(caller);
+    journal_has_call = false;
     return true;
 }
 
 int ended(int result) {
     inside--;
     if (result != MPI_SUCCESS && recording && inside == 0)
-        journal_stop("a call answered an error");
+        journal_stop(journal_has_call ? "a call answered an error" : "another call answered an error");
     return result;
 }
 
