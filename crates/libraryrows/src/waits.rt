@@ -6,7 +6,7 @@ use crate::words::Words;
 use moves::analyser::Analyser;
 use moves::need::Need;
 use mpicall::memory::MemoryOutput;
-use mpicall::word::{Collective, Operation, Word};
+use mpicall::word::{Collective, Name, Operation, Word};
 use pairing::pairs::Pairs;
 use reports::report::{Format, ReportFault, write_report};
 use std::alloc::Global;
@@ -103,7 +103,7 @@ fn word_text(word: Word) -> &'static str {
         Word::Blocking(Operation::Coll(Collective::Barrier)) => "barrier",
         Word::Blocking(Operation::Coll(Collective::Bcast)) => "bcast",
         Word::Started(Operation::Coll(Collective::Bcast)) => "ibcast",
-        Word::Dup => "dup",
+        Word::Named(Name::Dup) => "dup",
         _ => "another",
     }
 }
