@@ -1,18 +1,11 @@
-//! Answers, as texts.
+//! Answers, as texts. Each is put together in place; one that stays empty is `none`.
 
 use crate::fault::LineFault;
 use mpicall::memory::MemoryOutput;
 use mpicall::record::Record;
 use mpicall::spelling::write_line;
 use std::alloc::{AllocError, Global};
-
-/// Adds a part to an answer, behind a separator where it isn't the first.
-pub fn add_part(answer: &mut String, separator: &str, part: &str) -> Result<(), AllocError> {
-    if !answer.is_empty() {
-        answer.push_str(separator)?;
-    }
-    answer.push_str(part)
-}
+use std::fmt::Display;
 
 /// Answers that should be alike: one is told again only where it differs from that before it.
 pub struct Alike {
@@ -36,86 +29,82 @@ impl Alike {
 
     pub fn add(&mut self, answer: String) -> Result<(), AllocError> {
         if self.last.as_str() != answer.as_str() {
-            add_part(&mut self.text, ", or ", answer.as_str())?;
+            let separator = if self.text.is_empty() { "" } else { ", or " };
+            write!(self.text, "{separator}{answer}")?;
             self.last = answer;
         }
         Ok(())
     }
 
-    pub fn into_text(self) -> String {
-        let Alike { text, last: _ } = self;
-        text
+    pub fn text(&self) -> &str {
+        self.text.as_str()
     }
 }
 
-/// Adds a number to an answer.
-pub fn add_number(alloc: Global, answer: &mut String, number: u64) -> Result<(), AllocError> {
-    let part = format!(in alloc; "{number}")?;
-    add_part(answer, " ", part.as_str())
-}
-
-/// An answer, or `none` in place of an empty one.
-pub fn or_none(alloc: Global, answer: String) -> Result<String, LineFault> {
-    if answer.is_empty() {
-        Ok("none".to_string(alloc)?)
-    } else {
-        Ok(answer)
+/// Adds numbers with a space between two.
+pub fn add_numbers<T: Display>(answer: &mut String, numbers: &[T]) -> Result<(), AllocError> {
+    let mut separator = "";
+    for number in numbers {
+        write!(answer, "{separator}{number}")?;
+        separator = " ";
     }
+    Ok(())
 }
 
-pub fn yes_or_no(alloc: Global, is_so: bool) -> Result<String, LineFault> {
-    Ok((if is_so { "yes" } else { "no" }).to_string(alloc)?)
+pub fn add_yes_or_no(answer: &mut String, is_so: bool) -> Result<(), AllocError> {
+    answer.push_str(if is_so { "yes" } else { "no" })
 }
 
-pub fn number_or_none(alloc: Global, number: Option<u64>) -> Result<String, LineFault> {
+/// Adds a number, if there is one.
+pub fn add_number<T: Display + Drop>(
+    answer: &mut String,
+    number: Option<T>,
+) -> Result<(), AllocError> {
     match number {
-        Some(number) => Ok(format!(in alloc; "{number}")?),
-        None => Ok("none".to_string(alloc)?),
+        Some(number) => write!(answer, "{number}"),
+        None => Ok(()),
     }
 }
 
-/// A rank and a place, or a communicator and a wave.
-pub fn pair_or_none(alloc: Global, pair: Option<(u16, u32)>) -> Result<String, LineFault> {
+/// Adds a rank and a place, or a communicator and a wave, if there are such.
+pub fn add_pair(answer: &mut String, pair: Option<(u16, u32)>) -> Result<(), AllocError> {
     match pair {
-        Some((first, second)) => Ok(format!(in alloc; "{first} {second}")?),
-        None => Ok("none".to_string(alloc)?),
+        Some((first, second)) => write!(answer, "{first} {second}"),
+        None => Ok(()),
     }
 }
 
-/// Bytes as a text with `\n` for each line feed.
-pub fn escaped(alloc: Global, bytes: &[u8]) -> Result<String, LineFault> {
+/// Adds bytes as a text with `\n` for each line feed.
+pub fn add_escaped(answer: &mut String, bytes: &[u8]) -> Result<(), LineFault> {
     let Ok(text) = str::from_utf8(bytes) else {
-        return Ok("no text".to_string(alloc)?);
+        return Err(LineFault::Unread);
     };
-    let mut answer = String::new(alloc);
     for line in text.split_inclusive('\n') {
         match line.strip_suffix('\n') {
-            Some(line) => {
-                answer.push_str(line)?;
-                answer.push_str("\\n")?;
-            }
+            Some(line) => write!(answer, "{line}\\n")?,
             None => answer.push_str(line)?,
         }
     }
-    Ok(answer)
+    Ok(())
 }
 
-/// The line of a record, without its line feed.
-pub fn line_of(alloc: Global, record: &Record) -> Result<String, LineFault> {
+/// Adds the line of a record, without its line feed.
+pub fn add_line(answer: &mut String, record: &Record) -> Result<(), LineFault> {
+    let alloc = *answer.allocator();
     let mut output = MemoryOutput::new(alloc);
     if write_line(record, &mut output).is_err() {
         return Err(LineFault::Memory);
     }
     match str::from_utf8(output.bytes()) {
-        Ok(line) => Ok(line.trim_end().to_string(alloc)?),
+        Ok(line) => Ok(answer.push_str(line.trim_end())?),
         Err(_) => Err(LineFault::Unread),
     }
 }
 
-/// The line of a record, or `none`.
-pub fn line_or_none(alloc: Global, record: Option<Record>) -> Result<String, LineFault> {
+/// The same, if there is a record.
+pub fn add_record(answer: &mut String, record: Option<Record>) -> Result<(), LineFault> {
     match record {
-        Some(record) => line_of(alloc, &record),
-        None => Ok("none".to_string(alloc)?),
+        Some(record) => add_line(answer, &record),
+        None => Ok(()),
     }
 }

@@ -2,7 +2,7 @@
 
 ghost use Rattle.std.specs.Prelude.{◌<◌, length, IsTrue};
 
-use crate::answer::{add_number, number_or_none, or_none};
+use crate::answer::add_number;
 use crate::fault::LineFault;
 use crate::words::Words;
 use arenalist::lists::Lists;
@@ -53,9 +53,9 @@ fn node_at(lists: &Lists<u32>, list: ListId, place: u32) -> Result<Node, LineFau
     Ok(node)
 }
 
-/// The values of a list.
-fn values_of(alloc: Global, lists: &Lists<u32>, list: ListId) -> Result<String, LineFault> {
-    let mut answer = String::new(alloc);
+/// Adds the values of a list.
+fn add_values(answer: &mut String, lists: &Lists<u32>, list: ListId) -> Result<(), LineFault> {
+    let mut separator = "";
     let mut next = first_of(lists, list);
     for _ in 0..u32::MAX {
         let Some(node) = next else {
@@ -64,10 +64,11 @@ fn values_of(alloc: Global, lists: &Lists<u32>, list: ListId) -> Result<String, 
         if lists.list_of(node).is_none() {
             return Err(LineFault::Missing);
         }
-        add_number(alloc, &mut answer, u64::from(*lists.get(node)))?;
+        write!(answer, "{separator}{}", *lists.get(node))?;
+        separator = " ";
         next = behind(lists, node);
     }
-    or_none(alloc, answer)
+    Ok(())
 }
 
 fn push(lists: &mut Lists<u32>, list: ListId, value: u32) -> Result<(), LineFault> {
@@ -156,26 +157,25 @@ impl Chains {
     }
 
     /// Answers a question about the lists, or takes something out of one, if the line says so.
-    pub fn answer(&mut self, alloc: Global, line: &str) -> Result<Option<String>, LineFault> {
+    pub fn answer(&mut self, answer: &mut String, line: &str) -> Result<bool, LineFault> {
         let mut words = Words(line);
-        let answer = match words.word() {
+        match words.word() {
             "pop" => {
                 let list = self.list(&mut words)?;
-                number_or_none(alloc, pop(&mut self.lists, list).map(u64::from))?
+                add_number(answer, pop(&mut self.lists, list))?;
             }
             "unlink" => {
                 let (list, place) = (self.list(&mut words)?, words.number()?);
-                let value = unlink(&mut self.lists, list, place)?;
-                number_or_none(alloc, Some(u64::from(value)))?
+                write!(answer, "{}", unlink(&mut self.lists, list, place)?)?;
             }
             "list" => {
                 let list = self.list(&mut words)?;
-                values_of(alloc, &self.lists, list)?
+                add_values(answer, &self.lists, list)?;
             }
-            "touched" => number_or_none(alloc, Some(self.lists.work()))?,
-            _ => return Ok(None),
-        };
+            "touched" => write!(answer, "{}", self.lists.work())?,
+            _ => return Ok(false),
+        }
         words.end()?;
-        Ok(Some(answer))
+        Ok(true)
     }
 }

@@ -1,6 +1,6 @@
 //! What a row holds while its questions are asked.
 
-use crate::answer::yes_or_no;
+use crate::answer::add_yes_or_no;
 use crate::chains::Chains;
 use crate::fault::LineFault;
 use crate::fields::is_record;
@@ -72,47 +72,47 @@ impl Desk {
     }
 
     /// Begins a run, with the lines of its head.
-    fn begin_run(&mut self, alloc: Global, lines: &str) -> Result<(), LineFault> {
+    fn begin_run(&mut self, lines: &str) -> Result<(), LineFault> {
         self.head.clear();
         for line in lines.split(" / ") {
             self.head.extend_from_slice(line.as_bytes())?;
             self.head.push(b'\n')?;
         }
-        self.read_by(alloc, Reading::Strict)
+        self.read_by(Reading::Strict)
     }
 
     /// Begins the run anew, by a reading.
-    fn read_by(&mut self, alloc: Global, reading: Reading) -> Result<(), LineFault> {
-        let (run, pairs) = fresh(alloc, &self.head, reading)?;
+    fn read_by(&mut self, reading: Reading) -> Result<(), LineFault> {
+        let (run, pairs) = fresh(*self.head.allocator(), &self.head, reading)?;
         self.run = run;
         self.pairs = pairs;
         Ok(())
     }
 
     /// Begins a row.
-    pub fn begin(&mut self, alloc: Global) -> Result<(), LineFault> {
+    pub fn begin(&mut self) -> Result<(), LineFault> {
         self.text.clear();
-        self.chains = Chains::new(alloc);
-        self.begin_run(alloc, "ranks 1")
+        self.chains = Chains::new(*self.head.allocator());
+        self.begin_run("ranks 1")
     }
 
     /// Does what a line without an answer says, if it is such a one.
-    pub fn set(&mut self, alloc: Global, line: &str) -> Result<bool, LineFault> {
+    pub fn set(&mut self, line: &str) -> Result<bool, LineFault> {
         let mut words = Words(line);
         match words.word() {
-            "head" => self.begin_run(alloc, words.0)?,
+            "head" => self.begin_run(words.0)?,
             "reading" => {
                 let reading = reading_in(&mut words)?;
                 words.end()?;
-                self.read_by(alloc, reading)?;
+                self.read_by(reading)?;
             }
             "text" => {
                 self.text.clear();
-                add_text(alloc, &mut self.text, 1, words.0)?;
+                add_text(&mut self.text, 1, words.0)?;
             }
             "more" => {
                 let (times, text) = many(words)?;
-                add_text(alloc, &mut self.text, times, text)?;
+                add_text(&mut self.text, times, text)?;
             }
             _ => return self.chains.set(Words(line)),
         }
@@ -120,112 +120,121 @@ impl Desk {
     }
 
     /// Answers a line that gives calls, if it is such a one.
-    fn answer_of_calls(&mut self, alloc: Global, line: &str) -> Result<Option<String>, LineFault> {
+    fn answer_of_calls(&mut self, answer: &mut String, line: &str) -> Result<bool, LineFault> {
         let mut words = Words(line);
-        let answer = match words.word() {
-            "offer" => offer(alloc, &mut self.run, 1, words.0)?,
+        match words.word() {
+            "offer" => offer(answer, &mut self.run, 1, words.0)?,
             "offers" => {
                 let (times, calls) = many(words)?;
-                offer(alloc, &mut self.run, times, calls)?
+                offer(answer, &mut self.run, times, calls)?;
             }
             "all" => {
                 let (times, call) = many(words)?;
-                offer_of_all(alloc, &mut self.run, times, call)?
+                offer_of_all(answer, &mut self.run, times, call)?;
             }
-            "add" => add(alloc, &mut self.pairs, 1, words.0)?,
+            "add" => add(answer, &mut self.pairs, 1, words.0)?,
             "adds" => {
                 let (times, calls) = many(words)?;
-                add(alloc, &mut self.pairs, times, calls)?
+                add(answer, &mut self.pairs, times, calls)?;
             }
-            "told" => told(alloc, &mut self.pairs, words)?,
-            _ => return Ok(None),
-        };
-        Ok(Some(answer))
+            "told" => told(answer, &mut self.pairs, words)?,
+            _ => return Ok(false),
+        }
+        Ok(true)
     }
 
     /// Answers a question whose words are a text, if it is such a one.
-    fn answer_of_texts(&self, alloc: Global, line: &str) -> Result<Option<String>, LineFault> {
+    fn answer_of_texts(&self, answer: &mut String, line: &str) -> Result<bool, LineFault> {
         let mut words = Words(line);
-        let answer = match words.word() {
-            "line" => told_of_text(alloc, words.0)?,
-            "values" => values(alloc, words.0)?,
-            "split" => split(alloc, words.0)?,
-            "mixes" => mixes(alloc, &self.head, &self.run, words.0)?,
-            _ => return Ok(None),
-        };
-        Ok(Some(answer))
+        match words.word() {
+            "line" => told_of_text(answer, words.0)?,
+            "values" => values(answer, words.0)?,
+            "split" => split(answer, words.0)?,
+            "mixes" => mixes(answer, &self.head, &self.run, words.0)?,
+            _ => return Ok(false),
+        }
+        Ok(true)
     }
 
     /// Answers a question about the text, if it is such a one.
     fn answer_of_text(
         &self,
-        alloc: Global,
+        answer: &mut String,
         asked: &str,
         words: &mut Words<'_>,
         wait: &impl Wait,
-    ) -> Result<Option<String>, LineFault> {
-        let answer = match asked {
-            "asline" => told_of_line(alloc, &self.text)?,
-            "ashead" => told_of_head(alloc, &self.text)?,
-            "astrace" => told_of_trace(alloc, &self.text, wait)?,
-            "fronts" => told_of_fronts(alloc, &self.text, words, wait)?,
-            "gives" => records(alloc, &self.text, words)?,
-            "fault" => fault_words(alloc, words)?,
-            "requests" => requests(alloc, words)?,
-            "sized" => yes_or_no(alloc, is_record(words)?)?,
-            _ => return Ok(None),
-        };
-        Ok(Some(answer))
+    ) -> Result<bool, LineFault> {
+        match asked {
+            "asline" => told_of_line(answer, &self.text)?,
+            "ashead" => told_of_head(answer, &self.text)?,
+            "astrace" => told_of_trace(answer, &self.text, wait)?,
+            "fronts" => told_of_fronts(answer, &self.text, words, wait)?,
+            "gives" => records(answer, &self.text, words)?,
+            "fault" => fault_words(answer, words)?,
+            "requests" => requests(answer, words)?,
+            "sized" => add_yes_or_no(answer, is_record(words)?)?,
+            _ => return Ok(false),
+        }
+        Ok(true)
     }
 
-    /// Answers a question about the run.
-    fn answer_of_run(
+    /// Answers a question about the run, its wait graph or its readings, if it is such a one.
+    fn answer_of_waits(
         &self,
-        alloc: Global,
+        answer: &mut String,
         asked: &str,
         words: &mut Words<'_>,
-    ) -> Result<String, LineFault> {
+    ) -> Result<bool, LineFault> {
         match asked {
             "verdict" | "stuck" | "held" | "unmet" | "causes" => {
-                return answer_of_waits(alloc, &self.run, asked, words);
+                answer_of_waits(answer, &self.run, asked, words)?;
             }
-            "report" => return report(alloc, &self.run, words),
-            "heldback" => return told_of_readings(alloc, &self.head, &self.run, words),
-            "findings" => return findings_of(alloc, &self.pairs),
-            _ => {}
+            "report" => report(answer, &self.run, words)?,
+            "heldback" => told_of_readings(answer, &self.head, &self.run, words)?,
+            "findings" => findings_of(answer, &self.pairs)?,
+            _ => return Ok(false),
         }
-        if let Some(answer) = answer_of_head(alloc, self.run.head(), asked, words)? {
-            return Ok(answer);
-        }
-        if let Some(answer) = answer_of_pairs(alloc, &self.pairs, asked, words)? {
-            return Ok(answer);
-        }
-        answer_of_run(alloc, &self.run, asked, words)?.ok_or(LineFault::Unread)
+        Ok(true)
     }
 
-    /// Answers a question.
-    pub fn answer(
-        &mut self,
-        alloc: Global,
+    /// Answers a question whose words are taken one by one.
+    fn answer_of_words(
+        &self,
+        answer: &mut String,
         line: &str,
         wait: &impl Wait,
-    ) -> Result<String, LineFault> {
-        if let Some(answer) = self.answer_of_calls(alloc, line)? {
-            return Ok(answer);
-        }
-        if let Some(answer) = self.chains.answer(alloc, line)? {
-            return Ok(answer);
-        }
-        if let Some(answer) = self.answer_of_texts(alloc, line)? {
-            return Ok(answer);
-        }
-        let mut words = Words(line);
+    ) -> Result<(), LineFault> {
+        let mut left = Words(line);
+        let words = &mut left;
         let asked = words.word();
-        let answer = match self.answer_of_text(alloc, asked, &mut words, wait)? {
-            Some(answer) => answer,
-            None => self.answer_of_run(alloc, asked, &mut words)?,
-        };
-        words.end()?;
-        Ok(answer)
+        let is_answered = self.answer_of_text(answer, asked, words, wait)?
+            || self.answer_of_waits(answer, asked, words)?
+            || answer_of_head(answer, self.run.head(), asked, words)?
+            || answer_of_pairs(answer, &self.pairs, asked, words)?
+            || answer_of_run(answer, &self.run, asked, words)?;
+        if is_answered {
+            words.end()
+        } else {
+            Err(LineFault::Unread)
+        }
+    }
+
+    /// Answers a question: `none` where nothing is to be told.
+    pub fn answer(
+        &mut self,
+        answer: &mut String,
+        line: &str,
+        wait: &impl Wait,
+    ) -> Result<(), LineFault> {
+        let is_answered = self.answer_of_calls(answer, line)?
+            || self.chains.answer(answer, line)?
+            || self.answer_of_texts(answer, line)?;
+        if !is_answered {
+            self.answer_of_words(answer, line, wait)?;
+        }
+        if answer.is_empty() {
+            answer.push_str("none")?;
+        }
+        Ok(())
     }
 }

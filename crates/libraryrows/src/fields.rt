@@ -1,11 +1,12 @@
 //! The values of a call, one by one.
 
-use crate::answer::add_number;
+use crate::answer::add_numbers;
 use crate::fault::LineFault;
 use crate::words::Words;
 use mpicall::call::{Call, Kind, Mode, Peer};
 use mpicall::record::Record;
-use std::alloc::Global;
+use mpicall::word::root_of;
+use std::alloc::AllocError;
 
 fn mode_text(mode: Mode) -> &'static str {
     match mode {
@@ -15,188 +16,143 @@ fn mode_text(mode: Mode) -> &'static str {
     }
 }
 
-fn peer_text(alloc: Global, peer: Peer) -> Result<String, LineFault> {
+fn kind_text(kind: Kind) -> &'static str {
+    match kind {
+        Kind::Barrier => "Barrier",
+        Kind::Bcast(_) => "Bcast",
+        Kind::Gather(_) => "Gather",
+        Kind::Scatter(_) => "Scatter",
+        Kind::Reduce(_) => "Reduce",
+        Kind::Allgather => "Allgather",
+        Kind::Alltoall => "Alltoall",
+        Kind::Allreduce => "Allreduce",
+        Kind::Scan => "Scan",
+        Kind::Exscan => "Exscan",
+    }
+}
+
+fn add_kind(answer: &mut String, comm: u16, kind: Kind) -> Result<(), AllocError> {
+    write!(answer, "comm {comm}, {}", kind_text(kind))?;
+    match root_of(kind) {
+        Some(root) => write!(answer, " root {root}"),
+        None => Ok(()),
+    }
+}
+
+/// Adds a name, and a number or `none`.
+fn add_option(answer: &mut String, name: &str, number: Option<u32>) -> Result<(), AllocError> {
+    match number {
+        Some(number) => write!(answer, ", {name} {number}"),
+        None => write!(answer, ", {name} none"),
+    }
+}
+
+/// Adds the name of a peer's place, the peer and the tag.
+fn add_peer(answer: &mut String, name: &str, peer: Peer, tag: u32) -> Result<(), AllocError> {
     match peer {
-        Peer::Rank(rank) => Ok(format!(in alloc; "rank {rank}")?),
-        Peer::Null => Ok("null".to_string(alloc)?),
+        Peer::Rank(rank) => write!(answer, ", {name} rank {rank}, tag {tag}"),
+        Peer::Null => write!(answer, ", {name} null, tag {tag}"),
     }
 }
 
-fn kind_text(alloc: Global, kind: Kind) -> Result<String, LineFault> {
-    let (name, root) = match kind {
-        Kind::Barrier => ("Barrier", None),
-        Kind::Bcast(root) => ("Bcast", Some(root)),
-        Kind::Gather(root) => ("Gather", Some(root)),
-        Kind::Scatter(root) => ("Scatter", Some(root)),
-        Kind::Reduce(root) => ("Reduce", Some(root)),
-        Kind::Allgather => ("Allgather", None),
-        Kind::Alltoall => ("Alltoall", None),
-        Kind::Allreduce => ("Allreduce", None),
-        Kind::Scan => ("Scan", None),
-        Kind::Exscan => ("Exscan", None),
-    };
-    match root {
-        Some(root) => Ok(format!(in alloc; "{name} root {root}")?),
-        None => Ok(name.to_string(alloc)?),
-    }
-}
-
-fn reqs_text(alloc: Global, reqs: &[u32]) -> Result<String, LineFault> {
-    let mut answer = String::new(alloc);
-    for req in reqs {
-        add_number(alloc, &mut answer, u64::from(*req))?;
-    }
-    Ok(answer)
-}
-
-fn split_text(
-    alloc: Global,
-    colour: Option<u32>,
-    new: Option<u16>,
-) -> Result<(String, String), LineFault> {
-    let colour = match colour {
-        Some(colour) => format!(in alloc; "{colour}")?,
-        None => "none".to_string(alloc)?,
-    };
-    let new = match new {
-        Some(new) => format!(in alloc; "{new}")?,
-        None => "none".to_string(alloc)?,
-    };
-    Ok((colour, new))
-}
-
-/// The bytes of a message, where they are told.
-fn bytes_text(alloc: Global, bytes: Option<u32>) -> Result<String, LineFault> {
+/// Adds the bytes of a message, where they are told.
+fn add_bytes(answer: &mut String, bytes: Option<u32>) -> Result<(), AllocError> {
     match bytes {
-        Some(count) => Ok(format!(in alloc; ", bytes {count}")?),
-        None => Ok(String::new(alloc)),
+        Some(count) => write!(answer, ", bytes {count}"),
+        None => Ok(()),
     }
 }
 
-/// The values of a send.
-fn send_text(
-    alloc: Global,
-    mode: Mode,
-    comm: u16,
-    dest: Peer,
-    tag: u32,
-    bytes: Option<u32>,
-) -> Result<String, LineFault> {
-    let (mode, dest, bytes) = (
-        mode_text(mode),
-        peer_text(alloc, dest)?,
-        bytes_text(alloc, bytes)?,
-    );
-    Ok(format!(in alloc; "{mode}, comm {comm}, dest {dest}, tag {tag}{bytes}")?)
-}
-
-/// The values of a receive.
-fn recv_text(alloc: Global, comm: u16, source: Peer, tag: u32) -> Result<String, LineFault> {
-    let source = peer_text(alloc, source)?;
-    Ok(format!(in alloc; "comm {comm}, source {source}, tag {tag}")?)
-}
-
-/// The values of a message's call.
-fn message_text(alloc: Global, call: &Call) -> Result<String, LineFault> {
+/// Adds the values of a call that sends or receives.
+fn add_message(answer: &mut String, call: &Call) -> Result<(), AllocError> {
     match *call {
-        Call::Send {
-            mode,
-            comm,
-            dest,
-            tag,
-            bytes,
-        } => {
-            let send = send_text(alloc, mode, comm, dest, tag, bytes)?;
-            Ok(format!(in alloc; "Send {send}")?)
-        }
+        Call::Send { mode, comm, .. } => write!(answer, "Send {}, comm {comm}", mode_text(mode))?,
         Call::Isend {
             req,
             mode,
             comm,
+            ..
+        } => {
+            let mode = mode_text(mode);
+            write!(answer, "Isend req {req}, {mode}, comm {comm}")?;
+        }
+        Call::Recv { comm, .. } => write!(answer, "Recv comm {comm}")?,
+        Call::Irecv { req, comm, .. } => write!(answer, "Irecv req {req}, comm {comm}")?,
+        Call::Probe { comm, .. } => write!(answer, "Probe comm {comm}")?,
+        Call::Sendrecv { comm, .. } => write!(answer, "Sendrecv comm {comm}")?,
+        _ => {}
+    }
+    match *call {
+        Call::Send {
             dest,
             tag,
             bytes,
-        } => {
-            let send = send_text(alloc, mode, comm, dest, tag, bytes)?;
-            Ok(format!(in alloc; "Isend req {req}, {send}")?)
+            ..
         }
-        _ => receive_text(alloc, call),
-    }
-}
-
-/// The values of a call that receives.
-fn receive_text(alloc: Global, call: &Call) -> Result<String, LineFault> {
-    match *call {
-        Call::Recv { comm, source, tag } => {
-            let recv = recv_text(alloc, comm, source, tag)?;
-            Ok(format!(in alloc; "Recv {recv}")?)
-        }
-        Call::Irecv {
-            req,
-            comm,
-            source,
+        | Call::Isend {
+            dest,
             tag,
+            bytes,
+            ..
         } => {
-            let recv = recv_text(alloc, comm, source, tag)?;
-            Ok(format!(in alloc; "Irecv req {req}, {recv}")?)
+            add_peer(answer, "dest", dest, tag)?;
+            add_bytes(answer, bytes)
         }
-        Call::Probe { comm, source, tag } => {
-            let recv = recv_text(alloc, comm, source, tag)?;
-            Ok(format!(in alloc; "Probe {recv}")?)
-        }
+        Call::Recv { source, tag, .. }
+        | Call::Irecv { source, tag, .. }
+        | Call::Probe { source, tag, .. } => add_peer(answer, "source", source, tag),
         Call::Sendrecv {
-            comm,
             dest,
             send_tag,
             source,
             recv_tag,
             bytes,
+            ..
         } => {
-            let (dest, source) = (peer_text(alloc, dest)?, peer_text(alloc, source)?);
-            let bytes = bytes_text(alloc, bytes)?;
-            Ok(format!(in alloc;
-                "Sendrecv comm {comm}, dest {dest}, tag {send_tag}, source {source}, tag {recv_tag}{bytes}"
-            )?)
+            add_peer(answer, "dest", dest, send_tag)?;
+            add_peer(answer, "source", source, recv_tag)?;
+            add_bytes(answer, bytes)
         }
-        _ => Err(LineFault::Unread),
+        _ => Ok(()),
     }
 }
 
-/// The values of a call: its shape, and each value behind its name.
-pub fn fields_text(alloc: Global, call: &Call) -> Result<String, LineFault> {
-    let text = match *call {
-        Call::Wait { req } => format!(in alloc; "Wait req {req}")?,
-        Call::Waitall { reqs } => {
-            let reqs = reqs_text(alloc, reqs.as_slice())?;
-            format!(in alloc; "Waitall reqs {reqs}")?
+/// Adds the values of a call: its shape, and each value behind its name.
+pub fn add_values(answer: &mut String, call: &Call) -> Result<(), AllocError> {
+    match *call {
+        Call::Wait { req } => write!(answer, "Wait req {req}"),
+        Call::Waitall { ref reqs } => {
+            answer.push_str("Waitall reqs ")?;
+            add_numbers(answer, reqs.as_slice())
         }
-        Call::Waitany { chosen, reqs } => {
-            let reqs = reqs_text(alloc, reqs.as_slice())?;
-            format!(in alloc; "Waitany chosen {chosen}, reqs {reqs}")?
+        Call::Waitany { chosen, ref reqs } => {
+            write!(answer, "Waitany chosen {chosen}, reqs ")?;
+            add_numbers(answer, reqs.as_slice())
         }
         Call::Coll { comm, kind } => {
-            let kind = kind_text(alloc, kind)?;
-            format!(in alloc; "Coll comm {comm}, {kind}")?
+            answer.push_str("Coll ")?;
+            add_kind(answer, comm, kind)
         }
         Call::Icoll { req, comm, kind } => {
-            let kind = kind_text(alloc, kind)?;
-            format!(in alloc; "Icoll req {req}, comm {comm}, {kind}")?
+            write!(answer, "Icoll req {req}, ")?;
+            add_kind(answer, comm, kind)
         }
-        Call::Dup { comm, new } => format!(in alloc; "Dup comm {comm}, new {new}")?,
+        Call::Dup { comm, new } => write!(answer, "Dup comm {comm}, new {new}"),
         Call::Split {
             comm,
             colour,
             key,
             new,
         } => {
-            let (colour, new) = split_text(alloc, colour, new)?;
-            format!(in alloc; "Split comm {comm}, colour {colour}, key {key}, new {new}")?
+            write!(answer, "Split comm {comm}")?;
+            add_option(answer, "colour", colour)?;
+            write!(answer, ", key {key}")?;
+            add_option(answer, "new", new.map(u32::from))
         }
-        Call::Finalize => "Finalize".to_string(alloc)?,
-        Call::Open => "Open".to_string(alloc)?,
-        _ => message_text(alloc, call)?,
-    };
-    Ok(text)
+        Call::Finalize => answer.push_str("Finalize"),
+        Call::Open => answer.push_str("Open"),
+        _ => add_message(answer, call),
+    }
 }
 
 /// A send of so many bytes to rank 0, by the word of its line; none has a word of another kind.

@@ -1,6 +1,6 @@
 //! What is told of the groups of communicators, and of lists of requests.
 
-use crate::answer::{add_number, add_part, number_or_none};
+use crate::answer::{add_number, add_numbers};
 use crate::fault::LineFault;
 use crate::words::Words;
 use mpicall::reqs::Reqs;
@@ -8,22 +8,23 @@ use mpigroup::head::Head;
 use mpigroup::split::split_groups;
 use std::alloc::Global;
 
-/// Answers a question about the groups of a head, if there is such a one.
+/// Answers a question about the groups of a head, if it is such a one.
 pub fn answer_of_head(
-    alloc: Global,
+    answer: &mut String,
     head: &Head,
     asked: &str,
     words: &mut Words<'_>,
-) -> Result<Option<String>, LineFault> {
+) -> Result<bool, LineFault> {
     let number = match asked {
         "ranks" => Some(head.ranks()),
         "comms" => Some(head.comms()),
         "size" => head.size(words.rank()?),
         "grouprank" => head.group_rank(words.rank()?, words.rank()?),
         "worldrank" => head.world_rank(words.rank()?, words.rank()?),
-        _ => return Ok(None),
+        _ => return Ok(false),
     };
-    Ok(Some(number_or_none(alloc, number.map(u64::from))?))
+    add_number(answer, number)?;
+    Ok(true)
 }
 
 /// The colour and the key of a member.
@@ -50,38 +51,34 @@ fn choices_in(alloc: Global, text: &str) -> Result<Vec<(Option<u32>, i32)>, Line
     Ok(choices)
 }
 
-fn group_text(alloc: Global, group: &[u16]) -> Result<String, LineFault> {
-    let mut answer = String::new(alloc);
-    for rank in group {
-        add_number(alloc, &mut answer, u64::from(*rank))?;
-    }
-    Ok(answer)
-}
-
 /// The groups that a split makes of these colours and keys.
-pub fn split(alloc: Global, text: &str) -> Result<String, LineFault> {
+pub fn split(answer: &mut String, text: &str) -> Result<(), LineFault> {
+    let alloc = *answer.allocator();
     let choices = choices_in(alloc, text)?;
     if choices.len() > 1000 {
         return Err(LineFault::Unread);
     }
-    let mut answer = String::new(alloc);
+    let mut separator = "";
     for group in split_groups(alloc, &choices)? {
-        let part = group_text(alloc, &group)?;
-        add_part(&mut answer, " / ", part.as_str())?;
+        answer.push_str(separator)?;
+        add_numbers(answer, &group)?;
+        separator = " / ";
     }
-    Ok(answer)
+    Ok(())
 }
 
 /// The list of so many requests, each numbered 1.
-pub fn requests(alloc: Global, words: &mut Words<'_>) -> Result<String, LineFault> {
+pub fn requests(answer: &mut String, words: &mut Words<'_>) -> Result<(), LineFault> {
+    let alloc = *answer.allocator();
     let count = words.number()? as usize;
     if count > 1000 {
         return Err(LineFault::Unread);
     }
     let numbers = vec![in alloc; 1u32; count]?;
     match Reqs::new(&numbers) {
-        Some(reqs) if reqs.as_slice() == numbers.as_slice() => Ok("all".to_string(alloc)?),
-        Some(_) => Ok("others".to_string(alloc)?),
-        None => Ok("none".to_string(alloc)?),
+        Some(reqs) if reqs.as_slice() == numbers.as_slice() => answer.push_str("all")?,
+        Some(_) => answer.push_str("others")?,
+        None => {}
     }
+    Ok(())
 }

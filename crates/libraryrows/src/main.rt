@@ -74,37 +74,36 @@ mod words;
 
 use desk::Desk;
 use fault::LineFault;
-use std::alloc::Global;
 use std::io;
 use std::sync::Wait;
 
 /// What a line came to.
-#[derive(Drop)]
 enum Outcome {
     /// It asks nothing.
     Nothing,
     /// It was answered as it says.
     Told,
     /// It was answered otherwise.
-    Other(String),
+    Other,
 }
 
-/// Does what a line says. Without an answer of its own a line is answered `ok`.
+/// Does what a line says, and puts its answer in place. Without an answer of its own a line is answered `ok`.
 fn outcome_of(
-    alloc: Global,
     desk: &mut Desk,
     line: &str,
+    answer: &mut String,
     wait: &impl Wait,
 ) -> Result<Outcome, LineFault> {
-    if line.is_empty() || line.starts_with('#') || desk.set(alloc, line)? {
+    answer.clear();
+    if line.is_empty() || line.starts_with('#') || desk.set(line)? {
         return Ok(Outcome::Nothing);
     }
     let (asked, wanted) = line.rsplit_once(" -> ").unwrap_or((line, "ok"));
-    let answer = desk.answer(alloc, asked, wait)?;
+    desk.answer(answer, asked, wait)?;
     if answer.as_str() == wanted {
         Ok(Outcome::Told)
     } else {
-        Ok(Outcome::Other(answer))
+        Ok(Outcome::Other)
     }
 }
 
@@ -115,20 +114,21 @@ fn main(rt: HostRuntime) -> io::Result<()> {
     };
     let (mut rows, mut answers) = (0u64, 0u64);
     let mut name = String::new(rt.alloc());
+    let mut answer = String::new(rt.alloc());
     for line in rt.lines(rt.alloc()) {
         let line = line?;
         if let Some(row) = line.as_str().strip_prefix("row ") {
             rows = rows.saturating_add(1);
             name = row.to_string(rt.alloc())?;
-            if let Err(fault) = desk.begin(rt.alloc()) {
+            if let Err(fault) = desk.begin() {
                 println!(rt; "{name}: no row begins: {fault}")?;
             }
             continue;
         }
-        match outcome_of(rt.alloc(), &mut desk, line.as_str(), &rt) {
+        match outcome_of(&mut desk, line.as_str(), &mut answer, &rt) {
             Ok(Outcome::Nothing) => {}
             Ok(Outcome::Told) => answers = answers.saturating_add(1),
-            Ok(Outcome::Other(answer)) => println!(rt; "{name}: {line}: answered {answer}")?,
+            Ok(Outcome::Other) => println!(rt; "{name}: {line}: answered {answer}")?,
             Err(fault) => println!(rt; "{name}: {line}: {fault}")?,
         }
     }

@@ -3,7 +3,7 @@
 use crate::answer::Alike;
 use crate::calls::calls_in;
 use crate::fault::LineFault;
-use crate::runs::stands;
+use crate::runs::add_stands;
 use moves::analyser::Analyser;
 use moves::reading::Reading;
 use mpicall::record::Record;
@@ -66,7 +66,9 @@ fn stands_of_mix(
     for rank in mix {
         offer_next(&mut run, calls, *rank)?;
     }
-    stands(alloc, &run)
+    let mut stands = String::new(alloc);
+    add_stands(&mut stands, &run)?;
+    Ok(stands)
 }
 
 /// All mixes of the calls.
@@ -83,13 +85,18 @@ fn mixes_of(
 }
 
 /// How many mixes the calls of a text have, and where the ranks of a run stand after each: all that differ.
-pub fn mixes(alloc: Global, head: &[u8], run: &Analyser, text: &str) -> Result<String, LineFault> {
+pub fn mixes(
+    answer: &mut String,
+    head: &[u8],
+    run: &Analyser,
+    text: &str,
+) -> Result<(), LineFault> {
+    let alloc = *answer.allocator();
     let calls = calls_in(alloc, text)?;
     let mixes = mixes_of(alloc, &calls, run.head().ranks())?;
     let mut alike = Alike::new(alloc);
     for mix in &mixes {
         alike.add(stands_of_mix(alloc, head, run.reading(), &calls, mix)?)?;
     }
-    let stands = alike.into_text();
-    Ok(format!(in alloc; "{} mixes, {stands}", mixes.len())?)
+    Ok(write!(answer, "{} mixes, {}", mixes.len(), alike.text())?)
 }

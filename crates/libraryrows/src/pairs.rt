@@ -1,6 +1,6 @@
 //! What `Pairs` answer: what calls mean for one another.
 
-use crate::answer::{add_part, line_or_none, number_or_none, or_none, pair_or_none, yes_or_no};
+use crate::answer::{add_number, add_pair, add_record, add_yes_or_no};
 use crate::calls::{calls_in, record_of};
 use crate::fault::LineFault;
 use crate::words::Words;
@@ -8,7 +8,7 @@ use mpicall::record::Record;
 use pairing::added::{Added, PairFault};
 use pairing::envelope::Half;
 use pairing::pairs::Pairs;
-use std::alloc::Global;
+use std::alloc::{AllocError, Global};
 
 /// Adds a rank's next call: what is told of it, or why it is refused.
 fn add_call(
@@ -23,83 +23,93 @@ fn add_call(
     Ok(pairs.add(rank, place, call))
 }
 
-/// The place, code and words of a fault, which the rank's next call has.
-fn fault_text(
-    alloc: Global,
+/// Adds the place, code and words of a fault, which the rank's next call has.
+fn add_fault(
+    answer: &mut String,
     pairs: &Pairs,
     rank: u16,
     fault: PairFault,
-) -> Result<String, LineFault> {
+) -> Result<(), LineFault> {
     match fault {
         PairFault::Refused(fault) => {
             let place = pairs.accepted(rank).unwrap_or(0);
-            Ok(format!(in alloc; "refused {place} {} {fault}", fault.code())?)
+            Ok(write!(answer, "refused {place} {} {fault}", fault.code())?)
         }
         PairFault::Memory => Err(LineFault::Memory),
     }
 }
 
-/// Adds calls, up to the first that is refused.
+/// Adds calls, up to the first that is refused, and tells whether all were taken.
 fn add_calls(
-    alloc: Global,
+    answer: &mut String,
     pairs: &mut Pairs,
     calls: &[(u16, Record)],
-) -> Result<Option<String>, LineFault> {
+) -> Result<bool, LineFault> {
     for (rank, call) in calls {
         if let Err(fault) = add_call(pairs, *rank, call)? {
-            return Ok(Some(fault_text(alloc, pairs, *rank, fault)?));
+            add_fault(answer, pairs, *rank, fault)?;
+            return Ok(false);
         }
     }
-    Ok(None)
+    Ok(true)
 }
 
 /// Adds the calls of a text, so many times.
-pub fn add(alloc: Global, pairs: &mut Pairs, times: u32, text: &str) -> Result<String, LineFault> {
+pub fn add(
+    answer: &mut String,
+    pairs: &mut Pairs,
+    times: u32,
+    text: &str,
+) -> Result<(), LineFault> {
+    let alloc = *answer.allocator();
     let calls = calls_in(alloc, text)?;
     for _ in 0..times {
-        if let Some(told) = add_calls(alloc, pairs, &calls)? {
-            return Ok(told);
+        if !add_calls(answer, pairs, &calls)? {
+            return Ok(());
         }
     }
-    Ok("ok".to_string(alloc)?)
+    Ok(answer.push_str("ok")?)
 }
 
-/// The partners and the wave of a call that was added.
-fn added_text(alloc: Global, added: Added) -> Result<String, LineFault> {
-    let mut answer = String::new(alloc);
+/// Adds the partners and the wave of a call that was added.
+fn add_told(answer: &mut String, added: Added) -> Result<(), AllocError> {
+    let mut separator = "";
     for (half, partner) in [("send", added.send), ("recv", added.recv)] {
         if let Some((rank, place)) = partner {
-            let part = format!(in alloc; "{half} {rank} {place}")?;
-            add_part(&mut answer, ", ", part.as_str())?;
+            write!(answer, "{separator}{half} {rank} {place}")?;
+            separator = ", ";
         }
     }
     if let Some(joined) = added.wave {
         let full = if joined.is_full { " full" } else { "" };
-        let part = format!(in alloc; "wave {} {}{full}", joined.comm, joined.wave)?;
-        add_part(&mut answer, ", ", part.as_str())?;
+        write!(
+            answer,
+            "{separator}wave {} {}{full}",
+            joined.comm, joined.wave
+        )?;
     }
-    or_none(alloc, answer)
+    Ok(())
 }
 
 /// Adds one call: what is told of it.
-pub fn told(alloc: Global, pairs: &mut Pairs, words: Words<'_>) -> Result<String, LineFault> {
+pub fn told(answer: &mut String, pairs: &mut Pairs, words: Words<'_>) -> Result<(), LineFault> {
+    let alloc = *answer.allocator();
     let mut words = words;
     let rank = words.rank()?;
     let call = record_of(alloc, words.0)?;
     match add_call(pairs, rank, &call)? {
-        Ok(added) => added_text(alloc, added),
-        Err(fault) => fault_text(alloc, pairs, rank, fault),
+        Ok(added) => Ok(add_told(answer, added)?),
+        Err(fault) => add_fault(answer, pairs, rank, fault),
     }
 }
 
-fn partner(alloc: Global, pairs: &Pairs, words: &mut Words<'_>) -> Result<String, LineFault> {
-    let (rank, place) = (words.rank()?, words.number()?);
-    let half = match words.word() {
-        "send" => Half::Send,
-        "recv" => Half::Recv,
-        _ => return Err(LineFault::Unread),
-    };
-    pair_or_none(alloc, pairs.partner(rank, place, half))
+/// The half of a call that the next word names.
+fn half_in(words: &mut Words<'_>) -> Result<Half, LineFault> {
+    match words.word() {
+        "send" => Ok(Half::Send),
+        "recv" => Ok(Half::Recv),
+        _ => Err(LineFault::Unread),
+    }
 }
 
 /// The call of a rank at a place, if there is one.
@@ -116,31 +126,34 @@ fn completed(pairs: &Pairs, words: &mut Words<'_>) -> Result<Option<u32>, LineFa
     Ok(pairs.completed(rank, place, index as usize))
 }
 
-/// Answers a question about the calls, if there is such a one.
+/// Answers a question about the calls, if it is such a one.
 pub fn answer_of_pairs(
-    alloc: Global,
+    answer: &mut String,
     pairs: &Pairs,
     asked: &str,
     words: &mut Words<'_>,
-) -> Result<Option<String>, LineFault> {
-    let answer = match asked {
-        "partner" => partner(alloc, pairs, words)?,
-        "call" => line_or_none(alloc, call(pairs, words.rank()?, words.number()?))?,
-        "wave" => pair_or_none(alloc, pairs.wave_of(words.rank()?, words.number()?))?,
+) -> Result<bool, LineFault> {
+    match asked {
+        "partner" => {
+            let (rank, place) = (words.rank()?, words.number()?);
+            add_pair(answer, pairs.partner(rank, place, half_in(words)?))?;
+        }
+        "call" => add_record(answer, call(pairs, words.rank()?, words.number()?))?,
+        "wave" => add_pair(answer, pairs.wave_of(words.rank()?, words.number()?))?,
         "member" => {
             let place = pairs.member(words.rank()?, words.number()?, words.rank()?);
-            number_or_none(alloc, place.map(u64::from))?
+            add_number(answer, place)?;
         }
         "started" => {
             let place = pairs.started(words.rank()?, words.number()?, words.number()?);
-            number_or_none(alloc, place.map(u64::from))?
+            add_number(answer, place)?;
         }
-        "completed" => number_or_none(alloc, completed(pairs, words)?.map(u64::from))?,
-        "probed" => pair_or_none(alloc, pairs.probed(words.rank()?, words.number()?))?,
-        "work" => number_or_none(alloc, Some(pairs.work()))?,
-        "added" => number_or_none(alloc, pairs.accepted(words.rank()?).map(u64::from))?,
-        "over" => yes_or_no(alloc, pairs.is_ended(words.rank()?))?,
-        _ => return Ok(None),
-    };
-    Ok(Some(answer))
+        "completed" => add_number(answer, completed(pairs, words)?)?,
+        "probed" => add_pair(answer, pairs.probed(words.rank()?, words.number()?))?,
+        "work" => write!(answer, "{}", pairs.work())?,
+        "added" => add_number(answer, pairs.accepted(words.rank()?))?,
+        "over" => add_yes_or_no(answer, pairs.is_ended(words.rank()?))?,
+        _ => return Ok(false),
+    }
+    Ok(true)
 }

@@ -4,7 +4,7 @@ ghost use Rattle.std.specs.Prelude.{◌≡◌, ◌<◌, length, OnOk};
 ghost use Rattle.moves.specs.Readings.{is_no_laxer};
 ghost use Rattle.pairing.specs.Recordings.{appended};
 
-use crate::answer::{add_number, or_none};
+use crate::answer::add_numbers;
 use crate::fault::LineFault;
 use crate::words::Words;
 use moves::analyser::Analyser;
@@ -125,16 +125,14 @@ fn ranks_held_back(
 
 /// What the first of two readings holds back of a run's ranks, over the calls that were offered to it.
 pub fn told_of_readings(
-    alloc: Global,
+    answer: &mut String,
     head: &[u8],
     run: &Analyser,
     words: &mut Words<'_>,
-) -> Result<String, LineFault> {
+) -> Result<(), LineFault> {
+    let alloc = *answer.allocator();
     let (first, second) = (reading_in(words)?, reading_in(words)?);
     let calls = calls_of(alloc, run)?;
-    let mut answer = String::new(alloc);
-    for rank in ranks_held_back(alloc, head, &calls, first, second)? {
-        add_number(alloc, &mut answer, u64::from(rank))?;
-    }
-    or_none(alloc, answer)
+    let ranks = ranks_held_back(alloc, head, &calls, first, second)?;
+    Ok(add_numbers(answer, &ranks)?)
 }

@@ -1,28 +1,28 @@
 //! What an analyser answers.
 
-use crate::answer::{add_number, line_or_none, number_or_none, pair_or_none, yes_or_no};
+use crate::answer::{add_number, add_pair, add_record, add_yes_or_no};
 use crate::calls::{calls_in, record_of};
 use crate::fault::LineFault;
 use crate::words::Words;
 use moves::analyser::{Analyser, OfferFault};
 use mpicall::record::Record;
-use std::alloc::Global;
+use std::alloc::{AllocError, Global};
 
-/// Offers a call, and tells why it is refused, if it is.
+/// Offers a call, adds why it is refused, if it is, and tells whether it was taken.
 fn offer_call(
-    alloc: Global,
+    answer: &mut String,
     run: &mut Analyser,
     rank: u16,
     call: &Record,
-) -> Result<Option<String>, LineFault> {
+) -> Result<bool, LineFault> {
     if rank >= run.head().ranks() {
         return Err(LineFault::Missing);
     }
     match run.offer(rank, call) {
-        Ok(()) => Ok(None),
+        Ok(()) => Ok(true),
         Err(OfferFault::Refused(fault)) => {
-            let told = format!(in alloc; "refused {} {fault}", fault.code())?;
-            Ok(Some(told))
+            write!(answer, "refused {} {fault}", fault.code())?;
+            Ok(false)
         }
         Err(OfferFault::Memory) => Err(LineFault::Memory),
     }
@@ -30,104 +30,111 @@ fn offer_call(
 
 /// Offers calls, up to the first that is refused.
 fn offer_calls(
-    alloc: Global,
+    answer: &mut String,
     run: &mut Analyser,
     calls: &[(u16, Record)],
-) -> Result<Option<String>, LineFault> {
+) -> Result<bool, LineFault> {
     for (rank, call) in calls {
-        if let Some(told) = offer_call(alloc, run, *rank, call)? {
-            return Ok(Some(told));
+        if !offer_call(answer, run, *rank, call)? {
+            return Ok(false);
         }
     }
-    Ok(None)
+    Ok(true)
 }
 
 /// Offers the calls of a text, so many times.
 pub fn offer(
-    alloc: Global,
+    answer: &mut String,
     run: &mut Analyser,
     times: u32,
     text: &str,
-) -> Result<String, LineFault> {
+) -> Result<(), LineFault> {
+    let alloc = *answer.allocator();
     let calls = calls_in(alloc, text)?;
     for _ in 0..times {
-        if let Some(told) = offer_calls(alloc, run, &calls)? {
-            return Ok(told);
+        if !offer_calls(answer, run, &calls)? {
+            return Ok(());
         }
     }
-    Ok("ok".to_string(alloc)?)
+    Ok(answer.push_str("ok")?)
 }
 
 /// Offers a rank's call so many times, and then its Finalize.
 fn offer_list(
-    alloc: Global,
+    answer: &mut String,
     run: &mut Analyser,
     rank: u16,
     call: &Record,
     times: u32,
-) -> Result<Option<String>, LineFault> {
+) -> Result<bool, LineFault> {
     for _ in 0..times {
-        if let Some(told) = offer_call(alloc, run, rank, call)? {
-            return Ok(Some(told));
+        if !offer_call(answer, run, rank, call)? {
+            return Ok(false);
         }
     }
-    offer_call(alloc, run, rank, &Record::finalize())
+    offer_call(answer, run, rank, &Record::finalize())
 }
 
 /// Offers of each rank, the last one first, a call so many times, and then its Finalize.
 pub fn offer_of_all(
-    alloc: Global,
+    answer: &mut String,
     run: &mut Analyser,
     times: u32,
     line: &str,
-) -> Result<String, LineFault> {
+) -> Result<(), LineFault> {
+    let alloc = *answer.allocator();
     let call = record_of(alloc, line)?;
     for rank in (0..run.head().ranks()).rev() {
-        if let Some(told) = offer_list(alloc, run, rank, &call, times)? {
-            return Ok(told);
+        if !offer_list(answer, run, rank, &call, times)? {
+            return Ok(());
         }
     }
-    Ok("ok".to_string(alloc)?)
+    Ok(answer.push_str("ok")?)
 }
 
-/// Where the ranks stand.
-pub fn stands(alloc: Global, run: &Analyser) -> Result<String, LineFault> {
-    let mut answer = String::new(alloc);
+/// Adds where the ranks stand.
+pub fn add_stands(answer: &mut String, run: &Analyser) -> Result<(), AllocError> {
+    let mut separator = "";
     for rank in 0..run.head().ranks() {
         if let Some(stand) = run.stand(rank) {
-            add_number(alloc, &mut answer, u64::from(stand))?;
+            write!(answer, "{separator}{stand}")?;
+            separator = " ";
         }
     }
-    Ok(answer)
+    Ok(())
 }
 
 /// Whether the touches are so many at least and at most, and else how many they are.
-fn touches(alloc: Global, run: &Analyser, words: &mut Words<'_>) -> Result<String, LineFault> {
+fn add_touches(
+    answer: &mut String,
+    run: &Analyser,
+    words: &mut Words<'_>,
+) -> Result<(), LineFault> {
     let (least, most) = (words.number()?, words.number()?);
     let touches = run.touches();
     if u64::from(least) <= touches && touches <= u64::from(most) {
-        Ok("within".to_string(alloc)?)
+        Ok(answer.push_str("within")?)
     } else {
-        Ok(format!(in alloc; "{touches}")?)
+        Ok(write!(answer, "{touches}")?)
     }
 }
 
-/// Answers a question about the run, if there is such a one.
+/// Answers a question about the run, if it is such a one.
 pub fn answer_of_run(
-    alloc: Global,
+    answer: &mut String,
     run: &Analyser,
     asked: &str,
     words: &mut Words<'_>,
-) -> Result<Option<String>, LineFault> {
-    let answer = match asked {
-        "stands" => stands(alloc, run)?,
-        "closed" => yes_or_no(alloc, run.is_closed())?,
-        "ended" => yes_or_no(alloc, run.is_ended(words.rank()?))?,
-        "accepted" => number_or_none(alloc, run.accepted(words.rank()?).map(u64::from))?,
-        "record" => line_or_none(alloc, run.record(words.rank()?, words.number()?))?,
-        "joins" => pair_or_none(alloc, run.pairs().wave_of(words.rank()?, words.number()?))?,
-        "touches" => touches(alloc, run, words)?,
-        _ => return Ok(None),
-    };
-    Ok(Some(answer))
+) -> Result<bool, LineFault> {
+    match asked {
+        "stands" => add_stands(answer, run)?,
+        "closed" => add_yes_or_no(answer, run.is_closed())?,
+        "ended" => add_yes_or_no(answer, run.is_ended(words.rank()?))?,
+        "accepted" => add_number(answer, run.accepted(words.rank()?))?,
+        "record" => add_record(answer, run.record(words.rank()?, words.number()?))?,
+        "joins" => add_pair(answer, run.pairs().wave_of(words.rank()?, words.number()?))?,
+        "touches" => add_touches(answer, run, words)?,
+        _ => return Ok(false),
+    }
+    Ok(true)
 }

@@ -2,10 +2,10 @@
 
 ghost use Rattle.std.specs.Prelude.{◌<◌};
 
-use crate::answer::{Alike, add_part, line_of};
+use crate::answer::{Alike, add_line};
 use crate::calls::{bytes_of, record_of};
 use crate::fault::LineFault;
-use crate::fields::fields_text;
+use crate::fields::add_values;
 use crate::words::Words;
 use mpicall::fault::{LineFault as TextFault, SourceFault};
 use mpicall::line::read_line;
@@ -15,7 +15,7 @@ use mpicall::source::Source;
 use mpicall::spelling::write_line;
 use mpigroup::fault::ReadFault;
 use mpigroup::head::Head;
-use std::alloc::Global;
+use std::alloc::{AllocError, Global};
 use std::sync::Wait;
 
 /// Adds a piece that stood behind a `\`.
@@ -32,13 +32,8 @@ fn add_escape(bytes: &mut Vec<u8>, piece: &str) -> Result<(), LineFault> {
 }
 
 /// Adds a text to bytes so many times: `\n`, `\r`, `\0` and `\ff` are the bytes 10, 13, 0 and 255.
-pub fn add_text(
-    alloc: Global,
-    bytes: &mut Vec<u8>,
-    times: u32,
-    text: &str,
-) -> Result<(), LineFault> {
-    let mut piece = Vec::new(alloc);
+pub fn add_text(bytes: &mut Vec<u8>, times: u32, text: &str) -> Result<(), LineFault> {
+    let mut piece = Vec::new(*bytes.allocator());
     let (plain, escaped) = match text.split_once('\\') {
         Some((plain, escaped)) => (plain, Some(escaped)),
         None => (text, None),
@@ -56,10 +51,11 @@ pub fn add_text(
 }
 
 /// What is told of a line: its first fault, or `ok` where its record is written as it was.
-pub fn told_of_line(alloc: Global, line: &[u8]) -> Result<String, LineFault> {
+pub fn told_of_line(answer: &mut String, line: &[u8]) -> Result<(), LineFault> {
+    let alloc = *answer.allocator();
     let record = match read_line(line) {
         Ok(record) => record,
-        Err(fault) => return Ok(format!(in alloc; "{} {fault}", fault.code())?),
+        Err(fault) => return Ok(write!(answer, "{} {fault}", fault.code())?),
     };
     let mut output = MemoryOutput::new(alloc);
     if write_line(&record, &mut output).is_err() {
@@ -70,27 +66,29 @@ pub fn told_of_line(alloc: Global, line: &[u8]) -> Result<String, LineFault> {
     } else {
         "written otherwise"
     };
-    Ok(told.to_string(alloc)?)
+    Ok(answer.push_str(told)?)
 }
 
 /// What is told of a text, as a line with its line feed.
-pub fn told_of_text(alloc: Global, text: &str) -> Result<String, LineFault> {
+pub fn told_of_text(answer: &mut String, text: &str) -> Result<(), LineFault> {
+    let alloc = *answer.allocator();
     let mut bytes = Vec::new(alloc);
-    add_text(alloc, &mut bytes, 1, text)?;
+    add_text(&mut bytes, 1, text)?;
     bytes.push(b'\n')?;
-    told_of_line(alloc, &bytes)
+    told_of_line(answer, &bytes)
 }
 
 /// The values of the call of a line, which is written as the line.
-pub fn values(alloc: Global, line: &str) -> Result<String, LineFault> {
+pub fn values(answer: &mut String, line: &str) -> Result<(), LineFault> {
+    let alloc = *answer.allocator();
     let record = record_of(alloc, line)?;
     let bytes = bytes_of(alloc, line)?;
-    let told = told_of_line(alloc, &bytes)?;
-    if told.as_str() == "ok" {
-        fields_text(alloc, &record.call())
-    } else {
-        Ok(told)
+    told_of_line(answer, &bytes)?;
+    if answer.as_str() == "ok" {
+        answer.clear();
+        add_values(answer, &record.call())?;
     }
+    Ok(())
 }
 
 /// The faults of a source, numbered from 0.
@@ -110,9 +108,9 @@ const FAULTS: [SourceFault; 12] = [
 ];
 
 /// The code and words of a fault of a source.
-pub fn fault_words(alloc: Global, words: &mut Words<'_>) -> Result<String, LineFault> {
+pub fn fault_words(answer: &mut String, words: &mut Words<'_>) -> Result<(), LineFault> {
     match FAULTS.get(words.number()? as usize) {
-        Some(fault) => Ok(format!(in alloc; "{} {fault}", fault.code())?),
+        Some(fault) => Ok(write!(answer, "{} {fault}", fault.code())?),
         None => Err(LineFault::Missing),
     }
 }
@@ -129,40 +127,53 @@ fn input_of(text: &[u8], most: usize) -> MemoryInput<'_> {
     }
 }
 
-fn trace_text(alloc: Global, told: Result<u64, LintFault>) -> Result<String, LineFault> {
+fn trace_text(alloc: Global, told: Result<u64, LintFault>) -> Result<String, AllocError> {
     match told {
-        Ok(count) => Ok(format!(in alloc; "{count} calls")?),
+        Ok(count) => format!(in alloc; "{count} calls"),
         Err(told) => {
             let fault = told.fault;
-            Ok(format!(in alloc; "call {} {} {fault}", told.call, fault.code())?)
+            format!(in alloc; "call {} {} {fault}", told.call, fault.code())
         }
     }
 }
 
-/// What is told of a text as a trace, by inputs that give pieces of any size: all that differ.
-pub fn told_of_trace(alloc: Global, text: &[u8], wait: &impl Wait) -> Result<String, LineFault> {
-    let mut alike = Alike::new(alloc);
+/// Adds what is told of a text as a trace, by inputs that give pieces of any size.
+fn add_told(
+    alloc: Global,
+    alike: &mut Alike,
+    text: &[u8],
+    wait: &impl Wait,
+) -> Result<(), AllocError> {
     for most in PIECES {
         let told = lint(&mut Source::new(input_of(text, most)), wait);
         alike.add(trace_text(alloc, told)?)?;
     }
-    Ok(alike.into_text())
+    Ok(())
+}
+
+/// What is told of a text as a trace: all that differ.
+pub fn told_of_trace(answer: &mut String, text: &[u8], wait: &impl Wait) -> Result<(), LineFault> {
+    let alloc = *answer.allocator();
+    let mut alike = Alike::new(alloc);
+    add_told(alloc, &mut alike, text, wait)?;
+    Ok(answer.push_str(alike.text())?)
 }
 
 /// What is told of the first bytes of a text as a trace, for each of these counts of bytes: all that differ.
 pub fn told_of_fronts(
-    alloc: Global,
+    answer: &mut String,
     text: &[u8],
     words: &mut Words<'_>,
     wait: &impl Wait,
-) -> Result<String, LineFault> {
+) -> Result<(), LineFault> {
+    let alloc = *answer.allocator();
     let (first, last) = (words.number()?, words.number()?);
     let mut alike = Alike::new(alloc);
     for count in first..=last {
         let front = text.get(..count as usize).ok_or(LineFault::Missing)?;
-        alike.add(told_of_trace(alloc, front, wait)?)?;
+        add_told(alloc, &mut alike, front, wait)?;
     }
-    Ok(alike.into_text())
+    Ok(answer.push_str(alike.text())?)
 }
 
 /// The lines of the records that a source gives, and its end.
@@ -172,34 +183,38 @@ fn records_text(
     count: usize,
 ) -> Result<String, LineFault> {
     let mut answer = String::new(alloc);
+    let mut separator = "";
     for _ in 0..count {
-        let part = match source.next() {
-            Ok(Some(record)) => line_of(alloc, &record)?,
-            Ok(None) => "end".to_string(alloc)?,
-            Err(fault) => format!(in alloc; "{} {fault}", fault.code())?,
-        };
-        add_part(&mut answer, " / ", part.as_str())?;
+        answer.push_str(separator)?;
+        match source.next() {
+            Ok(Some(record)) => add_line(&mut answer, &record)?,
+            Ok(None) => answer.push_str("end")?,
+            Err(fault) => write!(answer, "{} {fault}", fault.code())?,
+        }
+        separator = " / ";
     }
     Ok(answer)
 }
 
 /// What a source of a text gives when it is asked so often, by inputs that give pieces of any size: all that
 /// differ.
-pub fn records(alloc: Global, text: &[u8], words: &mut Words<'_>) -> Result<String, LineFault> {
+pub fn records(answer: &mut String, text: &[u8], words: &mut Words<'_>) -> Result<(), LineFault> {
+    let alloc = *answer.allocator();
     let count = words.number()? as usize;
     let mut alike = Alike::new(alloc);
     for most in PIECES {
         let mut source = Source::new(input_of(text, most));
         alike.add(records_text(alloc, &mut source, count)?)?;
     }
-    Ok(alike.into_text())
+    Ok(answer.push_str(alike.text())?)
 }
 
 /// What is told of a text as a head.
-pub fn told_of_head(alloc: Global, text: &[u8]) -> Result<String, LineFault> {
+pub fn told_of_head(answer: &mut String, text: &[u8]) -> Result<(), LineFault> {
+    let alloc = *answer.allocator();
     match Head::read(alloc, text) {
-        Ok(head) => Ok(format!(in alloc; "ranks {}, comms {}", head.ranks(), head.comms())?),
-        Err(ReadFault::Text(fault)) => Ok(format!(in alloc; "{fault}")?),
+        Ok(head) => Ok(write!(answer, "ranks {}, comms {}", head.ranks(), head.comms())?),
+        Err(ReadFault::Text(fault)) => Ok(write!(answer, "{fault}")?),
         Err(ReadFault::Memory) => Err(LineFault::Memory),
     }
 }

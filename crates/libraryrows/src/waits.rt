@@ -1,6 +1,6 @@
 //! What the wait graph, the findings and the report answer.
 
-use crate::answer::{add_number, add_part, escaped, or_none};
+use crate::answer::{add_escaped, add_numbers};
 use crate::fault::LineFault;
 use crate::words::Words;
 use moves::analyser::Analyser;
@@ -9,92 +9,77 @@ use mpicall::memory::MemoryOutput;
 use mpicall::word::{Collective, Name, Operation, Word};
 use pairing::pairs::Pairs;
 use reports::report::{Format, ReportFault, write_report};
-use std::alloc::Global;
+use std::alloc::{AllocError, Global};
 use waitgraph::cause::Cause;
 use waitgraph::finding::{Finding, findings};
 use waitgraph::graph::Graph;
 use waitgraph::verdict::Verdict;
 
-fn ranks_text(alloc: Global, ranks: &[u16]) -> Result<String, LineFault> {
-    let mut answer = String::new(alloc);
-    for rank in ranks {
-        add_number(alloc, &mut answer, u64::from(*rank))?;
-    }
-    Ok(answer)
-}
-
-/// `RANK PLACE` for a call that is waited for, and `RANK none` for one that is lacking.
-fn need_text(alloc: Global, need: Need) -> Result<String, LineFault> {
-    match need {
-        Need::At { rank, place } => Ok(format!(in alloc; "{rank} {place}")?),
-        Need::Lacking { rank } => Ok(format!(in alloc; "{rank} none")?),
-    }
-}
-
-fn needs_text(alloc: Global, needs: &[Need]) -> Result<String, LineFault> {
-    let mut answer = String::new(alloc);
+/// Adds `RANK PLACE` for each call that is waited for, and `RANK none` for one that is lacking.
+fn add_needs(answer: &mut String, needs: &[Need]) -> Result<(), AllocError> {
+    let mut separator = "";
     for need in needs {
-        let part = need_text(alloc, *need)?;
-        add_part(&mut answer, ", ", part.as_str())?;
-    }
-    or_none(alloc, answer)
-}
-
-fn cause_text(alloc: Global, cause: &Cause) -> Result<String, LineFault> {
-    match cause {
-        Cause::Cycle(ranks) => {
-            let ranks = ranks_text(alloc, ranks)?;
-            Ok(format!(in alloc; "cycle {ranks}")?)
+        match *need {
+            Need::At { rank, place } => write!(answer, "{separator}{rank} {place}")?,
+            Need::Lacking { rank } => write!(answer, "{separator}{rank} none")?,
         }
-        Cause::Missing { rank, peer } => Ok(format!(in alloc; "missing {rank} {peer}")?),
+        separator = ", ";
     }
+    Ok(())
 }
 
-fn causes_text(alloc: Global, causes: &[Cause]) -> Result<String, LineFault> {
-    let mut answer = String::new(alloc);
+fn add_causes(answer: &mut String, causes: &[Cause]) -> Result<(), AllocError> {
+    let mut separator = "";
     for cause in causes {
-        let part = cause_text(alloc, cause)?;
-        add_part(&mut answer, ", ", part.as_str())?;
+        match cause {
+            Cause::Cycle(ranks) => {
+                write!(answer, "{separator}cycle ")?;
+                add_numbers(answer, ranks)?;
+            }
+            Cause::Missing { rank, peer } => write!(answer, "{separator}missing {rank} {peer}")?,
+        }
+        separator = ", ";
     }
-    Ok(answer)
+    Ok(())
 }
 
-fn verdict_text(alloc: Global, verdict: Verdict) -> Result<String, LineFault> {
-    let word = match verdict {
+fn verdict_text(verdict: Verdict) -> &'static str {
+    match verdict {
         Verdict::Free => "free",
         Verdict::Hang => "hang",
         Verdict::Unfinished => "unfinished",
-    };
-    Ok(word.to_string(alloc)?)
+    }
 }
 
 fn answer_of_graph(
-    alloc: Global,
+    answer: &mut String,
     graph: &Graph,
     asked: &str,
     words: &mut Words<'_>,
-) -> Result<String, LineFault> {
+) -> Result<(), LineFault> {
     match asked {
-        "verdict" => verdict_text(alloc, graph.verdict()),
-        "stuck" => or_none(alloc, ranks_text(alloc, graph.stuck())?),
-        "held" => or_none(alloc, ranks_text(alloc, graph.held())?),
-        "unmet" => needs_text(alloc, graph.unmet(words.rank()?)),
-        _ => or_none(alloc, causes_text(alloc, graph.causes())?),
+        "verdict" => answer.push_str(verdict_text(graph.verdict()))?,
+        "stuck" => add_numbers(answer, graph.stuck())?,
+        "held" => add_numbers(answer, graph.held())?,
+        "unmet" => add_needs(answer, graph.unmet(words.rank()?))?,
+        _ => add_causes(answer, graph.causes())?,
     }
+    Ok(())
 }
 
 /// Answers a question about the wait graph of a run.
 pub fn answer_of_waits(
-    alloc: Global,
+    answer: &mut String,
     run: &Analyser,
     asked: &str,
     words: &mut Words<'_>,
-) -> Result<String, LineFault> {
+) -> Result<(), LineFault> {
+    let alloc = *answer.allocator();
     if !run.is_closed() {
         return Err(LineFault::Missing);
     }
     let graph = Graph::of(alloc, run)?;
-    answer_of_graph(alloc, &graph, asked, words)
+    answer_of_graph(answer, &graph, asked, words)
 }
 
 /// The word of a collective call that a finding may tell.
@@ -108,8 +93,8 @@ fn word_text(word: Word) -> &'static str {
     }
 }
 
-fn finding_text(alloc: Global, finding: Finding) -> Result<String, LineFault> {
-    let text = match finding {
+fn add_finding(answer: &mut String, finding: Finding) -> Result<(), AllocError> {
+    match finding {
         Finding::Kind {
             comm,
             wave,
@@ -118,7 +103,7 @@ fn finding_text(alloc: Global, finding: Finding) -> Result<String, LineFault> {
             word,
         } => {
             let (first, word) = (word_text(first), word_text(word));
-            format!(in alloc; "kind {comm} {wave} {member} {first} {word}")?
+            write!(answer, "kind {comm} {wave} {member} {first} {word}")
         }
         Finding::Root {
             comm,
@@ -126,43 +111,43 @@ fn finding_text(alloc: Global, finding: Finding) -> Result<String, LineFault> {
             member,
             first,
             root,
-        } => format!(in alloc; "root {comm} {wave} {member} {first} {root}")?,
-        Finding::Unreceived { rank, place } => format!(in alloc; "unreceived {rank} {place}")?,
-        Finding::Request { rank, place, req } => {
-            format!(in alloc; "request {rank} {place} {req}")?
-        }
-        Finding::Group { rank, place } => format!(in alloc; "group {rank} {place}")?,
-    };
-    Ok(text)
+        } => write!(answer, "root {comm} {wave} {member} {first} {root}"),
+        Finding::Unreceived { rank, place } => write!(answer, "unreceived {rank} {place}"),
+        Finding::Request { rank, place, req } => write!(answer, "request {rank} {place} {req}"),
+        Finding::Group { rank, place } => write!(answer, "group {rank} {place}"),
+    }
 }
 
 /// What else is wrong with the calls.
-pub fn findings_of(alloc: Global, pairs: &Pairs) -> Result<String, LineFault> {
-    let mut answer = String::new(alloc);
+pub fn findings_of(answer: &mut String, pairs: &Pairs) -> Result<(), LineFault> {
+    let alloc = *answer.allocator();
+    let mut separator = "";
     for finding in findings(alloc, pairs)? {
-        let part = finding_text(alloc, finding)?;
-        add_part(&mut answer, ", ", part.as_str())?;
+        answer.push_str(separator)?;
+        add_finding(answer, finding)?;
+        separator = ", ";
     }
-    or_none(alloc, answer)
+    Ok(())
 }
 
-fn report_in(alloc: Global, run: &Analyser, format: Format) -> Result<String, LineFault> {
+fn report_in(answer: &mut String, run: &Analyser, format: Format) -> Result<(), LineFault> {
+    let alloc = *answer.allocator();
     if !run.is_closed() {
         return Err(LineFault::Missing);
     }
     let graph = Graph::of(alloc, run)?;
     let mut out = MemoryOutput::new(alloc);
     match write_report(alloc, run, &graph, format, &mut out) {
-        Ok(()) => escaped(alloc, out.bytes()),
+        Ok(()) => add_escaped(answer, out.bytes()),
         Err(ReportFault::Memory | ReportFault::Write) => Err(LineFault::Memory),
     }
 }
 
 /// The report of a run, with `\n` for each line feed.
-pub fn report(alloc: Global, run: &Analyser, words: &mut Words<'_>) -> Result<String, LineFault> {
+pub fn report(answer: &mut String, run: &Analyser, words: &mut Words<'_>) -> Result<(), LineFault> {
     match words.word() {
-        "text" => report_in(alloc, run, Format::Text),
-        "json" => report_in(alloc, run, Format::Json),
+        "text" => report_in(answer, run, Format::Text),
+        "json" => report_in(answer, run, Format::Json),
         _ => Err(LineFault::Unread),
     }
 }
