@@ -6,67 +6,58 @@ use mpicall::fault::{LineFault, SourceFault};
 use mpigroup::fault::{HeadFault, HeadFaultKind};
 use pairing::fault::CallFault;
 
-/// A fault of a line, by the digit of its code.
-fn fault_of_line(digit: u8) -> Option<LineFault> {
-    match digit {
-        b'1' => Some(LineFault::EmptyField),
-        b'2' => Some(LineFault::UnknownWord),
-        b'3' => Some(LineFault::FieldCount),
-        b'4' => Some(LineFault::FieldForm),
-        b'5' => Some(LineFault::Wildcard),
-        b'6' => Some(LineFault::TooLong),
-        b'7' => Some(LineFault::NoLineFeed),
-        _ => None,
-    }
-}
+/// The faults of a line, of a source's end, of a call and of a head, in the order of their codes.
+const OF_LINE: [LineFault; 7] = [
+    LineFault::EmptyField,
+    LineFault::UnknownWord,
+    LineFault::FieldCount,
+    LineFault::FieldForm,
+    LineFault::Wildcard,
+    LineFault::TooLong,
+    LineFault::NoLineFeed,
+];
 
-/// A fault of the end of a source, by the digit of its code.
-fn fault_of_end(digit: u8) -> Option<SourceFault> {
-    match digit {
-        b'1' => Some(SourceFault::NoFinalize),
-        b'2' => Some(SourceFault::ReadFailed),
-        b'3' => Some(SourceFault::GateStopped),
-        b'4' => Some(SourceFault::ThreadNotStarted),
-        _ => None,
-    }
-}
+const OF_END: [SourceFault; 4] = [
+    SourceFault::NoFinalize,
+    SourceFault::ReadFailed,
+    SourceFault::GateStopped,
+    SourceFault::ThreadNotStarted,
+];
 
-/// A fault of a call, by the digit of its code.
-fn fault_of_call(digit: u8) -> Option<CallFault> {
-    match digit {
-        b'1' => Some(CallFault::UnknownCommunicator),
-        b'2' => Some(CallFault::CommunicatorNotHeld),
-        b'3' => Some(CallFault::PeerOutOfGroup),
-        b'4' => Some(CallFault::RequestInUse),
-        b'5' => Some(CallFault::RequestNotActive),
-        b'6' => Some(CallFault::RequestRepeated),
-        b'7' => Some(CallFault::WrongNewCommunicator),
-        b'8' => Some(CallFault::TooManyCalls),
-        b'9' => Some(CallFault::CallAfterFinalize),
-        _ => None,
-    }
-}
+const OF_CALL: [CallFault; 9] = [
+    CallFault::UnknownCommunicator,
+    CallFault::CommunicatorNotHeld,
+    CallFault::PeerOutOfGroup,
+    CallFault::RequestInUse,
+    CallFault::RequestNotActive,
+    CallFault::RequestRepeated,
+    CallFault::WrongNewCommunicator,
+    CallFault::TooManyCalls,
+    CallFault::CallAfterFinalize,
+];
 
-/// A fault of a head, by the digit of its code.
-fn fault_of_head(digit: u8) -> Option<HeadFaultKind> {
-    match digit {
-        b'1' => Some(HeadFaultKind::FirstLine),
-        b'2' => Some(HeadFaultKind::RankCount),
-        b'3' => Some(HeadFaultKind::CommLine),
-        b'4' => Some(HeadFaultKind::Group),
-        b'5' => Some(HeadFaultKind::TooManyComms),
-        b'6' => Some(HeadFaultKind::LineForm),
-        _ => None,
-    }
+const OF_HEAD: [HeadFaultKind; 6] = [
+    HeadFaultKind::FirstLine,
+    HeadFaultKind::RankCount,
+    HeadFaultKind::CommLine,
+    HeadFaultKind::Group,
+    HeadFaultKind::TooManyComms,
+    HeadFaultKind::LineForm,
+];
+
+/// The fault of these that the digit of a code names, from 1.
+fn numbered<T: Copy>(faults: &[T], digit: u8) -> Option<T> {
+    let before = digit.checked_sub(b'1')?;
+    faults.get(usize::from(before)).copied()
 }
 
 /// A fault of a rank, by its code.
 fn fault_of_rank(letter: u8, digit: u8) -> Option<RankFault> {
     match letter {
         b'L' if digit == b'8' => Some(RankFault::OfSource(SourceFault::TextAfterFinalize)),
-        b'L' => Some(RankFault::OfSource(SourceFault::Line(fault_of_line(digit)?))),
-        b'E' => Some(RankFault::OfSource(fault_of_end(digit)?)),
-        b'C' => Some(RankFault::OfCall(fault_of_call(digit)?)),
+        b'L' => Some(RankFault::OfSource(SourceFault::Line(numbered(&OF_LINE, digit)?))),
+        b'E' => Some(RankFault::OfSource(numbered(&OF_END, digit)?)),
+        b'C' => Some(RankFault::OfCall(numbered(&OF_CALL, digit)?)),
         _ => None,
     }
 }
@@ -74,7 +65,7 @@ fn fault_of_rank(letter: u8, digit: u8) -> Option<RankFault> {
 /// A fault of a rank's call or of a line of the head, by its code and its place.
 fn coded(letter: u8, digit: u8, place: u16, call: u32) -> Option<Fault<'static>> {
     if letter == b'H' {
-        let kind = fault_of_head(digit)?;
+        let kind = numbered(&OF_HEAD, digit)?;
         let line = u32::from(place);
         return Some(Fault::from(HeadFault { line, kind }));
     }
