@@ -49,6 +49,7 @@ pub mod fails_at;
 pub mod fault;
 pub mod fields;
 mod first_fault;
+pub mod laid;
 pub mod limits;
 pub mod line;
 pub mod lint;

@@ -95,17 +95,15 @@ impl Word {
             Call::Recv { .. } => Word::Blocking(Operation::Recv),
             Call::Isend { mode, .. } => Word::Started(Operation::Send(mode)),
             Call::Irecv { .. } => Word::Started(Operation::Recv),
-            Call::Sendrecv { .. } => Word::Named(Name::Sendrecv),
             Call::Wait { .. } => Word::Named(Name::Wait),
             Call::Waitall { .. } => Word::Named(Name::Waitall),
             Call::Waitany { .. } => Word::Named(Name::Waitany),
             Call::Coll { kind, .. } => Word::Blocking(Operation::Coll(name_of(kind))),
             Call::Icoll { kind, .. } => Word::Started(Operation::Coll(name_of(kind))),
-            Call::Dup { .. } => Word::Named(Name::Dup),
-            Call::Split { .. } => Word::Named(Name::Split),
-            Call::Probe { .. } => Word::Named(Name::Probe),
-            Call::Finalize => Word::Named(Name::Finalize),
-            Call::Open => Word::Named(Name::Open),
+            _ => match call.laid() {
+                Some((name, _)) => Word::Named(name),
+                None => Word::Named(Name::Finalize),
+            },
         }
     }
 
