@@ -1,5 +1,5 @@
 -- The calls that are no operation and no wait: a name, and what stands behind it by the layout of the name.
-use Rattle.std.specs.Prelude.{ℕ, Bool, true, false, Option, Some, None, List, [], ◌∷◌}
+use Rattle.std.specs.Prelude.{Bool, true, false, Option, Some, None, List, [], ◌∷◌}
 use Rattle.mpicall.specs.Argument.{Argument, PeerOf, Colour, Key, New, comm_argument, tag_argument, bytes_arguments}
 use Rattle.mpicall.specs.declared.call.Peer.TheVariants.{Null}
 use Rattle.mpicall.specs.declared.call.Call.{Call}
