@@ -15,9 +15,11 @@ use crate::beside::Beside;
 use crate::envelope::{Half, Message};
 use crate::slots::{PackedBytes, PackedPeer};
 use mpicall::call::{Kind, Mode, Peer};
+use mpicall::word::Name;
 use std::mem::size_of;
 
-/// A call, variant by variant as `Call`. A wait has the places that started its requests, and their numbers
+/// A call: an operation or a wait has a variant of its own, as in `Call`, and any other call that of its layout,
+/// with its name. A wait has the places that started its requests, and their numbers
 /// are read from the calls there. A wait for several says where these places stand in a list of its rank:
 /// `count` of them from `first` on.
 #[derive(Clone, Copy)]
@@ -48,14 +50,6 @@ pub(crate) enum Packed {
         source: PackedPeer,
         tag: u32,
     },
-    Sendrecv {
-        comm: u16,
-        dest: PackedPeer,
-        source: PackedPeer,
-        send_tag: u32,
-        recv_tag: u32,
-        bytes: PackedBytes,
-    },
     Wait {
         start: u32,
     },
@@ -77,23 +71,36 @@ pub(crate) enum Packed {
         comm: u16,
         kind: Kind,
     },
-    Dup {
+    Nothing {
+        name: Name,
+    },
+    Message {
+        name: Name,
+        comm: u16,
+        source: PackedPeer,
+        tag: u32,
+    },
+    Exchange {
+        name: Name,
+        comm: u16,
+        dest: PackedPeer,
+        source: PackedPeer,
+        send_tag: u32,
+        recv_tag: u32,
+        bytes: PackedBytes,
+    },
+    Copy {
+        name: Name,
         comm: u16,
         new: u16,
     },
     Split {
+        name: Name,
         comm: u16,
         colour: Option<u32>,
         key: i32,
         new: Option<u16>,
     },
-    Probe {
-        comm: u16,
-        source: PackedPeer,
-        tag: u32,
-    },
-    Finalize,
-    Open,
 }
 
 /// A call, and what is kept beside it.
@@ -123,7 +130,8 @@ impl Packed {
                 tag,
                 ..
             }
-            | Packed::Sendrecv {
+            | Packed::Exchange {
+                name: Name::Sendrecv,
                 comm,
                 dest,
                 send_tag: tag,
@@ -148,7 +156,8 @@ impl Packed {
                 tag,
                 ..
             }
-            | Packed::Sendrecv {
+            | Packed::Exchange {
+                name: Name::Sendrecv,
                 comm,
                 source,
                 recv_tag: tag,
@@ -179,7 +188,12 @@ impl Packed {
         ensures { (entries : List Entry) (starts : List ℕ) → result ≡ probed_message (unpack entries starts self.now) }
     {
         match *self {
-            Packed::Probe { comm, source, tag } => match source.peer() {
+            Packed::Message {
+                name: Name::Probe,
+                comm,
+                source,
+                tag,
+            } => match source.peer() {
                 Peer::Rank(peer) => Some(Message { comm, peer, tag }),
                 Peer::Null => None,
             },
@@ -205,7 +219,11 @@ impl Packed {
         match *self {
             Packed::Send { bytes, .. }
             | Packed::Isend { bytes, .. }
-            | Packed::Sendrecv { bytes, .. } => bytes.bytes(),
+            | Packed::Exchange {
+                name: Name::Sendrecv,
+                bytes,
+                ..
+            } => bytes.bytes(),
             _ => None,
         }
     }
@@ -240,8 +258,16 @@ impl Packed {
         match *self {
             Packed::Coll { comm, .. }
             | Packed::Icoll { comm, .. }
-            | Packed::Dup { comm, .. }
-            | Packed::Split { comm, .. } => Some(comm),
+            | Packed::Copy {
+                name: Name::Dup,
+                comm,
+                ..
+            }
+            | Packed::Split {
+                name: Name::Split,
+                comm,
+                ..
+            } => Some(comm),
             _ => None,
         }
     }
@@ -250,6 +276,11 @@ impl Packed {
     pub(crate) fn ends_list(&self) -> bool
         ensures { (entries : List Entry) (starts : List ℕ) → result ≡ ends_list (unpack entries starts self.now) }
     {
-        matches!(*self, Packed::Finalize | Packed::Open)
+        matches!(
+            *self,
+            Packed::Nothing {
+                name: Name::Finalize | Name::Open
+            }
+        )
     }
 }
