@@ -37,6 +37,7 @@ pub enum Laid {
 
 impl Call {
     /// The name of the call and what stands behind it; None for an operation and a wait.
+    #[inline(always)]
     pub fn laid(&self) -> Option<(Name, Laid)>
         ensures value { result ≡ laid_of self.now }
         ensures back { IfSome result (λ it. call_by it.0 it.1 ≡ self.now) }
@@ -87,6 +88,7 @@ impl Call {
 
 impl Name {
     /// The call of the name and what stands behind it; a receive from nobody where they don't go together.
+    #[inline(always)]
     pub fn call(self, laid: Laid) -> Call
         ensures { result ≡ call_by self laid }
     {

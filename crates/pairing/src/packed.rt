@@ -3,7 +3,7 @@
 
 ghost use Rattle.std.specs.Prelude.{◌≡◌, List, ℕ};
 ghost use Rattle.mpicall.specs.Ending.{ends_list};
-ghost use Rattle.pairing.specs.Envelopes.{message_of};
+ghost use Rattle.pairing.specs.Envelopes.{message, message_of};
 ghost use Rattle.pairing.specs.Requests.{starts};
 ghost use Rattle.pairing.specs.Waves.{joins};
 ghost use Rattle.pairing.specs.Pairs.{bytes_told, kind_of, mode_of};
@@ -15,6 +15,8 @@ use crate::beside::Beside;
 use crate::envelope::{Half, Message};
 use crate::slots::{PackedBytes, PackedPeer};
 use mpicall::call::{Kind, Mode, Peer};
+use mpicall::does::Does;
+use mpicall::laid::Laid;
 use mpicall::word::Name;
 use std::mem::size_of;
 
@@ -112,6 +114,17 @@ pub(crate) struct Entry {
 
 const _: () = prove!(size_of::<Entry>() <= 32);
 
+/// A message over a communicator; none where its other end is MPI_PROC_NULL.
+#[inline(always)]
+fn message_with(comm: u16, peer: Peer, tag: u32) -> Option<Message>
+    ensures { result ≡ message comm (record { peer = peer; tag = tag }) }
+{
+    match peer {
+        Peer::Rank(peer) => Some(Message { comm, peer, tag }),
+        Peer::Null => None,
+    }
+}
+
 impl Packed {
     /// The message that the call sends.
     fn sent(&self) -> Option<Message>
@@ -136,10 +149,7 @@ impl Packed {
                 dest,
                 send_tag: tag,
                 ..
-            } => match dest.peer() {
-                Peer::Rank(peer) => Some(Message { comm, peer, tag }),
-                Peer::Null => None,
-            },
+            } => message_with(comm, dest.peer(), tag),
             _ => None,
         }
     }
@@ -162,10 +172,7 @@ impl Packed {
                 source,
                 recv_tag: tag,
                 ..
-            } => match source.peer() {
-                Peer::Rank(peer) => Some(Message { comm, peer, tag }),
-                Peer::Null => None,
-            },
+            } => message_with(comm, source.peer(), tag),
             _ => None,
         }
     }
@@ -187,16 +194,22 @@ impl Packed {
     pub(crate) fn probed(&self) -> Option<Message>
         ensures { (entries : List Entry) (starts : List ℕ) → result ≡ probed_message (unpack entries starts self.now) }
     {
-        match *self {
-            Packed::Message {
-                name: Name::Probe,
+        let Packed::Message {
+            name,
+            comm,
+            source,
+            tag,
+        } = *self
+        else {
+            return None;
+        };
+        let source = source.peer();
+        match name.call(Laid::Message { comm, source, tag }).does() {
+            Does::Exchanges {
                 comm,
-                source,
-                tag,
-            } => match source.peer() {
-                Peer::Rank(peer) => Some(Message { comm, peer, tag }),
-                Peer::Null => None,
-            },
+                probed: Some(side),
+                ..
+            } => message_with(comm, side.peer, side.tag),
             _ => None,
         }
     }
