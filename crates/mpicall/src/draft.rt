@@ -167,7 +167,7 @@ impl Draft {
         ensures value { self.new ≡ text_of word }
         ensures short { length self.new ≤ 10 }
     {
-        self.push_all(word.start().as_bytes());
+        self.push_all(word.letter().as_bytes());
         self.push_all(word.stem().as_bytes());
     }
 
