@@ -36,7 +36,7 @@ pub enum Does {
 impl Does {
     /// It sends a message.
     #[inline(always)]
-    fn sends(comm: u16, peer: Peer, tag: u32) -> Does
+    pub fn sends(comm: u16, peer: Peer, tag: u32) -> Does
         ensures { result ≡ Does.Exchanges comm (Some (record { peer = peer; tag = tag })) None None }
     {
         Does::Exchanges {
@@ -49,7 +49,7 @@ impl Does {
 
     /// It receives a message.
     #[inline(always)]
-    fn receives(comm: u16, peer: Peer, tag: u32) -> Does
+    pub fn receives(comm: u16, peer: Peer, tag: u32) -> Does
         ensures { result ≡ Does.Exchanges comm None (Some (record { peer = peer; tag = tag })) None }
     {
         Does::Exchanges {

@@ -46,6 +46,15 @@ unpack_starts starts (Waitall first count) = part starts first count
 unpack_starts starts (Waitany chosen first count) = part starts first count
 unpack_starts starts _ = []
 
+-- the call of a name and what stands behind it; none of an operation and of a wait
+abbrev pub plain_of : Packed → Option Call
+plain_of (Nothing name) = Some (call_by name laid.Nothing)
+plain_of (Message name comm source tag) = Some (call_by name (laid.Message comm source tag))
+plain_of (Exchange name comm dest source send_tag recv_tag bytes) = Some (call_by name (laid.Exchange comm dest send_tag source recv_tag bytes))
+plain_of (Copy name comm new) = Some (call_by name (laid.Copy comm new))
+plain_of (Split name comm colour key new) = Some (call_by name (laid.Split comm colour key new))
+plain_of _ = None
+
 -- the call: a wait names the requests that the calls at its starts start
 abbrev pub unpack : List Entry → List ℕ → Packed → Call
 unpack entries starts (Send mode comm dest tag bytes) = made.Send mode comm dest tag bytes
@@ -57,11 +66,7 @@ unpack entries starts (Waitall first count) = made.Waitall (reqs_at entries (par
 unpack entries starts (Waitany chosen first count) = made.Waitany chosen (reqs_at entries (part starts first count))
 unpack entries starts (Coll comm kind) = made.Coll comm kind
 unpack entries starts (Icoll req comm kind) = made.Icoll req comm kind
-unpack entries starts (Nothing name) = call_by name laid.Nothing
-unpack entries starts (Message name comm source tag) = call_by name (laid.Message comm source tag)
-unpack entries starts (Exchange name comm dest source send_tag recv_tag bytes) = call_by name (laid.Exchange comm dest send_tag source recv_tag bytes)
-unpack entries starts (Copy name comm new) = call_by name (laid.Copy comm new)
-unpack entries starts (Split name comm colour key new) = call_by name (laid.Split comm colour key new)
+unpack entries starts packed = unwrap_or (plain_of packed) made.Finalize
 
 -- how long the list of starts is at least
 abbrev pub end_of : Packed → ℕ

@@ -2,22 +2,23 @@
 //! several names 4 more.
 
 ghost use Rattle.std.specs.Prelude.{◌≡◌, List, ℕ};
+ghost use Rattle.mpicall.specs.Does.{does_of};
 ghost use Rattle.mpicall.specs.Ending.{ends_list};
 ghost use Rattle.pairing.specs.Envelopes.{message, message_of};
 ghost use Rattle.pairing.specs.Requests.{starts};
 ghost use Rattle.pairing.specs.Waves.{joins};
 ghost use Rattle.pairing.specs.Pairs.{bytes_told, kind_of, mode_of};
 ghost use Rattle.pairing.specs.Probed.{probed_message};
-ghost use Rattle.pairing.specs.Packed.{request_of, unpack};
+ghost use Rattle.pairing.specs.Packed.{request_of, plain_of, unpack};
 ghost use Rattle.pairing.specs.declared.packed.Entry.{Entry};
 
 use crate::beside::Beside;
 use crate::envelope::{Half, Message};
 use crate::slots::{PackedBytes, PackedPeer};
-use mpicall::call::{Kind, Mode, Peer};
-use mpicall::does::Does;
+use mpicall::call::{Call, Kind, Mode, Peer};
+use mpicall::does::{Does, Side};
 use mpicall::laid::Laid;
-use mpicall::word::Name;
+use mpicall::word::{Name, root_of};
 use std::mem::size_of;
 
 /// A call: an operation or a wait has a variant of its own, as in `Call`, and any other call that of its layout,
@@ -116,19 +117,75 @@ const _: () = prove!(size_of::<Entry>() <= 32);
 
 /// A message over a communicator; none where its other end is MPI_PROC_NULL.
 #[inline(always)]
-fn message_with(comm: u16, peer: Peer, tag: u32) -> Option<Message>
-    ensures { result ≡ message comm (record { peer = peer; tag = tag }) }
+fn message_with(comm: u16, side: Side) -> Option<Message>
+    ensures { result ≡ message comm side }
 {
-    match peer {
-        Peer::Rank(peer) => Some(Message { comm, peer, tag }),
+    match side.peer {
+        Peer::Rank(peer) => Some(Message {
+            comm,
+            peer,
+            tag: side.tag,
+        }),
         Peer::Null => None,
     }
 }
 
 impl Packed {
-    /// The message that the call sends.
-    fn sent(&self) -> Option<Message>
-        ensures { (entries : List Entry) (starts : List ℕ) → result ≡ message_of Half.Send (unpack entries starts self.now) }
+    /// The call of a name and what stands behind it; None for an operation and a wait.
+    #[inline(always)]
+    pub(crate) fn plain(&self) -> Option<Call>
+        ensures { result ≡ plain_of self.now }
+    {
+        let call = match *self {
+            Packed::Nothing { name } => name.call(Laid::Nothing),
+            Packed::Message {
+                name,
+                comm,
+                source,
+                tag,
+            } => name.call(Laid::Message {
+                comm,
+                source: source.peer(),
+                tag,
+            }),
+            Packed::Exchange {
+                name,
+                comm,
+                dest,
+                source,
+                send_tag,
+                recv_tag,
+                bytes,
+            } => name.call(Laid::Exchange {
+                comm,
+                dest: dest.peer(),
+                send_tag,
+                source: source.peer(),
+                recv_tag,
+                bytes: bytes.bytes(),
+            }),
+            Packed::Copy { name, comm, new } => name.call(Laid::Copy { comm, new }),
+            Packed::Split {
+                name,
+                comm,
+                colour,
+                key,
+                new,
+            } => name.call(Laid::Split {
+                comm,
+                colour,
+                key,
+                new,
+            }),
+            _ => return None,
+        };
+        Some(call)
+    }
+
+    /// What the call does over its communicator.
+    #[inline(always)]
+    fn does(&self) -> Does
+        ensures { (entries : List Entry) (starts : List ℕ) → result ≡ does_of (unpack entries starts self.now) }
     {
         match *self {
             Packed::Send {
@@ -142,38 +199,23 @@ impl Packed {
                 dest,
                 tag,
                 ..
-            }
-            | Packed::Exchange {
-                name: Name::Sendrecv,
-                comm,
-                dest,
-                send_tag: tag,
-                ..
-            } => message_with(comm, dest.peer(), tag),
-            _ => None,
-        }
-    }
-
-    /// The message that the call receives.
-    fn received(&self) -> Option<Message>
-        ensures { (entries : List Entry) (starts : List ℕ) → result ≡ message_of Half.Recv (unpack entries starts self.now) }
-    {
-        match *self {
+            } => Does::sends(comm, dest.peer(), tag),
             Packed::Recv { comm, source, tag }
             | Packed::Irecv {
                 comm,
                 source,
                 tag,
                 ..
-            }
-            | Packed::Exchange {
-                name: Name::Sendrecv,
+            } => Does::receives(comm, source.peer(), tag),
+            Packed::Coll { comm, kind } | Packed::Icoll { comm, kind, .. } => Does::Joins {
                 comm,
-                source,
-                recv_tag: tag,
-                ..
-            } => message_with(comm, source.peer(), tag),
-            _ => None,
+                root: root_of(kind),
+                made: None,
+            },
+            _ => match self.plain() {
+                Some(call) => call.does(),
+                None => Does::Alone,
+            },
         }
     }
 
@@ -183,9 +225,24 @@ impl Packed {
     pub(crate) fn message(&self, half: Half) -> Option<Message>
         ensures { (entries : List Entry) (starts : List ℕ) → result ≡ message_of half (unpack entries starts self.now) }
     {
-        match half {
-            Half::Send => self.sent(),
-            Half::Recv => self.received(),
+        match (half, self.does()) {
+            (
+                Half::Send,
+                Does::Exchanges {
+                    comm,
+                    sent: Some(side),
+                    ..
+                },
+            )
+            | (
+                Half::Recv,
+                Does::Exchanges {
+                    comm,
+                    received: Some(side),
+                    ..
+                },
+            ) => message_with(comm, side),
+            _ => None,
         }
     }
 
@@ -194,22 +251,12 @@ impl Packed {
     pub(crate) fn probed(&self) -> Option<Message>
         ensures { (entries : List Entry) (starts : List ℕ) → result ≡ probed_message (unpack entries starts self.now) }
     {
-        let Packed::Message {
-            name,
-            comm,
-            source,
-            tag,
-        } = *self
-        else {
-            return None;
-        };
-        let source = source.peer();
-        match name.call(Laid::Message { comm, source, tag }).does() {
+        match self.does() {
             Does::Exchanges {
                 comm,
                 probed: Some(side),
                 ..
-            } => message_with(comm, side.peer, side.tag),
+            } => message_with(comm, side),
             _ => None,
         }
     }
@@ -268,19 +315,8 @@ impl Packed {
     pub(crate) fn joins(&self) -> Option<u16>
         ensures { (entries : List Entry) (starts : List ℕ) → result ≡ joins (unpack entries starts self.now) }
     {
-        match *self {
-            Packed::Coll { comm, .. }
-            | Packed::Icoll { comm, .. }
-            | Packed::Copy {
-                name: Name::Dup,
-                comm,
-                ..
-            }
-            | Packed::Split {
-                name: Name::Split,
-                comm,
-                ..
-            } => Some(comm),
+        match self.does() {
+            Does::Joins { comm, .. } => Some(comm),
             _ => None,
         }
     }

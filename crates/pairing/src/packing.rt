@@ -272,46 +272,6 @@ pub(crate) fn unpack(packed: &Packed, entries: &[Entry], starts: &[u32]) -> Call
         },
         Packed::Coll { comm, kind } => Call::Coll { comm, kind },
         Packed::Icoll { req, comm, kind } => Call::Icoll { req, comm, kind },
-        Packed::Nothing { name } => name.call(Laid::Nothing),
-        Packed::Message {
-            name,
-            comm,
-            source,
-            tag,
-        } => name.call(Laid::Message {
-            comm,
-            source: source.peer(),
-            tag,
-        }),
-        Packed::Exchange {
-            name,
-            comm,
-            dest,
-            source,
-            send_tag,
-            recv_tag,
-            bytes,
-        } => name.call(Laid::Exchange {
-            comm,
-            dest: dest.peer(),
-            send_tag,
-            source: source.peer(),
-            recv_tag,
-            bytes: bytes.bytes(),
-        }),
-        Packed::Copy { name, comm, new } => name.call(Laid::Copy { comm, new }),
-        Packed::Split {
-            name,
-            comm,
-            colour,
-            key,
-            new,
-        } => name.call(Laid::Split {
-            comm,
-            colour,
-            key,
-            new,
-        }),
         Packed::Wait { start } => Call::Wait {
             req: req_at(entries, start),
         },
@@ -325,6 +285,10 @@ pub(crate) fn unpack(packed: &Packed, entries: &[Entry], starts: &[u32]) -> Call
         } => Call::Waitany {
             chosen,
             reqs: reqs_at(entries, part(starts, first, count)),
+        },
+        _ => match packed.plain() {
+            Some(call) => call,
+            None => Call::Finalize,
         },
     }
 }
