@@ -1,5 +1,5 @@
 -- The field of an argument is read as that argument, and what is read as an argument was spelled so.
-use Rattle.std.proofs.Common.{◌≡◌, ℕ, ◌+◌, ◌<◌, ◌≤◌, ◌^◌, ◌≢◌, ℤ, pos, negsuc, Bool, true, false, List, [], ◌∷◌, length, get_or, sym, ap, ◌∙◌, refl, arith, Option, Some, None, cond, nat_le, nat_lt, ◌&&◌, ◌==◌, codes, option_map, suc, zero}
+use Rattle.std.proofs.Common.{◌≡◌, ℕ, ◌+◌, ◌<◌, ◌≤◌, ◌^◌, ◌≢◌, ℤ, pos, negsuc, Bool, true, false, List, [], ◌∷◌, length, get_or, sym, ap, ◌∙◌, refl, arith, Option, Some, None, cond, nat_le, nat_lt, ◌==◌, codes, option_map, suc, zero}
 use Rattle.std.specs.Fmt.{decimal, signed_decimal}
 use Rattle.std.specs.Int.{IsInRange}
 use Rattle.std.specs.List.{list_all}
@@ -10,6 +10,7 @@ use Rattle.std.proofs.lemmas.Slice.Eq.{bytes_eq-Decides}
 use Rattle.std.proofs.lemmas.Bool.Decides.{nat_tests}
 use Rattle.std.proofs.lemmas.List.Elements.{All-from_get_or}
 use Rattle.std.proofs.lemmas.List.Sums.{list_all-from_AllPass}
+use Rattle.std.proofs.lemmas.Bool.{false_from_ne_true}
 use Rattle.mpicall.proofs.DecimalLemmas.{number-decimal, number-of-decimal}
 use Rattle.mpicall.specs.Number.{number_up_to, signed_of, negative, negative_of, minus}
 use Rattle.mpicall.specs.Argument.{Argument, Number, PeerOf, Colour, Key, New, Form, NumberUpTo, PeerForm, ColourForm, KeyForm, NewForm, spell, is_in_range, none_or_up_to, key_in_range, peer_in_range, form_of, read_argument, read_number_or, read_peer, number_or, peer_field}
@@ -32,15 +33,6 @@ le_from n limit h = grind (arith, nat_tests)
 pub le_to : (n limit : ℕ) → n ≤ limit → nat_le n limit ≡ true
 le_to n limit h = grind (arith, nat_tests)
 
-pub and_true : (a b : Bool) → (a && b) ≡ true → (a ≡ true) × (b ≡ true)
-and_true true true e = (refl, refl)
-and_true true false e = cc
-and_true false b e = cc
-
-pub false_unless : (b : Bool) → (b ≡ true → ⊥) → b ≡ false
-false_unless true h = absurd (h refl)
-false_unless false h = refl
-
 -- Numbers as fields.
 
 first_digit : (n : ℕ) → n < 2 ^ 64 → IsInRange 48 57 (get_or (decimal n) 0 0)
@@ -51,7 +43,7 @@ first_digit n fits =
 -- a number isn't a text of letters
 not_text : (n : ℕ) (text : List ℕ) → n < 2 ^ 64 → 57 < get_or text 0 0 → bytes_eq (decimal n) text ≡ false
 not_text n text fits letter =
-    false_unless _ (λ same.
+    false_from_ne_true _ (λ same.
     let is : decimal n ≡ text = (bytes_eq-Decides (decimal n) text).0 same in
     let first : get_or (decimal n) 0 0 ≡ get_or text 0 0 = ap (λ (xs : List ℕ). get_or xs 0 0) is in
     let digit = first_digit n fits in
@@ -156,7 +148,7 @@ key_is_field (negsuc n) h =
       clean = digits.clean;
       some = omega arith;
       short = omega (arith, length-decimal-le 10 (suc n) (omega arith) (omega arith) (omega arith));
-      not_any = false_unless _ (λ same.
+      not_any = false_from_ne_true _ (λ same.
           let is = (bytes_eq-Decides (45 ∷ decimal (suc n)) (codes "any")).0 same in
           let first : 45 ≡ 97 = ap (λ (xs : List ℕ). get_or xs 0 0) is in
           omega arith);
@@ -175,7 +167,7 @@ record Spelled (field : List ℕ) (a : Argument) : Type 0 where
   pub field_is : field ≡ spell a
   pub in_range : is_in_range a ≡ true
 
-map_some : {A B : Type 0} (f : A → B) (o : Option A) (b : B) → option_map f o ≡ Some b → (x : A) × (o ≡ Some x) × (b ≡ f x)
+pub map_some : {A B : Type 0} (f : A → B) (o : Option A) (b : B) → option_map f o ≡ Some b → (x : A) × (o ≡ Some x) × (b ≡ f x)
 map_some f (Some x) b e = (x, refl, cc)
 map_some f None b e = cc
 

@@ -3,7 +3,8 @@ use Rattle.std.proofs.Common.{◌≡◌, ℕ, true, not, List, [], ◌∷◌, �
 use Rattle.std.specs.List.{join_with_byte, list_all}
 use Rattle.std.proofs.lemmas.Bool.Decides.{nat_tests}
 use Rattle.std.proofs.lemmas.List.Folds.{list_all-append}
-use Rattle.mpicall.proofs.ArgumentLemmas.{above_space, and_true}
+use Rattle.std.proofs.lemmas.Bool.{and_parts}
+use Rattle.mpicall.proofs.ArgumentLemmas.{above_space}
 use Rattle.mpicall.proofs.CallLemmas.{AllFields, call_fields}
 use Rattle.mpicall.proofs.LineLemmas.{spelling_read}
 use Rattle.mpicall.proofs.WordLemmas.{text_is}
@@ -24,7 +25,7 @@ no_feed byte h = grind (arith, nat_tests)
 clean_without_feed : (bytes : List ℕ) → list_all above_space bytes ≡ true → WithoutFeed bytes
 clean_without_feed [] h = refl
 clean_without_feed (byte ∷ bytes) h =
-    let parts = and_true (above_space byte) (list_all above_space bytes) h in
+    let parts = and_parts (above_space byte) (list_all above_space bytes) h in
     rw (no_feed byte parts.0, clean_without_feed bytes parts.1) refl
 
 join_without_feed : (word : List ℕ) (fields : List (List ℕ)) → list_all above_space word ≡ true → AllFields fields → WithoutFeed (join_with_byte space (word ∷ fields))
@@ -39,7 +40,7 @@ body_without_feed x h = join_without_feed (text_of (word_of_call x)) (map spell 
 
 pub no_feed_here : (byte : ℕ) (bytes : List ℕ) → WithoutFeed (byte ∷ bytes) → byte ≡ line_feed → ⊥
 no_feed_here byte bytes h is =
-    let parts = and_true (not (byte == line_feed)) (list_all (λ b. not (b == line_feed)) bytes) h in
+    let parts = and_parts (not (byte == line_feed)) (list_all (λ b. not (b == line_feed)) bytes) h in
     grind (arith, nat_tests, parts.0)
 
 -- the first line feed of a text is in one place
@@ -50,8 +51,8 @@ same_cut (x ∷ xs) [] rest hx hy e = let is : x ≡ line_feed = cc in absurd (n
 same_cut (x ∷ xs) (y ∷ ys) rest hx hy e =
     let tails : xs ++ line_feed ∷ rest ≡ ys ++ line_feed ∷ [] = cc in
     let heads : x ≡ y = cc in
-    let px = and_true (not (x == line_feed)) (list_all (λ b. not (b == line_feed)) xs) hx in
-    let py = and_true (not (y == line_feed)) (list_all (λ b. not (b == line_feed)) ys) hy in
+    let px = and_parts (not (x == line_feed)) (list_all (λ b. not (b == line_feed)) xs) hx in
+    let py = and_parts (not (y == line_feed)) (list_all (λ b. not (b == line_feed)) ys) hy in
     let deeper = same_cut xs ys rest px.1 py.1 tails in
     let both = deeper.0 in
     (cc, deeper.1)

@@ -6,6 +6,7 @@ use Rattle.std.specs.List.{list_all}
 use Rattle.std.proofs.lemmas.Bool.Decides.{nat_tests}
 use Rattle.std.proofs.lemmas.List.{length-map, map-append, append-nil}
 use Rattle.std.proofs.lemmas.List.Folds.{list_all-append}
+use Rattle.std.proofs.lemmas.Bool.{and_parts, and_from}
 use Rattle.mpicall.specs.Argument.{Argument, Form, NumberUpTo, Number, spell, is_in_range, is_in_form, request_form, bytes_form, request_argument, index_form, read_argument}
 use Rattle.mpicall.specs.Limits.{in_ranges, names_enough}
 use Rattle.mpicall.specs.Line.{Shape, Fixed, Chosen, shape_of, root_forms, bytes_forms, operation_forms, takes_count, each_in_form, all_requests, all_in_form, fits, fits_line}
@@ -15,8 +16,8 @@ use Rattle.mpicall.specs.Spelling.{word_of_call, arguments_of, fields_of}
 use Rattle.mpicall.specs.Word.{word_of, text_of}
 use Rattle.mpicall.proofs.WordLemmas.{word_has}
 use Rattle.mpicall.proofs.DecimalLemmas.{number-decimal}
-use Rattle.mpicall.proofs.ArgumentLemmas.{small_form, and_true, le_to, le_from, argument_spelled}
-use Rattle.mpicall.proofs.RowLemmas.{row_spelled, row_length, row_none}
+use Rattle.mpicall.proofs.ArgumentLemmas.{small_form, le_to, le_from, argument_spelled}
+use Rattle.mpicall.proofs.RowLemmas.{as_many, row_spelled, row_length, row_none}
 use Rattle.mpicall.specs.declared.call.Call.{Call}
 use Rattle.mpicall.specs.declared.call.Call.TheVariants.{Waitany}
 use Rattle.mpicall.specs.declared.word.Collective.TheVariants.{Barrier}
@@ -56,19 +57,6 @@ word_small (Started o) count = operation_small o (count - 1)
 word_small (Named name.Sendrecv) count = bytes_small 5 count
 word_small _ count = refl
 
-abbrev is_fixed : Shape → Bool
-is_fixed (Fixed forms) = true
-is_fixed _ = false
-
--- a word whose forms are fixed names no list of requests
-pub lists_none : Word → Bool
-lists_none (Named name.Waitall) = false
-lists_none (Named name.Waitany) = false
-lists_none _ = true
-
-pub both : (a b : Bool) → a ≡ true → b ≡ true → (a && b) ≡ true
-both a b ha hb = rw (ha, hb) refl
-
 not_both : (a b : Bool) → (a ≡ true → b ≡ false) → (a && b) ≡ false
 not_both true b h = h refl
 not_both false b h = refl
@@ -77,7 +65,7 @@ pub fixed_all : (w : Word) (forms : List Form) (fields : List (List ℕ)) (call 
 fixed_all w forms fields call is taken word enough =
     let small : list_all small_form forms ≡ true = ap shape_small (sym is) ∙ word_small w (length fields) in
     let spelled = row_spelled forms fields (arguments_of call) [] small taken in
-    (spelled.fields_are ∙ append-nil (map spell (arguments_of call)), word, both _ _ spelled.in_range enough)
+    (spelled.fields_are ∙ append-nil (map spell (arguments_of call)), word, and_from _ _ spelled.in_range enough)
 
 fixed_more : (w : Word) (forms : List Form) (fields : List (List ℕ)) (args : List Argument) (field : List ℕ) (behind : List (List ℕ)) → shape_of w (length fields) ≡ Fixed forms → take_arguments forms fields ≡ Some (args, field ∷ behind) → fits w fields ≡ false
 fixed_more w forms fields args field behind is taken =
@@ -196,7 +184,7 @@ pub requests_end : (all : List (List ℕ)) (reqs : List ℕ) → SoFar all reqs 
 requests_end all reqs s = record {
   fields_are = s.fields_are ∙ append-nil (map spell (map request_argument reqs));
   in_range = s.in_range;
-  enough = both _ _ (le_to 1 (length reqs) s.least) (le_to (length reqs) 64 s.most);
+  enough = and_from _ _ (le_to 1 (length reqs) s.least) (le_to (length reqs) 64 s.most);
 }
 
 -- A chosen request and the list in which it is.
@@ -229,7 +217,7 @@ greater_none a b n field h e = canonical_above (is_canonical field) (value_of fi
 chosen_unfit : (field : List ℕ) (left : List (List ℕ)) → (nat_le (length left) 64 ≡ true → number_up_to (length left - 1) field ≡ None) → fits (Named name.Waitany) (field ∷ left) ≡ false
 chosen_unfit field left none =
     not_both (takes_count Chosen (length (field ∷ left))) (all_in_form Chosen (field ∷ left)) (λ counts.
-    let parts = and_true (nat_le 2 (length (field ∷ left))) (nat_le (length (field ∷ left)) 65) counts in
+    let parts = and_parts (nat_le 2 (length (field ∷ left))) (nat_le (length (field ∷ left)) 65) counts in
     let most = le_from (length (field ∷ left)) 65 parts.1 in
     let no = none (le_to (length left) 64 (omega arith)) in
     rw no refl)
@@ -275,13 +263,10 @@ pub list_unfit : (all : List (List ℕ)) (chosen : ℕ) (left : List (List ℕ))
 list_unfit all chosen left i e =
     ap (fits (Named name.Waitany)) i.all_are ∙ unfit_list (length left) (is_in_form (index_form (length left)) i.field) (all_requests left) e
 
-as_many : (reqs : List ℕ) → length (map spell (map request_argument reqs)) ≡ length reqs
-as_many reqs = length-map (map request_argument reqs) spell ∙ length-map reqs request_argument
-
 pub index_unfit : (all : List (List ℕ)) (chosen : ℕ) (left : List (List ℕ)) (reqs : List ℕ) → Index all chosen left → SpellsRequests left reqs → length reqs ≤ chosen → fits (Named name.Waitany) all ≡ false
 index_unfit all chosen left reqs i s above =
     let count = ap length s.fields_are ∙ as_many reqs in
-    let enough = and_true (nat_le 1 (length reqs)) (nat_le (length reqs) 64) s.enough in
+    let enough = and_parts (nat_le 1 (length reqs)) (nat_le (length reqs) 64) s.enough in
     let least = le_from 1 (length reqs) enough.0 in
     ap (fits (Named name.Waitany)) i.all_are
     ∙ chosen_unfit i.field left (λ few. greater_none (length left - 1) 63 chosen i.field (omega arith) i.number_is)
@@ -294,7 +279,7 @@ index_fits all chosen left reqs i s below =
     let text = number-decimal 63 chosen i.field (omega arith) i.number_is in
     let in_list : nat_le chosen (length reqs - 1) ≡ true = le_to chosen (length reqs - 1) (omega arith) in
     let fields : i.field ∷ left ≡ decimal chosen ∷ map spell (map request_argument reqs) = with_first i.field chosen left reqs text.0 s.fields_are in
-    (i.all_are ∙ fields, refl, both _ _ (both _ _ in_list s.in_range) s.enough)
+    (i.all_are ∙ fields, refl, and_from _ _ (and_from _ _ in_list s.in_range) s.enough)
 
 -- The fields of a whole line.
 

@@ -9,10 +9,10 @@ use Rattle.mpicall.specs.Limits.{in_ranges, names_enough, few_enough}
 use Rattle.mpicall.specs.Line.{Fixed, shape_of, root_forms, all_requests, fits}
 use Rattle.mpicall.specs.Reading.{taken, arguments_in, call_of, kind_of, number_in, request_in}
 use Rattle.mpicall.specs.Spelling.{word_of_call, arguments_of, name_of, root_of, root_arguments}
-use Rattle.mpicall.proofs.ArgumentLemmas.{is_small, reads_back, argument_field, IsField, and_true, le_to, le_from}
+use Rattle.mpicall.proofs.ArgumentLemmas.{is_small, reads_back, argument_field, IsField, le_to, le_from}
 use Rattle.mpicall.proofs.DecimalLemmas.{value_decimal}
-use Rattle.mpicall.proofs.RowLemmas.{row_back, row_in_form}
-use Rattle.std.proofs.lemmas.Bool.{false≢true}
+use Rattle.mpicall.proofs.RowLemmas.{as_many, row_back, row_in_form}
+use Rattle.std.proofs.lemmas.Bool.{false≢true, and_parts}
 use Rattle.mpicall.specs.declared.call.Mode.TheVariants.{Standard, Synchronous, Buffered}
 use Rattle.mpicall.specs.declared.call.Kind.{Kind}
 use Rattle.mpicall.specs.declared.call.Kind.TheVariants.{Barrier}
@@ -39,7 +39,7 @@ kind_row Barrier = record { forms = refl; kind_is = refl; small = refl; few = re
 kind_row _ = record { forms = refl; kind_is = refl; small = refl; few = refl }
 
 in_range_of : (x : Call) → in_ranges x ≡ true → list_all is_in_range (arguments_of x) ≡ true
-in_range_of x h = (and_true (list_all is_in_range (arguments_of x)) (names_enough x) h).0
+in_range_of x h = (and_parts (list_all is_in_range (arguments_of x)) (names_enough x) h).0
 
 same_lengths : (args : List Argument) → (length (map form_of args) == length (map spell args)) ≡ true
 same_lengths args =
@@ -65,18 +65,15 @@ requests_small (req ∷ reqs) = requests_small reqs
 requests_in_form : (reqs : List ℕ) → list_all is_in_range (map request_argument reqs) ≡ true → all_requests (map spell (map request_argument reqs)) ≡ true
 requests_in_form [] h = refl
 requests_in_form (req ∷ reqs) h =
-    let parts = and_true (is_in_range (request_argument req)) (list_all is_in_range (map request_argument reqs)) h in
+    let parts = and_parts (is_in_range (request_argument req)) (list_all is_in_range (map request_argument reqs)) h in
     rw (reads_back (request_argument req) refl parts.0) (requests_in_form reqs parts.1)
 
 requests_back : (reqs : List ℕ) → list_all is_in_range (map request_argument reqs) ≡ true → map number_in (map request_in (map spell (map request_argument reqs))) ≡ reqs
 requests_back [] h = refl
 requests_back (req ∷ reqs) h =
-    let parts = and_true (is_in_range (request_argument req)) (list_all is_in_range (map request_argument reqs)) h in
+    let parts = and_parts (is_in_range (request_argument req)) (list_all is_in_range (map request_argument reqs)) h in
     let low = le_from req 2147483647 parts.0 in
     rw (value_decimal req (omega arith), requests_back reqs parts.1) refl
-
-as_many : (reqs : List ℕ) → length (map spell (map request_argument reqs)) ≡ length reqs
-as_many reqs = length-map (map request_argument reqs) spell ∙ length-map reqs request_argument
 
 record Few (reqs : List ℕ) : Type 0 where
   least : 1 ≤ length reqs
@@ -84,7 +81,7 @@ record Few (reqs : List ℕ) : Type 0 where
 
 few_of : (reqs : List ℕ) → few_enough reqs ≡ true → Few reqs
 few_of reqs h =
-    let parts = and_true (nat_le 1 (length reqs)) (nat_le (length reqs) 64) h in
+    let parts = and_parts (nat_le 1 (length reqs)) (nat_le (length reqs) 64) h in
     record { least = le_from 1 (length reqs) parts.0; most = le_from (length reqs) 64 parts.1 }
 
 three : (a b c : Bool) → a ≡ true → b ≡ true → c ≡ true → (a && b && c) ≡ true
@@ -116,7 +113,7 @@ waitany_known chosen reqs enough h =
     let f = few_of reqs enough in
     let same = as_many reqs in
     let small = index_small reqs f in
-    let parts = and_true (nat_le chosen (length reqs - 1)) (list_all is_in_range (map request_argument reqs)) h in
+    let parts = and_parts (nat_le chosen (length reqs - 1)) (list_all is_in_range (map request_argument reqs)) h in
     let low = le_from chosen (length reqs - 1) parts.0 in
     let value = value_decimal chosen (omega (arith, f.most)) in
     record {
@@ -132,7 +129,7 @@ waitany_known chosen reqs enough h =
 -- Every call.
 
 tells_none : (args : List Argument) → (list_all is_in_range args && false) ≡ true → ⊥
-tells_none args h = false≢true ((and_true (list_all is_in_range args) false h).1)
+tells_none args h = false≢true ((and_parts (list_all is_in_range args) false h).1)
 
 pub known_call : (x : Call) → in_ranges x ≡ true → KnownCall x
 known_call (Send Standard comm dest tag None) h = fixed _ refl refl refl (omega arith) h
@@ -143,10 +140,10 @@ known_call (Isend req Synchronous comm dest tag (Some bytes)) h = absurd (tells_
 known_call (Isend req Buffered comm dest tag (Some bytes)) h = absurd (tells_none (arguments_of (Isend req Buffered comm dest tag (Some bytes))) h)
 known_call (Sendrecv comm dest send_tag source recv_tag None) h = fixed _ refl refl refl (omega arith) h
 known_call (Waitall reqs) h =
-    let parts = and_true (list_all is_in_range (map request_argument reqs)) (few_enough reqs) h in
+    let parts = and_parts (list_all is_in_range (map request_argument reqs)) (few_enough reqs) h in
     waitall_known reqs parts.1 parts.0
 known_call (Waitany chosen reqs) h =
-    let parts = and_true (list_all is_in_range (index_argument (length reqs) chosen ∷ map request_argument reqs)) (few_enough reqs) h in
+    let parts = and_parts (list_all is_in_range (index_argument (length reqs) chosen ∷ map request_argument reqs)) (few_enough reqs) h in
     waitany_known chosen reqs parts.1 parts.0
 known_call (Coll comm kind) h =
     let row = kind_row kind in
@@ -167,8 +164,8 @@ all_fields : (args : List Argument) → list_all is_small args ≡ true → list
 unfolding AllFields
 all_fields [] small h = tt
 all_fields (a ∷ args) small h =
-    let smalls = and_true (is_small a) (list_all is_small args) small in
-    let ranges = and_true (is_in_range a) (list_all is_in_range args) h in
+    let smalls = and_parts (is_small a) (list_all is_small args) small in
+    let ranges = and_parts (is_in_range a) (list_all is_in_range args) h in
     (argument_field a smalls.0 ranges.0, all_fields args smalls.1 ranges.1)
 
 pub call_fields : (x : Call) → in_ranges x ≡ true → AllFields (map spell (arguments_of x))

@@ -4,6 +4,7 @@ use Rattle.std.proofs.KnownBytes.{Consumes-trans}
 use Rattle.std.specs.Io.KnownBytes.{Keeps, prepend_known, Consumes}
 use Rattle.std.specs.List.{join_with_byte}
 use Rattle.std.proofs.lemmas.Bool.Decides.{nat_tests}
+use Rattle.std.proofs.lemmas.Bool.{and_parts}
 use Rattle.mpicall.specs.Ending.{ends_list}
 use Rattle.mpicall.specs.Limits.{in_ranges}
 use Rattle.mpicall.specs.Lines.{most_bytes, has_line_feed, lines_of}
@@ -13,7 +14,6 @@ use Rattle.mpicall.specs.Spelling.{space, line_feed, fields_of, spelling}
 use Rattle.mpicall.specs.Trace.{Trace, Torn, IsTraceOf, trace_of, trace_of_lines, trace_with, ends_here, put_first, end_with_behind}
 use Rattle.mpicall.specs.Window.{NoFeedBelow}
 use Rattle.mpicall.proofs.BeginningLemmas.{WithoutFeed, body_without_feed, no_feed_here}
-use Rattle.mpicall.proofs.ArgumentLemmas.{and_true}
 use Rattle.mpicall.proofs.GivesLemmas.{held_left, last_is_feed}
 use Rattle.mpicall.proofs.LineLemmas.{spelling_read, no_line_feed}
 use Rattle.mpicall.proofs.OneTraceLemmas.{one_trace}
@@ -60,7 +60,7 @@ not_feed : (byte : ℕ) (bytes : List ℕ) → WithoutFeed (byte ∷ bytes) → 
 not_feed byte bytes h = let no = no_feed_here byte bytes h in grind (arith, nat_tests, no)
 
 tail_without_feed : (byte : ℕ) (bytes : List ℕ) → WithoutFeed (byte ∷ bytes) → WithoutFeed bytes
-tail_without_feed byte bytes h = (and_true (not (byte == line_feed)) _ h).1
+tail_without_feed byte bytes h = (and_parts (not (byte == line_feed)) _ h).1
 
 first_line : (body behind : List ℕ) → WithoutFeed body → lines_of (body ++ line_feed ∷ behind) ≡ (body ++ line_feed ∷ []) ∷ lines_of behind
 first_line [] behind h = refl

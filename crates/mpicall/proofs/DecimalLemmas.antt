@@ -5,6 +5,7 @@ use Rattle.std.specs.Str.{all_ascii_digits}
 use Rattle.std.proofs.lemmas.Fmt.{decimal-digits_value, digits_value-decimal, digits_decimal, first_decimal, decimal_nonempty, decimal_digit}
 use Rattle.std.proofs.lemmas.Str.Parse.{IsNumeralModel, numerals_by_fold, tells_all_ascii_digits}
 use Rattle.std.proofs.lemmas.Bool.Decides.{nat_tests}
+use Rattle.std.proofs.lemmas.Bool.{and_parts}
 use Rattle.mpicall.specs.Number.{value_after, value_of, has_leading_zero, is_canonical, number_up_to}
 
 own : IsNumeralModel (λ ds. all_ascii_digits ds ≡ true) value_of
@@ -31,17 +32,12 @@ if_some : (b : Bool) (v n : ℕ) → cond b (Some v) None ≡ Some n → (b ≡ 
 if_some true v n e = (refl, cc)
 if_some false v n e = cc
 
-two_true : (a b : Bool) → (a && b) ≡ true → (a ≡ true) × (b ≡ true)
-two_true true true e = (refl, refl)
-two_true true false e = cc
-two_true false b e = cc
-
 -- what is read as a number is its decimal text
 pub number-decimal : (limit n : ℕ) (field : List ℕ) → limit < 2 ^ 64 → number_up_to limit field ≡ Some n → (field ≡ decimal n) × (n ≤ limit)
 unfolding number_up_to
 number-decimal limit n field small is =
     let read = if_some (is_canonical field && nat_le (value_of field) limit) (value_of field) n is in
-    let parts = two_true (is_canonical field) (nat_le (value_of field) limit) read.0 in
+    let parts = and_parts (is_canonical field) (nat_le (value_of field) limit) read.0 in
     let within : value_of field ≤ limit = grind (arith, nat_tests, parts.1) in
     let e : value_of field ≡ n = read.1 in
     (sym (rw e at (canonical-decimal field parts.0 (omega arith))), omega arith)

@@ -19,7 +19,7 @@ split_at_first_space p xs at is =
     slice_split_first p xs 0 within in
     rw rest (rw place at cut)
 
-none_passes : (b : Bool) (i n : ℕ) → b ≡ ltb i n → cond b (Some i) None ≡ None → n ≤ i
+pub none_passes : (b : Bool) (i n : ℕ) → b ≡ ltb i n → cond b (Some i) None ≡ None → n ≤ i
 none_passes true i n e is = cc
 none_passes false i n e is = search (rules, nat_tests)
 

@@ -1,9 +1,10 @@
 -- What each answer of a source says of the trace that was to come.
-use Rattle.std.proofs.Common.{◌≡◌, ◌≢◌, ℕ, ◌-◌, ◌<◌, Bool, true, false, ◌==◌, nat_lt, cond, List, [], ◌∷◌, ◌++◌, length, get_or, take, drop, sym, ap, ◌∙◌, refl, arith, Option, Some, None, suc, Ok, Err, option_map, inl, inr, ◌&&◌}
+use Rattle.std.proofs.Common.{◌≡◌, ◌≢◌, ℕ, ◌-◌, ◌<◌, Bool, true, false, ◌==◌, nat_lt, cond, List, [], ◌∷◌, ◌++◌, length, get_or, take, drop, sym, ap, ◌∙◌, refl, arith, Option, Some, None, suc, Ok, Err, option_map, inl, inr}
 use Rattle.std.specs.Io.KnownBytes.{Keeps, prepend_known, IsAtEnd, Consumes}
 use Rattle.std.specs.List.{onto_first}
 use Rattle.std.proofs.lemmas.Bool.Decides.{nat_tests}
 use Rattle.std.proofs.lemmas.List.{take_all, length-append}
+use Rattle.std.proofs.lemmas.Bool.{and_parts}
 use Rattle.mpicall.specs.Spelling.{line_feed}
 use Rattle.mpicall.specs.Lines.{most_bytes, has_line_feed}
 use Rattle.mpicall.specs.Reading.{record_of_line}
@@ -85,14 +86,9 @@ behind_cases false call known rest e = (trace_of rest, e, refl)
 behind_record : (call : Call) (known rest : List ℕ) → trace_of known ≡ trace_with (Ok call) (lines_of rest) (trace_of rest) → Gives (Some (trace_of known)) (trace_at (stage_behind call) (Some rest)) (Ok (Some call))
 behind_record call known rest e = behind_cases (ends_list call) call known rest e
 
-two_true : (a b : Bool) → (a && b) ≡ true → (a ≡ true) × (b ≡ true)
-two_true true true e = (refl, refl)
-two_true true false e = cc
-two_true false b e = cc
-
 pub last_is_feed : (line : List ℕ) → has_line_feed line ≡ true → NoFeedBelow line (length line) → ⊥
 last_is_feed line ends none =
-    let parts = two_true (nat_lt 0 (length line)) (get_or line (length line - 1) 0 == line_feed) ends in
+    let parts = and_parts (nat_lt 0 (length line)) (get_or line (length line - 1) 0 == line_feed) ends in
     let some : 0 < length line = grind (arith, nat_tests, parts.0) in
     none (length line - 1) (omega arith) (grind (arith, nat_tests, parts.1))
 

@@ -13,6 +13,7 @@ pub mod RequestLemmas
 pub mod CellLemmas
 pub mod WordLemmas
 pub mod RowLemmas
+pub mod LaidLemmas
 pub mod BodyLemmas
 pub mod CallLemmas
 pub mod LineLemmas

@@ -6,6 +6,7 @@ use Rattle.std.proofs.lemmas.List.Sums.{AllPass-from_list_all, count_by-le-lengt
 use Rattle.std.proofs.lemmas.List.Splits.{slice_split_at, slice_split_none, join_with_byte-slice_split, length-slice_split}
 use Rattle.std.proofs.Math.Seq.{take-append_seam}
 use Rattle.std.proofs.lemmas.List.{get_or_push, length-map}
+use Rattle.std.proofs.lemmas.Bool.{and_parts}
 use Rattle.mpicall.specs.Argument.{spell}
 use Rattle.mpicall.specs.Limits.{in_ranges}
 use Rattle.mpicall.specs.Word.{text_of}
@@ -13,7 +14,7 @@ use Rattle.mpicall.specs.Spelling.{space, line_feed, word_of_call, arguments_of,
 use Rattle.mpicall.specs.Line.{is_any, wildcard_at, source_place, shape_of, takes_count, all_in_form, fits, fault_behind, fault_of_line, fault_of_fields}
 use Rattle.mpicall.specs.Lines.{is_blank, most_bytes, has_line_feed, body_of, split_fields}
 use Rattle.mpicall.specs.Reading.{call_of_fields, call_unless, record_of_line, Spells, IsBody}
-use Rattle.mpicall.proofs.ArgumentLemmas.{above_space, and_true}
+use Rattle.mpicall.proofs.ArgumentLemmas.{above_space}
 use Rattle.mpicall.proofs.WordLemmas.{word_found, text_is}
 use Rattle.mpicall.proofs.CallLemmas.{known_call, call_fields, AllFields}
 use Rattle.mpicall.specs.declared.call.Call.{Call}
@@ -86,7 +87,7 @@ no_wildcard (Some place) fields all = none_any (drop place fields) (all_behind f
 
 fitting : (w : Word) (fields : List (List ℕ)) → fits w fields ≡ true → wildcard_at (source_place w) fields ≡ false → fault_behind w fields ≡ None
 fitting w fields h plain =
-    let parts = and_true (takes_count (shape_of w (length fields)) (length fields)) (all_in_form (shape_of w (length fields)) fields) h in
+    let parts = and_parts (takes_count (shape_of w (length fields)) (length fields)) (all_in_form (shape_of w (length fields)) fields) h in
     rw (parts.0, plain, parts.1) refl
 
 call_faultless : (x : Call) → in_ranges x ≡ true → fault_of_fields (fields_of x) ≡ None

@@ -1,10 +1,12 @@
 -- Rows of fields and the arguments that are read from them.
-use Rattle.std.proofs.Common.{◌≡◌, ℕ, ◌+◌, true, false, List, [], ◌∷◌, ◌++◌, length, sym, ap, refl, arith, Option, Some, None, ◌&&◌, map, is_some}
+use Rattle.std.proofs.Common.{◌≡◌, ℕ, ◌+◌, true, false, List, [], ◌∷◌, ◌++◌, length, sym, ap, ◌∙◌, refl, arith, Option, Some, None, ◌&&◌, map, is_some}
 use Rattle.std.specs.List.{list_all}
-use Rattle.mpicall.specs.Argument.{Argument, Form, spell, is_in_range, form_of, read_argument}
+use Rattle.std.proofs.lemmas.Bool.{and_parts}
+use Rattle.std.proofs.lemmas.List.{length-map}
+use Rattle.mpicall.specs.Argument.{Argument, Form, spell, is_in_range, form_of, read_argument, request_argument}
 use Rattle.mpicall.specs.Line.{each_in_form}
 use Rattle.mpicall.specs.Reading.{with_behind, put_before, take_behind, take_arguments, taken}
-use Rattle.mpicall.proofs.ArgumentLemmas.{small_form, is_small, reads_back, argument_spelled, and_true}
+use Rattle.mpicall.proofs.ArgumentLemmas.{small_form, is_small, reads_back, argument_spelled}
 
 -- One more field.
 
@@ -43,7 +45,7 @@ row_spelled [] fields args behind small e =
     record { fields_are = rw (sym none) left; in_range = rw (sym none) refl }
 row_spelled (form ∷ forms) [] args behind small e = cc
 row_spelled (form ∷ forms) (field ∷ fields) args behind small e =
-    let smalls = and_true (small_form form) (list_all small_form forms) small in
+    let smalls = and_parts (small_form form) (list_all small_form forms) small in
     let read = one_read form forms fields (read_argument form field) args behind e in
     let first = argument_spelled form field read.0 smalls.0 read.2 in
     let others = row_spelled forms fields read.1 behind smalls.1 read.3 in
@@ -78,13 +80,17 @@ row_none (form ∷ forms) (field ∷ fields) same e =
 pub row_back : (args : List Argument) → list_all is_small args ≡ true → list_all is_in_range args ≡ true → take_arguments (map form_of args) (map spell args) ≡ Some (args, [])
 row_back [] small h = refl
 row_back (a ∷ args) small h =
-    let smalls = and_true (is_small a) (list_all is_small args) small in
-    let ranges = and_true (is_in_range a) (list_all is_in_range args) h in
+    let smalls = and_parts (is_small a) (list_all is_small args) small in
+    let ranges = and_parts (is_in_range a) (list_all is_in_range args) h in
     rw (reads_back a smalls.0 ranges.0, row_back args smalls.1 ranges.1) refl
 
 pub row_in_form : (args : List Argument) → list_all is_small args ≡ true → list_all is_in_range args ≡ true → each_in_form (map form_of args) (map spell args) ≡ true
 row_in_form [] small h = refl
 row_in_form (a ∷ args) small h =
-    let smalls = and_true (is_small a) (list_all is_small args) small in
-    let ranges = and_true (is_in_range a) (list_all is_in_range args) h in
+    let smalls = and_parts (is_small a) (list_all is_small args) small in
+    let ranges = and_parts (is_in_range a) (list_all is_in_range args) h in
     rw (reads_back a smalls.0 ranges.0) (row_in_form args smalls.1 ranges.1)
+
+-- a field for each request
+pub as_many : (reqs : List ℕ) → length (map spell (map request_argument reqs)) ≡ length reqs
+as_many reqs = length-map (map request_argument reqs) spell ∙ length-map reqs request_argument

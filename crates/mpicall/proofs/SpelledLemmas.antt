@@ -7,11 +7,12 @@ use Rattle.std.specs.Fmt.{decimal}
 use Rattle.std.specs.List.{list_all, list_any}
 use Rattle.std.proofs.lemmas.Bool.Decides.{nat_tests}
 use Rattle.std.proofs.lemmas.List.{length-map, drop_all, take-append-drop}
-use Rattle.mpicall.specs.Argument.{Argument, Number, PeerOf, Colour, Key, New, Form, NumberUpTo, PeerForm, ColourForm, KeyForm, NewForm, spell, is_in_range, form_of, read_argument, read_peer, read_number_or, is_in_form, comm_form, tag_form, bytes_form, request_form, request_argument}
+use Rattle.std.proofs.lemmas.Bool.{and_parts, and_from}
+use Rattle.mpicall.specs.Argument.{Argument, Number, PeerOf, Colour, Key, New, Form, NumberUpTo, PeerForm, ColourForm, KeyForm, NewForm, spell, is_in_range, form_of, read_argument, read_peer, read_number_or, is_in_form, comm_form, tag_form, bytes_form, request_form, request_argument, bytes_arguments}
 use Rattle.mpicall.specs.declared.limits.TheConstants.{GREATEST_COMM, GREATEST_COLOUR}
 use Rattle.mpicall.specs.declared.call.Call.{Call}
 use Rattle.mpicall.specs.Limits.{in_ranges, names_enough, few_enough}
-use Rattle.mpicall.proofs.BodyLemmas.{fixed_all, both}
+use Rattle.mpicall.proofs.BodyLemmas.{fixed_all}
 use Rattle.mpicall.specs.Line.{Shape, Fixed, Requests, Chosen, root_forms, bytes_forms, operation_forms, shape_of, each_in_form, all_requests, takes_count, all_in_form, fits, source_place, wildcard_at, fault_by_word, fault_of_fields, fault_of_line}
 use Rattle.mpicall.specs.Lines.{is_blank, most_bytes, has_line_feed, body_of, split_fields}
 use Rattle.mpicall.specs.Word.{word_of, text_of}
@@ -21,8 +22,8 @@ use Rattle.mpicall.specs.declared.fault.LineFault.{LineFault}
 use Rattle.mpicall.specs.declared.fault.LineFault.TheVariants.{EmptyField, FieldCount, FieldForm, Wildcard, TooLong, NoLineFeed}
 use Rattle.mpicall.specs.Number.{number_up_to, signed_of, value_of}
 use Rattle.mpicall.specs.Reading.{at, number_in, number_at, peer_in, colour_in, key_in, new_in, kind_of, call_of, arguments_in, request_in, take_arguments, taken, put_before, take_behind, with_behind, call_by_word, call_of_fields, Spells}
-use Rattle.mpicall.specs.Spelling.{word_of_call, arguments_of, name_of, root_of, root_arguments, bytes_arguments, fields_of, line_feed}
-use Rattle.mpicall.proofs.ArgumentLemmas.{and_true, le_to, le_from}
+use Rattle.mpicall.specs.Spelling.{word_of_call, arguments_of, name_of, root_of, root_arguments, fields_of, line_feed}
+use Rattle.mpicall.proofs.ArgumentLemmas.{map_some, le_to, le_from}
 use Rattle.mpicall.proofs.DecimalLemmas.{number-decimal, value_decimal}
 use Rattle.mpicall.specs.declared.word.Collective.{Collective}
 use Rattle.mpicall.specs.declared.word.Collective.TheVariants.{Barrier}
@@ -137,16 +138,12 @@ fixed_back _ forms args is e = (same_arguments _ forms args _ refl is e, refl, r
 
 -- Fields in their forms are read.
 
-map_some : {A B : Type 0} (f : A → B) (o : Option A) (b : B) → option_map f o ≡ Some b → (x : A) × (b ≡ f x)
-map_some f (Some x) b e = (x, cc)
-map_some f None b e = cc
-
 form_read : (form : Form) (field : List ℕ) (a : Argument) → read_argument form field ≡ Some a → form_of a ≡ form
-form_read (NumberUpTo greatest) field a e = ap form_of (map_some (Number greatest) (number_up_to greatest field) a e).1
-form_read PeerForm field a e = ap form_of (map_some PeerOf (read_peer field) a e).1
-form_read ColourForm field a e = ap form_of (map_some Colour (read_number_or (codes "undefined") GREATEST_COLOUR field) a e).1
-form_read KeyForm field a e = ap form_of (map_some Key (signed_of field) a e).1
-form_read NewForm field a e = ap form_of (map_some New (read_number_or (codes "none") GREATEST_COMM field) a e).1
+form_read (NumberUpTo greatest) field a e = ap form_of (map_some (Number greatest) (number_up_to greatest field) a e).2
+form_read PeerForm field a e = ap form_of (map_some PeerOf (read_peer field) a e).2
+form_read ColourForm field a e = ap form_of (map_some Colour (read_number_or (codes "undefined") GREATEST_COLOUR field) a e).2
+form_read KeyForm field a e = ap form_of (map_some Key (signed_of field) a e).2
+form_read NewForm field a e = ap form_of (map_some New (read_number_or (codes "none") GREATEST_COMM field) a e).2
 
 some_of : {A : Type 0} (o : Option A) → is_some o ≡ true → (x : A) × (o ≡ Some x)
 some_of (Some x) e = (x, refl)
@@ -162,7 +159,7 @@ row_read [] [] n e = record { args = []; read = refl; forms_are = refl }
 row_read [] (field ∷ fields) n e = absurd (omega arith)
 row_read (form ∷ forms) [] n e = absurd (omega arith)
 row_read (form ∷ forms) (field ∷ fields) n e =
-    let parts = and_true (is_in_form form field) (each_in_form forms fields) e in
+    let parts = and_parts (is_in_form form field) (each_in_form forms fields) e in
     let first = some_of (read_argument form field) parts.0 in
     let others = row_read forms fields (omega arith) parts.1 in
     record {
@@ -196,10 +193,10 @@ cons_same a b as' bs p q = cc
 requests_spelled : (fields : List (List ℕ)) → all_requests fields ≡ true → (fields ≡ map spell (map request_argument (read_requests fields))) × (list_all is_in_range (map request_argument (read_requests fields)) ≡ true)
 requests_spelled [] e = (refl, refl)
 requests_spelled (field ∷ fields) e =
-    let parts = and_true (is_in_form request_form field) (all_requests fields) e in
+    let parts = and_parts (is_in_form request_form field) (all_requests fields) e in
     let first = request_field field parts.0 in
     let others = requests_spelled fields parts.1 in
-    (cons_same _ _ _ _ first.0 others.0, both _ _ first.1 others.1)
+    (cons_same _ _ _ _ first.0 others.0, and_from _ _ first.1 others.1)
 
 -- Fields that fit a word.
 
@@ -210,7 +207,7 @@ fixed_spells : (w : Word) (forms : List Form) (fields : List (List ℕ)) → sha
 unfolding SpellsBehind
 fixed_spells w forms fields is h =
     let fit = rw is at h in
-    let parts = and_true (length forms == length fields) (each_in_form forms fields) fit in
+    let parts = and_parts (length forms == length fields) (each_in_form forms fields) fit in
     let n : length forms ≡ length fields = grind (arith, nat_tests, parts.0) in
     let row = row_read forms fields n parts.1 in
     let args : arguments_in (shape_of w (length fields)) fields ≡ row.args = ap (λ s. arguments_in s fields) is ∙ ap taken row.read in
@@ -222,10 +219,10 @@ fixed_spells w forms fields is h =
 waitall_spells : (fields : List (List ℕ)) → fits (Named name.Waitall) fields ≡ true → SpellsBehind (Named name.Waitall) fields (call_of (Named name.Waitall) (arguments_in Requests fields))
 unfolding SpellsBehind
 waitall_spells fields h =
-    let parts = and_true (nat_le 1 (length fields) && nat_le (length fields) 64) (all_requests fields) h in
+    let parts = and_parts (nat_le 1 (length fields) && nat_le (length fields) 64) (all_requests fields) h in
     let spelled = requests_spelled fields parts.1 in
     let enough : few_enough (read_requests fields) ≡ true = rw (as_many fields) parts.0 in
-    (spelled.0, refl, both _ _ spelled.1 enough)
+    (spelled.0, refl, and_from _ _ spelled.1 enough)
 
 index_some : (greatest : ℕ) (o : Option ℕ) → is_some (option_map (Number greatest) o) ≡ true → is_some o ≡ true
 index_some greatest (Some n) e = refl
@@ -242,18 +239,18 @@ waitany_spells : (fields : List (List ℕ)) → fits (Named name.Waitany) fields
 unfolding SpellsBehind
 waitany_spells [] h = cc
 waitany_spells (index ∷ fields) h =
-    let parts = and_true (takes_count Chosen (length (index ∷ fields))) (all_in_form Chosen (index ∷ fields)) h in
-    let counts = and_true (nat_le 2 (length (index ∷ fields))) (nat_le (length (index ∷ fields)) 65) parts.0 in
+    let parts = and_parts (takes_count Chosen (length (index ∷ fields))) (all_in_form Chosen (index ∷ fields)) h in
+    let counts = and_parts (nat_le 2 (length (index ∷ fields))) (nat_le (length (index ∷ fields)) 65) parts.0 in
     let least = le_from 2 (length (index ∷ fields)) counts.0 in
     let most = le_from (length (index ∷ fields)) 65 counts.1 in
-    let forms = and_true (is_in_form (NumberUpTo (length fields - 1)) index) (all_requests fields) parts.1 in
+    let forms = and_parts (is_in_form (NumberUpTo (length fields - 1)) index) (all_requests fields) parts.1 in
     let first = index_field (length fields - 1) index (omega arith) forms.0 in
     let others = requests_spelled fields forms.1 in
     let same = as_many fields in
     let enough : few_enough (read_requests fields) ≡ true =
-    rw same (both (nat_le 1 (length fields)) (nat_le (length fields) 64) (le_to 1 (length fields) (omega arith)) (le_to (length fields) 64 (omega arith))) in
+    rw same (and_from (nat_le 1 (length fields)) (nat_le (length fields) 64) (le_to 1 (length fields) (omega arith)) (le_to (length fields) 64 (omega arith))) in
     let in_list : nat_le (value_of index) (length (read_requests fields) - 1) ≡ true = rw same first.1 in
-    (cons_same _ _ _ _ first.0 others.0, refl, both _ _ (both _ _ in_list others.1) enough)
+    (cons_same _ _ _ _ first.0 others.0, refl, and_from _ _ (and_from _ _ in_list others.1) enough)
 
 by_shape : (w : Word) (s : Shape) (fields : List (List ℕ)) → shape_of w (length fields) ≡ s → fits w fields ≡ true → SpellsBehind w fields (call_of w (arguments_in (shape_of w (length fields)) fields))
 by_shape w (Fixed forms) fields is h = fixed_spells w forms fields is h
@@ -296,7 +293,7 @@ whole_cases false false o e = cc
 
 with_line_feed : (line : List ℕ) → has_line_feed line ≡ true → body_of line ++ line_feed ∷ [] ≡ line
 with_line_feed line h =
-    let parts = and_true (nat_lt 0 (length line)) (get_or line (length line - 1) 0 == line_feed) h in
+    let parts = and_parts (nat_lt 0 (length line)) (get_or line (length line - 1) 0 == line_feed) h in
     let some : 0 < length line = grind (arith, nat_tests, parts.0) in
     let last : get_or line (length line - 1) 0 ≡ line_feed = grind (arith, nat_tests, parts.1) in
     let end : drop (length line - 1) line ≡ line_feed ∷ [] =

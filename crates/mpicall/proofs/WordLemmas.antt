@@ -4,7 +4,8 @@ use Rattle.std.specs.List.{list_all}
 use Rattle.std.specs.Str.{bytes_eq}
 use Rattle.std.proofs.lemmas.Slice.Eq.{bytes_eq-Decides}
 use Rattle.std.proofs.lemmas.Bool.Decides.{nat_tests}
-use Rattle.mpicall.proofs.ArgumentLemmas.{above_space, and_true, le_from}
+use Rattle.std.proofs.lemmas.Bool.{and_parts}
+use Rattle.mpicall.proofs.ArgumentLemmas.{above_space, map_some, le_from}
 use Rattle.mpicall.specs.Word.{collective_text, operation_text, text_of, start_letter, with_text, or_else, collectives, messages, name_text, name_in, named_of, collective_of, operation_of, started_of, word_of}
 use Rattle.mpicall.specs.declared.call.Mode.TheVariants.{Standard}
 use Rattle.mpicall.specs.declared.word.Collective.{Collective}
@@ -32,16 +33,12 @@ else_cases : {A : Type 0} (P : Type 0) (o other : Option A) (x : A) → (o ≡ S
 else_cases P (Some y) other x here there e = here e
 else_cases P None other x here there e = there e
 
-map_cases : {A B : Type 0} (f : A → B) (o : Option A) (y : B) → option_map f o ≡ Some y → (x : A) × (o ≡ Some x) × (y ≡ f x)
-map_cases f (Some x) y e = (x, refl, cc)
-map_cases f None y e = cc
-
 collective_has : (text : List ℕ) (c : Collective) → collective_of text ≡ Some c → text ≡ collective_text c
 unfolding collective_of
 collective_has text c e = with_text_has collective_text text collectives c e
 
 coll_has : (text : List ℕ) (o : Operation) → option_map Coll (collective_of text) ≡ Some o → text ≡ operation_text o
-coll_has text o e = let found = map_cases Coll (collective_of text) o e in rw found.2 (collective_has text found.0 found.1)
+coll_has text o e = let found = map_some Coll (collective_of text) o e in rw found.2 (collective_has text found.0 found.1)
 
 operation_has : (text : List ℕ) (o : Operation) → operation_of text ≡ Some o → text ≡ operation_text o
 unfolding operation_of
@@ -49,7 +46,7 @@ operation_has text o e =
     else_cases (text ≡ operation_text o) (with_text operation_text text messages) (option_map Coll (collective_of text)) o (with_text_has operation_text text messages o) (coll_has text o) e
 
 blocking_has : (text : List ℕ) (w : Word) → option_map Blocking (operation_of text) ≡ Some w → text ≡ text_of w
-blocking_has text w e = let found = map_cases Blocking (operation_of text) w e in rw found.2 (operation_has text found.0 found.1)
+blocking_has text w e = let found = map_some Blocking (operation_of text) w e in rw found.2 (operation_has text found.0 found.1)
 
 letter_is : (letter : ℕ) → (letter == start_letter) ≡ true → letter ≡ start_letter
 letter_is letter h = grind (arith, nat_tests)
@@ -59,7 +56,7 @@ with_letter letter text o first others = cc
 
 start_cases : (b : Bool) (letter : ℕ) (text : List ℕ) (w : Word) → (b ≡ true → letter ≡ start_letter) → cond b (option_map Started (operation_of text)) None ≡ Some w → letter ∷ text ≡ text_of w
 start_cases true letter text w is e =
-    let found = map_cases Started (operation_of text) w e in
+    let found = map_some Started (operation_of text) w e in
     let has = with_letter letter text found.0 (is refl) (operation_has text found.0 found.1) in
     has ∙ ap text_of (sym found.2)
 start_cases false letter text w is e = cc
@@ -75,13 +72,13 @@ has_text row = bytes_eq row.0 (name_text row.1)
 in_rows : (rows : List (List ℕ × Name)) (text : List ℕ) (name : Name) → list_all has_text rows ≡ true → name_in rows text ≡ Some name → text ≡ name_text name
 in_rows [] text name has e = cc
 in_rows (row ∷ rows) text name has e =
-    let parts = and_true (has_text row) (list_all has_text rows) has in
+    let parts = and_parts (has_text row) (list_all has_text rows) has in
     first_has (bytes_eq text row.0) name_text text row.1 name (name_in rows text)
     (λ same. (bytes_eq-Decides text row.0).0 same ∙ (bytes_eq-Decides row.0 (name_text row.1)).0 parts.0) (in_rows rows text name parts.1) e
 
 named_has : (text : List ℕ) (w : Word) → named_of text ≡ Some w → text ≡ text_of w
 named_has text w e =
-    let found = map_cases Named (name_in (map (λ row. (row.0.now, row.1)) NAMES) text) w e in
+    let found = map_some Named (name_in (map (λ row. (row.0.now, row.1)) NAMES) text) w e in
     rw found.2 (in_rows (map (λ row. (row.0.now, row.1)) NAMES) text found.0 refl found.1)
 
 pub word_has : (text : List ℕ) (w : Word) → word_of text ≡ Some w → text ≡ text_of w
@@ -129,15 +126,15 @@ pub record IsText (text : List ℕ) : Type 0 where
 
 fair_text : (text : List ℕ) → fair text ≡ true → IsText text
 fair_text text h =
-    let outer = and_true (nat_lt 0 (length text) && nat_le (length text) 9) (list_all above_space text) h in
-    let inner = and_true (nat_lt 0 (length text)) (nat_le (length text) 9) outer.0 in
+    let outer = and_parts (nat_lt 0 (length text) && nat_le (length text) 9) (list_all above_space text) h in
+    let inner = and_parts (nat_lt 0 (length text)) (nat_le (length text) 9) outer.0 in
     let low = le_from (length text) 9 inner.1 in
     record { clean = outer.1; some = grind (arith, nat_tests, inner.0); short = omega arith }
 
 started_text : (text : List ℕ) → fair text ≡ true → IsText (start_letter ∷ text)
 started_text text h =
-    let outer = and_true (nat_lt 0 (length text) && nat_le (length text) 9) (list_all above_space text) h in
-    let inner = and_true (nat_lt 0 (length text)) (nat_le (length text) 9) outer.0 in
+    let outer = and_parts (nat_lt 0 (length text) && nat_le (length text) 9) (list_all above_space text) h in
+    let inner = and_parts (nat_lt 0 (length text)) (nat_le (length text) 9) outer.0 in
     let low = le_from (length text) 9 inner.1 in
     record { clean = outer.1; some = omega arith; short = omega arith }
 

@@ -1,6 +1,6 @@
 -- The arguments of a call, each of which is one field of its line: how it is spelled, its range, and what
 -- a field says that is read as an argument of some form.
-use Rattle.std.specs.Prelude.{ℕ, ◌-◌, ℤ, pos, negsuc, Bool, true, nat_le, Option, Some, None, is_some, option_map, if◌then◌else◌, List, codes}
+use Rattle.std.specs.Prelude.{ℕ, ◌-◌, ℤ, pos, negsuc, Bool, true, nat_le, Option, Some, None, is_some, option_map, if◌then◌else◌, List, [], ◌∷◌, codes}
 use Rattle.std.specs.Fmt.{decimal, signed_decimal}
 use Rattle.std.specs.Str.{bytes_eq}
 use Rattle.mpicall.specs.Number.{number_up_to, signed_of}
@@ -28,6 +28,11 @@ request_argument req = Number GREATEST_REQUEST req
 
 abbrev pub bytes_argument : ℕ → Argument
 bytes_argument bytes = Number GREATEST_BYTES bytes
+
+-- the bytes of a message, where they are told
+abbrev pub bytes_arguments : Option ℕ → List Argument
+bytes_arguments None = []
+bytes_arguments (Some bytes) = bytes_argument bytes ∷ []
 
 abbrev pub root_argument : ℕ → Argument
 root_argument root = Number GREATEST_RANK root

@@ -1,6 +1,7 @@
 pub mod Number
 pub mod Argument
 pub mod Word
+pub mod Laid
 pub mod Spelling
 pub mod Limits
 pub mod Does

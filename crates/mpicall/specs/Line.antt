@@ -56,6 +56,14 @@ shape_by ChosenRequest count = Chosen
 shape_by Copy count = Fixed (comm_form ∷ comm_form ∷ [])
 shape_by Split count = Fixed (comm_form ∷ ColourForm ∷ KeyForm ∷ NewForm ∷ [])
 
+-- the forms of the fields behind a name that is no wait's
+abbrev pub laid_forms : Layout → ℕ → List Form
+laid_forms layout count = forms_in (shape_by layout count)
+  where
+    forms_in : Shape → List Form
+    forms_in (Fixed forms) = forms
+    forms_in _ = []
+
 -- the shape of a word's line that has so many fields behind it; what starts an operation has its request in front
 abbrev pub shape_of : Word → ℕ → Shape
 shape_of (Blocking operation) count = Fixed (operation_forms operation count)

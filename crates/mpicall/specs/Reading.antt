@@ -7,16 +7,21 @@ use Rattle.mpicall.specs.declared.limits.TheConstants.{MOST_REQUESTS}
 use Rattle.mpicall.specs.Limits.{in_ranges, names_enough, few_enough}
 use Rattle.mpicall.specs.Argument.{is_in_range, spell, Argument, Number, PeerOf, Colour, Key, New, Form, request_argument, index_argument, read_argument}
 use Rattle.mpicall.specs.Number.{value_of}
-use Rattle.mpicall.specs.Word.{word_of}
+use Rattle.mpicall.specs.Laid.{laid_arguments, layout_by, call_by}
+use Rattle.mpicall.specs.Word.{word_of, layout_of}
 use Rattle.mpicall.specs.Spelling.{arguments_of, word_of_call, fields_of, spelling, line_feed}
-use Rattle.mpicall.specs.Line.{Shape, Fixed, Requests, Chosen, shape_of, fault_of_line, fits, fits_line, all_requests}
+use Rattle.mpicall.specs.Line.{Shape, Fixed, Requests, Chosen, shape_of, laid_forms, fault_of_line, fits, fits_line, all_requests}
 use Rattle.mpicall.specs.Lines.{body_of, split_fields, most_bytes}
 use Rattle.mpicall.specs.declared.call.Peer.{Peer}
 use Rattle.mpicall.specs.declared.call.Peer.TheVariants.{Null}
 use Rattle.mpicall.specs.declared.call.Kind.{Kind}
 use Rattle.mpicall.specs.declared.call.Kind.TheVariants.{Barrier, Bcast, Gather, Scatter, Reduce, Allgather, Alltoall, Allreduce, Scan, Exscan}
 use Rattle.mpicall.specs.declared.call.Call.{Call}
-use Rattle.mpicall.specs.declared.call.Call.TheVariants.{Send, Recv, Isend, Irecv, Sendrecv, Wait, Waitall, Waitany, Coll, Icoll, Dup, Split, Probe, Finalize, Open}
+use Rattle.mpicall.specs.declared.call.Call.TheVariants.{Send, Recv, Isend, Irecv, Wait, Waitall, Waitany, Coll, Icoll, Finalize}
+use Rattle.mpicall.specs.declared.laid.Laid.{Laid}
+use Rattle.mpicall.specs.declared.laid.Laid.TheVariants.{Nothing, Message, Exchange, Copy, Split}
+use Rattle.mpicall.specs.declared.word.Layout.{Layout}
+use Rattle.mpicall.specs.declared.word.Layout.TheVariants as layout
 use Rattle.mpicall.specs.declared.word.Collective.{Collective}
 use Rattle.mpicall.specs.declared.word.Collective.TheVariants.{Barrier as BarrierName, Bcast as BcastName, Gather as GatherName, Scatter as ScatterName, Reduce as ReduceName, Allgather as AllgatherName, Alltoall as AlltoallName, Allreduce as AllreduceName, Scan as ScanName, Exscan as ExscanName}
 use Rattle.mpicall.specs.declared.word.Operation.TheVariants.{Send as SendOperation, Recv as RecvOperation, Coll as CollOperation}
@@ -55,6 +60,12 @@ abbrev pub all_taken : Option (List Argument × List (List ℕ)) → Option (Lis
 all_taken None = None
 all_taken (Some (arguments, [])) = Some arguments
 all_taken (Some (arguments, field ∷ fields)) = None
+
+-- a reader takes what stands behind a name of a layout, of all the fields
+abbrev pub TakesLaid : Layout → List (List ℕ) → Option Laid → Type 0
+TakesLaid wanted fields answer =
+    MatchOption answer (all_taken (take_arguments (laid_forms wanted (length fields)) fields) ≡ None)
+    (λ it. (take_arguments (laid_forms wanted (length fields)) fields ≡ Some (laid_arguments it, [])) × (layout_by it ≡ wanted))
 
 -- a reader leaves the call of a word that all the fields spell by its forms, or leaves its place alone
 abbrev pub ReadsWhole : Word → List Form → List (List ℕ) → Option (Unit {0}) → Call → Call → Type 0
@@ -103,6 +114,14 @@ kind_of AllreduceName root = Allreduce
 kind_of ScanName root = Scan
 kind_of ExscanName root = Exscan
 
+-- what stands behind a name of a layout, of its arguments
+abbrev pub laid_by : Layout → List Argument → Laid
+laid_by layout.Message a = Message (number_in (at a 0)) (peer_in (at a 1)) (number_in (at a 2))
+laid_by layout.Exchange a = Exchange (number_in (at a 0)) (peer_in (at a 1)) (number_in (at a 2)) (peer_in (at a 3)) (number_in (at a 4)) (number_at a 5)
+laid_by layout.Copy a = Copy (number_in (at a 0)) (number_in (at a 1))
+laid_by layout.Split a = Split (number_in (at a 0)) (colour_in (at a 1)) (key_in (at a 2)) (new_in (at a 3))
+laid_by _ a = Nothing
+
 -- the call of a word and its arguments
 abbrev pub call_of : Word → List Argument → Call
 call_of (Blocking (SendOperation mode)) a = Send mode (number_in (at a 0)) (peer_in (at a 1)) (number_in (at a 2)) (number_at a 3)
@@ -111,15 +130,10 @@ call_of (Blocking (CollOperation name)) a = Coll (number_in (at a 0)) (kind_of n
 call_of (Started (SendOperation mode)) a = Isend (number_in (at a 0)) mode (number_in (at a 1)) (peer_in (at a 2)) (number_in (at a 3)) (number_at a 4)
 call_of (Started RecvOperation) a = Irecv (number_in (at a 0)) (number_in (at a 1)) (peer_in (at a 2)) (number_in (at a 3))
 call_of (Started (CollOperation name)) a = Icoll (number_in (at a 0)) (number_in (at a 1)) (kind_of name (at a 2))
-call_of (Named name.Sendrecv) a = Sendrecv (number_in (at a 0)) (peer_in (at a 1)) (number_in (at a 2)) (peer_in (at a 3)) (number_in (at a 4)) (number_at a 5)
 call_of (Named name.Wait) a = Wait (number_in (at a 0))
 call_of (Named name.Waitall) a = Waitall (map number_in a)
 call_of (Named name.Waitany) a = Waitany (number_in (at a 0)) (map number_in (drop 1 a))
-call_of (Named name.Dup) a = Dup (number_in (at a 0)) (number_in (at a 1))
-call_of (Named name.Split) a = Split (number_in (at a 0)) (colour_in (at a 1)) (key_in (at a 2)) (new_in (at a 3))
-call_of (Named name.Probe) a = Probe (number_in (at a 0)) (peer_in (at a 1)) (number_in (at a 2))
-call_of (Named name.Finalize) a = Finalize
-call_of (Named name.Open) a = Open
+call_of (Named other) a = call_by other (laid_by (layout_of other) a)
 
 -- the arguments that fields of a shape spell
 abbrev pub taken : Option (List Argument × List (List ℕ)) → List Argument

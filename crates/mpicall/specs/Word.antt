@@ -47,9 +47,9 @@ abbrev pub layout_of : Name → Layout
 layout_of name = get_or (map (λ row. row.2) NAMES) (tag_of the_type name) Nothing
 
 -- the letter before a word, and the text behind that
-abbrev pub start_of : Word → List ℕ
-start_of (Started operation) = start_letter ∷ []
-start_of _ = []
+abbrev pub letter_of : Word → List ℕ
+letter_of (Started operation) = start_letter ∷ []
+letter_of _ = []
 
 abbrev pub stem_of : Word → List ℕ
 stem_of (Blocking operation) = operation_text operation
@@ -58,7 +58,7 @@ stem_of (Named name) = name_text name
 
 -- the text of a word
 abbrev pub text_of : Word → List ℕ
-text_of word = start_of word ++ stem_of word
+text_of word = letter_of word ++ stem_of word
 
 -- the first of some things that has a text
 abbrev pub with_text : {A : Type 0} → (A → List ℕ) → List ℕ → List A → Option A

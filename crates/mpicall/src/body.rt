@@ -10,8 +10,7 @@ use crate::fields::Fields;
 use crate::limits::{GREATEST_REQUEST, MOST_REQUESTS};
 use crate::number::read_number;
 use crate::reading::{
-    next_number, next_request, read_blocking, read_dup, read_probe, read_sendrecv, read_split,
-    read_started, read_wait,
+    next_number, next_request, read_blocking, read_laid, read_started, read_wait,
 };
 use crate::reqs::Reqs;
 use crate::word::{Name, Word, word_of};
@@ -61,26 +60,6 @@ fn read_waitany(mut fields: Fields<'_>, into: &mut Call) -> bool
     true
 }
 
-fn read_finalize(mut fields: Fields<'_>, into: &mut Call) -> bool
-    ensures { ReadsBehind (Named name.Finalize) fields.entry result into.old into.new }
-{
-    if fields.next_field().is_some() {
-        return false;
-    }
-    *into = Call::Finalize;
-    true
-}
-
-fn read_open(mut fields: Fields<'_>, into: &mut Call) -> bool
-    ensures { ReadsBehind (Named name.Open) fields.entry result into.old into.new }
-{
-    if fields.next_field().is_some() {
-        return false;
-    }
-    *into = Call::Open;
-    true
-}
-
 /// Reads the call of a name and the fields behind it.
 fn read_named(name: Name, fields: Fields<'_>, into: &mut Call) -> bool
     ensures { ReadsBehind (Named name) fields.entry result into.old into.new }
@@ -89,12 +68,7 @@ fn read_named(name: Name, fields: Fields<'_>, into: &mut Call) -> bool
         Name::Waitall => read_waitall(fields, into),
         Name::Wait => read_wait(fields, into).is_some(),
         Name::Waitany => read_waitany(fields, into),
-        Name::Sendrecv => read_sendrecv(fields, into).is_some(),
-        Name::Dup => read_dup(fields, into).is_some(),
-        Name::Split => read_split(fields, into).is_some(),
-        Name::Probe => read_probe(fields, into).is_some(),
-        Name::Finalize => read_finalize(fields, into),
-        Name::Open => read_open(fields, into),
+        _ => read_laid(name, fields, into).is_some(),
     }
 }
 

@@ -6,7 +6,7 @@ ghost use Rattle.mpicall.specs.Does.{does_of};
 use crate::call::{Call, Peer};
 use crate::word::root_of;
 
-/// One end of a message, as a call names the other one: the peer, and the message's tag.
+/// What a call says of one of its messages beside the communicator: who is at the other end, and the tag.
 #[derive(Clone, Copy, PartialEq, Eq)]
 pub struct Side {
     pub peer: Peer,
@@ -36,7 +36,7 @@ pub enum Does {
 impl Does {
     /// It sends a message.
     #[inline(always)]
-    fn sends(comm: u16, peer: Peer, tag: u32) -> Does
+    pub fn sends(comm: u16, peer: Peer, tag: u32) -> Does
         ensures { result ≡ Does.Exchanges comm (Some (record { peer = peer; tag = tag })) None None }
     {
         Does::Exchanges {
@@ -49,7 +49,7 @@ impl Does {
 
     /// It receives a message.
     #[inline(always)]
-    fn receives(comm: u16, peer: Peer, tag: u32) -> Does
+    pub fn receives(comm: u16, peer: Peer, tag: u32) -> Does
         ensures { result ≡ Does.Exchanges comm None (Some (record { peer = peer; tag = tag })) None }
     {
         Does::Exchanges {

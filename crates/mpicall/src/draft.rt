@@ -2,13 +2,15 @@
 
 ghost use Rattle.std.specs.Prelude.{◌≡◌, ◌+◌, ◌*◌, ◌≤◌, ◌<◌, [], ◌∷◌, ◌++◌, ℕ, List, map, length, IsTrue};
 ghost use Rattle.std.specs.Fmt.{decimal, signed_decimal};
-ghost use Rattle.mpicall.specs.Argument.{PeerOf, comm_argument, tag_argument, request_argument, peer_field, number_or};
+ghost use Rattle.mpicall.specs.Argument.{PeerOf, comm_argument, tag_argument, request_argument, bytes_arguments, peer_field, number_or};
 ghost use Rattle.mpicall.specs.Draft.{line_with};
+ghost use Rattle.mpicall.specs.Laid.{laid_arguments};
 ghost use Rattle.mpicall.specs.Limits.{in_ranges};
-ghost use Rattle.mpicall.specs.Spelling.{space, arguments_of, root_of, root_arguments, bytes_arguments, spelling};
+ghost use Rattle.mpicall.specs.Spelling.{space, arguments_of, root_of, root_arguments, spelling};
 ghost use Rattle.mpicall.specs.Word.{text_of};
 
 use crate::call::{Call, Kind, Peer};
+use crate::laid::Laid;
 use crate::limits::MOST_LINE_BYTES;
 use crate::word::{Word, root_of};
 use itoa::Buffer;
@@ -165,8 +167,48 @@ impl Draft {
         ensures value { self.new ≡ text_of word }
         ensures short { length self.new ≤ 10 }
     {
-        self.push_all(word.start().as_bytes());
+        self.push_all(word.letter().as_bytes());
         self.push_all(word.stem().as_bytes());
+    }
+
+    /// Adds what stands behind a name.
+    fn push_laid(&mut self, laid: Laid)
+        requires { length self.old ≤ 10 }
+        ensures value { self.new ≡ line_with self.old (laid_arguments laid) }
+        ensures short { length self.new < MOST_LINE_BYTES }
+    {
+        match laid {
+            Laid::Nothing => {}
+            Laid::Message { comm, source, tag } => self.push_message(comm, source, tag),
+            Laid::Exchange {
+                comm,
+                dest,
+                send_tag,
+                source,
+                recv_tag,
+                bytes,
+            } => {
+                self.push_message(comm, dest, send_tag);
+                self.push_peer(source);
+                self.push_number(recv_tag);
+                self.push_bytes(bytes);
+            }
+            Laid::Copy { comm, new } => {
+                self.push_number(u32::from(comm));
+                self.push_number(u32::from(new));
+            }
+            Laid::Split {
+                comm,
+                colour,
+                key,
+                new,
+            } => {
+                self.push_number(u32::from(comm));
+                self.push_number_or(b"undefined", colour);
+                self.push_key(key);
+                self.push_number_or(b"none", new.map(u32::from));
+            }
+        }
     }
 
     /// Adds the arguments of a call.
@@ -208,19 +250,6 @@ impl Draft {
                 self.push_number(req);
                 self.push_message(comm, source, tag);
             }
-            Call::Sendrecv {
-                comm,
-                dest,
-                send_tag,
-                source,
-                recv_tag,
-                bytes,
-            } => {
-                self.push_message(comm, dest, send_tag);
-                self.push_peer(source);
-                self.push_number(recv_tag);
-                self.push_bytes(bytes);
-            }
             Call::Wait { req } => self.push_number(req),
             Call::Waitall { ref reqs } => self.push_requests(reqs.as_slice()),
             Call::Waitany { chosen, ref reqs } => {
@@ -236,23 +265,11 @@ impl Draft {
                 self.push_number(u32::from(comm));
                 self.push_root(kind);
             }
-            Call::Dup { comm, new } => {
-                self.push_number(u32::from(comm));
-                self.push_number(u32::from(new));
+            _ => {
+                if let Some((_, laid)) = call.laid() {
+                    self.push_laid(laid);
+                }
             }
-            Call::Split {
-                comm,
-                colour,
-                key,
-                new,
-            } => {
-                self.push_number(u32::from(comm));
-                self.push_number_or(b"undefined", colour);
-                self.push_key(key);
-                self.push_number_or(b"none", new.map(u32::from));
-            }
-            Call::Probe { comm, source, tag } => self.push_message(comm, source, tag),
-            Call::Finalize | Call::Open => {}
         }
     }
 

@@ -25,10 +25,12 @@
 //!   `memory::MemoryInput` gives pieces of a stated size.
 //! - Every call but `lint` returns, whatever the bytes are; a source may have no end.
 //!
-//! The definitions stand in `specs/`: `Number`, `Argument`, `Word` and `Spelling` say how a call is
-//! spelled, `Limits` which calls are records, `Lines` and `Line` what is wrong with a line, `Trace` what
-//! the bytes of a source are, and `Device`, `Source` and `Lint` what a call does. Nobody has to believe
-//! `Reading`, `Draft`, `Window`, `Stage` and `Cells`, which only proofs and private functions use.
+//! The definitions stand in `specs/`: `Number`, `Argument`, `Word`, `Laid` and `Spelling` say how a call is
+//! spelled, `Limits` which calls are records, `Ending` which of them end a list, `Does` what they do over their
+//! communicators, `Lines` and `Line` what is wrong with a line, `Trace` what the bytes of a source are, and
+//! `Device`, `Source` and `Lint` what a function does. Nobody has to believe `Draft`, `Window`, `Stage` and
+//! `Cells`, which only proofs and private functions use, nor `Reading`: `Trace` cites it, and
+//! `source::each_text_has_one_trace` says what that comes to without it.
 //!
 //! ```text
 //! let mut source = Source::new(MemoryInput::new(b"recv 0 1 5\nfinalize\n"));
@@ -49,6 +51,7 @@ pub mod fails_at;
 pub mod fault;
 pub mod fields;
 mod first_fault;
+pub mod laid;
 pub mod limits;
 pub mod line;
 pub mod lint;

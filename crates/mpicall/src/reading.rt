@@ -2,22 +2,26 @@
 //! one place, which is written once all the fields have come; a line that has a fault leaves it alone, and is
 //! looked at again, by `fault_of_fields`.
 
-ghost use Rattle.std.specs.Prelude.{◌≡◌, ◌≤◌, ◌-◌, [], ◌∷◌, Some, None, false, length, IfSome, MatchOption};
-ghost use Rattle.mpicall.specs.Argument.{NumberUpTo, PeerForm, ColourForm, KeyForm, NewForm, Number, PeerOf, Colour, Key, New, comm_form, tag_form, request_form, root_form, comm_argument, tag_argument, request_argument, root_argument};
+ghost use Rattle.std.specs.Prelude.{◌≡◌, ◌≤◌, ◌-◌, [], ◌∷◌, Some, None, true, false, length, IfSome, MatchOption};
+ghost use Rattle.mpicall.specs.Argument.{NumberUpTo, PeerForm, ColourForm, KeyForm, NewForm, Number, PeerOf, Colour, Key, New, comm_form, tag_form, request_form, root_form, comm_argument, tag_argument, request_argument, bytes_arguments, root_argument};
+ghost use Rattle.mpicall.specs.Laid.{is_laid};
 ghost use Rattle.mpicall.specs.Lines.{is_empty};
-ghost use Rattle.mpicall.specs.Spelling.{name_of, root_of, root_arguments, bytes_arguments};
-ghost use Rattle.mpicall.specs.Line.{root_forms, bytes_forms, operation_forms};
-ghost use Rattle.mpicall.specs.Reading.{next_argument, take_arguments, all_taken, ReadsWhole};
+ghost use Rattle.mpicall.specs.Spelling.{name_of, root_of, root_arguments};
+ghost use Rattle.mpicall.specs.Line.{root_forms, bytes_forms, operation_forms, laid_forms};
+ghost use Rattle.mpicall.specs.Reading.{next_argument, take_arguments, all_taken, TakesLaid, ReadsWhole};
+ghost use Rattle.mpicall.specs.Word.{layout_of};
+ghost use Rattle.mpicall.specs.declared.word.Layout.TheVariants as layout;
 ghost use Rattle.mpicall.specs.declared.word.Name.TheVariants as name;
 ghost use Rattle.mpicall.specs.declared.word.Word.TheVariants.{Blocking, Started, Named};
 
 use crate::call::{Call, Kind, Mode, Peer};
 use crate::fields::Fields;
+use crate::laid::Laid;
 use crate::limits::{
     GREATEST_BYTES, GREATEST_COLOUR, GREATEST_COMM, GREATEST_RANK, GREATEST_REQUEST, GREATEST_TAG,
 };
 use crate::number::{read_number, read_signed};
-use crate::word::{Collective, Operation};
+use crate::word::{Collective, Layout, Name, Operation, layout_of};
 
 /// The next field, where it is a number up to `greatest`.
 pub(crate) fn next_number(greatest: u32, fields: &mut Fields<'_>) -> Option<u32>
@@ -280,30 +284,84 @@ pub(crate) fn read_started(
     Some(())
 }
 
-pub(crate) fn read_sendrecv(mut fields: Fields<'_>, into: &mut Call) -> Option<()>
-    ensures { ReadsWhole (Named name.Sendrecv) (comm_form ∷ PeerForm ∷ tag_form ∷ PeerForm ∷ tag_form ∷ bytes_forms 5 (length fields.entry)) fields.entry result into.old into.new }
+/// A communicator, a source and a tag.
+fn last_source(fields: &mut Fields<'_>) -> Option<Laid>
+    ensures { TakesLaid layout.Message fields.old result }
 {
-    let (comm, dest, send_tag) = next_message(&mut fields)?;
-    let source = next_peer(&mut fields)?;
-    let recv_tag = next_tag(&mut fields)?;
-    let bytes = last_bytes(&mut fields)?;
-    *into = Call::Sendrecv {
+    let (comm, source, tag) = next_message(fields)?;
+    end_of(fields)?;
+    Some(Laid::Message { comm, source, tag })
+}
+
+/// Both messages of MPI_Sendrecv.
+fn last_exchange(fields: &mut Fields<'_>) -> Option<Laid>
+    ensures { TakesLaid layout.Exchange fields.old result }
+{
+    let (comm, dest, send_tag) = next_message(fields)?;
+    let source = next_peer(fields)?;
+    let recv_tag = next_tag(fields)?;
+    let bytes = last_bytes(fields)?;
+    Some(Laid::Exchange {
         comm,
         dest,
         send_tag,
         source,
         recv_tag,
         bytes,
-    };
-    Some(())
+    })
 }
 
-pub(crate) fn read_probe(mut fields: Fields<'_>, into: &mut Call) -> Option<()>
-    ensures { ReadsWhole (Named name.Probe) (comm_form ∷ PeerForm ∷ tag_form ∷ []) fields.entry result into.old into.new }
+/// A communicator and a new one.
+fn last_copy(fields: &mut Fields<'_>) -> Option<Laid>
+    ensures { TakesLaid layout.Copy fields.old result }
 {
-    let (comm, source, tag) = next_message(&mut fields)?;
-    end_of(&mut fields)?;
-    *into = Call::Probe { comm, source, tag };
+    let comm = next_comm(fields)?;
+    let new = next_comm(fields)?;
+    end_of(fields)?;
+    Some(Laid::Copy { comm, new })
+}
+
+/// What a split has behind it.
+fn last_split(fields: &mut Fields<'_>) -> Option<Laid>
+    ensures { TakesLaid layout.Split fields.old result }
+{
+    let comm = next_comm(fields)?;
+    let colour = next_colour(fields)?;
+    let key = next_key(fields)?;
+    let new = next_new(fields)?;
+    end_of(fields)?;
+    Some(Laid::Split {
+        comm,
+        colour,
+        key,
+        new,
+    })
+}
+
+/// What stands behind a name of a layout that no wait has.
+fn last_laid(layout: Layout, fields: &mut Fields<'_>) -> Option<Laid>
+    requires { is_laid layout ≡ true }
+    ensures { TakesLaid layout fields.old result }
+{
+    match layout {
+        Layout::Message => last_source(fields),
+        Layout::Exchange => last_exchange(fields),
+        Layout::Copy => last_copy(fields),
+        Layout::Split => last_split(fields),
+        _ => {
+            end_of(fields)?;
+            Some(Laid::Nothing)
+        }
+    }
+}
+
+/// Reads the call of a name that is no wait's.
+pub(crate) fn read_laid(name: Name, mut fields: Fields<'_>, into: &mut Call) -> Option<()>
+    requires { is_laid (layout_of name) ≡ true }
+    ensures { ReadsWhole (Named name) (laid_forms (layout_of name) (length fields.entry)) fields.entry result into.old into.new }
+{
+    let laid = last_laid(layout_of(name), &mut fields)?;
+    *into = name.call(laid);
     Some(())
 }
 
@@ -313,32 +371,5 @@ pub(crate) fn read_wait(mut fields: Fields<'_>, into: &mut Call) -> Option<()>
     let req = next_request(&mut fields)?;
     end_of(&mut fields)?;
     *into = Call::Wait { req };
-    Some(())
-}
-
-pub(crate) fn read_dup(mut fields: Fields<'_>, into: &mut Call) -> Option<()>
-    ensures { ReadsWhole (Named name.Dup) (comm_form ∷ comm_form ∷ []) fields.entry result into.old into.new }
-{
-    let comm = next_comm(&mut fields)?;
-    let new = next_comm(&mut fields)?;
-    end_of(&mut fields)?;
-    *into = Call::Dup { comm, new };
-    Some(())
-}
-
-pub(crate) fn read_split(mut fields: Fields<'_>, into: &mut Call) -> Option<()>
-    ensures { ReadsWhole (Named name.Split) (comm_form ∷ ColourForm ∷ KeyForm ∷ NewForm ∷ []) fields.entry result into.old into.new }
-{
-    let comm = next_comm(&mut fields)?;
-    let colour = next_colour(&mut fields)?;
-    let key = next_key(&mut fields)?;
-    let new = next_new(&mut fields)?;
-    end_of(&mut fields)?;
-    *into = Call::Split {
-        comm,
-        colour,
-        key,
-        new,
-    };
     Some(())
 }

@@ -2,16 +2,18 @@
 
 ghost use Rattle.std.specs.Prelude.{◌≡◌, ◌↔◌, ◌&&◌, [], ◌∷◌, map, IsTrue, IsSome, IfSome};
 ghost use Rattle.std.specs.List.{list_all};
-ghost use Rattle.mpicall.specs.Argument.{PeerOf, comm_argument, tag_argument, request_argument, is_in_range, peer_in_range, key_in_range, none_or_up_to};
+ghost use Rattle.mpicall.specs.Argument.{PeerOf, comm_argument, tag_argument, request_argument, bytes_arguments, is_in_range, peer_in_range, key_in_range, none_or_up_to};
 ghost use Rattle.mpicall.specs.Ending.{ends_list};
+ghost use Rattle.mpicall.specs.Laid.{laid_arguments};
 ghost use Rattle.mpicall.specs.Limits.{in_ranges, may_tell};
 ghost use Rattle.mpicall.specs.Reading.{ReadsFields};
-ghost use Rattle.mpicall.specs.Spelling.{root_of, root_arguments, bytes_arguments};
+ghost use Rattle.mpicall.specs.Spelling.{root_of, root_arguments};
 ghost use Rattle.mpicall.specs.declared.call.Call.TheVariants.{Finalize};
 
 use crate::body::read_fields;
 use crate::call::{Call, Kind, Mode, Peer};
 use crate::fields::Fields;
+use crate::laid::Laid;
 use crate::limits::{
     GREATEST_BYTES, GREATEST_COLOUR, GREATEST_COMM, GREATEST_RANK, GREATEST_REQUEST, GREATEST_TAG,
 };
@@ -111,6 +113,41 @@ fn are_bytes_in_range(mode: Mode, bytes: Option<u32>) -> bool
     }
 }
 
+/// Whether what stands behind a name is in its ranges.
+fn is_laid_in_ranges(laid: Laid) -> bool
+    ensures { result ≡ list_all is_in_range (laid_arguments laid) }
+{
+    match laid {
+        Laid::Nothing => true,
+        Laid::Message { comm, source, tag } => is_message_in_ranges(comm, source, tag),
+        Laid::Exchange {
+            comm,
+            dest,
+            send_tag,
+            source,
+            recv_tag,
+            bytes,
+        } => {
+            is_message_in_ranges(comm, dest, send_tag)
+                && is_peer_in_range(source)
+                && recv_tag <= GREATEST_TAG
+                && are_bytes_in_range(Mode::Standard, bytes)
+        }
+        Laid::Copy { comm, new } => comm <= GREATEST_COMM && new <= GREATEST_COMM,
+        Laid::Split {
+            comm,
+            colour,
+            key,
+            new,
+        } => {
+            comm <= GREATEST_COMM
+                && is_none_or_up_to(GREATEST_COLOUR, colour)
+                && is_key_in_range(key)
+                && is_none_or_up_to(u32::from(GREATEST_COMM), new.map(u32::from))
+        }
+    }
+}
+
 fn is_in_ranges(call: &Call) -> bool
     ensures { result ≡ in_ranges call.now }
 {
@@ -141,19 +178,6 @@ fn is_in_ranges(call: &Call) -> bool
             source,
             tag,
         } => { req <= GREATEST_REQUEST && is_message_in_ranges(comm, source, tag) }
-        Call::Sendrecv {
-            comm,
-            dest,
-            send_tag,
-            source,
-            recv_tag,
-            bytes,
-        } => {
-            is_message_in_ranges(comm, dest, send_tag)
-                && is_peer_in_range(source)
-                && recv_tag <= GREATEST_TAG
-                && are_bytes_in_range(Mode::Standard, bytes)
-        }
         Call::Wait { req } => req <= GREATEST_REQUEST,
         Call::Waitall { ref reqs } => are_requests_in_range(reqs.as_slice()),
         Call::Waitany { chosen, ref reqs } => {
@@ -163,20 +187,10 @@ fn is_in_ranges(call: &Call) -> bool
         Call::Icoll { req, comm, kind } => {
             req <= GREATEST_REQUEST && comm <= GREATEST_COMM && is_kind_in_range(kind)
         }
-        Call::Dup { comm, new } => comm <= GREATEST_COMM && new <= GREATEST_COMM,
-        Call::Split {
-            comm,
-            colour,
-            key,
-            new,
-        } => {
-            comm <= GREATEST_COMM
-                && is_none_or_up_to(GREATEST_COLOUR, colour)
-                && is_key_in_range(key)
-                && is_none_or_up_to(u32::from(GREATEST_COMM), new.map(u32::from))
-        }
-        Call::Probe { comm, source, tag } => is_message_in_ranges(comm, source, tag),
-        Call::Finalize | Call::Open => true,
+        _ => match call.laid() {
+            Some((_, laid)) => is_laid_in_ranges(laid),
+            None => true,
+        },
     }
 }
 

@@ -1,7 +1,7 @@
 //! The words of the format. A call that starts an operation has an `i` before the operation's word.
 
 ghost use Rattle.std.specs.Prelude.{◌≡◌, ◌≤◌, length, map};
-ghost use Rattle.mpicall.specs.Word.{collective_of, operation_of, started_of, name_in, named_of, word_of, layout_of, start_of, stem_of, collective_text, operation_text};
+ghost use Rattle.mpicall.specs.Word.{collective_of, operation_of, started_of, name_in, named_of, word_of, layout_of, letter_of, stem_of, collective_text, operation_text};
 ghost use Rattle.mpicall.specs.Spelling.{name_of, root_of, word_of_call};
 
 use crate::call::{Call, Kind, Mode};
@@ -64,7 +64,8 @@ pub enum Name {
     Open,
 }
 
-/// Their texts and what stands behind them: a row each, in the order of the variants of `Name`.
+/// The text of each name and what stands behind it: a row each, in the order of the variants of `Name`. The first
+/// two are the most frequent words: `named_of` compares them in place, and looks through the rows behind them alone.
 pub const NAMES: [(&str, Name, Layout); 9] = [
     ("waitall", Name::Waitall, Layout::Requests),
     ("wait", Name::Wait, Layout::Request),
@@ -95,23 +96,21 @@ impl Word {
             Call::Recv { .. } => Word::Blocking(Operation::Recv),
             Call::Isend { mode, .. } => Word::Started(Operation::Send(mode)),
             Call::Irecv { .. } => Word::Started(Operation::Recv),
-            Call::Sendrecv { .. } => Word::Named(Name::Sendrecv),
             Call::Wait { .. } => Word::Named(Name::Wait),
             Call::Waitall { .. } => Word::Named(Name::Waitall),
             Call::Waitany { .. } => Word::Named(Name::Waitany),
             Call::Coll { kind, .. } => Word::Blocking(Operation::Coll(name_of(kind))),
             Call::Icoll { kind, .. } => Word::Started(Operation::Coll(name_of(kind))),
-            Call::Dup { .. } => Word::Named(Name::Dup),
-            Call::Split { .. } => Word::Named(Name::Split),
-            Call::Probe { .. } => Word::Named(Name::Probe),
-            Call::Finalize => Word::Named(Name::Finalize),
-            Call::Open => Word::Named(Name::Open),
+            _ => match call.laid() {
+                Some((name, _)) => Word::Named(name),
+                None => Word::Named(Name::Finalize),
+            },
         }
     }
 
     /// The letter before the word of an operation that a call starts; nothing before other words.
-    pub fn start(self) -> &'static str
-        ensures { result.now ≡ start_of self }
+    pub fn letter(self) -> &'static str
+        ensures { result.now ≡ letter_of self }
     {
         match self {
             Word::Started(_) => "i",

@@ -5,6 +5,7 @@ use Rattle.std.proofs.lemmas.List.Quantifiers.{position-Some}
 use Rattle.std.proofs.lemmas.List.Sums.{fails_before_first}
 use Rattle.std.proofs.lemmas.List.{take_all, drop_all}
 use Rattle.std.proofs.lemmas.Bool.Decides.{nat_tests}
+use Rattle.mpicall.proofs.FieldLemmas.{none_passes}
 use Rattle.mpicall.specs.Lines.{lines_of}
 
 -- by the place of the first line feed
@@ -26,10 +27,6 @@ pub lines_at_feed : (xs : List ℕ) (at : ℕ) → position (λ byte. eqb byte 1
 lines_at_feed xs at is =
     let found = position-Some (λ byte. eqb byte 10) xs at 0 is in
     rw add-one (lines_cut xs at found.0 found.1 found.2)
-
-none_passes : (b : Bool) (i n : ℕ) → b ≡ ltb i n → cond b (Some i) None ≡ None → n ≤ i
-none_passes true i n e is = cc
-none_passes false i n e is = search (rules, nat_tests)
 
 pub lines_without_feed : (xs : List ℕ) → 0 < length xs → position (λ byte. eqb byte 10) xs ≡ None → lines_of xs ≡ take (length xs) xs ∷ lines_of (drop (length xs) xs)
 lines_without_feed [] some is = absurd (omega arith)

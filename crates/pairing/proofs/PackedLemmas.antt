@@ -1,5 +1,5 @@
 -- Entries of a rank, whose lists of calls and of starts go on.
-use Rattle.std.proofs.Common.{◌≡◌, ℕ, zero, suc, ◌+◌, ◌<◌, ◌≤◌, Option, Some, IsSome, is_some, List, [], ◌∷◌, ◌++◌, length, map, drop, refl, sym, ap, ◌∙◌, Bool, true, false, ◌&&◌, leb, arith, length-append, length-set, set}
+use Rattle.std.proofs.Common.{◌≡◌, ℕ, zero, suc, ◌+◌, ◌<◌, ◌≤◌, Option, Some, None, IsSome, is_some, List, [], ◌∷◌, ◌++◌, length, map, drop, refl, sym, ap, ◌∙◌, Bool, true, false, ◌&&◌, leb, arith, length-append, length-set, set}
 use Rattle.std.specs.Prelude.{unwrap_or}
 use Rattle.std.specs.List.{list_all, All}
 use Rattle.std.proofs.lemmas.Bool.{false≢true, leb-true}
@@ -11,8 +11,13 @@ use Rattle.mpicall.specs.Spelling.{arguments_of}
 use Rattle.mpicall.specs.declared.limits.TheConstants.{MOST_REQUESTS}
 use Rattle.mpicall.specs.declared.call.Call.{Call}
 use Rattle.mpicall.specs.declared.call.Call.TheVariants as made
+use Rattle.mpicall.specs.Laid.{call_by}
+use Rattle.mpicall.specs.declared.laid.Laid.{Laid}
+use Rattle.mpicall.specs.declared.laid.Laid.TheVariants as laid
+use Rattle.mpicall.specs.declared.word.Name.{Name}
+use Rattle.mpicall.specs.declared.word.Name.TheVariants as name
 use Rattle.pairing.specs.declared.packed.Packed.{Packed}
-use Rattle.pairing.specs.declared.packed.Packed.TheVariants.{Send, Wait, Waitall, Waitany}
+use Rattle.pairing.specs.declared.packed.Packed.TheVariants.{Send, Wait, Waitall, Waitany, Nothing, Message, Exchange, Copy, Split}
 use Rattle.pairing.specs.declared.packed.Entry.{Entry}
 use Rattle.std.specs.Option.{option_map, option_map_or}
 use Rattle.std.specs.List.{slice_get}
@@ -21,8 +26,8 @@ use Rattle.pairing.specs.declared.beside.Beside.{Beside}
 use Rattle.pairing.specs.declared.envelope.Half.{Half}
 use Rattle.pairing.specs.Beside.{with_partner}
 use Rattle.pairing.specs.Limits.{most_calls}
-use Rattle.pairing.specs.Requests.{starts as starts_of, waits_for}
-use Rattle.pairing.specs.Notes.{Noted, listed, calls_in, note_with, partnered_in, request_at as request_among, AreStarts}
+use Rattle.pairing.specs.Requests.{starts as starts_of, waits_for, completes as completes_of}
+use Rattle.pairing.specs.Notes.{Noted, listed, calls_in, note_with, partnered_in, request_at as request_among, AreStarts, completed_among}
 use Rattle.pairing.specs.Packed.{request_of, request_at, req_at, reqs_at, part, unpack, unpack_starts, end_of, noted, noted_of, StartRequests, IsStored, AreStored, listed_starts}
 use Rattle.pairing.proofs.FrontLemmas.{same_map}
 
@@ -105,9 +110,29 @@ stored_push entries starts starts' entry stored added short few = record {
   few = omega (arith, length-append entries (entry ∷ []));
 }
 
+-- a call of a name and what stands behind it is no wait, and starts no request
+pub record IsApart (call : Call) : Type 0 where
+  pub starts : starts_of call ≡ None
+  pub waits : waits_for call ≡ []
+  pub completes : completes_of call ≡ []
+  pub among : completed_among call [] ≡ []
+
+pub laid_apart : (it : Laid) (n : Name) → IsApart (call_by n it)
+laid_apart laid.Nothing name.Waitall = record { starts = refl; waits = refl; completes = refl; among = refl }
+laid_apart (laid.Message comm source tag) name.Waitall = record { starts = refl; waits = refl; completes = refl; among = refl }
+laid_apart (laid.Exchange comm dest send_tag source recv_tag bytes) name.Waitall = record { starts = refl; waits = refl; completes = refl; among = refl }
+laid_apart (laid.Copy comm new) name.Waitall = record { starts = refl; waits = refl; completes = refl; among = refl }
+laid_apart (laid.Split comm colour key new) name.Waitall = record { starts = refl; waits = refl; completes = refl; among = refl }
+laid_apart _ _ = record { starts = refl; waits = refl; completes = refl; among = refl }
+
 -- the request that an entry starts is that of its call
 request_unpacked : (entries : List Entry) (starts : List ℕ) (packed : Packed) → starts_of (unpack entries starts packed) ≡ request_of packed
 request_unpacked entries starts (Send mode comm dest tag bytes) = refl
+request_unpacked entries starts (Nothing name) = (laid_apart laid.Nothing name).starts
+request_unpacked entries starts (Message name comm source tag) = (laid_apart (laid.Message comm source tag) name).starts
+request_unpacked entries starts (Exchange name comm dest source send_tag recv_tag bytes) = (laid_apart (laid.Exchange comm dest send_tag source recv_tag bytes) name).starts
+request_unpacked entries starts (Copy name comm new) = (laid_apart (laid.Copy comm new) name).starts
+request_unpacked entries starts (Split name comm colour key new) = (laid_apart (laid.Split comm colour key new) name).starts
 request_unpacked entries starts _ = refl
 
 request_noted : (all : List Entry) (starts : List ℕ) (entries : List Entry) (place : ℕ) → request_among (calls_in (map (noted_of all starts) entries)) place ≡ request_at entries place

@@ -4,11 +4,13 @@
 use Rattle.std.specs.Prelude.{ℕ, ◌+◌, ◌*◌, ◌≤◌, Option, Some, None, IsSome, option_and_then, unwrap_or, List, [], ◌∷◌, map, length, take, drop, slice_get, IsTrue}
 use Rattle.std.specs.List.{All}
 use Rattle.mpicall.specs.declared.limits.TheConstants.{MOST_REQUESTS}
+use Rattle.mpicall.specs.Laid.{call_by}
 use Rattle.mpicall.specs.Limits.{in_ranges}
 use Rattle.mpicall.specs.declared.call.Call.{Call}
 use Rattle.mpicall.specs.declared.call.Call.TheVariants as made
+use Rattle.mpicall.specs.declared.laid.Laid.TheVariants as laid
 use Rattle.pairing.specs.declared.packed.Packed.{Packed}
-use Rattle.pairing.specs.declared.packed.Packed.TheVariants.{Send, Recv, Isend, Irecv, Sendrecv, Wait, Waitall, Waitany, Coll, Icoll, Dup, Split, Probe, Finalize, Open}
+use Rattle.pairing.specs.declared.packed.Packed.TheVariants.{Send, Recv, Isend, Irecv, Wait, Waitall, Waitany, Coll, Icoll, Nothing, Message, Exchange, Copy, Split}
 use Rattle.pairing.specs.declared.packed.Entry.{Entry}
 use Rattle.pairing.specs.declared.beside.Beside.{Beside}
 use Rattle.pairing.specs.Limits.{most_calls}
@@ -44,23 +46,27 @@ unpack_starts starts (Waitall first count) = part starts first count
 unpack_starts starts (Waitany chosen first count) = part starts first count
 unpack_starts starts _ = []
 
+-- the call of a name and what stands behind it; none of an operation and of a wait
+abbrev pub plain_of : Packed → Option Call
+plain_of (Nothing name) = Some (call_by name laid.Nothing)
+plain_of (Message name comm source tag) = Some (call_by name (laid.Message comm source tag))
+plain_of (Exchange name comm dest source send_tag recv_tag bytes) = Some (call_by name (laid.Exchange comm dest send_tag source recv_tag bytes))
+plain_of (Copy name comm new) = Some (call_by name (laid.Copy comm new))
+plain_of (Split name comm colour key new) = Some (call_by name (laid.Split comm colour key new))
+plain_of _ = None
+
 -- the call: a wait names the requests that the calls at its starts start
 abbrev pub unpack : List Entry → List ℕ → Packed → Call
 unpack entries starts (Send mode comm dest tag bytes) = made.Send mode comm dest tag bytes
 unpack entries starts (Recv comm source tag) = made.Recv comm source tag
 unpack entries starts (Isend mode comm dest req tag bytes) = made.Isend req mode comm dest tag bytes
 unpack entries starts (Irecv req comm source tag) = made.Irecv req comm source tag
-unpack entries starts (Sendrecv comm dest source send_tag recv_tag bytes) = made.Sendrecv comm dest send_tag source recv_tag bytes
 unpack entries starts (Wait start) = made.Wait (req_at entries start)
 unpack entries starts (Waitall first count) = made.Waitall (reqs_at entries (part starts first count))
 unpack entries starts (Waitany chosen first count) = made.Waitany chosen (reqs_at entries (part starts first count))
 unpack entries starts (Coll comm kind) = made.Coll comm kind
 unpack entries starts (Icoll req comm kind) = made.Icoll req comm kind
-unpack entries starts (Dup comm new) = made.Dup comm new
-unpack entries starts (Split comm colour key new) = made.Split comm colour key new
-unpack entries starts (Probe comm source tag) = made.Probe comm source tag
-unpack entries starts Finalize = made.Finalize
-unpack entries starts Open = made.Open
+unpack entries starts packed = unwrap_or (plain_of packed) made.Finalize
 
 -- how long the list of starts is at least
 abbrev pub end_of : Packed → ℕ

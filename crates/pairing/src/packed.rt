@@ -2,22 +2,27 @@
 //! several names 4 more.
 
 ghost use Rattle.std.specs.Prelude.{◌≡◌, List, ℕ};
+ghost use Rattle.mpicall.specs.Does.{does_of};
 ghost use Rattle.mpicall.specs.Ending.{ends_list};
-ghost use Rattle.pairing.specs.Envelopes.{message_of};
+ghost use Rattle.pairing.specs.Envelopes.{message, message_of};
 ghost use Rattle.pairing.specs.Requests.{starts};
 ghost use Rattle.pairing.specs.Waves.{joins};
 ghost use Rattle.pairing.specs.Pairs.{bytes_told, kind_of, mode_of};
 ghost use Rattle.pairing.specs.Probed.{probed_message};
-ghost use Rattle.pairing.specs.Packed.{request_of, unpack};
+ghost use Rattle.pairing.specs.Packed.{request_of, plain_of, unpack};
 ghost use Rattle.pairing.specs.declared.packed.Entry.{Entry};
 
 use crate::beside::Beside;
 use crate::envelope::{Half, Message};
 use crate::slots::{PackedBytes, PackedPeer};
-use mpicall::call::{Kind, Mode, Peer};
+use mpicall::call::{Call, Kind, Mode, Peer};
+use mpicall::does::{Does, Side};
+use mpicall::laid::Laid;
+use mpicall::word::{Name, root_of};
 use std::mem::size_of;
 
-/// A call, variant by variant as `Call`. A wait has the places that started its requests, and their numbers
+/// A call: an operation or a wait has a variant of its own, as in `Call`, and any other call that of its layout,
+/// with its name. A wait has the places that started its requests, and their numbers
 /// are read from the calls there. A wait for several says where these places stand in a list of its rank:
 /// `count` of them from `first` on.
 #[derive(Clone, Copy)]
@@ -48,14 +53,6 @@ pub(crate) enum Packed {
         source: PackedPeer,
         tag: u32,
     },
-    Sendrecv {
-        comm: u16,
-        dest: PackedPeer,
-        source: PackedPeer,
-        send_tag: u32,
-        recv_tag: u32,
-        bytes: PackedBytes,
-    },
     Wait {
         start: u32,
     },
@@ -77,23 +74,36 @@ pub(crate) enum Packed {
         comm: u16,
         kind: Kind,
     },
-    Dup {
+    Nothing {
+        name: Name,
+    },
+    Message {
+        name: Name,
+        comm: u16,
+        source: PackedPeer,
+        tag: u32,
+    },
+    Exchange {
+        name: Name,
+        comm: u16,
+        dest: PackedPeer,
+        source: PackedPeer,
+        send_tag: u32,
+        recv_tag: u32,
+        bytes: PackedBytes,
+    },
+    Copy {
+        name: Name,
         comm: u16,
         new: u16,
     },
     Split {
+        name: Name,
         comm: u16,
         colour: Option<u32>,
         key: i32,
         new: Option<u16>,
     },
-    Probe {
-        comm: u16,
-        source: PackedPeer,
-        tag: u32,
-    },
-    Finalize,
-    Open,
 }
 
 /// A call, and what is kept beside it.
@@ -105,10 +115,77 @@ pub(crate) struct Entry {
 
 const _: () = prove!(size_of::<Entry>() <= 32);
 
+/// A message over a communicator; none where its other end is MPI_PROC_NULL.
+#[inline(always)]
+fn message_with(comm: u16, side: Side) -> Option<Message>
+    ensures { result ≡ message comm side }
+{
+    match side.peer {
+        Peer::Rank(peer) => Some(Message {
+            comm,
+            peer,
+            tag: side.tag,
+        }),
+        Peer::Null => None,
+    }
+}
+
 impl Packed {
-    /// The message that the call sends.
-    fn sent(&self) -> Option<Message>
-        ensures { (entries : List Entry) (starts : List ℕ) → result ≡ message_of Half.Send (unpack entries starts self.now) }
+    /// The call of a name and what stands behind it; None for an operation and a wait.
+    #[inline(always)]
+    pub(crate) fn plain(&self) -> Option<Call>
+        ensures { result ≡ plain_of self.now }
+    {
+        let call = match *self {
+            Packed::Nothing { name } => name.call(Laid::Nothing),
+            Packed::Message {
+                name,
+                comm,
+                source,
+                tag,
+            } => name.call(Laid::Message {
+                comm,
+                source: source.peer(),
+                tag,
+            }),
+            Packed::Exchange {
+                name,
+                comm,
+                dest,
+                source,
+                send_tag,
+                recv_tag,
+                bytes,
+            } => name.call(Laid::Exchange {
+                comm,
+                dest: dest.peer(),
+                send_tag,
+                source: source.peer(),
+                recv_tag,
+                bytes: bytes.bytes(),
+            }),
+            Packed::Copy { name, comm, new } => name.call(Laid::Copy { comm, new }),
+            Packed::Split {
+                name,
+                comm,
+                colour,
+                key,
+                new,
+            } => name.call(Laid::Split {
+                comm,
+                colour,
+                key,
+                new,
+            }),
+            _ => return None,
+        };
+        Some(call)
+    }
+
+    /// What the call does over its communicator.
+    #[inline(always)]
+    fn does(&self) -> Does
+        ensures { (entries : List Entry) (starts : List ℕ) → result ≡ does_of (unpack entries starts self.now) }
     {
         match *self {
             Packed::Send {
@@ -122,42 +199,23 @@ impl Packed {
                 dest,
                 tag,
                 ..
-            }
-            | Packed::Sendrecv {
-                comm,
-                dest,
-                send_tag: tag,
-                ..
-            } => match dest.peer() {
-                Peer::Rank(peer) => Some(Message { comm, peer, tag }),
-                Peer::Null => None,
-            },
-            _ => None,
-        }
-    }
-
-    /// The message that the call receives.
-    fn received(&self) -> Option<Message>
-        ensures { (entries : List Entry) (starts : List ℕ) → result ≡ message_of Half.Recv (unpack entries starts self.now) }
-    {
-        match *self {
+            } => Does::sends(comm, dest.peer(), tag),
             Packed::Recv { comm, source, tag }
             | Packed::Irecv {
                 comm,
                 source,
                 tag,
                 ..
-            }
-            | Packed::Sendrecv {
+            } => Does::receives(comm, source.peer(), tag),
+            Packed::Coll { comm, kind } | Packed::Icoll { comm, kind, .. } => Does::Joins {
                 comm,
-                source,
-                recv_tag: tag,
-                ..
-            } => match source.peer() {
-                Peer::Rank(peer) => Some(Message { comm, peer, tag }),
-                Peer::Null => None,
+                root: root_of(kind),
+                made: None,
             },
-            _ => None,
+            _ => match self.plain() {
+                Some(call) => call.does(),
+                None => Does::Alone,
+            },
         }
     }
 
@@ -167,9 +225,24 @@ impl Packed {
     pub(crate) fn message(&self, half: Half) -> Option<Message>
         ensures { (entries : List Entry) (starts : List ℕ) → result ≡ message_of half (unpack entries starts self.now) }
     {
-        match half {
-            Half::Send => self.sent(),
-            Half::Recv => self.received(),
+        match (half, self.does()) {
+            (
+                Half::Send,
+                Does::Exchanges {
+                    comm,
+                    sent: Some(side),
+                    ..
+                },
+            )
+            | (
+                Half::Recv,
+                Does::Exchanges {
+                    comm,
+                    received: Some(side),
+                    ..
+                },
+            ) => message_with(comm, side),
+            _ => None,
         }
     }
 
@@ -178,11 +251,12 @@ impl Packed {
     pub(crate) fn probed(&self) -> Option<Message>
         ensures { (entries : List Entry) (starts : List ℕ) → result ≡ probed_message (unpack entries starts self.now) }
     {
-        match *self {
-            Packed::Probe { comm, source, tag } => match source.peer() {
-                Peer::Rank(peer) => Some(Message { comm, peer, tag }),
-                Peer::Null => None,
-            },
+        match self.does() {
+            Does::Exchanges {
+                comm,
+                probed: Some(side),
+                ..
+            } => message_with(comm, side),
             _ => None,
         }
     }
@@ -205,7 +279,11 @@ impl Packed {
         match *self {
             Packed::Send { bytes, .. }
             | Packed::Isend { bytes, .. }
-            | Packed::Sendrecv { bytes, .. } => bytes.bytes(),
+            | Packed::Exchange {
+                name: Name::Sendrecv,
+                bytes,
+                ..
+            } => bytes.bytes(),
             _ => None,
         }
     }
@@ -237,11 +315,8 @@ impl Packed {
     pub(crate) fn joins(&self) -> Option<u16>
         ensures { (entries : List Entry) (starts : List ℕ) → result ≡ joins (unpack entries starts self.now) }
     {
-        match *self {
-            Packed::Coll { comm, .. }
-            | Packed::Icoll { comm, .. }
-            | Packed::Dup { comm, .. }
-            | Packed::Split { comm, .. } => Some(comm),
+        match self.does() {
+            Does::Joins { comm, .. } => Some(comm),
             _ => None,
         }
     }
@@ -250,6 +325,11 @@ impl Packed {
     pub(crate) fn ends_list(&self) -> bool
         ensures { (entries : List Entry) (starts : List ℕ) → result ≡ ends_list (unpack entries starts self.now) }
     {
-        matches!(*self, Packed::Finalize | Packed::Open)
+        matches!(
+            *self,
+            Packed::Nothing {
+                name: Name::Finalize | Name::Open
+            }
+        )
     }
 }

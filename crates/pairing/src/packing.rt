@@ -1,6 +1,9 @@
 //! Calls packed, and unpacked again.
 
-ghost use Rattle.std.specs.Prelude.{◌≡◌, ◌+◌, ◌≤◌, ◌++◌, List, ℕ, length, IsTrue};
+ghost use Rattle.std.specs.Prelude.{◌≡◌, ◌+◌, ◌≤◌, [], ◌++◌, List, ℕ, length, IsTrue};
+ghost use Rattle.std.specs.List.{list_all};
+ghost use Rattle.mpicall.specs.Argument.{is_in_range};
+ghost use Rattle.mpicall.specs.Laid.{laid_arguments, call_by};
 ghost use Rattle.mpicall.specs.Limits.{few_enough, names_enough, in_ranges};
 ghost use Rattle.pairing.specs.Requests.{waits_for};
 ghost use Rattle.pairing.specs.Notes.{listed};
@@ -10,8 +13,10 @@ ghost use Rattle.pairing.specs.declared.packed.Entry.{Entry};
 use crate::packed::{Entry, Packed};
 use crate::slots::{PackedBytes, PackedPeer};
 use mpicall::call::Call;
+use mpicall::laid::Laid;
 use mpicall::limits::MOST_REQUESTS;
 use mpicall::reqs::Reqs;
+use mpicall::word::Name;
 use std::slice::from_ref;
 
 /// The requests of a wait that may name several.
@@ -40,6 +45,53 @@ fn count(reqs: &Reqs) -> u8
     ensures { result ≡ length reqs.now }
 {
     reqs.as_slice().len() as u8
+}
+
+/// A name and what stands behind it, packed.
+fn pack_laid(name: Name, laid: Laid) -> Packed
+    requires { IsTrue (list_all is_in_range (laid_arguments laid)) }
+    ensures call { (entries : List Entry) (starts : List ℕ) → unpack entries starts result ≡ call_by name laid }
+    ensures starts { (starts : List ℕ) → unpack_starts starts result ≡ [] }
+    ensures end { end_of result ≡ 0 }
+{
+    match laid {
+        Laid::Nothing => Packed::Nothing { name },
+        Laid::Message { comm, source, tag } => Packed::Message {
+            name,
+            comm,
+            source: PackedPeer::of(source),
+            tag,
+        },
+        Laid::Exchange {
+            comm,
+            dest,
+            send_tag,
+            source,
+            recv_tag,
+            bytes,
+        } => Packed::Exchange {
+            name,
+            comm,
+            dest: PackedPeer::of(dest),
+            source: PackedPeer::of(source),
+            send_tag,
+            recv_tag,
+            bytes: PackedBytes::of(bytes),
+        },
+        Laid::Copy { comm, new } => Packed::Copy { name, comm, new },
+        Laid::Split {
+            comm,
+            colour,
+            key,
+            new,
+        } => Packed::Split {
+            name,
+            comm,
+            colour,
+            key,
+            new,
+        },
+    }
 }
 
 /// The call packed. The places that started the requests which it names are given, and those that are listed
@@ -97,42 +149,8 @@ pub(crate) fn pack(call: &Call, first: u32, starts: &[u32]) -> Packed
             source: PackedPeer::of(source),
             tag,
         },
-        Call::Sendrecv {
-            comm,
-            dest,
-            send_tag,
-            source,
-            recv_tag,
-            bytes,
-        } => Packed::Sendrecv {
-            comm,
-            dest: PackedPeer::of(dest),
-            source: PackedPeer::of(source),
-            send_tag,
-            recv_tag,
-            bytes: PackedBytes::of(bytes),
-        },
         Call::Coll { comm, kind } => Packed::Coll { comm, kind },
         Call::Icoll { req, comm, kind } => Packed::Icoll { req, comm, kind },
-        Call::Dup { comm, new } => Packed::Dup { comm, new },
-        Call::Split {
-            comm,
-            colour,
-            key,
-            new,
-        } => Packed::Split {
-            comm,
-            colour,
-            key,
-            new,
-        },
-        Call::Probe { comm, source, tag } => Packed::Probe {
-            comm,
-            source: PackedPeer::of(source),
-            tag,
-        },
-        Call::Finalize => Packed::Finalize,
-        Call::Open => Packed::Open,
         Call::Wait { .. } => Packed::Wait { start: starts[0] },
         Call::Waitall { ref reqs } => Packed::Waitall {
             first,
@@ -142,6 +160,12 @@ pub(crate) fn pack(call: &Call, first: u32, starts: &[u32]) -> Packed
             chosen,
             first,
             count: count(reqs),
+        },
+        _ => match call.laid() {
+            Some((name, laid)) => pack_laid(name, laid),
+            None => Packed::Nothing {
+                name: Name::Finalize,
+            },
         },
     }
 }
@@ -246,42 +270,8 @@ pub(crate) fn unpack(packed: &Packed, entries: &[Entry], starts: &[u32]) -> Call
             source: source.peer(),
             tag,
         },
-        Packed::Sendrecv {
-            comm,
-            dest,
-            source,
-            send_tag,
-            recv_tag,
-            bytes,
-        } => Call::Sendrecv {
-            comm,
-            dest: dest.peer(),
-            send_tag,
-            source: source.peer(),
-            recv_tag,
-            bytes: bytes.bytes(),
-        },
         Packed::Coll { comm, kind } => Call::Coll { comm, kind },
         Packed::Icoll { req, comm, kind } => Call::Icoll { req, comm, kind },
-        Packed::Dup { comm, new } => Call::Dup { comm, new },
-        Packed::Split {
-            comm,
-            colour,
-            key,
-            new,
-        } => Call::Split {
-            comm,
-            colour,
-            key,
-            new,
-        },
-        Packed::Probe { comm, source, tag } => Call::Probe {
-            comm,
-            source: source.peer(),
-            tag,
-        },
-        Packed::Finalize => Call::Finalize,
-        Packed::Open => Call::Open,
         Packed::Wait { start } => Call::Wait {
             req: req_at(entries, start),
         },
@@ -295,6 +285,10 @@ pub(crate) fn unpack(packed: &Packed, entries: &[Entry], starts: &[u32]) -> Call
         } => Call::Waitany {
             chosen,
             reqs: reqs_at(entries, part(starts, first, count)),
+        },
+        _ => match packed.plain() {
+            Some(call) => call,
+            None => Call::Finalize,
         },
     }
 }

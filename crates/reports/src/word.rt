@@ -10,6 +10,6 @@ use std::alloc::AllocError;
 pub(crate) fn push_word(text: &mut String, word: Word) -> Result<(), AllocError>
     ensures { OnOk result (string_bytes text.new ≡ string_bytes text.old ++ text_of word) }
 {
-    text.push_str(word.start())?;
+    text.push_str(word.letter())?;
     text.push_str(word.stem())
 }

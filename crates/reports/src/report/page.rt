@@ -106,7 +106,7 @@ impl Page {
         ensures value { self.new ≡ self.old ++ space ∷ text_of word }
         ensures short { length self.new ≤ length self.old + 12 }
     {
-        self.push_field(word.start().as_bytes());
+        self.push_field(word.letter().as_bytes());
         self.push_all(word.stem().as_bytes());
     }
 
