@@ -1,9 +1,10 @@
 -- The table of the active requests with the places that started them.
-use Rattle.std.specs.Prelude.{◌≡◌, ◌<◌, ℕ, Bool, Option, None, Some, IsSome, is_some, List, [], ◌∷◌}
+use Rattle.std.specs.Prelude.{◌≡◌, ◌<◌, ◌+◌, ◌*◌, ◌&&◌, nat_lt, if◌then◌else◌, ℕ, Bool, Option, None, Some, IsSome, is_some, List, [], ◌∷◌, length, slice_index_or}
 use Rattle.mpicall.specs.declared.call.Call.{Call}
 use Rattle.indexmap.specs.IndexMap.{get, spare}
 use Rattle.pairing.specs.Recordings.{Lists, calls_of}
 use Rattle.pairing.specs.Requests.{starts, started_in}
+use Rattle.pairing.specs.declared.active.TheConstants.{LOW_REQUESTS}
 use Rattle.pairing.specs.declared.active.Request.{Request}
 use Rattle.pairing.specs.declared.active.Active.{Active}
 use Rattle.pairing.specs.contracts.active.RequestPartialEq.TheImpl as request_eq
@@ -12,9 +13,19 @@ use Rattle.pairing.specs.contracts.active.RequestPartialEq.TheImpl as request_eq
 abbrev pub is_same_request : Request → Request → Bool
 is_same_request = (request_eq.ghosts).eq
 
+-- the number in the plain table of the rank's request, where it stands there
+abbrev pub low_number : ℕ → ℕ → ℕ
+low_number rank req = rank * LOW_REQUESTS + req
+
+-- the rank's request stands in the plain table, if it is there at all
+abbrev pub is_low : Active → ℕ → ℕ → Bool
+is_low active rank req = nat_lt req LOW_REQUESTS && nat_lt (low_number rank req) (length active.low.items)
+
 -- the place that the table has for the rank's request
 abbrev pub place_in : Active → ℕ → ℕ → Option ℕ
-place_in active rank req = get is_same_request active.starts (record { rank = rank; req = req })
+place_in active rank req =
+    if is_low active rank req then slice_index_or active.low.items (low_number rank req) None
+    else get is_same_request active.starts (record { rank = rank; req = req })
 
 -- the table has the rank's request
 abbrev pub has_place : Active → ℕ → ℕ → Bool

@@ -1,38 +1,75 @@
 //! Which requests of a recording are active, by look-up.
 
-ghost use Rattle.std.specs.Prelude.{◌≡◌, ◌<◌, ◌≤◌, ◌==◌, ◌&&◌, [], Some, None, length, replicate, map, take, drop, ℕ, true, OnOk, if◌then◌else◌};
+ghost use Rattle.std.specs.Prelude.{◌≡◌, ◌+◌, ◌*◌, ◌^◌, ◌<◌, ◌≤◌, ◌==◌, ◌&&◌, [], Some, None, length, replicate, map, take, drop, ℕ, true, IfOk, IfSome, OnOk, if◌then◌else◌};
 ghost use Rattle.std.specs.List.{list_all};
+ghost use Rattle.std.specs.Hash as fed;
+ghost use Rattle.std.specs.Cmp.Rules.{hashing};
+ghost use Rattle.std.proofs.Common.{rules};
 ghost use Rattle.indexmap.specs.IndexMap.{spare};
 ghost use Rattle.pairing.specs.Recordings.{Lists, calls_of, appended};
 ghost use Rattle.pairing.specs.Requests.{started_in, is_among, is_active, does_start};
-ghost use Rattle.pairing.specs.Starts.{place_in, known_front, IsActive, HasRoomToStart};
+ghost use Rattle.pairing.specs.Starts.{low_number, is_low, place_in, known_front, IsActive, HasRoomToStart};
 
 use crate::request::{completes, starts};
 use indexmap::IndexMap;
 use mpicall::record::Record;
 use std::alloc::{AllocError, Global};
+use std::hash::{Hash, Hasher};
 
 /// A request of a rank, by the number that the rank's recorder gave it.
-#[derive(Clone, Copy, PartialEq, Eq, Hash)]
+#[derive(Clone, Copy, PartialEq, Eq)]
 pub(crate) struct Request {
     rank: u16,
     req: u32,
 }
 
+// Both as one number, which is hashed faster than one after the other.
+impl Hash for Request {
+    ghost hash_input = { λ r. fed.u64 (r.rank * 2 ^ 32 + r.req) };
+
+    ghost respects_eq = { Prim.search (hashing, rules) };
+
+    fn hash<H: Hasher>(&self, state: &mut H) {
+        state.write_u64(u64::from(self.rank) * 0x1_0000_0000 + u64::from(self.req));
+    }
+}
+
+/// So many numbers of each rank's requests, from 0, stand in a plain table: those that are used again and again
+/// are mostly low.
+pub(crate) const LOW_REQUESTS: usize = 256;
+
 /// The active requests of each rank, each with the place of the call that started it. A look-up takes
 /// the same time however many calls there were, on average.
 #[derive(Drop)]
 pub(crate) struct Active {
+    // What started the requests with low numbers, rank by rank.
+    low: Vec<Option<u32>>,
+    // And what started all others.
     starts: IndexMap<Request, u32>,
 }
 
 impl Active {
-    /// No request yet: the table of each recording without calls.
-    pub(crate) fn new(alloc: Global) -> Active
-        ensures { (ranks : ℕ) → IsActive (replicate ranks []) result }
+    /// No request yet, of so many ranks: the table of each recording without calls.
+    pub(crate) fn new(alloc: Global, ranks: u16) -> Result<Active, AllocError>
+        ensures { IfOk result (λ active. (ranks : ℕ) → IsActive (replicate ranks []) active) }
     {
-        Active {
+        Ok(Active {
+            low: vec![in alloc; None; usize::from(ranks) * LOW_REQUESTS]?,
             starts: IndexMap::new(alloc),
+        })
+    }
+
+    /// Where the rank's request stands in the plain table; None where it doesn't stand there.
+    #[inline(always)]
+    fn low_at(&self, rank: u16, req: u32) -> Option<usize>
+        ensures value { result ≡ (if is_low self.now rank req then Some (low_number rank req) else None) }
+        ensures within { IfSome result (λ at. at < length self.now.low.items) }
+    {
+        let at = usize::from(rank) * LOW_REQUESTS + req as usize;
+        if (req as usize) < LOW_REQUESTS && at < self.low.len() {
+            Some(at)
+        } else {
+            None
         }
     }
 
@@ -47,13 +84,39 @@ impl Active {
         }
     }
 
+    /// Takes out the rank's request, if it is there.
+    fn remove(&mut self, rank: u16, req: u32)
+        ensures taken { (r q : ℕ) → place_in self.new r q ≡ (if r == rank && req == q then None else place_in self.old r q) }
+        ensures room { spare self.old.starts ≤ spare self.new.starts }
+    {
+        match self.low_at(rank, req) {
+            Some(at) => self.low[at] = None,
+            None => {
+                self.starts.swap_remove(&Request { rank, req });
+            }
+        }
+    }
+
+    /// Puts in the rank's request, which the call at the place starts.
+    fn insert(&mut self, rank: u16, req: u32, place: u32)
+        requires { 0 < spare self.old.starts }
+        ensures { (r q : ℕ) → place_in self.new r q ≡ (if r == rank && req == q then Some place else place_in self.old r q) }
+    {
+        match self.low_at(rank, req) {
+            Some(at) => self.low[at] = Some(place),
+            None => {
+                self.starts.insert(Request { rank, req }, place).unwrap();
+            }
+        }
+    }
+
     /// Takes out those requests of the rank that are among the numbers.
     fn complete(&mut self, rank: u16, reqs: &[u32])
         ensures taken { (r req : ℕ) → place_in self.new r req ≡ (if r == rank && is_among req reqs.now then None else place_in self.old r req) }
         ensures room { spare self.old.starts ≤ spare self.new.starts }
     {
         for req in reqs {
-            self.starts.swap_remove(&Request { rank, req: *req });
+            self.remove(rank, *req);
         }
     }
 
@@ -63,7 +126,7 @@ impl Active {
         ensures { (r req : ℕ) → place_in self.new r req ≡ (if r == rank && does_start req call.now then Some place else place_in self.old r req) }
     {
         if let Some(req) = starts(call.as_call()) {
-            self.starts.insert(Request { rank, req }, place).unwrap();
+            self.insert(rank, req, place);
         }
     }
 
@@ -83,7 +146,10 @@ impl Active {
         ensures place { result ≡ place_in self.now rank req }
         ensures value { (recording : Lists) → IsActive recording self.now → result ≡ started_in (calls_of recording rank) req }
     {
-        self.starts.get(&Request { rank, req }).copied()
+        match self.low_at(rank, req) {
+            Some(at) => self.low[at],
+            None => self.starts.get(&Request { rank, req }).copied(),
+        }
     }
 
     /// What `starts_of` does, told by the table alone.
