@@ -34,21 +34,14 @@ pub record Matching : Type 0 where
   pub spare : ℕ
   pub work : ℕ
 
--- the numbers of the lists, from 0 on; there are lists for all envelopes that have a number, and the others are
--- empty
-pub record AreIds (ids : List ℕ) (lists : List (List (ℕ × ℕ))) (keys : ℕ) : Type 0 where
-  pub many : length ids ≡ length lists
-  pub each : (i : ℕ) → i < length lists → get_or ids i 0 ≡ i
+-- there are lists for all envelopes that have a number, and the others are empty
+pub record HaveLists (lists : List (List (ℕ × ℕ))) (keys : ℕ) : Type 0 where
   pub enough : 2 * keys ≤ length lists
   pub unused : (l : ℕ) → 2 * keys ≤ l → list_at lists l ≡ []
 
--- the fields of two envelopes are equal
-abbrev pub equal_fields : Envelope → Envelope → Bool
-equal_fields e f = e.comm == f.comm && (e.source == f.source && (e.dest == f.dest && e.tag == f.tag))
-
 -- the number of an envelope
 abbrev pub number_in : List Envelope → Envelope → Option ℕ
-number_in keys e = position (equal_fields e) keys
+number_in keys e = position (same_envelope e) keys
 
 -- the number of the list of an envelope's half
 abbrev pub list_no : Half → ℕ → ℕ
