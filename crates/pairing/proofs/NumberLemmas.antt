@@ -1,11 +1,11 @@
 -- Numbers of keys by their positions, and lists of which one element is another.
-use Rattle.std.proofs.Common.{◌≡◌, ◌≢◌, ℕ, zero, suc, ◌+◌, ◌<◌, ◌≤◌, ◌⊎◌, inl, inr, Bool, true, false, cond, ltb, eqb, Some, None, List, [], ◌∷◌, ◌++◌, length, set, refl, ap, ◌∙◌, ⊎_elim, arith, length-append}
+use Rattle.std.proofs.Common.{◌≡◌, ℕ, zero, suc, ◌+◌, ◌<◌, ◌≤◌, ◌⊎◌, inl, inr, Bool, true, false, cond, ltb, eqb, Some, None, List, [], ◌∷◌, ◌++◌, length, set, refl, ap, ◌∙◌, ⊎_elim, arith, length-append}
 use Rattle.std.specs.Prelude.{not, position, Result, Ok, Err, OnOk}
-use Rattle.std.specs.List.{list_any, position_or_len}
+use Rattle.std.specs.List.{position_or_len}
 use Rattle.std.proofs.lemmas.List.Folds.{position_or_len_push}
 use Rattle.std.proofs.lemmas.List.Sums.{prefix_len-le-length}
 use Rattle.std.proofs.lemmas.Option.{cond_some}
-use Rattle.std.proofs.lemmas.Bool.{true≢false, cases_Bool, ltb-true, ltb-false, lt-ltb, eq-eqb, ne_eqb}
+use Rattle.std.proofs.lemmas.Bool.{cases_Bool, ltb-true, ltb-false, lt-ltb, eq-eqb, ne_eqb}
 
 -- a number is found, or none
 pub position_cases : {K : Type 0} (p : K → Bool) (xs : List K) → ((i : ℕ) × (position p xs ≡ Some i) × (i < length xs) × (position_or_len p xs ≡ i)) ⊎ ((position p xs ≡ None) × (position_or_len p xs ≡ length xs))
@@ -44,15 +44,6 @@ number_next p xs y absent passes =
     position_at p (xs ++ y ∷ []) (length xs)
     (position_or_len_push p xs y ∙ ap (λ b. cond b (length xs + cond (p y) 0 1) (position_or_len p xs)) (eq-eqb _ _ absent) ∙ ap (λ b. length xs + cond b 0 1) passes ∙ omega arith)
     (omega (arith, one_more))
-
--- a key that is not there has no number yet
-pub absent_number : {K : Type 0} (p : K → Bool) (xs : List K) → list_any p xs ≡ false → position_or_len p xs ≡ length xs
-absent_number p [] h = refl
-absent_number p (x ∷ xs) h =
-    ⊎_elim
-    (λ (here : p x ≡ true). absurd (true≢false (rw here at h)))
-    (λ (fails : p x ≡ false). rw fails (omega (arith, absent_number p xs (rw fails at h))))
-    (cases_Bool (p x))
 
 -- nothing is written behind a list
 pub set_past : {X : Type 0} (xs : List X) (i : ℕ) (y : X) → length xs ≤ i → set xs i y ≡ xs
