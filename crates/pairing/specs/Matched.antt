@@ -1,6 +1,6 @@
 -- Pending halves of messages: those that have no partner yet stand in lists, by the numbers of their
 -- envelopes, and the partners of the others are kept with them.
-use Rattle.std.specs.Prelude.{◌≡◌, ℕ, ◌+◌, ◌*◌, ◌<◌, ◌≤◌, ◌==◌, Bool, true, false, ◌&&◌, Option, Some, None, IfSome, option_map, if◌then◌else◌, is_some, List, [], ◌∷◌, ◌++◌, length, drop, slice_get, slice_set, get_or, position}
+use Rattle.std.specs.Prelude.{◌≡◌, ℕ, ◌+◌, ◌*◌, ◌<◌, ◌≤◌, Bool, true, false, ◌&&◌, Option, Some, None, IfSome, option_map, if◌then◌else◌, is_some, List, [], ◌∷◌, ◌++◌, length, drop, slice_get, slice_set, position}
 use Rattle.std.specs.Option.{option_map_or}
 use Rattle.arenalist.specs.Arena.{counted}
 use Rattle.arenalist.specs.Numbers.{list_at}

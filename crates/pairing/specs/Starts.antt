@@ -1,6 +1,6 @@
 -- The table of the active requests with the places that started them.
 use Rattle.std.specs.Option.{option_or}
-use Rattle.std.specs.Prelude.{◌≡◌, ◌<◌, ◌+◌, ◌*◌, ◌%◌, ◌==◌, if◌then◌else◌, ℕ, Bool, Option, None, Some, IsSome, is_some, List, [], ◌∷◌, length, slice_index_or}
+use Rattle.std.specs.Prelude.{◌≡◌, ◌<◌, ◌+◌, ◌*◌, ◌%◌, ◌==◌, if◌then◌else◌, ℕ, Bool, Option, None, Some, IsSome, is_some, List, [], ◌∷◌, slice_index_or}
 use Rattle.mpicall.specs.declared.call.Call.{Call}
 use Rattle.indexmap.specs.IndexMap.{get, spare}
 use Rattle.pairing.specs.Recordings.{Lists, calls_of}
