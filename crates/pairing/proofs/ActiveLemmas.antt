@@ -1,5 +1,5 @@
 -- What one more call changes about the active requests of ranks.
-use Rattle.std.proofs.Common.{◌≡◌, ℕ, ◌<◌, ◌==◌, ◌&&◌, true, false, if◌then◌else◌, Some, None, List, [], ◌∷◌, ◌++◌, length, refl, ⊎_elim, arith}
+use Rattle.std.proofs.Common.{◌≡◌, ℕ, zero, suc, ◌<◌, ◌==◌, ◌&&◌, true, false, if◌then◌else◌, Option, Some, None, List, [], ◌∷◌, ◌++◌, length, get_or, replicate, refl, ⊎_elim, arith}
 use Rattle.std.specs.List.{list_all}
 use Rattle.std.proofs.lemmas.Bool.{cases_eq, cases_Bool}
 use Rattle.std.proofs.lemmas.Grind.{common_steps}
@@ -7,6 +7,7 @@ use Rattle.mpicall.specs.declared.call.Call.{Call}
 use Rattle.pairing.specs.Recordings.{Lists, calls_of, appended}
 use Rattle.pairing.specs.Requests.{does_start, does_complete, started_in, is_active}
 use Rattle.pairing.specs.Starts.{place_in, has_place, IsActive}
+use Rattle.pairing.specs.declared.active.Start.{Start}
 use Rattle.pairing.specs.declared.active.Active.{Active}
 use Rattle.pairing.proofs.RecordingLemmas.{calls_of-appended, calls_of-appended_other}
 use Rattle.pairing.proofs.RequestLemmas.{starts_it, completes_it, leaves_it}
@@ -47,3 +48,9 @@ pub all_active : (recording : Lists) (active : Active) (rank : ℕ) (reqs : List
 all_active recording active rank [] is_table = refl
 all_active recording active rank (req ∷ reqs) is_table =
     rw (is_table rank req, all_active recording active rank reqs is_table) refl
+
+-- cells that are all empty
+pub no_cell : (cells i : ℕ) → get_or {A = Option Start} (replicate cells None) i None ≡ None
+no_cell zero i = refl
+no_cell (suc cells) zero = refl
+no_cell (suc cells) (suc i) = no_cell cells i

@@ -56,15 +56,6 @@ fault_none groups rank calls call h =
     }
 
 -- one element that passes settles it
-any_at : {A : Type 0} (test : A → Bool) (xs : List A) (i : ℕ) (x : A) → slice_get xs i ≡ Some x → test x ≡ true → list_any test xs ≡ true
-any_at test [] i x h passes = absurd (none-some x h)
-any_at test (y ∷ ys) zero x h passes = rw (ap test (same_Some y x h)) (rw passes refl)
-any_at test (y ∷ ys) (suc i) x h passes =
-    ⊎_elim
-    (λ (first : test y ≡ true). rw first refl)
-    (λ (later : test y ≡ false). rw later (any_at test ys i x h passes))
-    (cases_Bool (test y))
-
 slice_get-push : {A : Type 0} (xs : List A) (y : A) (i : ℕ) (x : A) → slice_get (xs ++ y ∷ []) i ≡ Some x → ((i < length xs) × (slice_get xs i ≡ Some x)) ⊎ ((i ≡ length xs) × (y ≡ x))
 slice_get-push [] y zero x h = inr (refl, same_Some y x h)
 slice_get-push [] y (suc i) x h = absurd (none-some x h)

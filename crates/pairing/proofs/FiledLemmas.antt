@@ -4,10 +4,12 @@ use Rattle.std.specs.Prelude.{if◌then◌else◌, is_some, IfSome}
 use Rattle.std.specs.List.{slice_get}
 use Rattle.std.specs.Option.{option_map, option_map_or, option_and_then}
 use Rattle.std.proofs.lemmas.Bool.{cases_Bool, cases_eq}
+use Rattle.std.proofs.lemmas.List.{drop_all}
 use Rattle.std.proofs.lemmas.Option.{none-some, same_Some, slice_get_within}
 use Rattle.arenalist.specs.Arena.{counted}
 use Rattle.mpicall.specs.declared.call.Call.{Call}
 use Rattle.mpigroup.specs.Groups.{Groups}
+use Rattle.mpigroup.proofs.ListLemmas.{get_end}
 use Rattle.pairing.specs.declared.envelope.Envelope.{Envelope}
 use Rattle.pairing.specs.declared.envelope.Half.{Half}
 use Rattle.pairing.specs.declared.envelope.Half.TheVariants.{Send as SendHalf, Recv as RecvHalf}
@@ -22,7 +24,7 @@ use Rattle.pairing.specs.Beside.{partner_in}
 use Rattle.pairing.specs.Partners.{envelope_at, places_of, number_of, numbered, partner_of}
 use Rattle.pairing.specs.Places.{places}
 use Rattle.pairing.specs.Recordings.{Lists, calls_of, appended}
-use Rattle.pairing.proofs.MeetingLemmas.{filed_other_half, get_end, drop_past}
+use Rattle.pairing.proofs.MeetingLemmas.{filed_other_half}
 use Rattle.pairing.proofs.NotedLemmas.{notes_of-same, notes_of-other}
 use Rattle.pairing.proofs.PartnerLemmas.{map_parts, own_rank, own_place, numbered_half, has_it, envelope_at_parts, partner_parts, HasHalf}
 use Rattle.pairing.proofs.PlaceLemmas.{slice_get-front}
@@ -300,7 +302,7 @@ matched_new groups ranks matching keys work = record {
   pending = λ half e.
       ap (λ (ks : List Envelope). option_map_or (pending_at matching.lists half) (number_in ks e) []) keys
       ∙ sym (ap (λ (ps : List ℕ). drop (length (halves_of groups (replicate ranks []) (other_half half) e)) ps) (no_halves half e (rank_of_half groups half e))
-      ∙ drop_past (length (halves_of groups (replicate ranks []) (other_half half) e)) [] (omega arith));
+      ∙ drop_all (length (halves_of groups (replicate ranks []) (other_half half) e)) [] (omega arith));
   work = work ∙ sym (ap (λ (m : ℕ). counted 0 m) (no_work 0 ranks) ∙ none_counted);
 }
   where

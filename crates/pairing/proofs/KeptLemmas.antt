@@ -93,9 +93,6 @@ no_partner_kept groups notes rank place half noted partnered h none =
     no_pair None h' = refl
     no_pair (Some partner) h' = absurd (none-some partner.1 (sym h'))
 
-pub no_message : (groups : Groups) (notes : List (List Noted)) (rank place : ℕ) (half : Half) (noted : Noted) → slice_get (notes_of notes rank) place ≡ Some noted → message_of half noted.call ≡ None → partner_of groups (recording_of notes) rank place half ≡ None
-no_message groups notes rank place half noted h none = rw (its_call notes rank place noted h, none) refl
-
 pub no_peer : (groups : Groups) (notes : List (List Noted)) (rank place : ℕ) (half : Half) (noted : Noted) (m : Message) → slice_get (notes_of notes rank) place ≡ Some noted → message_of half noted.call ≡ Some m → world_rank_of groups m.comm m.peer ≡ None → partner_of groups (recording_of notes) rank place half ≡ None
 no_peer groups notes rank place half noted m h message none =
     rw (its_call notes rank place noted h, message) (by_rank (group_rank_of groups m.comm rank))
@@ -114,9 +111,6 @@ wave_noted notes rank place comm noted are_noted h at_comm =
 
 pub no_wave : (notes : List (List Noted)) (rank place : ℕ) (noted : Noted) → slice_get (notes_of notes rank) place ≡ Some noted → joins noted.call ≡ None → wave_of (recording_of notes) rank place ≡ None
 no_wave notes rank place noted h at_comm = rw (its_call notes rank place noted h, at_comm) refl
-
-pub no_wave_past : (notes : List (List Noted)) (rank place : ℕ) → slice_get (notes_of notes rank) place ≡ None → wave_of (recording_of notes) rank place ≡ None
-no_wave_past notes rank place h = rw (no_call notes rank place h) refl
 
 -- what is picked of a list by the requests that a wait completes
 abbrev picked_among : {A : Type 0} → Call → List A → List A

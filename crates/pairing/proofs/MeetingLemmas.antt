@@ -1,9 +1,11 @@
 -- A half that comes meets the first pending other half of its envelope, or is pending itself.
 use Rattle.std.proofs.Common.{◌≡◌, ◌≢◌, ℕ, zero, suc, ◌<◌, ◌≤◌, ◌⊎◌, inl, inr, true, false, Option, Some, None, List, [], ◌∷◌, ◌++◌, length, drop, refl, sym, ap, subst, ◌∙◌, ⊎_elim, arith, length-append}
 use Rattle.std.specs.List.{slice_get}
+use Rattle.std.proofs.lemmas.List.{drop_all, drop-append-le}
 use Rattle.std.proofs.lemmas.Bool.{cases_Bool, cases_eq, cases_lt, both_ways}
 use Rattle.std.proofs.lemmas.Option.{none-some, same_Some, slice_get_within}
 use Rattle.mpigroup.specs.Groups.{Groups}
+use Rattle.mpigroup.proofs.ListLemmas.{get_end, none_there}
 use Rattle.pairing.specs.declared.envelope.Envelope.{Envelope}
 use Rattle.pairing.specs.declared.envelope.Half.{Half}
 use Rattle.pairing.specs.declared.envelope.Half.TheVariants.{Send as SendHalf, Recv as RecvHalf}
@@ -58,27 +60,12 @@ filed_other half h e f place filing differs =
     (cases_Bool (is_half half h))
 
 -- the last element of a list, and what stands before it
-pub get_end : {A : Type 0} (xs : List A) (x : A) → slice_get (xs ++ x ∷ []) (length xs) ≡ Some x
-get_end [] x = refl
-get_end (y ∷ ys) x = get_end ys x
-
 pub get_last : {A : Type 0} (xs : List A) (x y : A) (i : ℕ) → length xs ≤ i → slice_get (xs ++ x ∷ []) i ≡ Some y → (i ≡ length xs) × (x ≡ y)
 get_last [] x y zero past h = (refl, same_Some x y h)
 get_last [] x y (suc i) past h = absurd (none-some y h)
 get_last (z ∷ zs) x y zero past h = absurd (omega arith)
 get_last (z ∷ zs) x y (suc i) past h =
     let rest = get_last zs x y i (omega (arith, past)) h in (ap (λ m. suc m) rest.0, rest.1)
-
-pub drop_push : {A : Type 0} (n : ℕ) (xs : List A) (x : A) → n ≤ length xs → drop n (xs ++ x ∷ []) ≡ drop n xs ++ x ∷ []
-drop_push zero xs x within = refl
-drop_push (suc n) [] x within = absurd (omega arith)
-drop_push (suc n) (y ∷ ys) x within = drop_push n ys x (omega (arith, within))
-
-pub drop_past : {A : Type 0} (n : ℕ) (xs : List A) → length xs ≤ n → drop n xs ≡ []
-drop_past zero [] past = refl
-drop_past zero (x ∷ xs) past = absurd (omega arith)
-drop_past (suc n) [] past = refl
-drop_past (suc n) (x ∷ xs) past = drop_past n xs (omega (arith, past))
 
 pub drop_next : {A : Type 0} (n : ℕ) (xs : List A) → drop 1 (drop n xs) ≡ drop (suc n) xs
 drop_next zero xs = refl
@@ -89,12 +76,6 @@ pub drop_first : {A : Type 0} (n : ℕ) (xs : List A) → slice_get (drop n xs) 
 drop_first zero xs = refl
 drop_first (suc n) [] = refl
 drop_first (suc n) (x ∷ xs) = drop_first n xs
-
--- where nothing is left behind the n-th element there are no more than n
-pub no_more : {A : Type 0} (xs : List A) (n : ℕ) → slice_get xs n ≡ None → length xs ≤ n
-no_more [] n h = omega arith
-no_more (x ∷ xs) zero h = absurd (none-some x (sym h))
-no_more (x ∷ xs) (suc n) h = omega (arith, no_more xs n h)
 
 pub get_not_end : {A : Type 0} (xs : List A) (x : A) (i : ℕ) → i ≢ length xs → slice_get (xs ++ x ∷ []) i ≡ slice_get xs i
 get_not_end [] x zero differs = absurd (differs refl)
@@ -341,10 +322,10 @@ module _ (groups : Groups) (filing : Filing) (half : Half) (e : Envelope) (rank 
           (let more : length (filing half e) < length (filing (other_half half) e) = slice_get_within (filing (other_half half) e) (length (filing half e)) there front in
           pending_rest half e (λ is. halves_differ half is.0)
           ∙ pending_is half e
-          ∙ drop_past (length (filing (other_half half) e)) (filing half e) (omega (arith, more))
+          ∙ drop_all (length (filing (other_half half) e)) (filing half e) (omega (arith, more))
           ∙ sym (ap (λ (ps : List ℕ). drop (length ps) (filed_on half (Some e) place filing half e)) (filed_other_half half (Some e) e place filing)
           ∙ ap (λ (ps : List ℕ). drop (length (filing (other_half half) e)) ps) (filed_own half e place filing)
-          ∙ drop_past (length (filing (other_half half) e)) (filing half e ++ place ∷ []) (omega (arith, more, length-append (filing half e) (place ∷ []))))))
+          ∙ drop_all (length (filing (other_half half) e)) (filing half e ++ place ∷ []) (omega (arith, more, length-append (filing half e) (place ∷ []))))))
           (λ (differs : f ≡ e → ⊥).
           pending_rest half f (λ is. differs is.1) ∙ pending_is half f
           ∙ sym (ap (λ (ps : List ℕ). drop (length ps) (filed_on half (Some e) place filing half f)) (filed_other_half half (Some e) f place filing)
@@ -380,7 +361,7 @@ module _ (groups : Groups) (filing : Filing) (half : Half) (e : Envelope) (rank 
         (pending_own : pending' half e ≡ pending half e ++ place ∷ [])
         (pending_rest : (h : Half) (f : Envelope) → ((h ≡ half) × (f ≡ e) → ⊥) → pending' h f ≡ pending h f) where
       few : length (filing (other_half half) e) ≤ length (filing half e)
-      few = no_more (filing (other_half half) e) (length (filing half e)) none
+      few = none_there (filing (other_half half) e) (length (filing half e)) none
 
       not_kept : kept half rank place ≡ None
       not_kept = by_option (kept half rank place) refl
@@ -446,7 +427,7 @@ module _ (groups : Groups) (filing : Filing) (half : Half) (e : Envelope) (rank 
           ∙ ap (λ (ps : List ℕ). ps ++ place ∷ []) (pending_is half e)
           ∙ sym (ap (λ (ps : List ℕ). drop (length ps) (filed_on half (Some e) place filing half e)) (filed_other_half half (Some e) e place filing)
           ∙ ap (λ (ps : List ℕ). drop (length (filing (other_half half) e)) ps) (filed_own half e place filing)
-          ∙ drop_push (length (filing (other_half half) e)) (filing half e) place few)))
+          ∙ drop-append-le (length (filing (other_half half) e)) (filing half e) (place ∷ []) few)))
           (λ (differs : f ≡ e → ⊥).
           pending_rest half f (λ is. differs is.1) ∙ pending_is half f
           ∙ sym (ap (λ (ps : List ℕ). drop (length ps) (filed_on half (Some e) place filing half f)) (filed_other_half half (Some e) f place filing)
@@ -460,10 +441,10 @@ module _ (groups : Groups) (filing : Filing) (half : Half) (e : Envelope) (rank 
           ∙ ⊎_elim
           (λ (is_f : f ≡ e).
           ap (λ (x : Envelope). drop (length (filing half x)) (filing (other_half half) x)) is_f
-          ∙ drop_past (length (filing half e)) (filing (other_half half) e) few
+          ∙ drop_all (length (filing half e)) (filing (other_half half) e) few
           ∙ sym (ap (λ (x : Envelope). drop (length (filed_on half (Some e) place filing half x)) (filing (other_half half) x)) is_f
           ∙ ap (λ (ps : List ℕ). drop (length ps) (filing (other_half half) e)) (filed_own half e place filing)
-          ∙ drop_past (length (filing half e ++ place ∷ [])) (filing (other_half half) e) (omega (arith, few, length-append (filing half e) (place ∷ [])))))
+          ∙ drop_all (length (filing half e ++ place ∷ [])) (filing (other_half half) e) (omega (arith, few, length-append (filing half e) (place ∷ [])))))
           (λ (differs : f ≡ e → ⊥).
           sym (ap (λ (ps : List ℕ). drop (length ps) (filing (other_half half) f)) (filed_other half half e f place filing differs)))
           (envelope_cases e f)

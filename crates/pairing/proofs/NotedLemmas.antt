@@ -2,13 +2,14 @@
 use Rattle.std.proofs.Common.{◌≡◌, ◌≢◌, ℕ, zero, suc, ◌<◌, ◌≤◌, Some, List, [], ◌∷◌, ◌++◌, length, take, refl, sym, ap, subst, ◌∙◌, ⊎_elim, arith, get_or-set_same, get_or-set_other}
 use Rattle.std.specs.Prelude.{slice_set}
 use Rattle.std.specs.List.{slice_get}
-use Rattle.std.proofs.lemmas.List.{take-append-le, take_all, map_push, length-map}
-use Rattle.std.proofs.lemmas.Option.{none-some, same_Some, unwrap_or-slice_get}
+use Rattle.std.proofs.lemmas.List.{map-set, take-append-le, take_all, map_push, length-map}
+use Rattle.std.proofs.lemmas.Option.{unwrap_or-slice_get}
 use Rattle.std.proofs.lemmas.Bool.{cases_eq, cases_lt}
 use Rattle.mpicall.specs.declared.call.Call.{Call}
 use Rattle.pairing.specs.Notes.{Noted, notes_of, with_note, calls_in, recording_of}
 use Rattle.pairing.specs.Kept.{IsNoted, AreNoted}
 use Rattle.pairing.specs.Recordings.{calls_of, appended}
+use Rattle.pairing.proofs.MeetingLemmas.{get_last}
 use Rattle.pairing.proofs.PlaceLemmas.{slice_get-front}
 
 -- the rank's calls in the recording are those noted of it
@@ -17,14 +18,9 @@ calls_of-recorded [] rank = refl
 calls_of-recorded (first ∷ notes) zero = refl
 calls_of-recorded (first ∷ notes) (suc rank) = calls_of-recorded notes rank
 
-map_set : (notes : List (List Noted)) (rank : ℕ) (list : List Noted) → recording_of (slice_set notes rank list) ≡ slice_set (recording_of notes) rank (calls_in list)
-map_set [] rank list = refl
-map_set (first ∷ notes) zero list = refl
-map_set (first ∷ notes) (suc rank) list = ap (λ (lists : List (List Call)). calls_in first ∷ lists) (map_set notes rank list)
-
 pub recording_of-more : (notes : List (List Noted)) (rank : ℕ) (noted : Noted) → recording_of (with_note notes rank noted) ≡ appended (recording_of notes) rank noted.call
 recording_of-more notes rank noted =
-    map_set notes rank (notes_of notes rank ++ noted ∷ [])
+    map-set calls_in notes rank (notes_of notes rank ++ noted ∷ [])
     ∙ ap (λ (list : List Call). slice_set (recording_of notes) rank list)
     (map_push (λ n. n.call) (notes_of notes rank) noted ∙ ap (λ (calls : List Call). calls ++ noted.call ∷ []) (sym (calls_of-recorded notes rank)))
 
@@ -44,13 +40,6 @@ before_stays list noted place within =
     ap (take place) (map_push (λ n. n.call) list noted)
     ∙ take-append-le place (calls_in list) (noted.call ∷ []) (omega (arith, within, length-map list (λ (n : Noted). n.call)))
 
-get_last : (list : List Noted) (noted : Noted) (place : ℕ) → length list ≤ place → (found : Noted) → slice_get (list ++ noted ∷ []) place ≡ Some found → (place ≡ length list) × (noted ≡ found)
-get_last [] noted zero behind found h = (refl, same_Some noted found h)
-get_last [] noted (suc place) behind found h = absurd (none-some found h)
-get_last (x ∷ list) noted zero behind found h = absurd (omega arith)
-get_last (x ∷ list) noted (suc place) behind found h =
-    let rest = get_last list noted place (omega (arith, behind)) found h in (ap (λ m. suc m) rest.0, rest.1)
-
 among_more : (list : List Noted) (noted : Noted) → ((place : ℕ) (found : Noted) → slice_get list place ≡ Some found → IsNoted (take place (calls_in list)) found) → IsNoted (calls_in list) noted → (place : ℕ) (found : Noted) → slice_get (list ++ noted ∷ []) place ≡ Some found → IsNoted (take place (calls_in (list ++ noted ∷ []))) found
 among_more list noted are_noted is_noted place found h =
     ⊎_elim
@@ -58,7 +47,7 @@ among_more list noted are_noted is_noted place found h =
     subst (λ (before : List Call). IsNoted before found) (sym (before_stays list noted place (omega (arith, within))))
     (are_noted place found (sym (slice_get-front list (noted ∷ []) place within) ∙ h)))
     (λ (behind : length list ≤ place).
-    let last = get_last list noted place behind found h in
+    let last = get_last list noted found place behind h in
     let all : take place (calls_in (list ++ noted ∷ [])) ≡ calls_in list =
     before_stays list noted place (omega (arith, last.0)) ∙ take_all place (calls_in list) (omega (arith, last.0, length-map list (λ (n : Noted). n.call))) in
     subst (λ (before : List Call). IsNoted before found) (sym all)

@@ -1,12 +1,11 @@
 -- Numbers of keys by their positions, and lists of which one element is another.
-use Rattle.std.proofs.Common.{◌≡◌, ◌≢◌, ℕ, zero, suc, ◌+◌, ◌<◌, ◌≤◌, ◌⊎◌, inl, inr, Bool, true, false, cond, ltb, eqb, Some, None, List, [], ◌∷◌, ◌++◌, length, set, refl, sym, ap, ◌∙◌, ⊎_elim, arith, length-append, length-set, get_or-set_same}
+use Rattle.std.proofs.Common.{◌≡◌, ℕ, zero, suc, ◌+◌, ◌<◌, ◌≤◌, ◌⊎◌, inl, inr, Bool, true, false, cond, ltb, eqb, Some, None, List, [], ◌∷◌, ◌++◌, length, set, refl, ap, ◌∙◌, ⊎_elim, arith, length-append}
 use Rattle.std.specs.Prelude.{not, position, Result, Ok, Err, OnOk}
-use Rattle.std.specs.List.{slice_get, list_any, position_or_len}
-use Rattle.indexmap.specs.IndexSet.{insert_key}
+use Rattle.std.specs.List.{position_or_len}
 use Rattle.std.proofs.lemmas.List.Folds.{position_or_len_push}
 use Rattle.std.proofs.lemmas.List.Sums.{prefix_len-le-length}
-use Rattle.std.proofs.lemmas.Option.{cond_some, slice_get-get_or}
-use Rattle.std.proofs.lemmas.Bool.{true≢false, cases_Bool, ltb-true, ltb-false, lt-ltb, eq-eqb, ne_eqb}
+use Rattle.std.proofs.lemmas.Option.{cond_some}
+use Rattle.std.proofs.lemmas.Bool.{cases_Bool, ltb-true, ltb-false, lt-ltb, eq-eqb, ne_eqb}
 
 -- a number is found, or none
 pub position_cases : {K : Type 0} (p : K → Bool) (xs : List K) → ((i : ℕ) × (position p xs ≡ Some i) × (i < length xs) × (position_or_len p xs ≡ i)) ⊎ ((position p xs ≡ None) × (position_or_len p xs ≡ length xs))
@@ -45,36 +44,6 @@ number_next p xs y absent passes =
     position_at p (xs ++ y ∷ []) (length xs)
     (position_or_len_push p xs y ∙ ap (λ b. cond b (length xs + cond (p y) 0 1) (position_or_len p xs)) (eq-eqb _ _ absent) ∙ ap (λ b. length xs + cond b 0 1) passes ∙ omega arith)
     (omega (arith, one_more))
-
--- a key that is not there has no number yet
-pub absent_number : {K : Type 0} (p : K → Bool) (xs : List K) → list_any p xs ≡ false → position_or_len p xs ≡ length xs
-absent_number p [] h = refl
-absent_number p (x ∷ xs) h =
-    ⊎_elim
-    (λ (here : p x ≡ true). absurd (true≢false (rw here at h)))
-    (λ (fails : p x ≡ false). rw fails (omega (arith, absent_number p xs (rw fails at h))))
-    (cases_Bool (p x))
-
--- the number of a key is its own, and of a new key the next
-pub number_is : {K : Type 0} (eq : K → K → Bool) (keys : List K) (key : K) → eq key key ≡ true → position_or_len (eq key) keys < length (insert_key eq keys key) → position (eq key) (insert_key eq keys key) ≡ Some (position_or_len (eq key) keys)
-number_is eq keys key same within =
-    ⊎_elim
-    (λ (there : list_any (eq key) keys ≡ true). rw there (position_at (eq key) keys (position_or_len (eq key) keys) refl (rw there at within)))
-    (λ (new : list_any (eq key) keys ≡ false).
-    let absent = absent_number (eq key) keys new in
-    rw new (number_next (eq key) keys key absent same ∙ ap (λ (m : ℕ). Some m) (sym absent)))
-    (cases_Bool (list_any (eq key) keys))
-
-pub slice_get-set_same : {X : Type 0} (xs : List X) (i : ℕ) (y : X) → i < length xs → slice_get (set xs i y) i ≡ Some y
-slice_get-set_same xs i y within =
-    slice_get-get_or (set xs i y) i y (omega (arith, within, length-set xs i y)) ∙ ap (λ x. Some x) (get_or-set_same xs i y y within)
-
-pub slice_get-set_other : {X : Type 0} (xs : List X) (i j : ℕ) (y : X) → j ≢ i → slice_get (set xs i y) j ≡ slice_get xs j
-slice_get-set_other [] i j y differs = refl
-slice_get-set_other (x ∷ xs) zero zero y differs = absurd (differs refl)
-slice_get-set_other (x ∷ xs) zero (suc j) y differs = refl
-slice_get-set_other (x ∷ xs) (suc i) zero y differs = refl
-slice_get-set_other (x ∷ xs) (suc i) (suc j) y differs = slice_get-set_other xs i j y (λ same. differs (ap (λ m. suc m) same))
 
 -- nothing is written behind a list
 pub set_past : {X : Type 0} (xs : List X) (i : ℕ) (y : X) → length xs ≤ i → set xs i y ≡ xs

@@ -1,11 +1,11 @@
 -- Partners are mutual, and no partner is shared.
-use Rattle.std.proofs.Common.{◌≡◌, ℕ, ◌<◌, ◌≤◌, Bool, true, false, ◌&&◌, eqb, Option, Some, None, length, refl, sym, ap, subst, ◌∙◌, arith}
+use Rattle.std.proofs.Common.{◌≡◌, ℕ, ◌<◌, ◌≤◌, true, false, ◌&&◌, eqb, Option, Some, None, length, refl, sym, ap, subst, ◌∙◌, arith}
 use Rattle.std.specs.List.{slice_get}
 use Rattle.std.specs.Option.{option_map, option_map_or, option_and_then}
 use Rattle.std.proofs.lemmas.List.Quantifiers.{position-Some}
 use Rattle.std.proofs.lemmas.List.{take-append-le}
 use Rattle.std.proofs.lemmas.Option.{slice_get_within, none-some, same_Some, some_pair_parts, slice_get-get_or}
-use Rattle.std.proofs.lemmas.Bool.{eqb-true, eq-eqb}
+use Rattle.std.proofs.lemmas.Bool.{and_parts, eqb-true, eq-eqb}
 use Rattle.mpicall.specs.declared.call.Call.{Call}
 use Rattle.mpigroup.specs.Groups.{Groups, group_of, world_rank_of, group_rank_of}
 use Rattle.pairing.specs.declared.envelope.Envelope.{Envelope}
@@ -49,22 +49,15 @@ own_rank groups rank half call e h =
     rw (← at_rank.2)
     (own_rank_by groups half at_message.0 rank at_rank.0 (rank_of_member groups at_message.0.comm rank at_rank.0 at_rank.1))
 
-and_true : (a b : Bool) → (a && b) ≡ true → (a ≡ true) × (b ≡ true)
-and_true true b h = (refl, h)
-and_true false b h = cc
-
-same_parts : (e f : Envelope) → e.comm ≡ f.comm → e.source ≡ f.source → e.dest ≡ f.dest → e.tag ≡ f.tag → e ≡ f
-same_parts e f comm source dest tag = made e.comm f.comm e.source f.source e.dest f.dest e.tag f.tag comm source dest tag
+pub same_envelope_true : (e f : Envelope) → same_envelope e f ≡ true → e ≡ f
+same_envelope_true e f h =
+    let first = and_parts (eqb e.comm f.comm) (eqb e.source f.source && (eqb e.dest f.dest && eqb e.tag f.tag)) h in
+    let second = and_parts (eqb e.source f.source) (eqb e.dest f.dest && eqb e.tag f.tag) first.1 in
+    let third = and_parts (eqb e.dest f.dest) (eqb e.tag f.tag) second.1 in
+    made e.comm f.comm e.source f.source e.dest f.dest e.tag f.tag (eqb-true _ _ first.0) (eqb-true _ _ second.0) (eqb-true _ _ third.0) (eqb-true _ _ third.1)
   where
     made : (a a' b b' c c' d d' : ℕ) → a ≡ a' → b ≡ b' → c ≡ c' → d ≡ d' → ◌≡◌ {A = Envelope} (record { comm = a; source = b; dest = c; tag = d }) (record { comm = a'; source = b'; dest = c'; tag = d' })
     made a a' b b' c c' d d' p q r s = rw (p, q, r, s) refl
-
-pub same_envelope_true : (e f : Envelope) → same_envelope e f ≡ true → e ≡ f
-same_envelope_true e f h =
-    let third = and_true (eqb e.comm f.comm && eqb e.source f.source && eqb e.dest f.dest) (eqb e.tag f.tag) h in
-    let second = and_true (eqb e.comm f.comm && eqb e.source f.source) (eqb e.dest f.dest) third.0 in
-    let first = and_true (eqb e.comm f.comm) (eqb e.source f.source) second.0 in
-    same_parts e f (eqb-true _ _ first.0) (eqb-true _ _ first.1) (eqb-true _ _ second.1) (eqb-true _ _ third.1)
 
 pub same_envelope_refl : (e : Envelope) → same_envelope e e ≡ true
 same_envelope_refl e = rw (eq-eqb e.comm e.comm refl, eq-eqb e.source e.source refl, eq-eqb e.dest e.dest refl, eq-eqb e.tag e.tag refl) refl

@@ -1,7 +1,6 @@
 -- The n-th place at which a test passes has n such places before it, and back.
-use Rattle.std.proofs.Common.{◌≡◌, ℕ, zero, suc, ◌+◌, ◌<◌, Bool, true, false, Some, List, [], ◌∷◌, ◌++◌, length, get_or, take, drop, refl, sym, ap, ◌∙◌, ⊎_elim, arith}
+use Rattle.std.proofs.Common.{◌≡◌, ℕ, zero, suc, ◌+◌, ◌<◌, Bool, true, false, Some, List, [], ◌∷◌, ◌++◌, length, take, refl, sym, ap, ◌∙◌, ⊎_elim, arith}
 use Rattle.std.specs.List.{slice_get}
-use Rattle.std.proofs.lemmas.List.{at_drop_more}
 use Rattle.std.proofs.lemmas.Option.{none-some, same_Some}
 use Rattle.std.proofs.lemmas.Bool.{cases_Bool}
 use Rattle.pairing.specs.Places.{places_from}
@@ -62,15 +61,6 @@ place_nth n test (y ∷ ys) (suc index) x h passes =
     (λ (here : test y ≡ true). rw here (rest ∙ ap (λ (m : ℕ). Some m) end))
     (λ (fails : test y ≡ false). rw fails (rest ∙ ap (λ (m : ℕ). Some m) end))
     (cases_Bool (test y))
-
--- one element on in a list of which the places are counted
-pub place_here : {A : Type 0} (test : A → Bool) (xs : List A) (i : ℕ) (x : A) → i < length xs → x ≡ get_or xs i x → test x ≡ true → places_from i test (drop i xs) ≡ i ∷ places_from (i + 1) test (drop (i + 1) xs)
-place_here test xs i x within read passes =
-    at_drop_more (places_from i test) xs i x within ∙ rw (← read) (rw passes refl)
-
-pub no_place_here : {A : Type 0} (test : A → Bool) (xs : List A) (i : ℕ) (x : A) → i < length xs → x ≡ get_or xs i x → test x ≡ false → places_from i test (drop i xs) ≡ places_from (i + 1) test (drop (i + 1) xs)
-no_place_here test xs i x within read fails =
-    at_drop_more (places_from i test) xs i x within ∙ rw (← read) (rw fails refl)
 
 -- the places of a list that goes on begin with those of the list
 pub places-append : {A : Type 0} (n : ℕ) (test : A → Bool) (xs ys : List A) (k p : ℕ) → slice_get (places_from n test xs) k ≡ Some p → slice_get (places_from n test (xs ++ ys)) k ≡ Some p

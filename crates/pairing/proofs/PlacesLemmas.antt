@@ -6,7 +6,7 @@ use Rattle.pairing.specs.Recordings.{calls_of}
 use Rattle.pairing.specs.Places.{places_from, places}
 
 -- the places of a list with one more element
-places_push : {A : Type 0} (n : ℕ) (test : A → Bool) (xs : List A) (x : A) → test x ≡ true → places_from n test (xs ++ x ∷ []) ≡ places_from n test xs ++ (n + length xs) ∷ []
+pub places_push : {A : Type 0} (n : ℕ) (test : A → Bool) (xs : List A) (x : A) → test x ≡ true → places_from n test (xs ++ x ∷ []) ≡ places_from n test xs ++ (n + length xs) ∷ []
 places_push n test [] x passes = rw passes (ap (λ (m : ℕ). m ∷ []) (omega arith))
 places_push n test (y ∷ ys) x passes =
     let rest = places_push (n + 1) test ys x passes in
@@ -16,7 +16,7 @@ places_push n test (y ∷ ys) x passes =
     (λ (fails : test y ≡ false). rw fails (rw end at rest))
     (cases_Bool (test y))
 
-places_push_not : {A : Type 0} (n : ℕ) (test : A → Bool) (xs : List A) (x : A) → test x ≡ false → places_from n test (xs ++ x ∷ []) ≡ places_from n test xs
+pub places_push_not : {A : Type 0} (n : ℕ) (test : A → Bool) (xs : List A) (x : A) → test x ≡ false → places_from n test (xs ++ x ∷ []) ≡ places_from n test xs
 places_push_not n test [] x fails = rw fails refl
 places_push_not n test (y ∷ ys) x fails_last =
     let rest = places_push_not (n + 1) test ys x fails_last in

@@ -1,5 +1,5 @@
 -- Which send a probe sees.
-use Rattle.std.proofs.Common.{◌≡◌, ℕ, zero, suc, ◌+◌, ◌<◌, ◌≤◌, Bool, true, false, if◌then◌else◌, Some, None, List, [], ◌∷◌, length, take, drop, refl, sym, ◌∙◌, ⊎_elim, arith}
+use Rattle.std.proofs.Common.{◌≡◌, ℕ, zero, suc, ◌+◌, ◌<◌, ◌≤◌, Bool, true, false, if◌then◌else◌, Some, None, List, [], ◌∷◌, length, take, refl, sym, ◌∙◌, ⊎_elim, arith}
 use Rattle.std.specs.List.{slice_get}
 use Rattle.std.specs.Option.{option_map}
 use Rattle.std.proofs.lemmas.List.{take-append-le}
@@ -15,6 +15,7 @@ use Rattle.pairing.specs.Recordings.{Lists, calls_of}
 use Rattle.pairing.specs.Envelopes.{envelope_by, envelope_of, rank_of_half, has_envelope}
 use Rattle.pairing.specs.Partners.{envelope_at, places_of, number_of}
 use Rattle.pairing.specs.Places.{places_from}
+use Rattle.pairing.proofs.MeetingLemmas.{drop_first}
 use Rattle.pairing.proofs.PlaceLemmas.{places-append, slice_get-front}
 use Rattle.pairing.proofs.PartnerLemmas.{and_then_parts, own_rank, numbered_half, numbered_parts}
 use Rattle.pairing.specs.Probed.{probed_message, probed_envelope, probed_envelope_at, probed_by, receive_behind, TheNextReceiveTakesIt, ElseTheFirstPendingIsSeen, ProbedSendsStay}
@@ -43,12 +44,6 @@ before_most n test (x ∷ xs) (suc i) = more (test x) (before_most (n + 1) test 
     more true h = omega (arith, h)
     more false h = h
 
-pub get_dropped : {A : Type 0} (xs : List A) (n : ℕ) → slice_get (drop n xs) 0 ≡ slice_get xs n
-get_dropped [] zero = refl
-get_dropped [] (suc n) = refl
-get_dropped (x ∷ xs) zero = refl
-get_dropped (x ∷ xs) (suc n) = get_dropped xs n
-
 -- where no receive is behind a place, all are before it
 pub all_before : (groups : Groups) (recording : Lists) (rank place : ℕ) (e : Envelope) → receive_behind groups recording rank place e ≡ None → number_of groups recording rank RecvHalf e place ≡ length (places_of groups recording rank RecvHalf e)
 all_before groups recording rank place e none =
@@ -70,7 +65,7 @@ else_the_first_pending_is_seen groups recording rank place sender e probes none 
     let parts = and_then_parts (probed_envelope groups rank) (slice_get (calls_of recording rank) place) e probes in
     let receives = prober groups rank parts.0 e parts.2 in
     let all = all_before groups recording rank place e none in
-    let first = get_dropped (places_of groups recording sender SendHalf e) (length (places_of groups recording rank RecvHalf e)) in
+    let first = drop_first (length (places_of groups recording rank RecvHalf e)) (places_of groups recording sender SendHalf e) in
     rw (probes, sends, receives, all, first) refl
 
 pub probed_sends_stay : ProbedSendsStay

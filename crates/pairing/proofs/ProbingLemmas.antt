@@ -1,5 +1,5 @@
 -- What one more call changes about the seats of probes.
-use Rattle.std.proofs.Common.{eqb, not, IfSome, ◌≡◌, ◌≢◌, ◌⊎◌, ℕ, zero, suc, ◌+◌, ◌<◌, ◌≤◌, ◌==◌, ◌&&◌, Bool, true, false, if◌then◌else◌, Option, Some, None, is_some, unwrap_or, List, [], ◌∷◌, ◌++◌, length, take, replicate, set, refl, sym, ap, subst, ◌∙◌, ⊎_elim, arith}
+use Rattle.std.proofs.Common.{eqb, not, IfSome, ◌≡◌, ◌≢◌, ◌⊎◌, ℕ, zero, suc, ◌+◌, ◌<◌, ◌≤◌, ◌==◌, ◌&&◌, Bool, true, false, if◌then◌else◌, Option, Some, None, is_some, unwrap_or, List, [], ◌∷◌, ◌++◌, length, take, refl, sym, ap, subst, ◌∙◌, ⊎_elim, arith}
 use mathlib.Core.Logic.{inl, inr}
 use Rattle.std.specs.List.{slice_get}
 use Rattle.std.specs.Option.{option_map, option_and_then}
@@ -9,6 +9,7 @@ use Rattle.std.proofs.lemmas.Bool.{cases_Bool, cases_eq, cases_lt, eq-eqb, ne_eq
 use Rattle.std.proofs.lemmas.Grind.{common_steps}
 use Rattle.mpicall.specs.declared.call.Call.{Call}
 use Rattle.mpigroup.specs.Groups.{Groups}
+use Rattle.mpigroup.proofs.ListLemmas.{get_end, slice_get-set_same, slice_get-set_other}
 use Rattle.pairing.specs.declared.envelope.Envelope.{Envelope}
 use Rattle.pairing.specs.declared.envelope.Half.TheVariants.{Send as SendHalf, Recv as RecvHalf}
 use Rattle.pairing.specs.Recordings.{Lists, calls_of, appended}
@@ -17,32 +18,15 @@ use Rattle.pairing.specs.Partners.{places_of, number_of}
 use Rattle.pairing.specs.Matched.{pending_of}
 use Rattle.pairing.specs.Places.{places, count_before}
 use Rattle.pairing.proofs.PlaceLemmas.{slice_get-front}
-use Rattle.pairing.proofs.PlacesLemmas.{places_on, no_calls}
-use Rattle.pairing.proofs.PartnerLemmas.{and_then_parts, own_rank, has_it, same_envelope_refl}
+use Rattle.pairing.proofs.PlacesLemmas.{places_on}
+use Rattle.pairing.proofs.PartnerLemmas.{and_then_parts, own_rank, has_it, same_envelope_true, same_envelope_refl}
 use Rattle.pairing.proofs.RecordingLemmas.{calls_of-appended, calls_of-appended_other}
-use Rattle.pairing.proofs.MatchedLemmas.{equal_true}
 use Rattle.pairing.specs.Probed.{probed_envelope, probed_envelope_at, probed_of, receive_behind, seen_from, HasProbe, HasProbesIf}
 use Rattle.pairing.specs.Probing.{is_same_envelope, unfilled_at, seat_for, Seating, seated, IsSeatOf, AreSeated, Sits, Follows, filled}
 use Rattle.pairing.specs.declared.matches.Numbered.{Numbered}
 use Rattle.pairing.specs.declared.probes.Probes.{Probes}
 use Rattle.pairing.proofs.CallCountLemmas.{one_more_call}
 use Rattle.pairing.proofs.ProbedLemmas.{prober, no_receive, all_before, the_next_receive_takes_it, else_the_first_pending_is_seen}
-
-get_end : {A : Type 0} (xs : List A) (x : A) → slice_get (xs ++ x ∷ []) (length xs) ≡ Some x
-get_end [] x = refl
-get_end (y ∷ ys) x = get_end ys x
-
-set_other : {A : Type 0} (xs : List A) (i j : ℕ) (x : A) → j ≢ i → slice_get (set xs i x) j ≡ slice_get xs j
-set_other [] i j x differs = refl
-set_other (y ∷ ys) zero zero x differs = absurd (differs refl)
-set_other (y ∷ ys) zero (suc j) x differs = refl
-set_other (y ∷ ys) (suc i) zero x differs = refl
-set_other (y ∷ ys) (suc i) (suc j) x differs = set_other ys i j x (λ same. differs (ap (λ (n : ℕ). suc n) same))
-
-set_same : {A : Type 0} (xs : List A) (i : ℕ) (x y : A) → slice_get xs i ≡ Some y → slice_get (set xs i x) i ≡ Some x
-set_same [] i x y h = absurd (none-some y h)
-set_same (z ∷ zs) zero x y h = refl
-set_same (z ∷ zs) (suc i) x y h = set_same zs i x y h
 
 -- which receive is behind a place, once a call was put in that is no receive of the envelope
 behind_same : (groups : Groups) (recording : Lists) (rank : ℕ) (call : Call) (r place : ℕ) (f : Envelope) → rank < length recording → place ≤ length (calls_of recording r) → (r ≡ rank → has_envelope groups rank RecvHalf f call ≡ false) → receive_behind groups (appended recording rank call) r place f ≡ receive_behind groups recording r place f
@@ -111,7 +95,7 @@ which groups recording rank call r place e is_rank h =
         (cases_lt place (length (calls_of recording rank)))
 
 same_true : (e f : Envelope) → is_same_envelope f e ≡ true → f ≡ e
-same_true e f h = equal_true f e h
+same_true e f h = same_envelope_true f e h
 
 same_refl : (e : Envelope) → is_same_envelope e e ≡ true
 same_refl e = rw (eq-eqb e.comm e.comm refl, eq-eqb e.source e.source refl, eq-eqb e.dest e.dest refl, eq-eqb e.tag e.tag refl) refl
@@ -288,11 +272,11 @@ neither_more groups recording seating old rank call is_rank no_probe no_recv are
 -- the seats once a receive is put in
 filled_other : (o : Option ℕ) (seats : List (Option ℕ)) (place s : ℕ) → (o ≡ Some s → ⊥) → slice_get (filled seats o place) s ≡ slice_get seats s
 filled_other None seats place s differs = refl
-filled_other (Some t) seats place s differs = set_other seats t s (Some place) (λ same. differs (ap (λ (x : ℕ). Some x) (sym same)))
+filled_other (Some t) seats place s differs = slice_get-set_other seats t s (Some place) (λ same. differs (ap (λ (x : ℕ). Some x) (sym same)))
 
 filled_own : (o : Option ℕ) (seats : List (Option ℕ)) (place s : ℕ) → o ≡ Some s → slice_get seats s ≡ Some None → slice_get (filled seats o place) s ≡ Some (Some place)
 filled_own None seats place s is h = absurd (none-some s is)
-filled_own (Some t) seats place s is h = rw (same_Some t s is) (set_same seats s (Some place) None h)
+filled_own (Some t) seats place s is h = rw (same_Some t s is) (slice_get-set_same seats s (Some place) (slice_get_within seats s None h))
 
 filled_length : (o : Option ℕ) (seats : List (Option ℕ)) (place : ℕ) → length (filled seats o place) ≡ length seats
 filled_length None seats place = refl
@@ -418,15 +402,6 @@ receives_more groups recording seating old new rank call None is_rank no_probe r
     subst (AreSeated groups (appended recording rank call) (seated seating rank (length (calls_of recording rank)) None)) (sym (none refl)) (neither_more groups recording seating old rank call is_rank no_probe (sym received) are)
 receives_more groups recording seating old new rank call (Some own) is_rank no_probe received none some are =
     follows_more groups recording seating old new rank call own.envelope is_rank no_probe (sym received) some are
-
-pub none_seated : (groups : Groups) (ranks : ℕ) (probes : Probes) → ((e : Envelope) → unfilled_at probes e ≡ None) → length probes.seats.items ≡ 0 → AreSeated groups (replicate ranks []) (λ r p. None) probes
-none_seated groups ranks probes none no_seats = record {
-  seat = λ r place e h. absurd (none-some e (rw (no_calls ranks r) at h));
-  empty = λ e s h. absurd (none-some s (sym (none e) ∙ h));
-  once = λ e f s h h'. absurd (none-some s (sym (none e) ∙ h));
-  few = omega (arith, no_seats);
-  some = λ there. absurd (omega (arith, no_seats, there));
-}
 
 -- room alone changes nothing
 pub seats_stay : (groups : Groups) (recording : Lists) (seating : Seating) (old new : Probes) → new.seats.items ≡ old.seats.items → ((e : Envelope) → unfilled_at new e ≡ unfilled_at old e) → AreSeated groups recording seating old → AreSeated groups recording seating new

@@ -1,44 +1,23 @@
 -- What one more call changes about a request.
-use Rattle.std.proofs.Common.{◌≡◌, ℕ, suc, ◌+◌, ◌-◌, ◌<◌, Bool, true, false, Option, Some, None, List, [], ◌∷◌, ◌++◌, length, take, drop, get_or, refl, ap, subst, ◌∙◌, ⊎_elim, arith, length-append, length-take-le}
+use Rattle.std.proofs.Common.{◌≡◌, ℕ, ◌+◌, ◌-◌, ◌<◌, Bool, true, false, Option, Some, None, List, [], ◌∷◌, ◌++◌, length, drop, refl, ap, subst, ◌∙◌, ⊎_elim, arith, length-append}
 use Rattle.std.specs.List.{slice_get, list_any}
 use Rattle.std.specs.Option.{option_and_then}
-use Rattle.std.proofs.lemmas.List.{drop-append-le, drop_all, take_more}
+use Rattle.std.proofs.lemmas.List.{drop-append-le, drop_all}
 use Rattle.std.proofs.lemmas.List.Folds.{list_any-append}
 use Rattle.std.proofs.lemmas.Option.{slice_get_within}
 use Rattle.std.proofs.lemmas.Bool.{cases_Bool}
 use Rattle.mpicall.specs.declared.call.Call.{Call}
-use Rattle.pairing.specs.Places.{places, places_from}
+use Rattle.mpigroup.proofs.ListLemmas.{get_end}
+use Rattle.pairing.specs.Places.{places}
 use Rattle.pairing.specs.Requests.{does_start, does_complete, last_of, unless_completed, started_in}
 use Rattle.pairing.proofs.PlaceLemmas.{nth_place}
-
-get_end : (numbers : List ℕ) (number : ℕ) → slice_get (numbers ++ number ∷ []) (length numbers) ≡ Some number
-get_end [] number = refl
-get_end (first ∷ numbers) number = get_end numbers number
+use Rattle.pairing.proofs.PlacesLemmas.{places_push, places_push_not}
 
 -- the last one of a list that one is added to
 last_of-push : (numbers : List ℕ) (number : ℕ) → last_of (numbers ++ number ∷ []) ≡ Some number
 last_of-push numbers number =
     let end : length numbers ≡ length (numbers ++ number ∷ []) - 1 = omega (arith, length-append numbers (number ∷ [])) in
     subst (λ (i : ℕ). slice_get (numbers ++ number ∷ []) i ≡ Some number) end (get_end numbers number)
-
-places-push : {A : Type 0} (n : ℕ) (test : A → Bool) (xs : List A) (x : A) → test x ≡ true → places_from n test (xs ++ x ∷ []) ≡ places_from n test xs ++ (n + length xs) ∷ []
-places-push n test [] x passes = rw passes (ap (λ (m : ℕ). m ∷ []) (omega arith))
-places-push n test (y ∷ ys) x passes =
-    let rest = places-push (n + 1) test ys x passes in
-    let end : n + 1 + length ys ≡ n + suc (length ys) = omega arith in
-    ⊎_elim
-    (λ (here : test y ≡ true). rw here (ap (λ (ns : List ℕ). n ∷ ns) (rw end at rest)))
-    (λ (fails : test y ≡ false). rw fails (rw end at rest))
-    (cases_Bool (test y))
-
-places-push_not : {A : Type 0} (n : ℕ) (test : A → Bool) (xs : List A) (x : A) → test x ≡ false → places_from n test (xs ++ x ∷ []) ≡ places_from n test xs
-places-push_not n test [] x fails = rw fails refl
-places-push_not n test (y ∷ ys) x fails_last =
-    let rest = places-push_not (n + 1) test ys x fails_last in
-    ⊎_elim
-    (λ (here : test y ≡ true). rw here (ap (λ (ns : List ℕ). n ∷ ns) rest))
-    (λ (fails : test y ≡ false). rw fails rest)
-    (cases_Bool (test y))
 
 drop_past : (calls : List Call) (call : Call) → drop (length calls + 1) (calls ++ call ∷ []) ≡ []
 drop_past calls call = drop_all (length calls + 1) (calls ++ call ∷ []) (omega (arith, length-append calls (call ∷ [])))
@@ -49,7 +28,7 @@ unless_last calls call req = rw (drop_past calls call) refl
 -- the call starts the request
 pub starts_it : (calls : List Call) (call : Call) (req : ℕ) → does_start req call ≡ true → started_in (calls ++ call ∷ []) req ≡ Some (length calls)
 starts_it calls call req here =
-    ap (λ (numbers : List ℕ). option_and_then (unless_completed (calls ++ call ∷ []) req) (last_of numbers)) (places-push 0 (does_start req) calls call here)
+    ap (λ (numbers : List ℕ). option_and_then (unless_completed (calls ++ call ∷ []) req) (last_of numbers)) (places_push 0 (does_start req) calls call here)
     ∙ ap (λ (o : Option ℕ). option_and_then (unless_completed (calls ++ call ∷ []) req) o) (last_of-push (places (does_start req) calls) (0 + length calls))
     ∙ ap (λ (place : ℕ). unless_completed (calls ++ call ∷ []) req place) (omega arith)
     ∙ unless_last calls call req
@@ -93,27 +72,11 @@ same_after calls call req k (Some place) e fails =
 -- the call completes the request
 pub completes_it : (calls : List Call) (call : Call) (req : ℕ) → does_start req call ≡ false → does_complete req call ≡ true → started_in (calls ++ call ∷ []) req ≡ None
 completes_it calls call req fails passes =
-    rw (places-push_not 0 (does_start req) calls call fails)
+    rw (places_push_not 0 (does_start req) calls call fails)
     (none_after calls call req (length (places (does_start req) calls) - 1) (last_of (places (does_start req) calls)) refl passes)
 
 -- the call does neither
 pub leaves_it : (calls : List Call) (call : Call) (req : ℕ) → does_start req call ≡ false → does_complete req call ≡ false → started_in (calls ++ call ∷ []) req ≡ started_in calls req
 leaves_it calls call req fails stays =
-    rw (places-push_not 0 (does_start req) calls call fails)
+    rw (places_push_not 0 (does_start req) calls call fails)
     (same_after calls call req (length (places (does_start req) calls) - 1) (last_of (places (does_start req) calls)) refl stays)
-
--- one call on in a list of which the calls so far are looked at
-pub step_starts : (calls : List Call) (i : ℕ) (call : Call) (req : ℕ) → i < length calls → call ≡ get_or calls i call → does_start req call ≡ true → started_in (take (i + 1) calls) req ≡ Some i
-step_starts calls i call req within read here =
-    let more : take (i + 1) calls ≡ take i calls ++ call ∷ [] = rw (← read) at (take_more calls i call within) in
-    rw more (starts_it (take i calls) call req here ∙ ap (λ (m : ℕ). Some m) (length-take-le i calls (omega arith)))
-
-pub step_completes : (calls : List Call) (i : ℕ) (call : Call) (req : ℕ) → i < length calls → call ≡ get_or calls i call → does_start req call ≡ false → does_complete req call ≡ true → started_in (take (i + 1) calls) req ≡ None
-step_completes calls i call req within read fails passes =
-    let more : take (i + 1) calls ≡ take i calls ++ call ∷ [] = rw (← read) at (take_more calls i call within) in
-    rw more (completes_it (take i calls) call req fails passes)
-
-pub step_leaves : (calls : List Call) (i : ℕ) (call : Call) (req : ℕ) → i < length calls → call ≡ get_or calls i call → does_start req call ≡ false → does_complete req call ≡ false → started_in (take (i + 1) calls) req ≡ started_in (take i calls) req
-step_leaves calls i call req within read fails stays =
-    let more : take (i + 1) calls ≡ take i calls ++ call ∷ [] = rw (← read) at (take_more calls i call within) in
-    rw more (leaves_it (take i calls) call req fails stays)

@@ -1,12 +1,11 @@
 -- The starts of a stored wait, and the requests that are read there.
-use Rattle.std.proofs.Common.{◌≡◌, ℕ, zero, suc, ◌+◌, ◌<◌, ◌≤◌, ◌==◌, not, Bool, true, false, eqb, Option, Some, None, List, [], ◌∷◌, length, map, take, drop, refl, sym, ap, subst, ◌∙◌, cond, get_or, set, ⊎_elim, arith}
+use Rattle.std.proofs.Common.{◌≡◌, ℕ, zero, suc, ◌+◌, ◌<◌, ◌≤◌, ◌==◌, not, Bool, Option, Some, List, [], ◌∷◌, length, map, take, drop, refl, sym, ap, subst, ◌∙◌, cond, get_or, set, ⊎_elim, arith}
 use Rattle.std.specs.Prelude.{option_map, option_and_then}
-use Rattle.std.specs.Option.{option_eq}
 use Rattle.std.specs.List.{slice_get, find, position, position_or_len, prefix_len}
 use Rattle.std.proofs.lemmas.List.{take-map, drop-map, length-map, take_more, map_push}
 use Rattle.std.proofs.lemmas.Option.{slice_get-map, slice_get_past}
 use Rattle.std.proofs.lemmas.List.Folds.{find_at}
-use Rattle.std.proofs.lemmas.Bool.{false≢true, cases_Bool, cases_lt, eqb-true, lt-ltb, le-ltb}
+use Rattle.std.proofs.lemmas.Bool.{cases_lt, lt-ltb, le-ltb}
 use Rattle.pairing.specs.declared.packed.Packed.{Packed}
 use Rattle.pairing.specs.declared.packed.Packed.TheVariants.{Wait, Waitany, Nothing, Message, Exchange, Copy, Split}
 use Rattle.mpicall.specs.declared.laid.Laid.TheVariants as laid
@@ -42,11 +41,6 @@ by_starts entries starts (Exchange name comm dest source send_tag recv_tag bytes
 by_starts entries starts (Copy name comm new) = none_completed entries (laid_apart (laid.Copy comm new) name)
 by_starts entries starts (Split name comm colour key new) = none_completed entries (laid_apart (laid.Split comm colour key new) name)
 by_starts entries starts _ = refl
-
-pub completes_count : (entries : List Entry) (starts : List ℕ) (entry : Entry) → length (completed_starts (noted_of entries starts entry)) ≡ length (completes (unpack entries starts entry.call))
-completes_count entries starts entry =
-    sym (length-map (completed_starts (noted_of entries starts entry)) (req_at entries))
-    ∙ ap (λ (reqs : List ℕ). length reqs) (sym (by_starts entries starts entry.call))
 
 pub completes_at : (entries : List Entry) (starts : List ℕ) (entry : Entry) (note : Noted) (index : ℕ) → noted_of entries starts entry ≡ note → slice_get (completes note.call) index ≡ option_map (req_at entries) (slice_get (completed_starts note) index)
 completes_at entries starts entry note index is =
@@ -105,11 +99,3 @@ are_starts calls (place ∷ places) (req ∷ reqs) h =
 pub one_more : (f g : ℕ → Option ℕ) (xs ys : List ℕ) (i : ℕ) → i < length xs → i < length ys → f (get_or xs i 0) ≡ g (get_or ys i 0) → map f (take i xs) ≡ map g (take i ys) → map f (take (i + 1) xs) ≡ map g (take (i + 1) ys)
 one_more f g xs ys i in_xs in_ys here before =
     rw (take_more xs i 0 in_xs, take_more ys i 0 in_ys, map_push f (take i xs) (get_or xs i 0), map_push g (take i ys) (get_or ys i 0), before, here) refl
-
-pub same_option : (o : Option ℕ) (req : ℕ) → false ≡ not (option_eq eqb o (Some req)) → o ≡ Some req
-same_option None req h = absurd (false≢true h)
-same_option (Some other) req h =
-    ⊎_elim
-    (λ (same : eqb other req ≡ true). ap (λ (n : ℕ). Some n) (eqb-true other req same))
-    (λ (differs : eqb other req ≡ false). absurd (false≢true (rw differs at h)))
-    (cases_Bool (eqb other req))

@@ -5,7 +5,7 @@ use Rattle.std.specs.List.{slice_get, list_all}
 use Rattle.std.specs.Option.{option_map, option_map_or}
 use Rattle.std.proofs.lemmas.List.Folds.{list_all_more, list_all_at}
 use Rattle.std.proofs.lemmas.Option.{same_Some, some_pair_parts, slice_get-get_or}
-use Rattle.std.proofs.lemmas.Bool.{eqb-true, eq-eqb, false≢true}
+use Rattle.std.proofs.lemmas.Bool.{eq-eqb}
 use Rattle.mpicall.specs.declared.call.Call.{Call}
 use Rattle.mpigroup.specs.Groups.{Groups, group_of, size_of}
 use Rattle.pairing.specs.Recordings.{Lists, calls_of}
@@ -13,12 +13,9 @@ use Rattle.pairing.specs.Places.{count_before}
 use Rattle.pairing.specs.Waves.{joins, does_join, wave_of, place_in_wave, member_of, is_full, AWaveHasOneCallOfEachRank, TheCallInAWaveJoinsIt, NoOtherCallIsInAWave, WavesStay}
 use Rattle.pairing.proofs.PartnerLemmas.{and_then_parts, map_parts}
 use Rattle.pairing.proofs.PlaceLemmas.{nth_place, place_nth, places-append}
+use Rattle.pairing.proofs.RequestLaws.{is_it}
 
 -- the test for a number passes where it is the number
-is_it : (comm : ℕ) (o : Option ℕ) → option_map_or (λ other. eqb other comm) o false ≡ true → o ≡ Some comm
-is_it comm None h = absurd (false≢true h)
-is_it comm (Some other) h = ap (λ (m : ℕ). Some m) (eqb-true other comm h)
-
 it_is : (comm : ℕ) (o : Option ℕ) → o ≡ Some comm → option_map_or (λ other. eqb other comm) o false ≡ true
 it_is comm o h = rw h (eq-eqb comm comm refl)
 

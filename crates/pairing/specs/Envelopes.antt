@@ -54,7 +54,7 @@ envelope_of groups rank half call =
     option_and_then (λ m. option_map (envelope_by half m) (group_rank_of groups m.comm rank)) (message_of half call)
 
 abbrev pub same_envelope : Envelope → Envelope → Bool
-same_envelope e f = e.comm == f.comm && e.source == f.source && e.dest == f.dest && e.tag == f.tag
+same_envelope e f = e.comm == f.comm && (e.source == f.source && (e.dest == f.dest && e.tag == f.tag))
 
 -- the rank of the world whose calls have that half of the envelope's messages, if there is one
 abbrev pub rank_of_half : Groups → Half → Envelope → Option ℕ

@@ -1,6 +1,6 @@
 -- Pending halves of messages: those that have no partner yet stand in lists, by the numbers of their
 -- envelopes, and the partners of the others are kept with them.
-use Rattle.std.specs.Prelude.{◌≡◌, ℕ, ◌+◌, ◌*◌, ◌<◌, ◌≤◌, ◌==◌, Bool, true, false, ◌&&◌, Option, Some, None, IfSome, option_map, if◌then◌else◌, is_some, List, [], ◌∷◌, ◌++◌, length, drop, slice_get, slice_set, get_or, position}
+use Rattle.std.specs.Prelude.{◌≡◌, ℕ, ◌+◌, ◌*◌, ◌<◌, ◌≤◌, Bool, true, false, ◌&&◌, Option, Some, None, IfSome, option_map, if◌then◌else◌, is_some, List, [], ◌∷◌, ◌++◌, length, drop, slice_get, slice_set, position}
 use Rattle.std.specs.Option.{option_map_or}
 use Rattle.arenalist.specs.Arena.{counted}
 use Rattle.arenalist.specs.Numbers.{list_at}
@@ -34,21 +34,14 @@ pub record Matching : Type 0 where
   pub spare : ℕ
   pub work : ℕ
 
--- the numbers of the lists, from 0 on; there are lists for all envelopes that have a number, and the others are
--- empty
-pub record AreIds (ids : List ℕ) (lists : List (List (ℕ × ℕ))) (keys : ℕ) : Type 0 where
-  pub many : length ids ≡ length lists
-  pub each : (i : ℕ) → i < length lists → get_or ids i 0 ≡ i
+-- there are lists for all envelopes that have a number, and the others are empty
+pub record HaveLists (lists : List (List (ℕ × ℕ))) (keys : ℕ) : Type 0 where
   pub enough : 2 * keys ≤ length lists
   pub unused : (l : ℕ) → 2 * keys ≤ l → list_at lists l ≡ []
 
--- the fields of two envelopes are equal
-abbrev pub equal_fields : Envelope → Envelope → Bool
-equal_fields e f = e.comm == f.comm && (e.source == f.source && (e.dest == f.dest && e.tag == f.tag))
-
 -- the number of an envelope
 abbrev pub number_in : List Envelope → Envelope → Option ℕ
-number_in keys e = position (equal_fields e) keys
+number_in keys e = position (same_envelope e) keys
 
 -- the number of the list of an envelope's half
 abbrev pub list_no : Half → ℕ → ℕ

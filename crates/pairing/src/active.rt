@@ -1,39 +1,76 @@
 //! Which requests of a recording are active, by look-up.
 
-ghost use Rattle.std.specs.Prelude.{◌≡◌, ◌<◌, ◌≤◌, ◌==◌, ◌&&◌, [], Some, None, length, replicate, map, take, drop, ℕ, true, OnOk, if◌then◌else◌};
+ghost use Rattle.std.specs.Prelude.{◌≡◌, ◌+◌, ◌*◌, ◌^◌, ◌<◌, ◌≤◌, ◌==◌, ◌&&◌, [], Some, None, length, replicate, map, take, drop, ℕ, true, false, IfOk, OnOk, if◌then◌else◌};
 ghost use Rattle.std.specs.List.{list_all};
+ghost use Rattle.std.specs.Hash as fed;
+ghost use Rattle.std.specs.Cmp.Rules.{hashing};
+ghost use Rattle.std.proofs.Common.{rules};
 ghost use Rattle.indexmap.specs.IndexMap.{spare};
 ghost use Rattle.pairing.specs.Recordings.{Lists, calls_of, appended};
 ghost use Rattle.pairing.specs.Requests.{started_in, is_among, is_active, does_start};
-ghost use Rattle.pairing.specs.Starts.{place_in, known_front, IsActive, HasRoomToStart};
+ghost use Rattle.pairing.specs.Starts.{cell_no, cell_in, place_at, place_in, known_front, IsActive, HasRoomToStart};
 
 use crate::request::{completes, starts};
 use indexmap::IndexMap;
 use mpicall::record::Record;
 use std::alloc::{AllocError, Global};
+use std::hash::{Hash, Hasher};
 
 /// A request of a rank, by the number that the rank's recorder gave it.
-#[derive(Clone, Copy, PartialEq, Eq, Hash)]
+#[derive(Clone, Copy, PartialEq, Eq)]
 pub(crate) struct Request {
     rank: u16,
     req: u32,
+}
+
+// Both as one number, which is hashed faster than one after the other.
+impl Hash for Request {
+    ghost hash_input = { λ r. fed.u64 (r.rank * 2 ^ 32 + r.req) };
+
+    ghost respects_eq = { Prim.search (hashing, rules) };
+
+    fn hash<H: Hasher>(&self, state: &mut H) {
+        state.write_u64(u64::from(self.rank) * 0x1_0000_0000 + u64::from(self.req));
+    }
+}
+
+/// So many cells are kept for the active requests of each rank.
+pub(crate) const REQUEST_CELLS: usize = 64;
+
+/// An active request of some rank: its number, and the place of the call that started it.
+#[derive(Clone, Copy)]
+pub(crate) struct Start {
+    req: u32,
+    place: u32,
 }
 
 /// The active requests of each rank, each with the place of the call that started it. A look-up takes
 /// the same time however many calls there were, on average.
 #[derive(Drop)]
 pub(crate) struct Active {
-    starts: IndexMap<Request, u32>,
+    // The cells of the ranks, in turn. A request stands in the cell of its number's remainder.
+    cells: Vec<Option<Start>>,
+    // The requests that found another one in their cell.
+    others: IndexMap<Request, u32>,
+}
+
+/// The number of the cell of the rank's request.
+#[inline(always)]
+fn cell_no(rank: u16, req: u32) -> usize
+    ensures { result ≡ cell_no rank req }
+{
+    usize::from(rank) * REQUEST_CELLS + req as usize % REQUEST_CELLS
 }
 
 impl Active {
-    /// No request yet: the table of each recording without calls.
-    pub(crate) fn new(alloc: Global) -> Active
-        ensures { (ranks : ℕ) → IsActive (replicate ranks []) result }
+    /// No request yet, of so many ranks: the table of each recording without calls.
+    pub(crate) fn new(alloc: Global, ranks: u16) -> Result<Active, AllocError>
+        ensures { IfOk result (λ active. (ranks : ℕ) → IsActive (replicate ranks []) active) }
     {
-        Active {
-            starts: IndexMap::new(alloc),
-        }
+        Ok(Active {
+            cells: vec![in alloc; None; usize::from(ranks) * REQUEST_CELLS]?,
+            others: IndexMap::new(alloc),
+        })
     }
 
     /// Makes room for what the call starts, if it starts something. The table says the same after it.
@@ -42,18 +79,73 @@ impl Active {
         ensures ok { OnOk result (HasRoomToStart self.new call.now) }
     {
         match starts(call.as_call()) {
-            Some(_) => self.starts.reserve(1),
+            Some(_) => self.others.reserve(1),
             None => Ok(()),
+        }
+    }
+
+    /// Empties the rank's cell of the request, if that stands there.
+    fn empty(&mut self, rank: u16, req: u32)
+        ensures cells { (r q : ℕ) → place_at q (cell_in self.new r q) ≡ (if r == rank && req == q then None else place_at q (cell_in self.old r q)) }
+        ensures others { self.new.others ≡ self.old.others }
+    {
+        let no = cell_no(rank, req);
+        if no < self.cells.len() {
+            if let Some(start) = self.cells[no] {
+                if start.req == req {
+                    self.cells[no] = None;
+                }
+            }
+        }
+    }
+
+    /// Takes out the rank's request, if it is there.
+    fn remove(&mut self, rank: u16, req: u32)
+        ensures taken { (r q : ℕ) → place_in self.new r q ≡ (if r == rank && req == q then None else place_in self.old r q) }
+        ensures room { spare self.old.others ≤ spare self.new.others }
+    {
+        self.empty(rank, req);
+        if !self.others.is_empty() {
+            self.others.swap_remove(&Request { rank, req });
+        }
+    }
+
+    /// Puts the rank's request into its cell, and answers whether no other stands there.
+    fn fill(&mut self, rank: u16, req: u32, place: u32) -> bool
+        ensures filled { result ≡ true → (r q : ℕ) → place_at q (cell_in self.new r q) ≡ (if r == rank && req == q then Some place else place_at q (cell_in self.old r q)) }
+        ensures taken { result ≡ false → (place_at req (cell_in self.old rank req) ≡ None) × (self.new ≡ self.old) }
+        ensures others { self.new.others ≡ self.old.others }
+    {
+        let no = cell_no(rank, req);
+        if no >= self.cells.len() {
+            return false;
+        }
+        if let Some(start) = self.cells[no] {
+            if start.req != req {
+                return false;
+            }
+        }
+        self.cells[no] = Some(Start { req, place });
+        true
+    }
+
+    /// Puts in the rank's request, which the call at the place starts.
+    fn insert(&mut self, rank: u16, req: u32, place: u32)
+        requires { 0 < spare self.old.others }
+        ensures { (r q : ℕ) → place_in self.new r q ≡ (if r == rank && req == q then Some place else place_in self.old r q) }
+    {
+        if !self.fill(rank, req, place) {
+            self.others.insert(Request { rank, req }, place).unwrap();
         }
     }
 
     /// Takes out those requests of the rank that are among the numbers.
     fn complete(&mut self, rank: u16, reqs: &[u32])
         ensures taken { (r req : ℕ) → place_in self.new r req ≡ (if r == rank && is_among req reqs.now then None else place_in self.old r req) }
-        ensures room { spare self.old.starts ≤ spare self.new.starts }
+        ensures room { spare self.old.others ≤ spare self.new.others }
     {
         for req in reqs {
-            self.starts.swap_remove(&Request { rank, req: *req });
+            self.remove(rank, *req);
         }
     }
 
@@ -63,7 +155,7 @@ impl Active {
         ensures { (r req : ℕ) → place_in self.new r req ≡ (if r == rank && does_start req call.now then Some place else place_in self.old r req) }
     {
         if let Some(req) = starts(call.as_call()) {
-            self.starts.insert(Request { rank, req }, place).unwrap();
+            self.insert(rank, req, place);
         }
     }
 
@@ -83,7 +175,15 @@ impl Active {
         ensures place { result ≡ place_in self.now rank req }
         ensures value { (recording : Lists) → IsActive recording self.now → result ≡ started_in (calls_of recording rank) req }
     {
-        self.starts.get(&Request { rank, req }).copied()
+        if let Some(Some(start)) = self.cells.get(cell_no(rank, req)) {
+            if start.req == req {
+                return Some(start.place);
+            }
+        }
+        if self.others.is_empty() {
+            return None;
+        }
+        self.others.get(&Request { rank, req }).copied()
     }
 
     /// What `starts_of` does, told by the table alone.

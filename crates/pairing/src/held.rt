@@ -1,6 +1,9 @@
 //! Which communicators the ranks of a recording hold, by look-up.
 
-ghost use Rattle.std.specs.Prelude.{◌≡◌, ◌<◌, [], length, replicate, ℕ, OnOk, ◌||◌, ◌==◌};
+ghost use Rattle.std.specs.Prelude.{◌≡◌, ◌+◌, ◌*◌, ◌^◌, ◌<◌, [], length, replicate, ℕ, OnOk, ◌||◌, ◌==◌};
+ghost use Rattle.std.specs.Hash as fed;
+ghost use Rattle.std.specs.Cmp.Rules.{hashing};
+ghost use Rattle.std.proofs.Common.{rules};
 ghost use Rattle.pairing.specs.Recordings.{Lists, calls_of, appended};
 ghost use Rattle.pairing.specs.Communicators.{holds, makes};
 ghost use Rattle.pairing.specs.Holdings.{has_holding, IsHeld, HasRoomToHold};
@@ -9,12 +12,24 @@ use crate::comm::makes;
 use indexmap::IndexSet;
 use mpicall::record::Record;
 use std::alloc::{AllocError, Global};
+use std::hash::{Hash, Hasher};
 
 /// A communicator of a rank.
-#[derive(Clone, Copy, PartialEq, Eq, Hash)]
+#[derive(Clone, Copy, PartialEq, Eq)]
 pub(crate) struct Holding {
     pub rank: u16,
     pub comm: u16,
+}
+
+// Both as one number, which is hashed faster than one after the other.
+impl Hash for Holding {
+    ghost hash_input = { λ h. fed.u32 (h.rank * 2 ^ 16 + h.comm) };
+
+    ghost respects_eq = { Prim.search (hashing, rules) };
+
+    fn hash<H: Hasher>(&self, state: &mut H) {
+        state.write_u32(u32::from(self.rank) * 65_536 + u32::from(self.comm));
+    }
 }
 
 /// The communicators that each rank has made by its calls. A look-up takes the same time however many

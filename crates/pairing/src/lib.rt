@@ -17,6 +17,10 @@
 //!   faults each request that a wait names has its start, and no request is started while it is active;
 //!   partners, waves and what probes see stay as a recording goes on.
 //!
+//! The definitions stand in `specs/`, to be read in the order of docs/DEFINITIONS.md. Nobody has to believe `Beside`,
+//! `Holdings`, `Joined`, `Kept`, `Matched`, `Notes`, `Packed`, `Probing`, `Seated`, `Seats`, `Slots`, `Starts` and
+//! `Tables`: they say how `Pairs` keeps its calls and its tables, and no public contract cites them.
+//!
 //! No look-up takes memory or goes through a list of calls: that is seen in the code alone.
 //!
 //! A call takes 32 bytes with the partners of its halves or the number of its wave, and each request that a

@@ -8,7 +8,6 @@ ghost use Rattle.pairing.specs.Matched.{list_no, number_in, pending_at, pending_
 
 use crate::envelope::{Envelope, Half, envelope_of};
 use arenalist::lists::Lists;
-use arenalist::node::ListId;
 use indexmap::IndexSet;
 use mpicall::record::Record;
 use mpigroup::head::Head;
@@ -45,7 +44,6 @@ fn list_no(half: Half, number: usize) -> usize
 pub(crate) struct Matches {
     envelopes: IndexSet<Envelope>,
     // Of the envelope with number n list 2n has the pending sends, and list 2n + 1 the pending receives.
-    ids: Vec<ListId>,
     pending: Lists<u32>,
 }
 
@@ -53,7 +51,6 @@ impl Drop for Matches {
     fn drop(self) {
         let Matches {
             envelopes: _,
-            ids: _,
             pending: _,
         } = self;
     }
@@ -62,7 +59,7 @@ impl Drop for Matches {
 impl Model for Matches {
     ghost use Rattle.std.specs.Prelude.{length};
     ghost use Rattle.arenalist.specs.Arena.{contents};
-    ghost use Rattle.pairing.specs.Matched.{Matching, AreIds};
+    ghost use Rattle.pairing.specs.Matched.{Matching, HaveLists};
 
     ghost Value = { Matching };
 
@@ -73,7 +70,7 @@ impl Model for Matches {
       work = m.pending.work;
     } };
 
-    ghost invariant = { λ m. AreIds m.ids.items m.pending.lists (length m.envelopes.keys) };
+    ghost invariant = { λ m. HaveLists m.pending.lists (length m.envelopes.keys) };
 }
 
 impl Matches {
@@ -84,7 +81,6 @@ impl Matches {
     {
         Matches {
             envelopes: IndexSet::new(alloc),
-            ids: Vec::new(alloc),
             pending: Lists::new(alloc),
         }
     }
@@ -96,12 +92,10 @@ impl Matches {
         ensures enough { 2 * length self.old.keys ≤ length self.old.lists }
         ensures more { OnOk result (min (length self.old.lists + 1) (2 * length self.old.keys + 2) ≤ length self.new.lists) }
     {
-        if self.ids.len() / 2 > self.envelopes.len() {
+        if self.pending.list_count() / 2 > self.envelopes.len() {
             return Ok(());
         }
-        self.ids.reserve(1)?;
-        let list = self.pending.new_list()?;
-        self.ids.push_reserved(list);
+        self.pending.new_list()?;
         Ok(())
     }
 
@@ -112,7 +106,7 @@ impl Matches {
         ensures keys { self.new.keys ≡ self.old.keys }
         ensures enough { OnOk result (2 * length self.old.keys + 2 ≤ length self.new.lists) }
     {
-        if self.ids.len() / 2 > self.envelopes.len() {
+        if self.pending.list_count() / 2 > self.envelopes.len() {
             return Ok(());
         }
         self.add_list()?;
@@ -182,8 +176,10 @@ impl Matches {
         ensures spare { self.old.spare ≤ self.new.spare + 1 }
         ensures work { self.new.work ≡ counted self.old.work 1 }
     {
-        let own = self.ids[list_no(half, number)];
-        let other = self.ids[list_no(half.other(), number)];
+        // There are more lists than that, so the numbers are small.
+        let _lists = self.pending.list_count();
+        let own = self.pending.list(list_no(half, number));
+        let other = self.pending.list(list_no(half.other(), number));
         match self.pending.pop_front(other) {
             Some(there) => Some(there),
             None => {
@@ -198,7 +194,9 @@ impl Matches {
         requires { number < length self.now.keys }
         ensures { result ≡ slice_get (pending_at self.now.lists half number) 0 }
     {
-        match self.pending.first(self.ids[list_no(half, number)]) {
+        // There are more lists than that, so the number is small.
+        let _lists = self.pending.list_count();
+        match self.pending.first(self.pending.list(list_no(half, number))) {
             Some(node) => Some(*self.pending.get(node)),
             None => None,
         }

@@ -56,7 +56,7 @@ impl Tables {
             matches: Matches::new(alloc),
             waves: Waves::new(alloc, head)?,
             held: Held::new(alloc),
-            active: Active::new(alloc),
+            active: Active::new(alloc, head.ranks())?,
         })
     }
 

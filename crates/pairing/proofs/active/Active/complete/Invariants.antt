@@ -8,5 +8,5 @@ use Rattle.pairing.proofs.active.Active.complete.Given as goal
 abbrev pub invariant-loop-req : goal.invariant-loop-req
 invariant-loop-req l = record {
   taken : (r req : ℕ) → place_in l.self r req ≡ (if r == l.rank && is_among req (take l.req-index l.reqs) then None else place_in l.fn.self r req);
-  room : spare l.fn.self.starts ≤ spare l.self.starts;
+  room : spare l.fn.self.others ≤ spare l.self.others;
 }
