@@ -1,17 +1,9 @@
 -- How the front of a head grows, and when it is whole.
-use Rattle.std.proofs.Common.{◌≡◌, ℕ, ◌≤◌, List, ◌++◌, length, take, sym, ap, ◌∙◌, arith, Option, Some, None, append_assoc, append-nil}
+use Rattle.std.proofs.Common.{◌≡◌, ℕ, ◌≤◌, List, ◌++◌, length, take, sym, ap, ◌∙◌, Option, Some, None, append_assoc, append-nil}
 use Rattle.std.specs.Io.KnownBytes.{Keeps, prepend_known, Consumes, IsAtEnd}
 use Rattle.std.proofs.Math.Seq.{take-append_seam}
-use Rattle.std.proofs.lemmas.List.{take-take, take_all}
-use Rattle.std.proofs.lemmas.Slice.{take-put_mid}
-use borrow.Rule.Slice.PartMut.{put_mid}
+use Rattle.std.proofs.lemmas.List.{take_all}
 use Rattle.command.specs.Front.{IsFrontOf, deciding_bytes}
-
--- the first bytes of a buffer into whose front some were put
-pub put_first : (room count : ℕ) (buffer into : List ℕ) → count ≤ length into → take count (put_mid 0 room buffer into) ≡ take count into
-put_first room count buffer into short =
-    let all : take (length into) (put_mid 0 room buffer into) ≡ into = take-put_mid 0 room buffer into (length into) (omega arith) (omega arith) in
-    sym (take-take count (length into) (put_mid 0 room buffer into) short) ∙ ap (λ (bytes : List ℕ). take count bytes) all
 
 pub grows : (start old new : Option (List ℕ)) (front now given : List ℕ) → Keeps start (prepend_known front old) → Consumes old new given → now ≡ front ++ given → Keeps start (prepend_known now new)
 grows None old new front now given k c e = tt

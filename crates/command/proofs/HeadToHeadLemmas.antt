@@ -13,7 +13,6 @@ use Rattle.mpicall.specs.Number.{is_canonical, number_up_to}
 use Rattle.mpicall.specs.Reading.{call_of_fields, record_of_line}
 use Rattle.mpicall.specs.Trace.{Trace, Sealed, trace_of}
 use Rattle.mpicall.specs.Word.{collective_of, operation_of, word_of}
-use Rattle.mpicall.specs.declared.fault.SourceFault.TheVariants.{Line, TextAfterFinalize, NoFinalize, ReadFailed, GateStopped, ThreadNotStarted}
 use Rattle.mpicall.specs.declared.call.Call.{Call}
 use Rattle.mpicall.specs.declared.call.Call.TheVariants.{Send, Recv, Finalize}
 use Rattle.mpicall.specs.declared.call.Mode.TheVariants.{Standard}
@@ -24,7 +23,7 @@ use Rattle.pairing.specs.Faults.{fault_of as fault_of_call}
 use Rattle.pairing.specs.Recordings.{Lists}
 use Rattle.moves.specs.declared.reading.Reading.{Reading}
 use Rattle.moves.specs.declared.reading.Reading.TheVariants.{Strict}
-use Rattle.waitgraph.specs.Findings.{kind_found, kinds_of, root_found, roots_of, unreceived_at, unreceived_of, request_at, requests_of, group_at, wrong_groups_of, findings_of}
+use Rattle.waitgraph.specs.Findings.{kind_found, kinds_of, root_found, roots_of, unreceived_at, unreceived_of, lost_at, lost_requests, group_at, wrong_groups_of, findings_of}
 use Rattle.waitgraph.specs.Stuck.{unmet_at}
 use Rattle.waitgraph.specs.Verdicts.{verdict_of}
 use Rattle.waitgraph.specs.declared.verdict.Verdict.TheVariants.{Hang}
@@ -32,19 +31,16 @@ use Rattle.reports.specs.Reports.{report_of}
 use Rattle.reports.specs.TextReport.{text_report}
 use Rattle.reports.specs.declared.report.Format.{Format}
 use Rattle.reports.specs.declared.report.Format.TheVariants as format
-use Rattle.gather.specs.Answers.{fault_of_rank, lists_of, refusal_of}
-use Rattle.gather.specs.declared.fault.RankFault.{RankFault}
-use Rattle.gather.specs.declared.fault.RankFault.TheVariants.{OfCall, OfSource}
-use Rattle.runs.specs.Told.{is_from_outside}
+use Rattle.gather.specs.Answers.{fault_of_rank, recording_of_traces, refusal_of}
 use Rattle.command.specs.Asked.{Answers, CheckRun, LintTrace, Task, program, task_in}
 use Rattle.command.specs.Ends.{Ends, EndsBy, EndsInReport}
-use Rattle.command.specs.Faults.{is_failure, status_of as status_of_fault}
+use Rattle.command.specs.Faults.{status_of_fault}
 use Rattle.command.specs.HeadToHead.{report}
 use Rattle.command.specs.Outputs.{Written, Becomes, Writes}
-use Rattle.command.specs.Statuses.{status_of}
+use Rattle.command.specs.Statuses.{status_of_verdict}
 use Rattle.command.specs.Texts.{IsFaultOfCheck, IsHeadOf}
 use Rattle.command.specs.declared.fault.Fault.{Fault}
-use Rattle.command.specs.declared.fault.Fault.TheVariants.{Open, ReadHead, Head, FileCount, Refused, Failed, LintRefused, LintFailed, Memory, Unproved, Write}
+use Rattle.command.specs.declared.fault.Fault.TheVariants.{Head, FileCount, Refused, LintRefused}
 use Rattle.command.specs.declared.status.Status.{Status}
 use Rattle.command.specs.declared.status.Status.TheVariants as status
 use Rattle.command.specs.declared.words.Words.{Words}
@@ -113,7 +109,7 @@ unfolding unmet_at
 hangs = refl
 
 reported : report_of format.Text Strict groups recording ≡ report
-unfolding digits report_of text_report unmet_at findings_of kinds_of kind_found roots_of root_found unreceived_of unreceived_at requests_of request_at wrong_groups_of group_at
+unfolding digits report_of text_report unmet_at findings_of kinds_of kind_found roots_of root_found unreceived_of unreceived_at lost_requests lost_at wrong_groups_of group_at
 reported = refl
 
 -- what a task has
@@ -136,16 +132,6 @@ format_in _ = format.Text
 abbrev is_check : Option Task → Bool
 is_check (Some (CheckRun path files reading format capacity)) = true
 is_check _ = false
-
--- a refusal from outside is told as a failure
-outside_is_failure : (fault : RankFault) → is_from_outside fault ≡ is_failure fault
-outside_is_failure (OfCall fault) = refl
-outside_is_failure (OfSource (Line fault)) = refl
-outside_is_failure (OfSource TextAfterFinalize) = refl
-outside_is_failure (OfSource NoFinalize) = refl
-outside_is_failure (OfSource ReadFailed) = refl
-outside_is_failure (OfSource GateStopped) = refl
-outside_is_failure (OfSource ThreadNotStarted) = refl
 
 no_kind : (kind : ErrorKind) → IsAmong kind (fault_of program words) → ⊥
 no_kind kind among = subst (λ (kinds : Kinds). IsAmong kind kinds) no_fault among
@@ -179,8 +165,6 @@ module _ (told : Text → Option Text) (is_head : told (codes "head") ≡ Some h
   groups_read path other is reads = its_groups other (subst (λ (text : Option Text). IsHeadOf text other) (head_told path is) reads)
 
   no_fault_told : (path : Text) (files : List (Bor Text)) (fault : Fault) → path ≡ codes "head" → map (λ file. file.now) files ≡ codes "r0" ∷ codes "r1" ∷ [] → IsFaultOfCheck told path files fault → status_of_fault fault ≢ status.Fault → ⊥
-  no_fault_told path files (Open other) is are says other_status = other_status refl
-  no_fault_told path files ReadHead is are says other_status = other_status refl
   no_fault_told path files (Head fault) is are says other_status =
       let e = sym of_head ∙ subst (λ (text : Option Text). IfSome text (λ bytes. read_head bytes ≡ Err fault)) (head_told path is) says in cc
   no_fault_told path files (FileCount ranks count) is are says other_status =
@@ -189,17 +173,13 @@ module _ (told : Text → Option Text) (is_head : told (codes "head") ≡ Some h
       says.differ (says.files_are ∙ as_many ∙ sym two ∙ sym says.ranks_are)
   no_fault_told path files (Refused refusal) is are says other_status =
       let its = says.0 in
-      let own = (its.of_traces (first ∷ second ∷ []) (texts_told files are)).its_own (outside_is_failure refusal.fault ∙ says.1) in
+      let own = (its.of_traces (first ∷ second ∷ []) (texts_told files are)).its_own says.1 in
       let none : refusal_of its.groups (map trace_of (first ∷ second ∷ [])) ≡ None =
       ap (λ (g : Groups). refusal_of g (map trace_of (first ∷ second ∷ []))) (groups_read path its.groups is its.counted.is_head)
       ∙ ap (refusal_of groups) of_texts ∙ none_refused in
       let e : None ≡ Some refusal = sym none ∙ own in cc
-  no_fault_told path files (Failed refusal) is are says other_status = other_status refl
   no_fault_told path files (LintRefused fault) is are says other_status = says
-  no_fault_told path files (LintFailed fault) is are says other_status = other_status refl
-  no_fault_told path files Memory is are says other_status = other_status refl
-  no_fault_told path files (Unproved rank) is are says other_status = other_status refl
-  no_fault_told path files Write is are says other_status = other_status refl
+  no_fault_told path files fault is are says other_status = other_status refl
 
   module _ {O E : Type 0} (written : O → Option Text) (failures : O → ℕ) (written_errors : E → Option Text) (failed_errors : E → ℕ) (old new : O) (old_errors new_errors : E) (ended : Status) where
     of_report : (path : Text) (files : List (Bor Text)) (reading : Reading) (in_format : Format) (out err : Written) →
@@ -210,7 +190,7 @@ module _ (told : Text → Option Text) (is_head : told (codes "head") ≡ Some h
         let report_is = ends.is_report in
         let run = report_is.of_texts head (first ∷ second ∷ []) (head_told path is) (texts_told files are) in
         let its : report_is.groups ≡ groups = its_groups _ run.is_head in
-        let calls : report_is.recording ≡ recording = run.is_recording ∙ ap lists_of of_texts in
+        let calls : report_is.recording ≡ recording = run.is_recording ∙ ap recording_of_traces of_texts in
         let verdict : ends.verdict ≡ Hang =
         report_is.verdict_is ∙ ap (λ (r : Reading). verdict_of r report_is.groups report_is.recording) reads
         ∙ ap (λ (g : Groups). verdict_of Strict g report_is.recording) its ∙ ap (verdict_of Strict groups) calls ∙ hangs in
@@ -219,7 +199,7 @@ module _ (told : Text → Option Text) (is_head : told (codes "head") ≡ Some h
         ∙ ap (λ (r : Reading). report_of format.Text r report_is.groups report_is.recording) reads
         ∙ ap (λ (g : Groups). report_of format.Text Strict g report_is.recording) its ∙ ap (report_of format.Text Strict groups) calls ∙ reported in
         record {
-          status_is = ends.status_is ∙ ap status_of verdict;
+          status_is = ends.status_is ∙ ap status_of_verdict verdict;
           output = subst (Writes written failures old new) text (subst (Becomes written failures old new) ends.output output);
           errors = subst (Becomes written_errors failed_errors old_errors new_errors) ends.errors errors;
         }

@@ -11,15 +11,16 @@ use Rattle.mpigroup.specs.Groups.{Groups}
 use Rattle.mpigroup.specs.HeadText.{read_head}
 use Rattle.mpigroup.specs.declared.fault.HeadFault.{HeadFault}
 use Rattle.runs.specs.Runs.{RefusesFeeds, StopsWhereAllowed}
-use Rattle.runs.specs.Told.{RefusesOver, Tells}
+use Rattle.runs.specs.Told.{RefusesOver, Tells, is_from_outside}
 use Rattle.runs.specs.Written.{IsReportOver}
+use Rattle.runs.proofs.HeldLemmas.{lowest_refusal}
 use Rattle.gather.specs.declared.fault.Refusal.{Refusal}
 use Rattle.gather.specs.declared.fault.RunFault.{RunFault}
 use Rattle.gather.specs.declared.fault.RunFault.TheVariants as run
-use Rattle.command.specs.Faults.{is_failure, of_run}
+use Rattle.command.specs.Faults.{of_run}
 use Rattle.command.specs.Texts.{IsCounted, IsFaultOfCheck, IsFaultOfFront, IsFaultOfHead, IsHeadOf, IsRefusalOfRun, IsReportOf}
 use Rattle.command.specs.declared.fault.Fault.{Fault}
-use Rattle.command.specs.declared.fault.Fault.TheVariants.{Open, ReadHead, Head, FileCount, Refused, Failed, LintRefused, LintFailed, Memory, Unproved, Write}
+use Rattle.command.specs.declared.fault.Fault.TheVariants.{Head, Refused, Failed, Memory, Unproved, Write}
 use Rattle.command.specs.Front.{IsFrontOf, deciding_bytes}
 
 abbrev Text : Type 0
@@ -73,28 +74,21 @@ head_says (Some text) left front answer is of_left says =
 
 pub fault_says : (told : Text → Option Text) (path : Text) (left : Option Text) (front : Text) (fault : Fault) → left ≡ told path → IsFrontOf left front → IsFaultOfFront front fault → IsFaultOfHead told path fault
 fault_says told path left front (Head fault) is of_left says = head_says (told path) left front (Err fault) is of_left says
-fault_says told path left front (Open other) is of_left says = absurd says
-fault_says told path left front ReadHead is of_left says = absurd says
 fault_says told path left front Memory is of_left says = tt
-fault_says told path left front (FileCount ranks files) is of_left says = absurd says
-fault_says told path left front (Refused refusal) is of_left says = absurd says
-fault_says told path left front (Failed refusal) is of_left says = absurd says
-fault_says told path left front (LintRefused lint) is of_left says = absurd says
-fault_says told path left front (LintFailed lint) is of_left says = absurd says
-fault_says told path left front (Unproved rank) is of_left says = absurd says
-fault_says told path left front Write is of_left says = absurd says
+fault_says told path left front fault is_left of_left says = absurd says
 
 -- the faults of a check, by its steps
 module _ (told : Text → Option Text) (head : Text) (files : List (Bor Text)) where
-  by_failure : (refusal : Refusal) (fails : Bool) → IsRefusalOfRun told head files refusal → is_failure refusal.fault ≡ fails → IsFaultOfCheck told head files (if fails then Failed refusal else Refused refusal)
+  by_failure : (refusal : Refusal) (fails : Bool) → IsRefusalOfRun told head files refusal → is_from_outside refusal.fault ≡ fails → IsFaultOfCheck told head files (if fails then Failed refusal else Refused refusal)
   by_failure refusal true of_run is = (of_run, is)
   by_failure refusal false of_run is = (of_run, is)
 
   -- the fault of a run over the files' sources
   pub run_fault_says : {I : Type 0} (left : I → Option Text) (may_stop : ℕ → ℕ → Type 0) (sources : List (Source I)) (groups : Groups) (fault : RunFault) →
-      IsCounted told head files groups → RefusesFeeds left may_stop sources groups fault → StopsWhereAllowed may_stop fault → ((rank line : ℕ) → may_stop rank line → ⊥) → ((texts : List Text) → map (λ file. told file.now) files ≡ map Some texts → RefusesOver groups (map trace_of texts) fault) → IsFaultOfCheck told head files (of_run fault)
-  run_fault_says left may_stop sources groups run.Memory counted fed stops never refuses = tt
-  run_fault_says left may_stop sources groups (run.Unproved rank) counted fed stops never refuses = (subst (λ n. rank < n) (sym counted.one_a_rank) fed, (groups, counted))
-  run_fault_says left may_stop sources groups run.Write counted fed stops never refuses = tt
-  run_fault_says left may_stop sources groups (run.Refused refusal) counted fed stops never refuses =
-      by_failure refusal (is_failure refusal.fault) (record { groups = groups; counted = counted; unstopped = λ is. never _ _ (stops is); of_traces = refuses }) refl
+      length sources ≡ length files → IsCounted told head files groups → RefusesFeeds left may_stop sources groups fault → StopsWhereAllowed may_stop fault → ((rank line : ℕ) → may_stop rank line → ⊥) → ((texts : List Text) → map (λ file. told file.now) files ≡ map Some texts → RefusesOver groups (map trace_of texts) fault) → IsFaultOfCheck told head files (of_run fault)
+  run_fault_says left may_stop sources groups run.Memory count counted fed stops never refuses = tt
+  run_fault_says left may_stop sources groups (run.Unproved rank) count counted fed stops never refuses = (subst (λ n. rank < n) (sym counted.one_a_rank) fed, (groups, counted))
+  run_fault_says left may_stop sources groups run.Write count counted fed stops never refuses = tt
+  run_fault_says left may_stop sources groups (run.Refused refusal) count counted fed stops never refuses =
+      let lowest = lowest_refusal left may_stop sources groups refusal (count ∙ counted.one_a_rank) fed in
+      by_failure refusal (is_from_outside refusal.fault) (record { groups = groups; counted = counted; is_rank = omega (arith, lowest.is_rank, counted.one_a_rank); unstopped = λ is. never _ _ (stops is); of_traces = refuses }) refl

@@ -3,9 +3,9 @@
 use Rattle.std.specs.Prelude.{◌≡◌, ◌≢◌, ◌⊎◌, ℕ, Option, Result, Ok, Err, List, ⊤, string_bytes}
 use Rattle.clap.specs.Walk.{Text}
 use Rattle.command.specs.Ends.{EndsInFault, IsTried}
-use Rattle.command.specs.Faults.{status_of}
+use Rattle.command.specs.Faults.{status_of_fault}
 use Rattle.command.specs.FaultTexts.{line_of_fault}
-use Rattle.command.specs.Outputs.{Written, Nothing, Becomes, Writes, FailsToWrite, LeavesOutput, Tries}
+use Rattle.command.specs.Outputs.{Written, Nothing, Becomes, Writes, FailsToWrite, LeavesAtFault, Tries}
 use Rattle.command.specs.declared.fault.Fault.{Fault}
 use Rattle.command.specs.declared.fault.Fault.TheVariants.{Memory, Write}
 use Rattle.command.specs.declared.program.Complaint.{Complaint}
@@ -28,11 +28,11 @@ module _ {O : Type 0} (written : O → Option (List ℕ)) (failures : O → ℕ)
 
   -- a refusal's line was written, or that write failed, or memory was wanted for it; any other fault is a complaint
   abbrev pub Refuses : O → O → Fault → Result Status Complaint → Type 0
-  Refuses old new fault (Ok ended) = (ended ≡ status.Refused) × (status_of fault ≡ status.Refused) × Writes written failures old new (line_of_fault fault)
+  Refuses old new fault (Ok ended) = (ended ≡ status.Refused) × (status_of_fault fault ≡ status.Refused) × Writes written failures old new (line_of_fault fault)
   Refuses old new fault (Err (complaint.Usage said)) = ⊥
   Refuses old new fault (Err (complaint.Fault told)) =
-      IsOfError (status_of told) × (((told ≡ fault) × (new ≡ old))
-      ⊎ ((status_of fault ≡ status.Refused) × (((told ≡ Memory) × (new ≡ old)) ⊎ ((told ≡ Write) × FailsToWrite written failures old new (line_of_fault fault)))))
+      IsOfError (status_of_fault told) × (((told ≡ fault) × (new ≡ old))
+      ⊎ ((status_of_fault fault ≡ status.Refused) × (((told ≡ Memory) × (new ≡ old)) ⊎ ((told ≡ Write) × FailsToWrite written failures old new (line_of_fault fault)))))
 
   -- what was done, or a refusal, stands on standard output; else there is a complaint: of words, or a fault that
   -- may be told
@@ -42,15 +42,15 @@ module _ {O : Type 0} (written : O → Option (List ℕ)) (failures : O → ℕ)
   IsAnswered is_done may_end_in old new (Err (complaint.Usage said)) =
       (new ≡ old) × ((err : Written) → IsTried (string_bytes said) err → is_done status.Usage Nothing err)
   IsAnswered is_done may_end_in old new (Err (complaint.Fault fault)) =
-      IsOfError (status_of fault) × may_end_in fault × LeavesOutput written failures old new fault
+      IsOfError (status_of_fault fault) × may_end_in fault × LeavesAtFault written failures old new fault
 
 module _ {E : Type 0} (written : E → Option (List ℕ)) (failures : E → ℕ) where
   -- the fault was told by its line, or want of memory for that line
-  abbrev pub TellsFault : E → E → Fault → Status → Type 0
-  TellsFault old new fault ended =
-      (told : Fault) × ((told ≡ fault) ⊎ ((told ≡ Memory) × (fault ≢ Write))) × (ended ≡ status_of told) × Tries written failures old new (line_of_fault told)
+  abbrev pub TellsFaultLine : E → E → Fault → Status → Type 0
+  TellsFaultLine old new fault ended =
+      (told : Fault) × ((told ≡ fault) ⊎ ((told ≡ Memory) × (fault ≢ Write))) × (ended ≡ status_of_fault told) × Tries written failures old new (line_of_fault told)
 
   -- the complaint was told
   abbrev pub Complains : E → E → Complaint → Status → Type 0
   Complains old new (complaint.Usage said) ended = (ended ≡ status.Usage) × Tries written failures old new (string_bytes said)
-  Complains old new (complaint.Fault fault) ended = TellsFault old new fault ended
+  Complains old new (complaint.Fault fault) ended = TellsFaultLine old new fault ended

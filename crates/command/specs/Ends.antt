@@ -3,11 +3,11 @@ use Rattle.std.specs.Prelude.{◌≡◌, ◌⊎◌, ℕ, true, false, Option, So
 use Rattle.clap.specs.Walk.{Text}
 use Rattle.waitgraph.specs.declared.verdict.Verdict.{Verdict}
 use Rattle.command.specs.Asked.{Answers}
-use Rattle.command.specs.Faults.{status_of}
+use Rattle.command.specs.Faults.{status_of_fault}
 use Rattle.command.specs.FaultTexts.{line_of_fault}
 use Rattle.command.specs.Outputs.{Written, Nothing, Whole, Broken, Becomes, lint_report}
 use Rattle.command.specs.Lints.{IsCountOf, IsFaultOfLint}
-use Rattle.command.specs.Statuses.{status_of as status_of_verdict}
+use Rattle.command.specs.Statuses.{status_of_verdict}
 use Rattle.command.specs.Texts.{IsFaultOfCheck, IsReportOf, IsVerdictOfTexts}
 use Rattle.reports.specs.declared.report.Format.{Format}
 use Rattle.moves.specs.declared.reading.Reading.{Reading}
@@ -65,7 +65,7 @@ TellsLine _ fault out err = IsLeftAt fault out × IsTried (line_of_fault fault) 
 
 -- a fault was told, by its status and its line
 abbrev pub EndsInFault : FaultOf → Status → Written → Written → Type 0
-EndsInFault fault status out err = (status ≡ status_of fault) × TellsLine status fault out err
+EndsInFault fault status out err = (status ≡ status_of_fault fault) × TellsLine status fault out err
 
 -- what the words ask for was done, and told
 abbrev pub IsDone : (Text → Option Text) → Words → Status → Written → Written → Type 0

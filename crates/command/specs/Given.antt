@@ -13,13 +13,13 @@ abbrev pub status_in : Ended → Status
 status_in ended = ended.status
 
 -- how words that can't be read are told
-abbrev pub status_of : WordsFault → Status
-status_of NoText = Usage
-status_of NoMemory = Fault
+abbrev pub status_of_words : WordsFault → Status
+status_of_words NoText = Usage
+status_of_words NoMemory = Fault
 
-abbrev pub text_of : WordsFault → Text
-text_of NoText = codes "usage: the words must be text in UTF-8\n"
-text_of NoMemory = codes "fault memory\n"
+abbrev pub text_of_words : WordsFault → Text
+text_of_words NoText = codes "usage: the words must be text in UTF-8\n"
+text_of_words NoMemory = codes "fault memory\n"
 
 -- the two outputs, and the texts of files, as for the end of the program
 module _ {O E : Type 0} (written : O → Option Text) (failures : O → ℕ) (written_errors : E → Option Text) (failed_errors : E → ℕ) (told : Text → Option Text) (old new : O) (old_errors new_errors : E) where
@@ -32,4 +32,4 @@ module _ {O E : Type 0} (written : O → Option Text) (failures : O → ℕ) (wr
   abbrev pub EndsGiven : Status → Type 0
   EndsGiven status =
       EndsBySome status
-      ⊎ ((fault : WordsFault) × (status ≡ status_of fault) × (new ≡ old) × Tries written_errors failed_errors old_errors new_errors (text_of fault))
+      ⊎ ((fault : WordsFault) × (status ≡ status_of_words fault) × (new ≡ old) × Tries written_errors failed_errors old_errors new_errors (text_of_words fault))

@@ -3,7 +3,8 @@ use Rattle.std.specs.Prelude.{◌≡◌, ℕ, true, false, Option, Some, Ok, Err
 use Rattle.mpicall.specs.Trace.{trace_of}
 use Rattle.mpicall.specs.Lint.{TellsTrace}
 use Rattle.mpicall.specs.declared.lint.LintFault.{LintFault}
-use Rattle.command.specs.Faults.{is_source_failure}
+use Rattle.gather.specs.declared.fault.RankFault.TheVariants.{OfSource}
+use Rattle.runs.specs.Told.{is_from_outside}
 use Rattle.command.specs.Texts.{IsUnopened}
 use Rattle.command.specs.declared.fault.Fault.{Fault}
 use Rattle.command.specs.declared.fault.Fault.TheVariants.{Open, LintRefused, LintFailed, Memory, Write}
@@ -19,8 +20,8 @@ IsTraceFault told fault = IfSome told (λ text. TellsTrace (Some (trace_of text)
 -- the file couldn't be opened, or its trace has a fault
 abbrev pub IsFaultOfTrace : (List ℕ → Option (List ℕ)) → List ℕ → Fault → Type 0
 IsFaultOfTrace told file (Open path) = (path.now ≡ file) × IsUnopened told file
-IsFaultOfTrace told file (LintRefused fault) = IsTraceFault (told file) fault × (is_source_failure fault.fault ≡ false)
-IsFaultOfTrace told file (LintFailed fault) = IsTraceFault (told file) fault × (is_source_failure fault.fault ≡ true)
+IsFaultOfTrace told file (LintRefused fault) = IsTraceFault (told file) fault × (is_from_outside (OfSource fault.fault) ≡ false)
+IsFaultOfTrace told file (LintFailed fault) = IsTraceFault (told file) fault × (is_from_outside (OfSource fault.fault) ≡ true)
 IsFaultOfTrace told file fault = ⊥
 
 -- the same, or memory was wanted, or the answer couldn't be written

@@ -37,6 +37,6 @@ module _ {O : Type 0} (written : O → Option (List ℕ)) (failures : O → ℕ)
   Becomes old new (Broken text) = FailsToWrite old new text
 
   -- only a write that failed leaves the output other than it was
-  abbrev pub LeavesOutput : O → O → Fault → Type 0
-  LeavesOutput old new Write = (text : List ℕ) × FailsToWrite old new text
-  LeavesOutput old new fault = new ≡ old
+  abbrev pub LeavesAtFault : O → O → Fault → Type 0
+  LeavesAtFault old new Write = (text : List ℕ) × FailsToWrite old new text
+  LeavesAtFault old new fault = new ≡ old

@@ -13,7 +13,7 @@ code_of Usage = 3
 code_of Fault = 4
 code_of Unfinished = 5
 
-abbrev pub status_of : Verdict → Status
-status_of verdict.Free = Free
-status_of verdict.Hang = Hang
-status_of verdict.Unfinished = Unfinished
+abbrev pub status_of_verdict : Verdict → Status
+status_of_verdict verdict.Free = Free
+status_of_verdict verdict.Hang = Hang
+status_of_verdict verdict.Unfinished = Unfinished

@@ -12,11 +12,10 @@ use Rattle.moves.specs.declared.reading.Reading.{Reading}
 use Rattle.pairing.specs.Recordings.{Lists, IsClosed}
 use Rattle.reports.specs.Reports.{report_of}
 use Rattle.reports.specs.declared.report.Format.{Format}
-use Rattle.gather.specs.Answers.{lists_of}
+use Rattle.gather.specs.Answers.{recording_of_traces}
 use Rattle.gather.specs.declared.fault.RankFault.TheVariants.{OfSource}
 use Rattle.gather.specs.declared.fault.Refusal.{Refusal}
-use Rattle.runs.specs.Told.{IsRefusalOver, IsVerdictOver}
-use Rattle.command.specs.Faults.{is_failure}
+use Rattle.runs.specs.Told.{IsRefusalOver, IsVerdictOver, is_from_outside}
 use Rattle.command.specs.declared.fault.Fault.{Fault}
 use Rattle.command.specs.declared.fault.Fault.TheVariants.{Open, ReadHead, Head, FileCount, Refused, Failed, LintRefused, LintFailed, Memory, Unproved, Write}
 
@@ -58,7 +57,7 @@ pub record IsVerdictOfTexts (reading : Reading) (head : List ℕ) (texts : List 
 -- the text of the head gives the groups, and the recording is that of the traces which the other texts hold
 pub record IsRunOfTexts (head : List ℕ) (texts : List (List ℕ)) (groups : Groups) (recording : Lists) : Type 0 where
   pub is_head : read_head head ≡ Ok groups
-  pub is_recording : recording ≡ lists_of (map trace_of texts)
+  pub is_recording : recording ≡ recording_of_traces (map trace_of texts)
 
 -- the report of a run, and the verdict that it says: by the reading they are those of groups and a closed recording
 -- of their ranks, and where the texts of the head and the files are told, these are of the texts
@@ -72,8 +71,8 @@ pub record IsReportOf (reading : Reading) (format : Format) (head : Option (List
   pub verdict_is : verdict ≡ verdict_of reading groups recording
 
 -- the report stands behind what was there
-abbrev pub WritesReport : {O : Type 0} → (O → Option (List ℕ)) → O → O → Reading → Format → Option (List ℕ) → List (Option (List ℕ)) → Verdict → Type 0
-WritesReport written old new reading format head files verdict =
+abbrev pub WritesReportOf : {O : Type 0} → (O → Option (List ℕ)) → O → O → Reading → Format → Option (List ℕ) → List (Option (List ℕ)) → Verdict → Type 0
+WritesReportOf written old new reading format head files verdict =
     (report : List ℕ) × IsReportOf reading format head files verdict report × Appends (written old) (written new) report
 
 -- the head was read and gives groups, and the number of the files is another than that of their ranks
@@ -89,11 +88,12 @@ pub record IsCounted (told : List ℕ → Option (List ℕ)) (head : List ℕ) (
   pub is_head : IsHeadOf (told head) groups
   pub one_a_rank : length files ≡ ranks_of groups
 
--- there is one file a rank, and no gate stopped the reading; and where their texts are told, the refusal is that of
--- the traces which these hold
+-- there is one file a rank, the refused rank is one of these, and no gate stopped the reading; and where the files'
+-- texts are told, the refusal is that of the traces which these hold
 pub record IsRefusalOfRun (told : List ℕ → Option (List ℕ)) (head : List ℕ) (files : List (Bor (List ℕ))) (refusal : Refusal) : Type 0 where
   pub groups : Groups
   pub counted : IsCounted told head files groups
+  pub is_rank : refusal.rank < length files
   pub unstopped : refusal.fault ≢ OfSource GateStopped
   pub of_traces : (texts : List (List ℕ)) → map (λ file. told file.now) files ≡ map Some texts → IsRefusalOver groups (map trace_of texts) refusal
 
@@ -105,8 +105,8 @@ IsFaultOfCheck told head files (Open path) =
 IsFaultOfCheck told head files ReadHead = ⊤
 IsFaultOfCheck told head files (Head fault) = IfSome (told head) (λ text. read_head text ≡ Err fault)
 IsFaultOfCheck told head files (FileCount ranks count) = IsWrongCount told head ranks count files
-IsFaultOfCheck told head files (Refused refusal) = IsRefusalOfRun told head files refusal × (is_failure refusal.fault ≡ false)
-IsFaultOfCheck told head files (Failed refusal) = IsRefusalOfRun told head files refusal × (is_failure refusal.fault ≡ true)
+IsFaultOfCheck told head files (Refused refusal) = IsRefusalOfRun told head files refusal × (is_from_outside refusal.fault ≡ false)
+IsFaultOfCheck told head files (Failed refusal) = IsRefusalOfRun told head files refusal × (is_from_outside refusal.fault ≡ true)
 IsFaultOfCheck told head files (LintRefused fault) = ⊥
 IsFaultOfCheck told head files (LintFailed fault) = ⊥
 IsFaultOfCheck told head files Memory = ⊤

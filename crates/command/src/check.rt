@@ -7,8 +7,8 @@ ghost use Rattle.mpicall.specs.Trace.{trace_of};
 ghost use Rattle.mpigroup.specs.HeadText.{read_head};
 ghost use Rattle.runs.specs.Told.{AreFresh};
 ghost use Rattle.command.specs.Front.{IsFrontFault, IsFrontOf};
-ghost use Rattle.command.specs.Outputs.{LeavesOutput};
-ghost use Rattle.command.specs.Texts.{IsFaultOfCheck, IsFaultOfFront, IsFaultOfHead, IsFaultOfOpening, IsHeadOf, IsVerdictOfTexts, WritesReport};
+ghost use Rattle.command.specs.Outputs.{LeavesAtFault};
+ghost use Rattle.command.specs.Texts.{IsFaultOfCheck, IsFaultOfFront, IsFaultOfHead, IsFaultOfOpening, IsHeadOf, IsVerdictOfTexts, WritesReportOf};
 
 use crate::capacity::Capacity;
 use crate::fault::Fault;
@@ -138,9 +138,9 @@ pub fn check<'a, P: Opener, O: Output, R: Threads + Wait + Sync>(
     // Which fault is told, by what came before it.
     ensures fault { IfErr result (IsFaultOfCheck (P.told opener.now) head.now files.now) }
 
-    ensures written { IfOk result (WritesReport O.written out.old out.new reading format (P.told opener.now head.now) (map (λ file. P.told opener.now file.now) files.now)) }
+    ensures written { IfOk result (WritesReportOf O.written out.old out.new reading format (P.told opener.now head.now) (map (λ file. P.told opener.now file.now) files.now)) }
     ensures no_write_failed { OnOk result (O.failures out.new ≡ O.failures out.old) }
-    ensures output { IfErr result (LeavesOutput O.written O.failures out.old out.new) }
+    ensures output { IfErr result (LeavesAtFault O.written O.failures out.old out.new) }
 {
     let head = open_head(alloc, opener, head)?;
     if files.len() != usize::from(head.ranks()) {

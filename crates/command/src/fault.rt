@@ -2,7 +2,9 @@
 
 ghost use Rattle.std.specs.Prelude.{◌≡◌, Some};
 ghost use Rattle.command.specs.FaultTexts.{text_of_fault};
-ghost use Rattle.command.specs.Faults.{is_failure, is_source_failure, of_head, of_lint, of_run, status_of};
+ghost use Rattle.gather.specs.declared.fault.RankFault.TheVariants.{OfSource};
+ghost use Rattle.runs.specs.Told.{is_from_outside};
+ghost use Rattle.command.specs.Faults.{of_head, of_lint, of_run, status_of_fault};
 ghost use Rattle.command.specs.declared.fault.Fault.TheVariants.{Memory};
 
 use crate::status::Status;
@@ -73,7 +75,7 @@ impl Error for Fault<'_> {}
 impl Fault<'_> {
     /// The exit status that tells the fault.
     pub fn status(&self) -> Status
-        ensures { result ≡ status_of self.now }
+        ensures { result ≡ status_of_fault self.now }
     {
         match self {
             Fault::Head(_) | Fault::Refused(_) | Fault::LintRefused(_) => Status::Refused,
@@ -142,7 +144,7 @@ impl From<LintFault> for Fault<'_> {
 /// Whether a source's fault is no fault of its bytes: a read that failed, or a thread that was stopped or
 /// didn't start.
 fn is_source_failure(fault: SourceFault) -> bool
-    ensures { result ≡ is_source_failure fault }
+    ensures { result ≡ is_from_outside (OfSource fault) }
 {
     matches!(
         fault,
@@ -152,7 +154,7 @@ fn is_source_failure(fault: SourceFault) -> bool
 
 /// The same of a rank's fault.
 fn is_failure(fault: RankFault) -> bool
-    ensures { result ≡ is_failure fault }
+    ensures { result ≡ is_from_outside fault }
 {
     match fault {
         RankFault::OfSource(fault) => is_source_failure(fault),

@@ -2,7 +2,7 @@
 
 ghost use Rattle.std.specs.Prelude.{◌≡◌, IfOk, OnErr, map, string_bytes};
 ghost use Rattle.std.specs.Process.{exit_status};
-ghost use Rattle.command.specs.Given.{EndsBySome, EndsGiven, status_in, status_of, text_of};
+ghost use Rattle.command.specs.Given.{EndsBySome, EndsGiven, status_in, status_of_words, text_of_words};
 ghost use Rattle.command.specs.Statuses.{code_of};
 ghost use Rattle.command.specs.declared.given.WordsFault.TheVariants.{NoMemory};
 
@@ -27,7 +27,7 @@ pub enum WordsFault {
 impl WordsFault {
     /// The exit status that tells the fault.
     pub fn status(self) -> Status
-        ensures { result ≡ status_of self }
+        ensures { result ≡ status_of_words self }
     {
         match self {
             WordsFault::NoText => Status::Usage,
@@ -37,7 +37,7 @@ impl WordsFault {
 
     /// What the program says of it.
     pub fn text(self) -> &'static str
-        ensures { result.now ≡ text_of self }
+        ensures { result.now ≡ text_of_words self }
     {
         match self {
             WordsFault::NoText => "usage: the words must be text in UTF-8\n",

@@ -13,7 +13,7 @@ use std::sync::Wait;
 use std::thread::Threads;
 
 /// Checks two ranks that send to each other before either receives. Unless that ends with a fault, as where memory is
-/// wanted or no thread starts, it ends with `Hang` and leaves the report, and nothing on the output of errors.
+/// wanted, it ends with `Hang` and leaves the report, and nothing on the output of errors.
 pub fn two_that_send_first<R: Threads + Wait + Sync>(
     alloc: Global,
     rt: &R,

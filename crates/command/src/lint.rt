@@ -3,7 +3,7 @@
 ghost use Rattle.std.specs.Prelude.{◌≡◌, IfOk, IfErr, OnOk};
 ghost use Rattle.std.specs.Io.KnownBytes.{Appends};
 ghost use Rattle.command.specs.Lints.{IsCountOf, IsFaultOfLint, IsFaultOfTrace};
-ghost use Rattle.command.specs.Outputs.{LeavesOutput, lint_report};
+ghost use Rattle.command.specs.Outputs.{LeavesAtFault, lint_report};
 
 use crate::fault::Fault;
 use crate::opener::Opener;
@@ -41,7 +41,7 @@ pub fn lint_file<'a, P: Opener, O: Output>(
     ensures written { IfOk result (λ count. Appends (O.written out.old) (O.written out.new) (lint_report count)) }
     ensures no_write_failed { OnOk result (O.failures out.new ≡ O.failures out.old) }
     ensures fault { IfErr result (IsFaultOfLint (P.told opener.now) file.now) }
-    ensures output { IfErr result (LeavesOutput O.written O.failures out.old out.new) }
+    ensures output { IfErr result (LeavesAtFault O.written O.failures out.old out.new) }
 {
     let count = lint_opened(file, opener, wait)?;
     let text = format!(in alloc; "lint ok {count}\n")?;

@@ -8,7 +8,7 @@ use std::fs;
 use std::rt::Files;
 
 /// What opens the inputs that paths name: `told` is the text of the file with a path, where the opener
-/// tells it, and `never_waits` what it says of a file of which no read waits for another program.
+/// tells it, and `never_waits` what is so of a path of whose file `waits` says that no read waits for another program.
 pub trait Opener {
     type In: Input + Drop + Send;
 

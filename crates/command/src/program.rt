@@ -1,13 +1,13 @@
 //! The whole program, over any files and outputs.
 
 ghost use Rattle.std.specs.Prelude.{◌≡◌, map};
-ghost use Rattle.command.specs.Answer.{Complains, IsAnswered, Refuses, Shows, TellsFault};
+ghost use Rattle.command.specs.Answer.{Complains, IsAnswered, Refuses, Shows, TellsFaultLine};
 ghost use Rattle.command.specs.Ends.{Ends, EndsInCount, EndsInReport, IsDone, IsFaultOf};
 ghost use Rattle.command.specs.FaultTexts.{line_of_fault};
-ghost use Rattle.command.specs.Faults.{status_of as status_of_fault};
+ghost use Rattle.command.specs.Faults.{status_of_fault};
 ghost use Rattle.command.specs.Lints.{IsFaultOfLint};
 ghost use Rattle.command.specs.Outputs.{Tries};
-ghost use Rattle.command.specs.Statuses.{status_of};
+ghost use Rattle.command.specs.Statuses.{status_of_verdict};
 ghost use Rattle.command.specs.Texts.{IsFaultOfCheck};
 
 use crate::capacity::Capacity;
@@ -34,7 +34,7 @@ enum Complaint<'a> {
 
 /// The status that tells a verdict.
 fn status_of(verdict: Verdict) -> Status
-    ensures { result ≡ status_of verdict }
+    ensures { result ≡ status_of_verdict verdict }
 {
     match verdict {
         Verdict::Free => Status::Free,
@@ -163,7 +163,7 @@ fn tell<E: Output>(fault: Fault<'_>, line: &str, err: &mut E) -> Status
 /// The same, also where there is no memory for the line: that is told then. The line of a failed write takes
 /// none, so that it stands for what became of the other output.
 fn tell_fault<E: Output>(alloc: Global, fault: Fault<'_>, err: &mut E) -> Status
-    ensures { TellsFault E.written E.failures err.old err.new fault.entry result }
+    ensures { TellsFaultLine E.written E.failures err.old err.new fault.entry result }
 {
     if fault == Fault::Write {
         return tell(fault, "fault write\n", err);

@@ -1,10 +1,10 @@
 -- What is kept of ranks whose feeds were all drained: the answer over the traces that their receipts hold.
 use Rattle.moves.specs.declared.reading.Reading.{Reading}
 use Rattle.std.proofs.Common.{◌≡◌, ℕ, zero, suc, ◌+◌, ◌-◌, ◌<◌, true, false, Option, Some, None, Result, Ok, Err, IfOk, IfErr, List, [], ◌∷◌, ◌++◌, length, refl, sym, ap, subst, ◌∙◌, arith, append_assoc, append-nil, slice_get}
-use Rattle.std.proofs.lemmas.List.{length-append, length-map}
+use Rattle.std.proofs.lemmas.List.{length-map}
 use Rattle.std.proofs.lemmas.Option.{none-some}
 use Rattle.std.proofs.lemmas.Bool.{false≢true}
-use Rattle.mpicall.specs.Trace.{Trace, End}
+use Rattle.mpicall.specs.Trace.{Trace}
 use Rattle.mpicall.specs.Trace as Trace
 use Rattle.mpicall.specs.declared.call.Call.{Call}
 use Rattle.mpicall.specs.declared.fault.SourceFault.{SourceFault}
@@ -12,10 +12,10 @@ use Rattle.mpicall.specs.Ending.{ends_list}
 use Rattle.mpigroup.specs.Groups.{Groups}
 use Rattle.pairing.specs.Recordings.{Lists, calls_of, is_ended, IsClosed}
 use Rattle.pairing.specs.Faults.{fault_of, IsLawful}
-use Rattle.pairing.specs.declared.fault.CallFault.{CallFault}
 use Rattle.pairing.proofs.FaultLemmas.{an_ended_lawful_list_is_closed}
 use Rattle.moves.specs.Analysed.{Analysed}
-use Rattle.rankfeed.specs.Items.{calls_among, last_item, item_ends_list, end_of, are_ended, IsFeed}
+use Rattle.moves.proofs.AnalyserLemmas.{closed_is_ended}
+use Rattle.rankfeed.specs.Items.{calls_among, last_item, item_ends_list, end_mark_of, are_ended, IsFeed}
 use Rattle.rankfeed.specs.Rings.{sent_whole, taker_ring}
 use Rattle.rankfeed.specs.declared.item.Ending.{Ending}
 use Rattle.rankfeed.specs.declared.item.Ending.TheVariants.{Sealed, Torn}
@@ -23,7 +23,7 @@ use Rattle.rankfeed.specs.declared.item.Item.{Item}
 use Rattle.rankfeed.specs.declared.item.Item.TheVariants.{Entry, Mark}
 use Rattle.rankfeed.specs.declared.ring.Receipt.{Receipt}
 use Rattle.rankfeed.specs.declared.ring.Taker.{Taker}
-use Rattle.gather.specs.Answers.{fault_of_rank, fault_behind, or_behind, refusal_or, refusal_from, refusal_of, lists_of}
+use Rattle.gather.specs.Answers.{fault_of_rank, fault_onward, or_behind, refusal_or, refusal_from, refusal_of, recording_of_traces}
 use Rattle.gather.specs.declared.fault.Refusal.{Refusal}
 use Rattle.gather.specs.declared.collector.Collector.{Collector}
 use Rattle.gather.specs.Collectors.{rings, kept, received_from}
@@ -34,20 +34,11 @@ use Rattle.gather.specs.declared.outcome.CloseFault.TheVariants.{Memory, Unprove
 use Rattle.gather.specs.Collected.{PlacedFault, fault_in, fault_of_items, records_before, IsKeptOf, Kept, fault_at, refusal_in, refusal_kept}
 use Rattle.gather.specs.Takers.{received_in, Collects}
 use Rattle.gather.specs.Receipts.{trace_of_items, missing_from, first_missing, traces_held, AreAllOf, AllReceived, AreReceiptsOf}
-use Rattle.gather.proofs.CollectedLemmas.{calls_among-append}
+use Rattle.gather.proofs.CollectedLemmas.{calls_among-append, torn_has_fault}
 use Rattle.gather.proofs.DrainLemmas.{ends_with_mark, ends_in, some_mark}
 use Rattle.gather.proofs.FinishLemmas.{receipts_count}
 
 -- the list that a sealed feed carries is ended
-
-last_is : (before : List Call) (last : Call) → slice_get (before ++ last ∷ []) (length before) ≡ Some last
-last_is [] last = refl
-last_is (call ∷ before) last = last_is before last
-
-ended_behind : (calls before : List Call) (last : Call) → calls ≡ before ++ last ∷ [] → ends_list last ≡ true → is_ended calls ≡ true
-ended_behind calls before last is ends =
-    let place : length (before ++ last ∷ []) - 1 ≡ length before = omega (arith, length-append before (last ∷ [])) in
-    rw is (rw (place, last_is before last) ends)
 
 ending_record : (last : Option Item) → item_ends_list last ≡ true → (call : Call) × (last ≡ Some (Entry call)) × (ends_list call ≡ true)
 ending_record None e = absurd (false≢true e)
@@ -58,7 +49,7 @@ last_record : (items : List Item) (call : Call) → last_item items ≡ Some (En
 last_record [] call e = absurd (none-some _ e)
 last_record (first ∷ items) call e = ends_in first items (Entry call) e
 
-sealed_ends : (items : List Item) → IsFeed items → end_of items ≡ Some Sealed → is_ended (calls_among items) ≡ true
+sealed_ends : (items : List Item) → IsFeed items → end_mark_of items ≡ Some Sealed → is_ended (calls_among items) ≡ true
 sealed_ends items feed sealed =
     let whole = ends_with_mark items Sealed sealed in
     let ending = ending_record (last_item whole.0) (feed.sealed_behind_list_end whole.0 [] whole.1) in
@@ -66,15 +57,15 @@ sealed_ends items feed sealed =
     let calls : calls_among items ≡ calls_among front.0 ++ ending.0 ∷ [] =
     ap calls_among whole.1 ∙ calls_among-append whole.0 (Mark Sealed ∷ []) ∙ append-nil (calls_among whole.0)
     ∙ ap calls_among front.1 ∙ calls_among-append front.0 (Entry ending.0 ∷ []) in
-    ended_behind (calls_among items) (calls_among front.0) ending.0 calls ending.2
+    closed_is_ended (calls_among items) (calls_among front.0) ending.0 calls ending.2
 
 -- the first fault over whole items is that of their trace
 
-pub same_torn : (groups : Groups) (rank : ℕ) (before calls : List Call) (fault : SourceFault) → fault_in groups rank before calls (Some (Torn fault)) ≡ fault_behind groups rank before calls (Trace.Torn fault)
+pub same_torn : (groups : Groups) (rank : ℕ) (before calls : List Call) (fault : SourceFault) → fault_in groups rank before calls (Some (Torn fault)) ≡ fault_onward groups rank before calls (Trace.Torn fault)
 same_torn groups rank before [] fault = refl
 same_torn groups rank before (call ∷ calls) fault = ap (or_behind (length before) (fault_of groups rank before call)) (same_torn groups rank (before ++ call ∷ []) calls fault)
 
-pub same_sealed : (groups : Groups) (rank : ℕ) (before calls : List Call) → is_ended (before ++ calls) ≡ true → fault_in groups rank before calls (Some Sealed) ≡ fault_behind groups rank before calls Trace.Sealed
+pub same_sealed : (groups : Groups) (rank : ℕ) (before calls : List Call) → is_ended (before ++ calls) ≡ true → fault_in groups rank before calls (Some Sealed) ≡ fault_onward groups rank before calls Trace.Sealed
 same_sealed groups rank before [] ended =
     let here : is_ended before ≡ true = ap is_ended (sym (append-nil before)) ∙ ended in
     rw here refl
@@ -82,13 +73,13 @@ same_sealed groups rank before (call ∷ calls) ended =
     ap (or_behind (length before) (fault_of groups rank before call))
     (same_sealed groups rank (before ++ call ∷ []) calls (ap is_ended (append_assoc before (call ∷ []) calls) ∙ ended))
 
-same_fault_by : (groups : Groups) (rank : ℕ) (items : List Item) (mark : Ending) → IsFeed items → end_of items ≡ Some mark → fault_of_items groups rank items ≡ fault_of_rank groups rank (trace_of_items items)
+same_fault_by : (groups : Groups) (rank : ℕ) (items : List Item) (mark : Ending) → IsFeed items → end_mark_of items ≡ Some mark → fault_of_items groups rank items ≡ fault_of_rank groups rank (trace_of_items items)
 unfolding fault_of_rank
 same_fault_by groups rank items Sealed feed is = rw is (same_sealed groups rank [] (calls_among items) (sealed_ends items feed is))
 same_fault_by groups rank items (Torn fault) feed is = rw is (same_torn groups rank [] (calls_among items) fault)
 
 same_fault : (groups : Groups) (rank : ℕ) (items : List Item) → IsFeed items → are_ended items ≡ true → fault_of_items groups rank items ≡ fault_of_rank groups rank (trace_of_items items)
-same_fault groups rank items feed ended = let mark = some_mark (end_of items) ended in same_fault_by groups rank items mark.0 feed mark.1
+same_fault groups rank items feed ended = let mark = some_mark (end_mark_of items) ended in same_fault_by groups rank items mark.0 feed mark.1
 
 -- what is kept of a rank by its receipt
 pub record IsKeptBy (groups : Groups) (rank : ℕ) (receipt : Receipt) (calls : List Call) (fault : Option PlacedFault) : Type 0 where
@@ -96,15 +87,7 @@ pub record IsKeptBy (groups : Groups) (rank : ℕ) (receipt : Receipt) (calls : 
   pub before : calls ≡ records_before fault (calls_among (sent_whole receipt))
   pub sealed : fault ≡ None → is_ended (calls_among (sent_whole receipt)) ≡ true
 
-torn_behind : (place : ℕ) (own : Option CallFault) (x : Option PlacedFault) → ¬ (x ≡ None) → ¬ (or_behind place own x ≡ None)
-torn_behind place None x some = some
-torn_behind place (Some f) x some = λ e. none-some _ (sym e)
-
-pub torn_has_fault : (groups : Groups) (rank : ℕ) (before calls : List Call) (fault : SourceFault) → ¬ (fault_in groups rank before calls (Some (Torn fault)) ≡ None)
-torn_has_fault groups rank before [] fault = λ e. none-some _ (sym e)
-torn_has_fault groups rank before (call ∷ calls) fault = torn_behind (length before) (fault_of groups rank before call) _ (torn_has_fault groups rank (before ++ call ∷ []) calls fault)
-
-faultless_ends : (groups : Groups) (rank : ℕ) (items : List Item) (mark : Ending) → IsFeed items → end_of items ≡ Some mark → fault_of_items groups rank items ≡ None → is_ended (calls_among items) ≡ true
+faultless_ends : (groups : Groups) (rank : ℕ) (items : List Item) (mark : Ending) → IsFeed items → end_mark_of items ≡ Some mark → fault_of_items groups rank items ≡ None → is_ended (calls_among items) ≡ true
 faultless_ends groups rank items Sealed feed is none = sealed_ends items feed is
 faultless_ends groups rank items (Torn fault) feed is none =
     absurd (torn_has_fault groups rank [] (calls_among items) fault (ap (λ (m : Option Ending). fault_in groups rank [] (calls_among items) m) (sym is) ∙ none))
@@ -113,7 +96,7 @@ kept_by : (groups : Groups) (rank : ℕ) (receipt : Receipt) (items : List Item)
 kept_by groups rank receipt items calls fault all k = record {
   first = k.first ∙ same_fault groups rank items all.in_order all.ended ∙ ap (λ (xs : List Item). fault_of_rank groups rank (trace_of_items xs)) all.all;
   before = k.before ∙ ap (λ (xs : List Item). records_before fault (calls_among xs)) all.all;
-  sealed = λ none. let mark = some_mark (end_of items) all.ended in
+  sealed = λ none. let mark = some_mark (end_mark_of items) all.ended in
       ap (λ (xs : List Item). is_ended (calls_among xs)) (sym all.all) ∙ faultless_ends groups rank items mark.0 all.in_order mark.1 (sym k.first ∙ none);
 }
 
@@ -172,17 +155,17 @@ records_kept takers kept receipts are none rank receipt at =
     (rank_kept takers kept receipts are rank receipt at).before
     ∙ ap (λ (f : Option PlacedFault). records_before f (calls_among (sent_whole receipt))) (no_fault_at 0 kept.faults rank none)
 
-lists_same : (first : ℕ) (receipts : List (Option Receipt)) (lists : Lists) → length lists ≡ length receipts → missing_from first receipts ≡ None → ((k : ℕ) (receipt : Receipt) → slice_get receipts k ≡ Some (Some receipt) → calls_of lists k ≡ calls_among (sent_whole receipt)) → lists ≡ lists_of (traces_held receipts)
+lists_same : (first : ℕ) (receipts : List (Option Receipt)) (lists : Lists) → length lists ≡ length receipts → missing_from first receipts ≡ None → ((k : ℕ) (receipt : Receipt) → slice_get receipts k ≡ Some (Some receipt) → calls_of lists k ≡ calls_among (sent_whole receipt)) → lists ≡ recording_of_traces (traces_held receipts)
 lists_same first [] [] count present same = refl
 lists_same first [] (l ∷ ls) count present same = cc
 lists_same first (r ∷ rs) [] count present same = cc
 lists_same first (None ∷ rs) (l ∷ ls) count present same = absurd (none-some _ (sym present))
 lists_same first (Some receipt ∷ rs) (l ∷ ls) count present same =
     let here : l ≡ calls_among (sent_whole receipt) = same 0 receipt refl in
-    let behind : ls ≡ lists_of (traces_held rs) = lists_same (first + 1) rs ls (omega (arith, count)) present (λ k other at. same (suc k) other at) in
+    let behind : ls ≡ recording_of_traces (traces_held rs) = lists_same (first + 1) rs ls (omega (arith, count)) present (λ k other at. same (suc k) other at) in
     ap (λ (x : List Call). x ∷ ls) here ∙ ap (λ (xs : Lists). calls_among (sent_whole receipt) ∷ xs) behind
 
-pub recording_told : (takers : List Taker) (kept : Kept) (receipts : List (Option Receipt)) → AreDrained takers kept receipts → refusal_kept kept ≡ None → kept.recording ≡ lists_of (traces_held receipts)
+pub recording_told : (takers : List Taker) (kept : Kept) (receipts : List (Option Receipt)) → AreDrained takers kept receipts → refusal_kept kept ≡ None → kept.recording ≡ recording_of_traces (traces_held receipts)
 recording_told takers kept receipts are none =
     lists_same 0 receipts kept.recording (sym are.collects.one_a_rank ∙ sym are.one_a_rank) are.present (records_kept takers kept receipts are none)
 

@@ -1,5 +1,5 @@
 -- What is kept of a rank once one more item of it was received.
-use Rattle.std.proofs.Common.{◌≡◌, ◌≢◌, ℕ, ◌+◌, ◌<◌, ◌≤◌, Bool, true, false, not, ◌&&◌, is_none, Option, Some, None, List, [], ◌∷◌, ◌++◌, length, take, map, refl, sym, ap, subst, ◌∙◌, ⊎_elim, arith, append_assoc, append-nil, get_or-set_same, get_or-set_other, slice_set}
+use Rattle.std.proofs.Common.{◌≡◌, ◌≢◌, ℕ, ◌+◌, ◌<◌, ◌≤◌, Bool, true, false, not, ◌&&◌, is_none, Option, Some, None, List, [], ◌∷◌, ◌++◌, length, take, map, refl, sym, ap, subst, ◌∙◌, ⊎_elim, arith, append_assoc, append-nil, get_or-set_same, get_or-set_other, slice_set, inl, inr}
 use Rattle.std.proofs.lemmas.List.{length_push, take-append-le, length-set, length-map}
 use Rattle.std.proofs.lemmas.Option.{unwrap_or-slice_get, none-some}
 use Rattle.std.proofs.lemmas.Bool.{cases_eq, cases_Bool, false≢true}
@@ -11,7 +11,7 @@ use Rattle.pairing.specs.Recordings.{calls_of}
 use Rattle.pairing.specs.Faults.{fault_of}
 use Rattle.pairing.specs.declared.fault.CallFault.{CallFault}
 use Rattle.pairing.proofs.RecordingLemmas.{calls_of-appended, calls_of-appended_other}
-use Rattle.rankfeed.specs.Items.{calls_among, end_of, last_behind, mark_in}
+use Rattle.rankfeed.specs.Items.{calls_among, end_mark_of, mark_in}
 use Rattle.rankfeed.specs.Answers.{Receives, told_end}
 use Rattle.rankfeed.specs.Rings.{received_by, taker_ring}
 use Rattle.rankfeed.specs.declared.ring.Taker.{Taker}
@@ -20,6 +20,7 @@ use Rattle.rankfeed.specs.declared.item.Ending.TheVariants.{Sealed, Torn}
 use Rattle.rankfeed.specs.declared.item.Item.{Item}
 use Rattle.rankfeed.specs.declared.item.Item.TheVariants.{Entry, Mark}
 use Rattle.rankfeed.specs.declared.answer.Took.{Took}
+use Rattle.rankfeed.proofs.ItemLemmas.{last_item-push}
 use Rattle.gather.specs.Answers.{or_behind}
 use Rattle.gather.specs.declared.fault.RankFault.{RankFault}
 use Rattle.gather.specs.declared.fault.RankFault.TheVariants.{OfCall, OfSource}
@@ -29,7 +30,7 @@ use Rattle.gather.specs.declared.collector.Collector.{Collector}
 use Rattle.gather.specs.Collectors.{KeepsWhatCame}
 use Rattle.gather.specs.Takers.{received_in, Takes, Collects}
 use Rattle.gather.proofs.TakerLemmas.{items_stay, takers_stay}
-use Rattle.gather.specs.Collected.{fault_in, fault_of_items, PlacedFault, IsKeptOf, Kept, fault_at, AreKeptOf, IsKeptIn, Leaves, is_open, with_record, with_fault, wanting, torn, EntersRecord, Enters}
+use Rattle.gather.specs.Collected.{fault_in, fault_of_items, PlacedFault, IsKeptOf, Kept, fault_at, AreKeptOf, IsKeptIn, LeavesOthers, is_accepting, with_record, with_fault, wanting, torn, EntersRecord, Enters}
 
 -- the records and the end mark of items with one more
 
@@ -38,12 +39,8 @@ calls_among-append [] ys = refl
 calls_among-append (Entry call ∷ xs) ys = ap (λ calls. call ∷ calls) (calls_among-append xs ys)
 calls_among-append (Mark end ∷ xs) ys = calls_among-append xs ys
 
-pub last_behind-append : (before : Option Item) (xs ys : List Item) → last_behind before (xs ++ ys) ≡ last_behind (last_behind before xs) ys
-last_behind-append before [] ys = refl
-last_behind-append before (x ∷ xs) ys = last_behind-append (Some x) xs ys
-
-pub end_of-push : (xs : List Item) (x : Item) → end_of (xs ++ x ∷ []) ≡ mark_in (Some x)
-end_of-push xs x = ap mark_in (last_behind-append None xs (x ∷ []))
+pub end_mark_of-push : (xs : List Item) (x : Item) → end_mark_of (xs ++ x ∷ []) ≡ mark_in (Some x)
+end_mark_of-push xs x = ap mark_in (last_item-push xs x)
 
 -- a first fault that collects stays the first, whatever comes behind
 
@@ -82,17 +79,17 @@ placed groups rank before (call ∷ calls) fault e =
 
 -- where no end mark came, the first fault is that of a record
 
-fault_so_far : (groups : Groups) (rank : ℕ) (items : List Item) → end_of items ≡ None → fault_of_items groups rank items ≡ fault_in groups rank [] (calls_among items) None
+fault_so_far : (groups : Groups) (rank : ℕ) (items : List Item) → end_mark_of items ≡ None → fault_of_items groups rank items ≡ fault_in groups rank [] (calls_among items) None
 fault_so_far groups rank items none = ap (λ (o : Option Ending). fault_in groups rank [] (calls_among items) o) none
 
 -- the first fault of items with one more
 fault_with : (groups : Groups) (rank : ℕ) (items : List Item) (x : Item) → fault_of_items groups rank (items ++ x ∷ []) ≡ fault_in groups rank [] (calls_among items ++ calls_among (x ∷ [])) (mark_in (Some x))
 fault_with groups rank items x =
-    ap (λ (o : Option Ending). fault_in groups rank [] (calls_among (items ++ x ∷ [])) o) (end_of-push items x)
+    ap (λ (o : Option Ending). fault_in groups rank [] (calls_among (items ++ x ∷ [])) o) (end_mark_of-push items x)
     ∙ ap (λ (cs : List Call). fault_in groups rank [] cs (mark_in (Some x))) (calls_among-append items (x ∷ []))
 
 -- a fault that is kept stays
-one_more_stays : (groups : Groups) (rank : ℕ) (items : List Item) (calls : List Call) (fault : PlacedFault) (x : Item) → IsKeptOf groups rank items calls (Some fault) → end_of items ≡ None → IsKeptOf groups rank (items ++ x ∷ []) calls (Some fault)
+one_more_stays : (groups : Groups) (rank : ℕ) (items : List Item) (calls : List Call) (fault : PlacedFault) (x : Item) → IsKeptOf groups rank items calls (Some fault) → end_mark_of items ≡ None → IsKeptOf groups rank (items ++ x ∷ []) calls (Some fault)
 one_more_stays groups rank items calls fault x k none =
     let is : fault_in groups rank [] (calls_among items) None ≡ Some fault = sym (k.first ∙ fault_so_far groups rank items none) in
     let more = calls_among (x ∷ []) in record {
@@ -103,31 +100,31 @@ one_more_stays groups rank items calls fault x k none =
     }
 
 -- where no fault is kept, the first fault with one more item is that behind the records
-first_with : (groups : Groups) (rank : ℕ) (items : List Item) (calls : List Call) (x : Item) → IsKeptOf groups rank items calls None → end_of items ≡ None → fault_of_items groups rank (items ++ x ∷ []) ≡ fault_in groups rank calls (calls_among (x ∷ [])) (mark_in (Some x))
+first_with : (groups : Groups) (rank : ℕ) (items : List Item) (calls : List Call) (x : Item) → IsKeptOf groups rank items calls None → end_mark_of items ≡ None → fault_of_items groups rank (items ++ x ∷ []) ≡ fault_in groups rank calls (calls_among (x ∷ [])) (mark_in (Some x))
 first_with groups rank items calls x k none =
     let is : fault_in groups rank [] (calls_among items) None ≡ None = sym (k.first ∙ fault_so_far groups rank items none) in
     fault_with groups rank items x ∙ fault_goes_on groups rank [] (calls_among items) (calls_among (x ∷ [])) _ is
     ∙ ap (λ (cs : List Call). fault_in groups rank cs (calls_among (x ∷ [])) (mark_in (Some x))) (sym k.before)
 
-record_accepted : (groups : Groups) (rank : ℕ) (items : List Item) (calls : List Call) (call : Call) → IsKeptOf groups rank items calls None → end_of items ≡ None → fault_of groups rank calls call ≡ None → IsKeptOf groups rank (items ++ Entry call ∷ []) (calls ++ call ∷ []) None
+record_accepted : (groups : Groups) (rank : ℕ) (items : List Item) (calls : List Call) (call : Call) → IsKeptOf groups rank items calls None → end_mark_of items ≡ None → fault_of groups rank calls call ≡ None → IsKeptOf groups rank (items ++ Entry call ∷ []) (calls ++ call ∷ []) None
 record_accepted groups rank items calls call k none lawful = record {
   first = sym (first_with groups rank items calls (Entry call) k none ∙ ap (λ own. or_behind (length calls) own None) lawful);
   before = ap (λ (cs : List Call). cs ++ call ∷ []) k.before ∙ sym (calls_among-append items (Entry call ∷ []));
 }
 
-record_refused : (groups : Groups) (rank : ℕ) (items : List Item) (calls : List Call) (call : Call) (fault : CallFault) → IsKeptOf groups rank items calls None → end_of items ≡ None → fault_of groups rank calls call ≡ Some fault → IsKeptOf groups rank (items ++ Entry call ∷ []) calls (Some (length calls, OfCall fault))
+record_refused : (groups : Groups) (rank : ℕ) (items : List Item) (calls : List Call) (call : Call) (fault : CallFault) → IsKeptOf groups rank items calls None → end_mark_of items ≡ None → fault_of groups rank calls call ≡ Some fault → IsKeptOf groups rank (items ++ Entry call ∷ []) calls (Some (length calls, OfCall fault))
 record_refused groups rank items calls call fault k none is = record {
   first = sym (first_with groups rank items calls (Entry call) k none ∙ ap (λ own. or_behind (length calls) own None) is);
   before = sym (ap (take (length calls)) (calls_among-append items (Entry call ∷ []) ∙ ap (λ (cs : List Call). cs ++ call ∷ []) (sym k.before)) ∙ take-append_seam calls (call ∷ []));
 }
 
-mark_torn : (groups : Groups) (rank : ℕ) (items : List Item) (calls : List Call) (fault : SourceFault) → IsKeptOf groups rank items calls None → end_of items ≡ None → IsKeptOf groups rank (items ++ Mark (Torn fault) ∷ []) calls (Some (length calls, OfSource fault))
+mark_torn : (groups : Groups) (rank : ℕ) (items : List Item) (calls : List Call) (fault : SourceFault) → IsKeptOf groups rank items calls None → end_mark_of items ≡ None → IsKeptOf groups rank (items ++ Mark (Torn fault) ∷ []) calls (Some (length calls, OfSource fault))
 mark_torn groups rank items calls fault k none = record {
   first = sym (first_with groups rank items calls (Mark (Torn fault)) k none);
   before = sym (ap (take (length calls)) (calls_among-append items (Mark (Torn fault) ∷ []) ∙ ap (λ (cs : List Call). cs ++ []) (sym k.before)) ∙ take-append_seam calls []);
 }
 
-pub mark_sealed : (groups : Groups) (rank : ℕ) (items : List Item) (calls : List Call) (fault : Option PlacedFault) → IsKeptOf groups rank items calls fault → end_of items ≡ None → IsKeptOf groups rank (items ++ Mark Sealed ∷ []) calls fault
+pub mark_sealed : (groups : Groups) (rank : ℕ) (items : List Item) (calls : List Call) (fault : Option PlacedFault) → IsKeptOf groups rank items calls fault → end_mark_of items ≡ None → IsKeptOf groups rank (items ++ Mark Sealed ∷ []) calls fault
 mark_sealed groups rank items calls None k none = record {
   first = sym (first_with groups rank items calls (Mark Sealed) k none);
   before = k.before ∙ sym (calls_among-append items (Mark Sealed ∷ []) ∙ append-nil (calls_among items));
@@ -136,15 +133,15 @@ mark_sealed groups rank items calls (Some fault) k none = one_more_stays groups 
 
 -- a torn trace has a fault
 
-behind_torn : (place : ℕ) (own : Option CallFault) (x : Option PlacedFault) → ¬ (x ≡ None) → ¬ (or_behind place own x ≡ None)
-behind_torn place None x some = some
-behind_torn place (Some f) x some = λ e. none-some _ (sym e)
+pub torn_behind : (place : ℕ) (own : Option CallFault) (x : Option PlacedFault) → ¬ (x ≡ None) → ¬ (or_behind place own x ≡ None)
+torn_behind place None x some = some
+torn_behind place (Some f) x some = λ e. none-some _ (sym e)
 
-torn_has_fault : (groups : Groups) (rank : ℕ) (before calls : List Call) (fault : SourceFault) → ¬ (fault_in groups rank before calls (Some (Torn fault)) ≡ None)
+pub torn_has_fault : (groups : Groups) (rank : ℕ) (before calls : List Call) (fault : SourceFault) → ¬ (fault_in groups rank before calls (Some (Torn fault)) ≡ None)
 torn_has_fault groups rank before [] fault = λ e. none-some _ (sym e)
-torn_has_fault groups rank before (call ∷ calls) fault = behind_torn (length before) (fault_of groups rank before call) _ (torn_has_fault groups rank (before ++ call ∷ []) calls fault)
+torn_has_fault groups rank before (call ∷ calls) fault = torn_behind (length before) (fault_of groups rank before call) _ (torn_has_fault groups rank (before ++ call ∷ []) calls fault)
 
-torn_is_kept : (groups : Groups) (rank : ℕ) (items : List Item) (calls : List Call) (fault : SourceFault) → IsKeptOf groups rank items calls None → ¬ (end_of items ≡ Some (Torn fault))
+torn_is_kept : (groups : Groups) (rank : ℕ) (items : List Item) (calls : List Call) (fault : SourceFault) → IsKeptOf groups rank items calls None → ¬ (end_mark_of items ≡ Some (Torn fault))
 torn_is_kept groups rank items calls fault k = λ e.
     torn_has_fault groups rank [] (calls_among items) fault
     (sym (k.first ∙ ap (λ (o : Option Ending). fault_in groups rank [] (calls_among items) o) e))
@@ -162,10 +159,10 @@ closed_has_fault (Some fault) wanted e unwanted = (fault, refl)
 
 -- what is kept of the other ranks
 
-pub nothing_new : (rank : ℕ) (before after : Kept) → after ≡ before → Leaves rank before after
+pub nothing_new : (rank : ℕ) (before after : Kept) → after ≡ before → LeavesOthers rank before after
 nothing_new rank before after same = rw same (record { reading = refl; groups = refl; ranks = refl; places = refl; unwanted = λ e. e; calls = λ other differs. refl; faults = λ other differs. refl })
 
-one_record : (rank : ℕ) (before after : Kept) (call : Call) → after ≡ with_record before rank call → Leaves rank before after
+one_record : (rank : ℕ) (before after : Kept) (call : Call) → after ≡ with_record before rank call → LeavesOthers rank before after
 one_record rank before after call is = rw is (record {
   reading = refl;
   groups = refl;
@@ -186,7 +183,7 @@ fault_there : (faults : List (Option PlacedFault)) (rank : ℕ) (fault : Option 
 fault_there faults rank fault within =
     unwrap_or-slice_get (slice_set faults rank fault) rank None ∙ get_or-set_same faults rank fault None within
 
-one_fault : (rank : ℕ) (before after : Kept) (fault : RankFault) → after ≡ with_fault before rank fault → Leaves rank before after
+one_fault : (rank : ℕ) (before after : Kept) (fault : RankFault) → after ≡ with_fault before rank fault → LeavesOthers rank before after
 one_fault rank before after fault is = rw is (record {
   reading = refl;
   groups = refl;
@@ -197,7 +194,7 @@ one_fault rank before after fault is = rw is (record {
   faults = λ other differs. fault_elsewhere before.faults rank other _ differs;
 })
 
-memory_wanted : (rank : ℕ) (before after : Kept) → after ≡ wanting before → Leaves rank before after
+memory_wanted : (rank : ℕ) (before after : Kept) → after ≡ wanting before → LeavesOthers rank before after
 memory_wanted rank before after is = rw is (record {
   reading = refl;
   groups = refl;
@@ -208,25 +205,22 @@ memory_wanted rank before after is = rw is (record {
   faults = λ other differs. refl;
 })
 
-pub record_leaves : (rank : ℕ) (before after : Kept) (call : Call) (answer : Stepped) → EntersRecord rank call before answer after → Leaves rank before after
+pub record_leaves : (rank : ℕ) (before after : Kept) (call : Call) (answer : Stepped) → EntersRecord rank call before answer after → LeavesOthers rank before after
 record_leaves rank before after call Stepped.Took so = one_record rank before after call so.2
 record_leaves rank before after call Refused so = one_fault rank before after (OfCall so.1.0) so.1.2
-record_leaves rank before after call Discarded so =
-    ⊎_elim
-    (λ (closed : (is_open before rank ≡ false) × (after ≡ before)). nothing_new rank before after closed.1)
-    (λ (wants : (is_open before rank ≡ true) × (fault_of before.groups rank (calls_of before.recording rank) call ≡ None) × (after ≡ wanting before)). memory_wanted rank before after wants.2)
-    so
+record_leaves rank before after call Discarded (inl closed) = nothing_new rank before after closed.1
+record_leaves rank before after call Discarded (inr wants) = memory_wanted rank before after wants.2
 record_leaves rank before after call Empty so = absurd so
 record_leaves rank before after call Ended so = absurd so
 
-pub torn_leaves : (rank : ℕ) (before after : Kept) (fault : RankFault) → after ≡ torn before rank fault → Leaves rank before after
+pub torn_leaves : (rank : ℕ) (before after : Kept) (fault : RankFault) → after ≡ torn before rank fault → LeavesOthers rank before after
 torn_leaves rank before after fault is =
     ⊎_elim
-    (λ (o : is_open before rank ≡ true). one_fault rank before after fault (is ∙ rw o refl))
-    (λ (s : is_open before rank ≡ false). nothing_new rank before after (is ∙ rw s refl))
-    (cases_Bool (is_open before rank))
+    (λ (o : is_accepting before rank ≡ true). one_fault rank before after fault (is ∙ rw o refl))
+    (λ (s : is_accepting before rank ≡ false). nothing_new rank before after (is ∙ rw s refl))
+    (cases_Bool (is_accepting before rank))
 
-pub enters_leaves : (rank : ℕ) (before after : Kept) (found : Took) (answer : Stepped) → Enters rank found before answer after → Leaves rank before after
+pub enters_leaves : (rank : ℕ) (before after : Kept) (found : Took) (answer : Stepped) → Enters rank found before answer after → LeavesOthers rank before after
 enters_leaves rank before after (Took.Record call) answer so = record_leaves rank before after call answer so
 enters_leaves rank before after Took.Empty answer so = nothing_new rank before after so.1
 enters_leaves rank before after Took.Sealed answer so = nothing_new rank before after so.1
@@ -234,7 +228,7 @@ enters_leaves rank before after (Took.Torn fault) answer so = torn_leaves rank b
 
 -- what is kept of the rank itself
 
-own_accepted : (rank : ℕ) (items : List Item) (before : Kept) (call : Call) → rank < length before.recording → fault_at before.faults rank ≡ None → fault_of before.groups rank (calls_of before.recording rank) call ≡ None → end_of items ≡ None → IsKeptIn rank items before → IsKeptIn rank (items ++ Entry call ∷ []) (with_record before rank call)
+own_accepted : (rank : ℕ) (items : List Item) (before : Kept) (call : Call) → rank < length before.recording → fault_at before.faults rank ≡ None → fault_of before.groups rank (calls_of before.recording rank) call ≡ None → end_mark_of items ≡ None → IsKeptIn rank items before → IsKeptIn rank (items ++ Entry call ∷ []) (with_record before rank call)
 own_accepted rank items before call within unrefused lawful none k =
     let calls = calls_of before.recording rank in
     let was : IsKeptOf before.groups rank items calls None = subst (λ (f : Option PlacedFault). IsKeptOf before.groups rank items calls f) unrefused k in
@@ -243,44 +237,40 @@ own_accepted rank items before call within unrefused lawful none k =
 own_fault : (rank : ℕ) (items : List Item) (before : Kept) (fault : RankFault) → rank < length before.faults → IsKeptOf before.groups rank items (calls_of before.recording rank) (Some (length (calls_of before.recording rank), fault)) → IsKeptIn rank items (with_fault before rank fault)
 own_fault rank items before fault within k = rw (fault_there before.faults rank (Some (length (calls_of before.recording rank), fault)) within) k
 
-own_discarded : (rank : ℕ) (items : List Item) (before : Kept) (x : Item) → (f : PlacedFault) × (fault_at before.faults rank ≡ Some f) → end_of items ≡ None → IsKeptIn rank items before → IsKeptIn rank (items ++ x ∷ []) before
+own_discarded : (rank : ℕ) (items : List Item) (before : Kept) (x : Item) → (f : PlacedFault) × (fault_at before.faults rank ≡ Some f) → end_mark_of items ≡ None → IsKeptIn rank items before → IsKeptIn rank (items ++ x ∷ []) before
 own_discarded rank items before x fault none k =
     let calls = calls_of before.recording rank in
     rw fault.1 (one_more_stays before.groups rank items calls fault.0 x (subst (λ (f : Option PlacedFault). IsKeptOf before.groups rank items calls f) fault.1 k) none)
 
-pub record_own : (rank : ℕ) (items : List Item) (before after : Kept) (call : Call) (answer : Stepped) → rank < length before.recording → length before.faults ≡ length before.recording → after.wanted ≡ false → EntersRecord rank call before answer after → end_of items ≡ None → IsKeptIn rank items before → IsKeptIn rank (items ++ Entry call ∷ []) after
+pub record_own : (rank : ℕ) (items : List Item) (before after : Kept) (call : Call) (answer : Stepped) → rank < length before.recording → length before.faults ≡ length before.recording → after.wanted ≡ false → EntersRecord rank call before answer after → end_mark_of items ≡ None → IsKeptIn rank items before → IsKeptIn rank (items ++ Entry call ∷ []) after
 record_own rank items before after call Stepped.Took within both unwanted so none k =
     rw so.2 (own_accepted rank items before call within (open_has_none _ _ so.0) so.1 none k)
 record_own rank items before after call Refused within both unwanted so none k =
     let calls = calls_of before.recording rank in
     let was : IsKeptOf before.groups rank items calls None = subst (λ (f : Option PlacedFault). IsKeptOf before.groups rank items calls f) (open_has_none _ _ so.0) k in
     rw so.1.2 (own_fault rank _ before (OfCall so.1.0) (omega (arith, within, both)) (record_refused before.groups rank items calls call so.1.0 was none so.1.1))
-record_own rank items before after call Discarded within both unwanted so none k =
-    ⊎_elim
-    (λ (closed : (is_open before rank ≡ false) × (after ≡ before)).
+record_own rank items before after call Discarded within both unwanted (inl closed) none k =
     let calm : before.wanted ≡ false = ap (λ (b : Kept). b.wanted) (sym closed.1) ∙ unwanted in
-    rw closed.1 (own_discarded rank items before (Entry call) (closed_has_fault _ _ closed.0 calm) none k))
-    (λ (wants : (is_open before rank ≡ true) × (fault_of before.groups rank (calls_of before.recording rank) call ≡ None) × (after ≡ wanting before)).
-    absurd (false≢true (sym unwanted ∙ ap (λ (b : Kept). b.wanted) wants.2)))
-    so
+    rw closed.1 (own_discarded rank items before (Entry call) (closed_has_fault _ _ closed.0 calm) none k)
+record_own rank items before after call Discarded within both unwanted (inr wants) none k = absurd (false≢true (sym unwanted ∙ ap (λ (b : Kept). b.wanted) wants.2))
 record_own rank items before after call Empty within both unwanted so none k = absurd so
 record_own rank items before after call Ended within both unwanted so none k = absurd so
 
-pub torn_own : (rank : ℕ) (items : List Item) (before after : Kept) (fault : SourceFault) → rank < length before.recording → length before.faults ≡ length before.recording → before.wanted ≡ false → after ≡ torn before rank (OfSource fault) → end_of items ≡ None → IsKeptIn rank items before → IsKeptIn rank (items ++ Mark (Torn fault) ∷ []) after
+pub torn_own : (rank : ℕ) (items : List Item) (before after : Kept) (fault : SourceFault) → rank < length before.recording → length before.faults ≡ length before.recording → before.wanted ≡ false → after ≡ torn before rank (OfSource fault) → end_mark_of items ≡ None → IsKeptIn rank items before → IsKeptIn rank (items ++ Mark (Torn fault) ∷ []) after
 torn_own rank items before after fault within both calm is none k =
     ⊎_elim
-    (λ (o : is_open before rank ≡ true).
+    (λ (o : is_accepting before rank ≡ true).
     let calls = calls_of before.recording rank in
     let was : IsKeptOf before.groups rank items calls None = subst (λ (f : Option PlacedFault). IsKeptOf before.groups rank items calls f) (open_has_none _ _ o) k in
     let now : after ≡ with_fault before rank (OfSource fault) = is ∙ rw o refl in
     rw now (own_fault rank _ before (OfSource fault) (omega (arith, within, both)) (mark_torn before.groups rank items calls fault was none)))
-    (λ (s : is_open before rank ≡ false).
+    (λ (s : is_accepting before rank ≡ false).
     let now : after ≡ before = is ∙ rw s refl in
     rw now (own_discarded rank items before (Mark (Torn fault)) (closed_has_fault _ _ s calm) none k))
-    (cases_Bool (is_open before rank))
+    (cases_Bool (is_accepting before rank))
 
 -- an end mark that is told again changes nothing
-told_again : (rank : ℕ) (items : List Item) (before after : Kept) (found : Took) (answer : Stepped) (earlier : Ending) → found ≡ told_end earlier → Enters rank found before answer after → end_of items ≡ Some earlier → IsKeptIn rank items before → IsKeptIn rank items after
+told_again : (rank : ℕ) (items : List Item) (before after : Kept) (found : Took) (answer : Stepped) (earlier : Ending) → found ≡ told_end earlier → Enters rank found before answer after → end_mark_of items ≡ Some earlier → IsKeptIn rank items before → IsKeptIn rank items after
 told_again rank items before after (Took.Record call) answer Sealed e so ended k = cc
 told_again rank items before after (Took.Record call) answer (Torn fault) e so ended k = cc
 told_again rank items before after Took.Empty answer earlier e so ended k = rw so.1 k
@@ -288,13 +278,13 @@ told_again rank items before after Took.Sealed answer earlier e so ended k = rw 
 told_again rank items before after (Took.Torn fault) answer Sealed e so ended k = cc
 told_again rank items before after (Took.Torn fault) answer (Torn earlier) e so ended k =
     ⊎_elim
-    (λ (o : is_open before rank ≡ true).
+    (λ (o : is_accepting before rank ≡ true).
     absurd (torn_is_kept before.groups rank items (calls_of before.recording rank) earlier
     (subst (λ (f : Option PlacedFault). IsKeptOf before.groups rank items (calls_of before.recording rank) f) (open_has_none _ _ o) k) ended))
-    (λ (s : is_open before rank ≡ false). let now : after ≡ before = so.1 ∙ rw s refl in rw now k)
-    (cases_Bool (is_open before rank))
+    (λ (s : is_accepting before rank ≡ false). let now : after ≡ before = so.1 ∙ rw s refl in rw now k)
+    (cases_Bool (is_accepting before rank))
 
-enters_own : (rank : ℕ) (items now : List Item) (before after : Kept) (found : Took) (answer : Stepped) (end : Option Ending) → rank < length before.recording → length before.faults ≡ length before.recording → before.wanted ≡ false → after.wanted ≡ false → Enters rank found before answer after → end_of items ≡ end → Receives end found items now → IsKeptIn rank items before → IsKeptIn rank now after
+enters_own : (rank : ℕ) (items now : List Item) (before after : Kept) (found : Took) (answer : Stepped) (end : Option Ending) → rank < length before.recording → length before.faults ≡ length before.recording → before.wanted ≡ false → after.wanted ≡ false → Enters rank found before answer after → end_mark_of items ≡ end → Receives end found items now → IsKeptIn rank items before → IsKeptIn rank now after
 enters_own rank items now before after found answer (Some earlier) within both calm unwanted so end receives k =
     rw receives.1 (told_again rank items before after found answer earlier receives.0 so end k)
 enters_own rank items now before after (Took.Record call) answer None within both calm unwanted so end receives k =

@@ -1,11 +1,11 @@
 -- How all that is left on a rank's feed is taken.
-use Rattle.std.proofs.Common.{◌≡◌, ◌⊎◌, ⊎_elim, ℕ, ◌+◌, ◌<◌, Bool, true, false, is_some, Option, Some, None, List, [], ◌∷◌, ◌++◌, length, map, refl, sym, ap, subst, ◌∙◌, arith, append_assoc, append-nil, slice_get, slice_set, get_or}
+use Rattle.std.proofs.Common.{◌≡◌, ◌⊎◌, ℕ, ◌+◌, ◌<◌, Bool, true, false, is_some, Option, Some, None, List, [], ◌∷◌, ◌++◌, length, map, refl, sym, ap, subst, ◌∙◌, arith, append_assoc, append-nil, slice_get, slice_set, get_or, inl, inr}
 use Rattle.std.proofs.Math.Seq.{map-set_same}
 use Rattle.std.proofs.lemmas.List.{length_push, length-append, length-map}
 use Rattle.std.proofs.lemmas.Option.{none-some, slice_get_within}
 use Rattle.std.proofs.lemmas.Bool.{false≢true}
 use Rattle.mpicall.specs.declared.call.Call.{Call}
-use Rattle.rankfeed.specs.Items.{last_behind, mark_in, end_of, are_ended, IsFeed}
+use Rattle.rankfeed.specs.Items.{last_behind, mark_in, end_mark_of, are_ended, IsFeed}
 use Rattle.rankfeed.specs.Answers.{Receives, told_end}
 use Rattle.rankfeed.specs.Rings.{taker_ring, receipt_ring, received_by, left_for, sent_whole}
 use Rattle.rankfeed.specs.declared.item.Ending.{Ending}
@@ -21,8 +21,9 @@ use Rattle.gather.specs.declared.collector.Collector.{Collector}
 use Rattle.gather.specs.Collected.{Kept, Enters}
 use Rattle.gather.specs.Receipts.{Meets}
 use Rattle.gather.specs.Collectors.{kept, received_from, left_from, Steps, ReceivesFrom, PublishesNothing}
-use Rattle.gather.proofs.TakerLemmas.{items_at, items_stay, get_replaced}
-use Rattle.gather.proofs.CollectedLemmas.{end_of-push, enters_leaves}
+use Rattle.gather.proofs.TakerLemmas.{items_at, items_stay}
+use Rattle.gather.proofs.CollectedLemmas.{end_mark_of-push, enters_leaves}
+use Rattle.mpigroup.proofs.ListLemmas.{slice_get-set_same}
 
 -- items that end with an end mark
 
@@ -35,7 +36,7 @@ mark_of_last None end e = absurd (none-some end e)
 mark_of_last (Some (Entry call)) end e = absurd (none-some end e)
 mark_of_last (Some (Mark other)) end e = ap (λ (x : Ending). Some (Mark x)) cc
 
-pub ends_with_mark : (items : List Item) (end : Ending) → end_of items ≡ Some end → (before : List Item) × (items ≡ before ++ Mark end ∷ [])
+pub ends_with_mark : (items : List Item) (end : Ending) → end_mark_of items ≡ Some end → (before : List Item) × (items ≡ before ++ Mark end ∷ [])
 ends_with_mark [] end e = absurd (none-some end e)
 ends_with_mark (first ∷ items) end e = ends_in first items (Mark end) (mark_of_last _ end e)
 
@@ -46,7 +47,7 @@ some_mark (Some end) e = (end, refl)
 -- behind an end mark nothing is left
 pub none_left : (items left : List Item) → IsFeed (items ++ left) → are_ended items ≡ true → left ≡ []
 none_left items left feed ended =
-    let mark = some_mark (end_of items) ended in
+    let mark = some_mark (end_mark_of items) ended in
     let whole = ends_with_mark items mark.0 mark.1 in
     feed.mark_is_last whole.0 left mark.0 (ap (λ (xs : List Item). xs ++ left) whole.1 ∙ append_assoc whole.0 (Mark mark.0 ∷ []) left)
 
@@ -56,30 +57,25 @@ ended_by : (mark : Option Ending) (end : Ending) → mark ≡ Some end → is_so
 ended_by mark end e = ap is_some e
 
 mark_received : (old new : List Item) (end : Ending) → new ≡ old ++ Mark end ∷ [] → are_ended new ≡ true
-mark_received old new end e = ended_by (end_of new) end (ap end_of e ∙ end_of-push old (Mark end))
+mark_received old new end e = ended_by (end_mark_of new) end (ap end_mark_of e ∙ end_mark_of-push old (Mark end))
 
-told_ended : (mark : Option Ending) (found : Took) (end : Ending) (old new : List Item) → found ≡ told_end end → end_of old ≡ mark → Receives mark found old new → are_ended new ≡ true
-told_ended (Some earlier) found end old new told e receives = ended_by (end_of new) earlier (ap end_of receives.1 ∙ e)
-told_ended None (Took.Record call) Sealed old new told e receives = cc
-told_ended None (Took.Record call) (Torn fault) old new told e receives = cc
-told_ended None Took.Empty Sealed old new told e receives = cc
-told_ended None Took.Empty (Torn fault) old new told e receives = cc
+told_ended : (mark : Option Ending) (found : Took) (end : Ending) (old new : List Item) → found ≡ told_end end → end_mark_of old ≡ mark → Receives mark found old new → are_ended new ≡ true
+told_ended (Some earlier) found end old new told e receives = ended_by (end_mark_of new) earlier (ap end_mark_of receives.1 ∙ e)
 told_ended None Took.Sealed end old new told e receives = mark_received old new Sealed receives
 told_ended None (Took.Torn fault) end old new told e receives = mark_received old new (Torn fault) receives
+told_ended None found Sealed old new told e receives = cc
+told_ended None found (Torn fault) old new told e receives = cc
 
 record_is_no_end : (mark : Option Ending) (rank : ℕ) (call : Call) (before after : Kept) (answer : Stepped) → answer ≡ Ended → ¬ (Enters rank (Took.Record call) before answer after)
-record_is_no_end mark rank call before after Stepped.Took e = cc
-record_is_no_end mark rank call before after Refused e = cc
-record_is_no_end mark rank call before after Discarded e = cc
-record_is_no_end mark rank call before after Empty e = cc
 record_is_no_end mark rank call before after Ended e = λ so. so
+record_is_no_end mark rank call before after answer e = cc
 
 -- the step that answers Ended has received the end mark
-step_ended : (rank : ℕ) (found : Took) (answer : Stepped) (before after : Kept) (old new : List Item) → Enters rank found before answer after → Receives (end_of old) found old new → ¬ (found ≡ Took.Empty) → answer ≡ Ended → are_ended new ≡ true
-step_ended rank (Took.Record call) answer before after old new so receives some e = absurd (record_is_no_end (end_of old) rank call before after answer e so)
+step_ended : (rank : ℕ) (found : Took) (answer : Stepped) (before after : Kept) (old new : List Item) → Enters rank found before answer after → Receives (end_mark_of old) found old new → ¬ (found ≡ Took.Empty) → answer ≡ Ended → are_ended new ≡ true
+step_ended rank (Took.Record call) answer before after old new so receives some e = absurd (record_is_no_end (end_mark_of old) rank call before after answer e so)
 step_ended rank Took.Empty answer before after old new so receives some e = absurd (some refl)
-step_ended rank Took.Sealed answer before after old new so receives some e = told_ended (end_of old) Took.Sealed Sealed old new refl refl receives
-step_ended rank (Took.Torn fault) answer before after old new so receives some e = told_ended (end_of old) (Took.Torn fault) (Torn fault) old new refl refl receives
+step_ended rank Took.Sealed answer before after old new so receives some e = told_ended (end_mark_of old) Took.Sealed Sealed old new refl refl receives
+step_ended rank (Took.Torn fault) answer before after old new so receives some e = told_ended (end_mark_of old) (Took.Torn fault) (Torn fault) old new refl refl receives
 
 record_received : (mark : Option Ending) (call : Call) (old new : List Item) → Receives mark (Took.Record call) old new → new ≡ old ++ Entry call ∷ []
 record_received None call old new receives = receives
@@ -87,9 +83,9 @@ record_received (Some Sealed) call old new receives = absurd (let e = receives.0
 record_received (Some (Torn fault)) call old new receives = absurd (let e = receives.0 in cc)
 
 -- each other step leaves one item less
-step_shortens : (rank : ℕ) (found : Took) (answer : Stepped) (before after : Kept) (old new left rest : List Item) → Enters rank found before answer after → Receives (end_of old) found old new → ¬ (found ≡ Took.Empty) → new ++ rest ≡ old ++ left → ¬ (answer ≡ Ended) → length rest < length left
+step_shortens : (rank : ℕ) (found : Took) (answer : Stepped) (before after : Kept) (old new left rest : List Item) → Enters rank found before answer after → Receives (end_mark_of old) found old new → ¬ (found ≡ Took.Empty) → new ++ rest ≡ old ++ left → ¬ (answer ≡ Ended) → length rest < length left
 step_shortens rank (Took.Record call) answer before after old new left rest so receives some together going =
-    let is = record_received (end_of old) call old new receives in
+    let is = record_received (end_mark_of old) call old new receives in
     let count : length new ≡ length old + 1 = ap length is ∙ length_push old (Entry call) in
     omega (arith, count, length-append new rest, length-append old left, ap length together)
 step_shortens rank Took.Empty answer before after old new left rest so receives some together going = absurd (some refl)
@@ -114,9 +110,6 @@ step_receives rank old new answer steps publishes =
       published = publishes.same;
       watched = publishes.watched;
     }
-
-pub none_received : (rank : ℕ) (collector : Collector) → ReceivesFrom rank collector collector
-none_received rank collector = record { names = refl; reading = refl; groups = refl; wanted = λ e. e; others = λ other differs. refl; list = refl; published = refl; watched = refl }
 
 then_receives : (rank : ℕ) (first now next : Collector) → ReceivesFrom rank first now → ReceivesFrom rank now next → ReceivesFrom rank first next
 then_receives rank first now next a b = record {
@@ -158,7 +151,7 @@ one_less rank first now next answer known together steps going =
 pub meets_at : (takers : List Taker) (place rank : ℕ) (was now : Taker) (receipt : Receipt) → place ≡ rank → slice_get (map taker_ring takers) rank ≡ Some (receipt_ring receipt) → was ≡ get_or takers place was → taker_ring now ≡ taker_ring was → received_by now ≡ received_by was → received_by now ++ left_for now ≡ sent_whole receipt → are_ended (received_by now ++ left_for now) ≡ true → IsFeed (sent_whole receipt) → Meets rank receipt takers (slice_set takers place now)
 meets_at takers place rank was now receipt same own read name received left ended feed =
     let within : place < length takers = omega (arith, same, slice_get_within (map taker_ring takers) rank _ own, length-map takers taker_ring) in
-    let at = get_replaced takers place now within in
+    let at = slice_get-set_same takers place now within in
     let there : slice_get (slice_set takers place now) rank ≡ Some now = ap (slice_get (slice_set takers place now)) (sym same) ∙ at in record {
       names = map-set_same taker_ring takers place now was (name ∙ ap taker_ring read);
       received = map-set_same received_by takers place now was (received ∙ ap received_by read);
@@ -171,26 +164,8 @@ meets_at takers place rank was now receipt same own read name received left ende
 
 -- an answer other than Ended
 
-is_end : Stepped → Bool
-is_end Stepped.Took = false
-is_end Refused = false
-is_end Discarded = false
-is_end Empty = false
-is_end Ended = true
-
-other_answer : (answer other : Stepped) → is_end other ≡ false → answer ≡ other → ¬ (answer ≡ Ended)
-unfolding is_end
-other_answer answer other not_end is = λ e. false≢true (sym not_end ∙ ap is_end (sym is ∙ e))
-
 pub is_not_ended : (answer : Stepped) → (answer ≡ Stepped.Took) ⊎ ((answer ≡ Refused) ⊎ ((answer ≡ Discarded) ⊎ (answer ≡ Empty))) → ¬ (answer ≡ Ended)
-unfolding is_end
-is_not_ended answer is =
-    ⊎_elim (λ (e : answer ≡ Stepped.Took). other_answer answer Stepped.Took refl e)
-    (λ (rest : (answer ≡ Refused) ⊎ ((answer ≡ Discarded) ⊎ (answer ≡ Empty))).
-    ⊎_elim (λ (e : answer ≡ Refused). other_answer answer Refused refl e)
-    (λ (more : (answer ≡ Discarded) ⊎ (answer ≡ Empty)).
-    ⊎_elim (λ (e : answer ≡ Discarded). other_answer answer Discarded refl e)
-    (λ (e : answer ≡ Empty). other_answer answer Empty refl e)
-    more)
-    rest)
-    is
+is_not_ended answer (inl took) = λ e. cc
+is_not_ended answer (inr (inl refused)) = λ e. cc
+is_not_ended answer (inr (inr (inl discarded))) = λ e. cc
+is_not_ended answer (inr (inr (inr empty))) = λ e. cc

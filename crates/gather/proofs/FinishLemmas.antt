@@ -1,8 +1,9 @@
 -- How the feeds of all ranks are drained by their receipts, in rank order.
 use Rattle.std.proofs.Common.{◌≡◌, ⊎_elim, ℕ, zero, suc, ◌+◌, ◌<◌, ◌≤◌, true, Option, Some, None, IfSome, List, [], ◌∷◌, length, drop, refl, sym, ap, subst, ◌∙◌, arith, slice_get}
 use Rattle.std.specs.Option.{option_or}
-use Rattle.std.proofs.lemmas.List.{length-drop}
+use Rattle.std.proofs.lemmas.List.{length-drop, drop-drop, drop_all}
 use Rattle.std.proofs.lemmas.Bool.{cases_eq}
+use Rattle.std.proofs.lemmas.Option.{slice_get_within}
 use Rattle.rankfeed.specs.Rings.{FeedName, receipt_ring}
 use Rattle.rankfeed.specs.declared.ring.Receipt.{Receipt}
 use Rattle.gather.specs.declared.collector.Collector.{Collector}
@@ -17,14 +18,8 @@ front_at [] rest (suc place) x e = cc
 front_at (y ∷ ys) rest zero x e = let same : y ≡ x = cc in ap Some same
 front_at (y ∷ ys) rest (suc place) x e = front_at ys rest place x e
 
-behind_front : {A : Type 0} (xs rest : List A) (place : ℕ) (x : A) → drop place xs ≡ x ∷ rest → rest ≡ drop (suc place) xs
-behind_front [] rest zero x e = cc
-behind_front [] rest (suc place) x e = cc
-behind_front (y ∷ ys) rest zero x e = let same : ys ≡ rest = cc in sym same
-behind_front (y ∷ ys) rest (suc place) x e = behind_front ys rest place x e
-
 pub rest_at : {A : Type 0} (xs rest : List A) (place : ℕ) (x : A) → drop place xs ≡ x ∷ rest → rest ≡ drop (place + 1) xs
-rest_at xs rest place x e = let next : suc place ≡ place + 1 = omega arith in behind_front xs rest place x e ∙ ap (λ (n : ℕ). drop n xs) next
+rest_at {A} xs rest place x e = ap (λ (ys : List A). drop 1 ys) (sym e) ∙ drop-drop 1 place xs
 
 pub some_left : {A : Type 0} (xs rest : List A) (place : ℕ) → rest ≡ drop place xs → length rest ≡ 0 → place < length xs → ⊥
 some_left xs rest place is none within = let count = ap length is in absurd (omega (arith, none, count, within, length-drop place xs))
@@ -60,9 +55,6 @@ pub record Finishes (first now : Collector) (receipts : List (Option Receipt)) (
   pub watched : has_watches now ≡ has_watches first
   pub lowest : option_or missing (missing_from ranks (drop ranks receipts)) ≡ first_missing receipts
   pub all : (rank : ℕ) (receipt : Receipt) → rank < ranks → slice_get receipts rank ≡ Some (Some receipt) → AreAllOf receipt (received_from now rank)
-
-pub none_finished : (collector : Collector) (receipts : List (Option Receipt)) → Finishes collector collector receipts 0 None
-none_finished collector receipts = record { names = refl; reading = refl; groups = refl; wanted = λ e. e; list = refl; published = refl; watched = refl; lowest = refl; all = λ rank receipt below at. absurd (omega (arith, below)) }
 
 pub with_receipt : (first now next : Collector) (receipts rest : List (Option Receipt)) (ranks : ℕ) (missing : Option ℕ) (receipt : Receipt) → Finishes first now receipts ranks missing → drop ranks receipts ≡ Some receipt ∷ rest → ReceivesFrom ranks now next → AreAllOf receipt (received_from next ranks) → Finishes first next receipts (ranks + 1) missing
 with_receipt first now next receipts rest ranks missing receipt so front only own =
@@ -112,25 +104,13 @@ without_receipt first now receipts rest ranks missing so front = record {
       (cases_eq rank ranks);
 }
 
-nothing_behind : {A : Type 0} (xs : List A) (place : ℕ) → length xs ≤ place → drop place xs ≡ []
-nothing_behind [] zero within = refl
-nothing_behind [] (suc place) within = refl
-nothing_behind (x ∷ xs) zero within = absurd (omega (arith, within))
-nothing_behind (x ∷ xs) (suc place) within = nothing_behind xs place (omega (arith, within))
-
 or_none : (missing : Option ℕ) → option_or missing None ≡ missing
 or_none None = refl
 or_none (Some rank) = refl
 
 pub lowest_known : (first now : Collector) (receipts : List (Option Receipt)) (ranks : ℕ) (missing : Option ℕ) → Finishes first now receipts ranks missing → length receipts ≤ ranks → missing ≡ first_missing receipts
 lowest_known first now receipts ranks missing so within =
-    sym (or_none missing) ∙ ap (λ (rs : List (Option Receipt)). option_or missing (missing_from ranks rs)) (sym (nothing_behind receipts ranks within)) ∙ so.lowest
-
-in_list : {A : Type 0} (xs : List A) (k : ℕ) (x : A) → slice_get xs k ≡ Some x → k < length xs
-in_list [] zero x e = cc
-in_list [] (suc k) x e = cc
-in_list (y ∷ ys) zero x e = omega arith
-in_list (y ∷ ys) (suc k) x e = omega (arith, in_list ys k x e)
+    sym (or_none missing) ∙ ap (λ (rs : List (Option Receipt)). option_or missing (missing_from ranks rs)) (sym (drop_all ranks receipts within)) ∙ so.lowest
 
 pub all_received : (first now : Collector) (receipts : List (Option Receipt)) (ranks : ℕ) (missing : Option ℕ) → Finishes first now receipts ranks missing → length receipts ≤ ranks → AllReceived receipts (received_from now)
-all_received first now receipts ranks missing so within = λ rank receipt at. so.all rank receipt (omega (arith, within, in_list receipts rank _ at)) at
+all_received first now receipts ranks missing so within = λ rank receipt at. so.all rank receipt (omega (arith, within, slice_get_within receipts rank _ at)) at

@@ -1,41 +1,16 @@
 -- A session at its opening: one feed more is opened, and nothing was received.
 use Rattle.moves.specs.declared.reading.Reading.{Reading}
-use Rattle.std.proofs.Common.{◌≡◌, ℕ, zero, suc, ◌+◌, None, List, [], ◌∷◌, ◌++◌, length, map, replicate, All, refl, sym, ap, ◌∙◌, arith}
+use Rattle.std.proofs.Common.{◌≡◌, ℕ, zero, suc, None, List, [], ◌∷◌, length, map, replicate, All, refl, sym, ap, ◌∙◌, arith}
 use Rattle.std.specs.List.{range_with_len}
-use Rattle.std.proofs.lemmas.List.{map-append, length-map, length-replicate}
+use Rattle.std.proofs.lemmas.List.{length-map, length-replicate}
 use Rattle.std.proofs.lemmas.List.FromFn.{length-range_with_len}
 use Rattle.mpigroup.specs.Groups.{Groups, ranks_of}
-use Rattle.pairing.specs.Recordings.{calls_of}
+use Rattle.pairing.proofs.PlacesLemmas.{no_calls}
 use Rattle.rankfeed.specs.Rings.{feed_ring, taker_ring, received_by}
 use Rattle.rankfeed.specs.declared.ring.Feed.{Feed}
 use Rattle.rankfeed.specs.declared.ring.Taker.{Taker}
 use Rattle.gather.specs.Collected.{IsKeptOf, IsKeptIn, Kept, nothing_kept, fault_at}
-use Rattle.gather.specs.Takers.{rank_of, received_in, Collects}
-
--- where no rank has a call, none has
-none_of_any : (ranks rank : ℕ) → calls_of (replicate ranks []) rank ≡ []
-none_of_any zero rank = refl
-none_of_any (suc ranks) zero = refl
-none_of_any (suc ranks) (suc rank) = none_of_any ranks rank
-
--- one more at the end
-pub mapped_push : {A B : Type 0} (f : A → B) (xs all : List A) (x : A) → all ≡ xs ++ x ∷ [] → map f all ≡ map f xs ++ f x ∷ []
-mapped_push f xs all x is = ap (map f) is ∙ map-append f xs (x ∷ [])
-
-pub both_pushed : {A : Type 0} (xs ys : List A) (x y : A) → xs ≡ ys → x ≡ y → xs ++ x ∷ [] ≡ ys ++ y ∷ []
-both_pushed xs ys x y all one = ap (λ zs. zs ++ x ∷ []) all ∙ ap (λ z. ys ++ z ∷ []) one
-
-range_from : (first count : ℕ) → range_with_len first (suc count) ≡ range_with_len first count ++ (first + count) ∷ []
-range_from first zero = let e : first + 0 ≡ first = omega arith in ap (λ (n : ℕ). n ∷ []) (sym e)
-range_from first (suc count) =
-    let e : first + 1 + count ≡ first + suc count = omega arith in
-    ap (λ (ns : List ℕ). first ∷ ns) (range_from (first + 1) count ∙ ap (λ (n : ℕ). range_with_len (first + 1) count ++ n ∷ []) e)
-
-pub next_rank : (count : ℕ) → range_with_len 0 (count + 1) ≡ range_with_len 0 count ++ count ∷ []
-next_rank count =
-    let more : count + 1 ≡ suc count = omega arith in
-    let e : 0 + count ≡ count = omega arith in
-    ap (range_with_len 0) more ∙ range_from 0 count ∙ ap (λ (n : ℕ). range_with_len 0 count ++ n ∷ []) e
+use Rattle.gather.specs.Takers.{rank_fed, received_in, Collects}
 
 -- nothing was received
 pub nothing_received : (takers : List Taker) (rank : ℕ) → All (λ taker. received_by taker ≡ []) takers → received_in takers rank ≡ []
@@ -52,18 +27,18 @@ at_first : (groups : Groups) (rank : ℕ) → IsKeptOf groups rank [] [] None
 at_first groups rank = record { first = refl; before = refl }
 
 pub kept_at_first : (reading : Reading) (groups : Groups) (rank : ℕ) → IsKeptIn rank [] (nothing_kept reading groups)
-kept_at_first reading groups rank = rw (none_of_any (ranks_of groups) rank, no_fault_kept (ranks_of groups) rank) (at_first groups rank)
+kept_at_first reading groups rank = rw (no_calls (ranks_of groups) rank, no_fault_kept (ranks_of groups) rank) (at_first groups rank)
 
 pub places_at_first : (reading : Reading) (groups : Groups) → length (nothing_kept reading groups).faults ≡ length (nothing_kept reading groups).recording
 places_at_first reading groups = length-replicate (ranks_of groups) None ∙ sym (length-replicate (ranks_of groups) [])
 
-pub opened : (reading : Reading) (groups : Groups) (feeds : List Feed) (takers : List Taker) (kept : Kept) (ranks : ℕ) → map taker_ring takers ≡ map feed_ring feeds → map rank_of feeds ≡ range_with_len 0 ranks → ranks ≡ ranks_of groups → All (λ taker. received_by taker ≡ []) takers → kept ≡ nothing_kept reading groups → Collects takers kept
+pub opened : (reading : Reading) (groups : Groups) (feeds : List Feed) (takers : List Taker) (kept : Kept) (ranks : ℕ) → map taker_ring takers ≡ map feed_ring feeds → map rank_fed feeds ≡ range_with_len 0 ranks → ranks ≡ ranks_of groups → All (λ taker. received_by taker ≡ []) takers → kept ≡ nothing_kept reading groups → Collects takers kept
 opened reading groups feeds takers kept ranks names numbers count none is =
     let as_feeds : length takers ≡ length feeds = sym (length-map takers taker_ring) ∙ ap length names ∙ length-map feeds feed_ring in
-    let as_ranks : length feeds ≡ ranks = sym (length-map feeds rank_of) ∙ ap length numbers ∙ length-range_with_len 0 ranks in
+    let as_ranks : length feeds ≡ ranks = sym (length-map feeds rank_fed) ∙ ap length numbers ∙ length-range_with_len 0 ranks in
     let number = as_feeds ∙ as_ranks ∙ count in
     rw is (record {
       one_a_rank = number ∙ sym (length-replicate (ranks_of groups) []);
       one_fault_a_rank = number ∙ sym (length-replicate (ranks_of groups) None);
-      collected = λ unwanted rank. rw (nothing_received takers rank none, none_of_any (ranks_of groups) rank, no_fault_kept (ranks_of groups) rank) (at_first groups rank);
+      collected = λ unwanted rank. rw (nothing_received takers rank none, no_calls (ranks_of groups) rank, no_fault_kept (ranks_of groups) rank) (at_first groups rank);
     })

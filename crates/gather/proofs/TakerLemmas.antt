@@ -1,9 +1,9 @@
 -- What is received and left once one taker was asked.
-use Rattle.std.proofs.Common.{◌≡◌, ◌≢◌, ℕ, zero, suc, ◌<◌, true, Option, Some, None, List, [], ◌∷◌, ◌++◌, length, get_or, map, refl, sym, ap, subst, ◌∙◌, arith, slice_get, slice_set}
+use Rattle.std.proofs.Common.{◌≡◌, ℕ, ◌<◌, true, Option, Some, None, List, [], ◌∷◌, ◌++◌, length, get_or, map, refl, sym, ap, subst, ◌∙◌, arith, slice_get, slice_set}
 use Rattle.std.proofs.Math.Seq.{map-set_same}
 use Rattle.std.proofs.lemmas.List.{length-map}
 use Rattle.std.proofs.lemmas.Option.{slice_get-map, get_or_from_slice_get, slice_get-get_or}
-use Rattle.rankfeed.specs.Items.{end_of, are_ended, IsFeed}
+use Rattle.rankfeed.specs.Items.{end_mark_of, are_ended, IsFeed}
 use Rattle.mpicall.specs.declared.call.Call.{Call}
 use Rattle.rankfeed.specs.Answers.{Receives, Looks, came_with, came_end, told_end}
 use Rattle.rankfeed.specs.Rings.{taker_ring, received_by, left_for}
@@ -16,20 +16,7 @@ use Rattle.rankfeed.specs.declared.item.Item.TheVariants.{Entry}
 use Rattle.rankfeed.specs.declared.ring.Taker.{Taker}
 use Rattle.gather.specs.Collected.{items_of}
 use Rattle.gather.specs.Takers.{Takes}
-
--- one element is replaced
-
-pub get_replaced : {A : Type 0} (xs : List A) (place : ℕ) (x : A) → place < length xs → slice_get (slice_set xs place x) place ≡ Some x
-get_replaced [] place x below = absurd (omega (arith, below))
-get_replaced (y ∷ ys) zero x below = refl
-get_replaced (y ∷ ys) (suc place) x below = get_replaced ys place x (omega (arith, below))
-
-pub get_other : {A : Type 0} (xs : List A) (place other : ℕ) (x : A) → other ≢ place → slice_get (slice_set xs place x) other ≡ slice_get xs other
-get_other [] place other x differs = refl
-get_other (y ∷ ys) zero zero x differs = absurd (differs refl)
-get_other (y ∷ ys) zero (suc other) x differs = refl
-get_other (y ∷ ys) (suc place) zero x differs = refl
-get_other (y ∷ ys) (suc place) (suc other) x differs = get_other ys place other x (λ e. differs (ap suc e))
+use Rattle.mpigroup.proofs.ListLemmas.{slice_get-set_same, slice_get-set_other}
 
 -- the items of the taker at a place
 pub items_at : (of : Taker → List Item) (takers : List Taker) (rank : ℕ) (taker : Taker) → slice_get takers rank ≡ Some taker → items_of (map of takers) rank ≡ of taker
@@ -39,15 +26,15 @@ items_at of takers rank taker at = rw (slice_get-map of takers rank, at) refl
 pub items_stay : (of : Taker → List Item) (old new : List Taker) (rank : ℕ) → slice_get new rank ≡ slice_get old rank → items_of (map of new) rank ≡ items_of (map of old) rank
 items_stay of old new rank same = rw (slice_get-map of new rank, slice_get-map of old rank, same) refl
 
-pub takes_one : (takers : List Taker) (rank : ℕ) (was now : Taker) (found : Took) → rank < length takers → slice_get takers rank ≡ Some was → taker_ring now ≡ taker_ring was → Receives (end_of (received_by was)) found (received_by was) (received_by now) → IsFeed (received_by now) → (are_ended (received_by was ++ left_for was) ≡ true → received_by now ++ left_for now ≡ received_by was ++ left_for was) → (are_ended (received_by was ++ left_for was) ≡ true → ¬ (found ≡ Took.Empty)) → Takes rank found takers (slice_set takers rank now)
+pub takes_one : (takers : List Taker) (rank : ℕ) (was now : Taker) (found : Took) → rank < length takers → slice_get takers rank ≡ Some was → taker_ring now ≡ taker_ring was → Receives (end_mark_of (received_by was)) found (received_by was) (received_by now) → IsFeed (received_by now) → (are_ended (received_by was ++ left_for was) ≡ true → received_by now ++ left_for now ≡ received_by was ++ left_for was) → (are_ended (received_by was ++ left_for was) ≡ true → ¬ (found ≡ Took.Empty)) → Takes rank found takers (slice_set takers rank now)
 takes_one takers rank was now found within at name receives feed left never =
     let old_received = items_at received_by takers rank was at in
     let old_left = items_at left_for takers rank was at in
-    let new_at = get_replaced takers rank now within in
+    let new_at = slice_get-set_same takers rank now within in
     let new_received = items_at received_by (slice_set takers rank now) rank now new_at in
     let new_left = items_at left_for (slice_set takers rank now) rank now new_at in record {
       names = map-set_same taker_ring takers rank now was (name ∙ ap taker_ring (sym (get_or_from_slice_get takers rank was was at)));
-      others = λ other differs. get_other takers rank other now differs;
+      others = λ other differs. slice_get-set_other takers rank other now differs;
       receives = rw (old_received, new_received) receives;
       is_feed = rw new_received feed;
       left = rw (old_received, new_received, old_left, new_left) left;
@@ -55,7 +42,7 @@ takes_one takers rank was now found within at name receives feed left never =
     }
 
 -- the same, where the taker was read at its place
-pub takes_at : (takers : List Taker) (place rank : ℕ) (was now : Taker) (found : Took) → place ≡ rank → rank < length takers → was ≡ get_or takers place was → taker_ring now ≡ taker_ring was → Receives (end_of (received_by was)) found (received_by was) (received_by now) → IsFeed (received_by now) → (are_ended (received_by was ++ left_for was) ≡ true → received_by now ++ left_for now ≡ received_by was ++ left_for was) → (are_ended (received_by was ++ left_for was) ≡ true → ¬ (found ≡ Took.Empty)) → Takes rank found takers (slice_set takers place now)
+pub takes_at : (takers : List Taker) (place rank : ℕ) (was now : Taker) (found : Took) → place ≡ rank → rank < length takers → was ≡ get_or takers place was → taker_ring now ≡ taker_ring was → Receives (end_mark_of (received_by was)) found (received_by was) (received_by now) → IsFeed (received_by now) → (are_ended (received_by was ++ left_for was) ≡ true → received_by now ++ left_for now ≡ received_by was ++ left_for was) → (are_ended (received_by was ++ left_for was) ≡ true → ¬ (found ≡ Took.Empty)) → Takes rank found takers (slice_set takers place now)
 takes_at takers place rank was now found same within read name receives feed left never =
     subst (λ (r : ℕ). Takes r found takers (slice_set takers place now)) same
     (takes_one takers place was now found (omega (arith, within, same)) (slice_get-get_or takers place was (omega (arith, within, same)) ∙ ap Some (sym read)) name receives feed left never)
@@ -63,11 +50,6 @@ takes_at takers place rank was now found same within read name receives feed lef
 -- as many takers as before
 pub takers_stay : {rank : ℕ} {found : Took} (old new : List Taker) → Takes rank found old new → length new ≡ length old
 takers_stay old new takes = sym (length-map new taker_ring) ∙ ap length takes.names ∙ length-map old taker_ring
-
--- a look that finds a record leaves what is received as it is
-pub look_stays : (end : Option Ending) (old mid : List Item) → Looks end Came.Record old mid → mid ≡ old
-look_stays None old mid looks = looks
-look_stays (Some earlier) old mid looks = looks.1
 
 came_other : (earlier : Ending) → ¬ (Came.Record ≡ came_end earlier)
 came_other Sealed = λ e. cc

@@ -32,14 +32,14 @@ or_behind place (Some fault) behind = Some (place, OfCall fault)
 
 -- the first fault of a rank behind the calls `before`, which have none: the first record that has a fault
 -- after those before it, at its place; without one, the end of the source, at the number of records
-abbrev pub fault_behind : Groups → ℕ → List Call → List Call → End → Option (ℕ × RankFault)
-fault_behind groups rank before [] end = fault_of_end before end
-fault_behind groups rank before (call ∷ calls) end =
-    or_behind (length before) (fault_of groups rank before call) (fault_behind groups rank (before ++ call ∷ []) calls end)
+abbrev pub fault_onward : Groups → ℕ → List Call → List Call → End → Option (ℕ × RankFault)
+fault_onward groups rank before [] end = fault_of_end before end
+fault_onward groups rank before (call ∷ calls) end =
+    or_behind (length before) (fault_of groups rank before call) (fault_onward groups rank (before ++ call ∷ []) calls end)
 
 -- the first fault of a rank over its source's trace, with its place
 unfoldable pub fault_of_rank : Groups → ℕ → Trace → Option (ℕ × RankFault)
-fault_of_rank groups rank trace = fault_behind groups rank [] trace.records trace.end
+fault_of_rank groups rank trace = fault_onward groups rank [] trace.records trace.end
 
 -- the refusal of a rank, or else that of the ranks behind it
 abbrev pub refusal_or : ℕ → Option (ℕ × RankFault) → Option Refusal → Option Refusal
@@ -56,8 +56,8 @@ abbrev pub refusal_of : Groups → List Trace → Option Refusal
 refusal_of groups traces = refusal_from groups 0 traces
 
 -- the recording that the traces of all ranks make
-abbrev pub lists_of : List Trace → Lists
-lists_of traces = map (λ trace. trace.records) traces
+abbrev pub recording_of_traces : List Trace → Lists
+recording_of_traces traces = map (λ trace. trace.records) traces
 
 -- some rank comes to its end record in no run over the recording
 pub record SomeRankCannotEnd (reading : Reading) (groups : Groups) (recording : Lists) : Type 0 where

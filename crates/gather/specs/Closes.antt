@@ -5,7 +5,7 @@ use Rattle.mpicall.specs.Trace.{Trace}
 use Rattle.mpigroup.specs.Groups.{Groups}
 use Rattle.pairing.specs.Recordings.{IsClosed}
 use Rattle.rankfeed.specs.declared.ring.Receipt.{Receipt}
-use Rattle.gather.specs.Answers.{refusal_of, lists_of}
+use Rattle.gather.specs.Answers.{refusal_of, recording_of_traces}
 use Rattle.gather.specs.Receipts.{first_missing, traces_held}
 use Rattle.gather.specs.declared.outcome.CloseFault.{CloseFault}
 use Rattle.gather.specs.declared.outcome.CloseFault.TheVariants.{Memory, Unproved, Refused}
@@ -17,8 +17,8 @@ pub record IsOutcomeOver (reading : Reading) (groups : Groups) (traces : List Tr
   pub no_refusal : refusal_of groups traces ≡ None
   pub same_reading : outcome.reading ≡ reading
   pub same_groups : outcome.groups ≡ groups
-  pub recording : outcome.recording ≡ lists_of traces
-  pub closed : IsClosed (lists_of traces)
+  pub recording : outcome.recording ≡ recording_of_traces traces
+  pub closed : IsClosed (recording_of_traces traces)
 
 -- Unproved tells the lowest rank without a receipt. With a receipt for each, the answer is the refusal of the
 -- lowest rank that has a fault over the traces that the receipts hold, or else the outcome of their records.

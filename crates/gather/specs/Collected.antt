@@ -7,7 +7,7 @@ use Rattle.mpigroup.specs.Groups.{Groups, ranks_of}
 use Rattle.pairing.specs.Recordings.{Lists, calls_of, appended}
 use Rattle.pairing.specs.Faults.{fault_of}
 use Rattle.pairing.specs.declared.fault.CallFault.{CallFault}
-use Rattle.rankfeed.specs.Items.{calls_among, end_of}
+use Rattle.rankfeed.specs.Items.{calls_among, end_mark_of}
 use Rattle.rankfeed.specs.declared.item.Ending.{Ending}
 use Rattle.rankfeed.specs.declared.item.Ending.TheVariants.{Sealed, Torn}
 use Rattle.rankfeed.specs.declared.item.Item.{Item}
@@ -38,7 +38,7 @@ fault_in groups rank before (call ∷ calls) mark =
 
 -- the first fault of a rank over the items of its feed, with its place
 abbrev pub fault_of_items : Groups → ℕ → List Item → Option PlacedFault
-fault_of_items groups rank items = fault_in groups rank [] (calls_among items) (end_of items)
+fault_of_items groups rank items = fault_in groups rank [] (calls_among items) (end_mark_of items)
 
 -- the records before the fault; all of them where there is none
 abbrev pub records_before : Option PlacedFault → List Call → List Call
@@ -76,26 +76,20 @@ AreKeptOf received kept =
     kept.wanted ≡ false → (rank : ℕ) → IsKeptOf kept.groups rank (items_of received rank) (calls_of kept.recording rank) (fault_at kept.faults rank)
 
 -- records of the rank are still accepted: it has no fault, and memory wasn't wanted
-abbrev pub is_open : Kept → ℕ → Bool
-is_open kept rank = is_none (fault_at kept.faults rank) && not kept.wanted
+abbrev pub is_accepting : Kept → ℕ → Bool
+is_accepting kept rank = is_none (fault_at kept.faults rank) && not kept.wanted
 
 -- the same with one more record of the rank
 abbrev pub with_record : Kept → ℕ → Call → Kept
-with_record kept rank call = record { reading = kept.reading; groups = kept.groups; recording = appended kept.recording rank call; faults = kept.faults; wanted = kept.wanted }
+with_record kept rank call = record kept { recording = appended kept.recording rank call }
 
 -- the same with a fault of the rank behind its records
 abbrev pub with_fault : Kept → ℕ → RankFault → Kept
-with_fault kept rank fault = record {
-  reading = kept.reading;
-  groups = kept.groups;
-  recording = kept.recording;
-  faults = slice_set kept.faults rank (Some (length (calls_of kept.recording rank), fault));
-  wanted = kept.wanted;
-}
+with_fault kept rank fault = record kept { faults = slice_set kept.faults rank (Some (length (calls_of kept.recording rank), fault)) }
 
 -- the same once memory is wanted
 abbrev pub wanting : Kept → Kept
-wanting kept = record { reading = kept.reading; groups = kept.groups; recording = kept.recording; faults = kept.faults; wanted = true }
+wanting kept = record kept { wanted = true }
 
 -- the first fault of a record behind the rank's records so far
 abbrev pub fault_behind_kept : Kept → ℕ → Call → Option CallFault
@@ -105,17 +99,17 @@ fault_behind_kept kept rank call = fault_of kept.groups rank (calls_of kept.reco
 -- away, since its rank isn't open or since memory is wanted for it
 abbrev pub EntersRecord : ℕ → Call → Kept → Stepped → Kept → Type 0
 EntersRecord rank call old Stepped.Took new =
-    (is_open old rank ≡ true) × (fault_behind_kept old rank call ≡ None) × (new ≡ with_record old rank call)
+    (is_accepting old rank ≡ true) × (fault_behind_kept old rank call ≡ None) × (new ≡ with_record old rank call)
 EntersRecord rank call old Refused new =
-    (is_open old rank ≡ true) × ((fault : CallFault) × (fault_behind_kept old rank call ≡ Some fault) × (new ≡ with_fault old rank (OfCall fault)))
+    (is_accepting old rank ≡ true) × ((fault : CallFault) × (fault_behind_kept old rank call ≡ Some fault) × (new ≡ with_fault old rank (OfCall fault)))
 EntersRecord rank call old Discarded new =
-    ((is_open old rank ≡ false) × (new ≡ old)) ⊎ ((is_open old rank ≡ true) × (fault_behind_kept old rank call ≡ None) × (new ≡ wanting old))
+    ((is_accepting old rank ≡ false) × (new ≡ old)) ⊎ ((is_accepting old rank ≡ true) × (fault_behind_kept old rank call ≡ None) × (new ≡ wanting old))
 EntersRecord rank call old Empty new = ⊥
 EntersRecord rank call old Ended new = ⊥
 
 -- what is kept once the records of a rank stop for a fault
 abbrev pub torn : Kept → ℕ → RankFault → Kept
-torn kept rank fault = if is_open kept rank then with_fault kept rank fault else kept
+torn kept rank fault = if is_accepting kept rank then with_fault kept rank fault else kept
 
 -- what is answered of what was taken from a rank's feed, and kept
 abbrev pub Enters : ℕ → Took → Kept → Stepped → Kept → Type 0
@@ -138,7 +132,7 @@ abbrev pub IsKeptIn : ℕ → List Item → Kept → Type 0
 IsKeptIn rank items kept = IsKeptOf kept.groups rank items (calls_of kept.recording rank) (fault_at kept.faults rank)
 
 -- the other ranks' calls and faults are as before, and memory that was wanted is wanted still
-pub record Leaves (rank : ℕ) (before after : Kept) : Type 0 where
+pub record LeavesOthers (rank : ℕ) (before after : Kept) : Type 0 where
   pub reading : after.reading ≡ before.reading
   pub groups : after.groups ≡ before.groups
   pub ranks : length after.recording ≡ length before.recording

@@ -9,7 +9,7 @@ use Rattle.rankfeed.specs.declared.ring.Receipt.{Receipt}
 use Rattle.gather.specs.Collected.{Kept, Enters, IsKeptIn}
 use Rattle.watches.specs.Publications.{ArePassed}
 use Rattle.watches.specs.Publishers.{published_by, book_published, is_watched, IsShown}
-use Rattle.watches.specs.Stands.{places_of}
+use Rattle.watches.specs.Stands.{shown_places}
 use Rattle.gather.specs.Receipts.{AreReceiptsOf, AllReceived, first_missing}
 use Rattle.gather.specs.Takers.{received_in, left_in, Takes}
 use Rattle.watches.specs.declared.stands.Stands.{Stands}
@@ -79,7 +79,7 @@ ShowsTheLast collector = IsShown collector.publisher
 
 -- the stands of now: where the ranks stand over what is kept
 abbrev pub stands_now : Collector → Stands
-stands_now collector = record { places = places_of (stands_of (kept collector).reading (kept collector).groups (kept collector).recording) }
+stands_now collector = record { places = shown_places (stands_of (kept collector).reading (kept collector).groups (kept collector).recording) }
 
 -- each publication is a state that some run over what is kept passes
 abbrev pub PublishesRuns : Collector → Type 0

@@ -5,7 +5,7 @@ use Rattle.mpicall.specs.Trace.{Trace, End}
 use Rattle.mpicall.specs.Trace as Trace
 use Rattle.mpicall.specs.declared.call.Call.{Call}
 use Rattle.mpicall.specs.declared.fault.SourceFault.TheVariants.{ReadFailed, GateStopped, NoFinalize}
-use Rattle.rankfeed.specs.Items.{end_the_list, end_of}
+use Rattle.rankfeed.specs.Items.{end_the_list, end_mark_of}
 use Rattle.rankfeed.specs.Rings.{sent_whole}
 use Rattle.rankfeed.specs.declared.answer.Unsealed.{Unsealed}
 use Rattle.rankfeed.specs.declared.ring.Receipt.{Receipt}
@@ -22,10 +22,6 @@ marked calls end = map Entry calls ++ Mark end ∷ []
 abbrev pub end_behind : Bool → Ending
 end_behind true = Sealed
 end_behind false = Torn NoFinalize
-
--- items with this end mark behind them
-abbrev pub ended_here : List Item → List Item
-ended_here items = items ++ Mark (end_behind (end_the_list items)) ∷ []
 
 -- the end mark behind all the records of a trace. For a text's it tells the text's end; what is left of a source
 -- that gave its end record before has none, and the mark NoFinalize
@@ -75,7 +71,7 @@ is_failed_read end = false
 -- the count of the input's failures rose by one just where the end mark tells a read that failed; without a
 -- receipt it rose by one at most
 abbrev pub CountsReads : ℕ → ℕ → Result Receipt Unsealed → Type 0
-CountsReads old new (Ok receipt) = new ≡ count_if (is_failed_read (end_of (sent_whole receipt))) old
+CountsReads old new (Ok receipt) = new ≡ count_if (is_failed_read (end_mark_of (sent_whole receipt))) old
 CountsReads old new (Err unsealed) = (new ≡ old) ⊎ (new ≡ one_more old)
 
 -- the trace is these records and then the rest
@@ -83,12 +79,12 @@ pub record IsBehind (whole : Trace) (calls : List Call) (rest : Trace) : Type 0 
   pub records : whole.records ≡ calls ++ rest.records
   pub end : whole.end ≡ rest.end
 
-abbrev pub GoesOn : Option Trace → List Call → Option Trace → Type 0
-GoesOn None calls now = ⊤
-GoesOn (Some whole) calls now = (rest : Trace) × (now ≡ Some rest) × IsBehind whole calls rest
+abbrev pub TraceGoesOn : Option Trace → List Call → Option Trace → Type 0
+TraceGoesOn None calls now = ⊤
+TraceGoesOn (Some whole) calls now = (rest : Trace) × (now ≡ Some rest) × IsBehind whole calls rest
 
 -- the items put are records, and what is told goes on behind them
 pub record Continues (told : Option Trace) (items : List Item) (now : Option Trace) : Type 0 where
   pub calls : List Call
   pub are : items ≡ map Entry calls
-  pub goes_on : GoesOn told calls now
+  pub goes_on : TraceGoesOn told calls now

@@ -17,6 +17,6 @@ pub record IsReading {I : Type 0} (left : I → Option (List ℕ)) (start now : 
 
 -- either this record comes behind the items, and the source is still being read, or this end mark behind them makes
 -- them all that is read of it
-abbrev pub IsNext : {I : Type 0} → (I → Option (List ℕ)) → (ℕ → Type 0) → Source I → Source I → List Item → ℕ → Call → Option Ending → Type 0
-IsNext left may_stop start now items line call None = IsReading left start now (items ++ Entry call ∷ []) line
-IsNext left may_stop start now items line call (Some end) = IsFed (coming left start) may_stop (items ++ Mark end ∷ [])
+abbrev pub IsNextRead : {I : Type 0} → (I → Option (List ℕ)) → (ℕ → Type 0) → Source I → Source I → List Item → ℕ → Call → Option Ending → Type 0
+IsNextRead left may_stop start now items line call None = IsReading left start now (items ++ Entry call ∷ []) line
+IsNextRead left may_stop start now items line call (Some end) = IsFed (coming left start) may_stop (items ++ Mark end ∷ [])

@@ -3,7 +3,7 @@ use Rattle.std.specs.Prelude.{◌≡◌, ⊤, ℕ, ◌+◌, true, Option, Some, 
 use Rattle.mpicall.specs.Trace.{Trace, End}
 use Rattle.mpicall.specs.Trace as Trace
 use Rattle.mpicall.specs.declared.fault.SourceFault.TheVariants.{NoFinalize}
-use Rattle.rankfeed.specs.Items.{calls_among, end_of, are_ended, IsFeed}
+use Rattle.rankfeed.specs.Items.{calls_among, end_mark_of, are_ended, IsFeed}
 use Rattle.rankfeed.specs.Rings.{FeedName, taker_ring, receipt_ring, sent_whole, received_by}
 use Rattle.rankfeed.specs.declared.item.Ending.{Ending}
 use Rattle.rankfeed.specs.declared.item.Ending.TheVariants.{Sealed, Torn}
@@ -20,7 +20,7 @@ end_by None = Trace.Torn NoFinalize
 
 -- the trace that the items of a feed make: their records, and the end by their end mark
 abbrev pub trace_of_items : List Item → Trace
-trace_of_items items = record { records = calls_among items; end = end_by (end_of items) }
+trace_of_items items = record { records = calls_among items; end = end_by (end_mark_of items) }
 
 -- the receipts are those of the feeds: one for each feed, in their order, where there is one
 abbrev pub AreReceiptsOf : List FeedName → List (Option Receipt) → Type 0

@@ -12,7 +12,7 @@ ghost use Rattle.rankfeed.specs.Rings.{feed_ring, sent_by, receipt_ring, sent_wh
 ghost use Rattle.mpicall.specs.Trace.{trace_of};
 ghost use Rattle.gather.specs.Answers.{ASealedTextHasItsEndRecord};
 ghost use Rattle.gather.specs.Fed.{IsFed, CountsReads, end_behind, is_failed_read, mark_of, ending_of};
-ghost use Rattle.gather.specs.Reads.{IsReading, IsNext};
+ghost use Rattle.gather.specs.Reads.{IsReading, IsNextRead};
 
 use crate::gate::Gate;
 use mpicall::device::Input;
@@ -59,7 +59,7 @@ pub fn next_of<I: Input, G: Gate>(
 ) -> Option<Ending>
     requires { ended source.old ≡ None }
     ensures read { (start : SourceValue I) (items : List Item) → end_the_list items ≡ done → IsReading I.left start source.old items line.old
-        → IsNext I.left (G.may_stop gate.now rank) start source.new items line.new into.new result }
+        → IsNextRead I.left (G.may_stop gate.now rank) start source.new items line.new into.new result }
     ensures going { result ≡ None → done ≡ false }
     ensures fresh { result ≡ None → ended source.new ≡ None }
     ensures sealed { result ≡ Some Sealed → done ≡ true }

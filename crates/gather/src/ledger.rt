@@ -4,7 +4,7 @@ ghost use Rattle.std.specs.Prelude.{◌≡◌, ◌<◌, false, None, Err, length
 ghost use Rattle.gather.specs.declared.fault.RankFault.TheVariants.{OfSource};
 ghost use Rattle.pairing.specs.Faults.{IsLawful};
 ghost use Rattle.pairing.specs.Recordings.{IsClosed};
-ghost use Rattle.gather.specs.Collected.{nothing_kept, refusal_kept, EntersRecord, torn, is_open, with_fault};
+ghost use Rattle.gather.specs.Collected.{nothing_kept, refusal_kept, EntersRecord, torn, is_accepting, with_fault};
 ghost use Rattle.gather.specs.Concluded.{Concludes};
 
 use crate::fault::{RankFault, Refusal};
@@ -87,7 +87,7 @@ impl Ledger {
     /// Whether a rank's records are still accepted.
     fn is_open(&self, rank: u16) -> bool
         requires { rank < length self.now.recording }
-        ensures { result ≡ is_open self.now rank }
+        ensures { result ≡ is_accepting self.now rank }
     {
         self.faults[usize::from(rank)].is_none() && !self.wanted
     }

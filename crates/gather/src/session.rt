@@ -5,7 +5,7 @@ ghost use Rattle.std.specs.List.{range_with_len};
 ghost use Rattle.mpigroup.specs.Groups.{ranks_of};
 ghost use Rattle.rankfeed.specs.Rings.{feed_ring, taker_ring, received_by};
 ghost use Rattle.gather.specs.Collected.{nothing_kept};
-ghost use Rattle.gather.specs.Takers.{rank_of, IsFreshFeed};
+ghost use Rattle.gather.specs.Takers.{rank_fed, IsFreshFeed};
 
 use crate::collector::Collector;
 use crate::ledger::Ledger;
@@ -29,7 +29,7 @@ fn open_feeds(
 ) -> Result<(Vec<Feed>, Vec<Taker>), AllocError>
     requires { 0 < capacity }
     ensures names { IfOk result (λ ends. map taker_ring ends.1.items ≡ map feed_ring ends.0.items) }
-    ensures ranks { IfOk result (λ ends. map rank_of ends.0.items ≡ range_with_len 0 ranks) }
+    ensures ranks { IfOk result (λ ends. map rank_fed ends.0.items ≡ range_with_len 0 ranks) }
     ensures feeds { IfOk result (λ ends. All (IsFreshFeed capacity) ends.0.items) }
     ensures takers { IfOk result (λ ends. All (λ taker. received_by taker ≡ []) ends.1.items) }
 {
@@ -68,7 +68,7 @@ impl Session {
         requires room { 0 < capacity }
         requires few_watches { watches ≤ MOST_WATCHES }
         ensures rings { IfOk result (λ ends. rings ends.1 ≡ map feed_ring ends.0.items) }
-        ensures ranks { IfOk result (λ ends. map rank_of ends.0.items ≡ range_with_len 0 (ranks_of head)) }
+        ensures ranks { IfOk result (λ ends. map rank_fed ends.0.items ≡ range_with_len 0 (ranks_of head)) }
         ensures feeds { IfOk result (λ ends. All (IsFreshFeed capacity) ends.0.items) }
         ensures received { IfOk result (λ ends. (rank : ℕ) → received_from ends.1 rank ≡ []) }
         ensures kept { IfOk result (λ ends. kept ends.1 ≡ nothing_kept reading head) }

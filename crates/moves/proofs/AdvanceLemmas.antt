@@ -5,7 +5,7 @@ use Rattle.std.proofs.lemmas.List.{length-set}
 use Rattle.std.proofs.lemmas.Bool.{cases_eq}
 use Rattle.mpigroup.specs.Groups.{Groups}
 use Rattle.pairing.specs.Recordings.{Lists}
-use Rattle.moves.specs.Runs.{State, moved, IsReached, IsStuck, IsTheEnd, StandsNoLater}
+use Rattle.moves.specs.Runs.{State, moved, IsReached, NoneCanMove, IsTheEnd, StandsNoLater}
 use Rattle.moves.specs.Needs.{can_move}
 use Rattle.moves.proofs.RunLemmas.{any_end_is_the_end}
 use Rattle.moves.proofs.NeedLemmas.{can_move_is_persistent}
@@ -20,6 +20,6 @@ moved_later s rank is_rank = record {
       (cases_eq k rank);
 }
 
-pub stuck_end : (reading : Reading) (groups : Groups) (recording : Lists) (s : State) → IsReached (can_move reading groups recording) (length recording) s → IsStuck (can_move reading groups recording) s → IsTheEnd (can_move reading groups recording) (length recording) s
+pub stuck_end : (reading : Reading) (groups : Groups) (recording : Lists) (s : State) → IsReached (can_move reading groups recording) (length recording) s → NoneCanMove (can_move reading groups recording) s → IsTheEnd (can_move reading groups recording) (length recording) s
 stuck_end reading groups recording s reached stuck =
     any_end_is_the_end (can_move reading groups recording) (length recording) s (can_move_is_persistent reading groups recording) reached stuck

@@ -4,7 +4,7 @@ use Rattle.std.proofs.Common.{◌≡◌, ◌≢◌, ◌↔◌, ℕ, zero, suc, �
 use Rattle.std.specs.List.{list_all, range_with_len}
 use Rattle.std.proofs.lemmas.List.{length-set, length-replicate, length-append}
 use Rattle.std.proofs.lemmas.Option.{none-some}
-use Rattle.std.proofs.lemmas.Bool.{cases_eq, cases_Bool, eq-eqb, ne_eqb, false≢true}
+use Rattle.std.proofs.lemmas.Bool.{cases_eq, cases_Bool, eq-eqb, ne_eqb, false≢true, true_from_ne_false}
 use Rattle.mpicall.specs.declared.call.Call.{Call}
 use Rattle.mpigroup.proofs.ListLemmas.{get_end}
 use Rattle.mpigroup.specs.Groups.{Groups, ranks_of}
@@ -18,7 +18,7 @@ use Rattle.pairing.specs.declared.added.PairFault.TheVariants.{Refused, Memory}
 use Rattle.pairing.proofs.FaultLemmas.{an_ended_lawful_list_is_closed}
 use Rattle.pairing.proofs.RecordingLemmas.{calls_of-appended, calls_of-appended_other}
 use Rattle.pairing.proofs.PlacesLemmas.{no_calls}
-use Rattle.moves.specs.Runs.{State, start, IsReached, IsStuck, IsTheEnd}
+use Rattle.moves.specs.Runs.{State, start, IsReached, NoneCanMove, IsTheEnd}
 use Rattle.moves.specs.Needs.{can_move}
 use Rattle.moves.specs.Stands.{stands_of, lowest_run_over}
 use Rattle.moves.specs.Arrivals.{Arrival, kept_one, kept_from, IsKeptOn, MixesStandAlike}
@@ -27,22 +27,14 @@ use Rattle.moves.proofs.NeedLemmas.{can_pass}
 use Rattle.moves.proofs.StandLemmas.{every_maximal_run_ends_at_the_stands, reached_on}
 use Rattle.moves.proofs.ArrivalLemmas.{mixes_are_kept_alike}
 use Rattle.moves.proofs.AdvanceLemmas.{stuck_end}
+use Rattle.moves.proofs.LookLemmas.{fails_in_range}
 
 -- what all numbers of a range pass, one of them passes
 all_pass : (p : ℕ → Bool) (a n r : ℕ) → list_all p (range_with_len a n) ≡ true → a ≤ r → r < a + n → p r ≡ true
-all_pass p a zero r h from to = absurd (omega arith)
-all_pass p a (suc n) r h from to =
-    ⊎_elim
-    (λ (first : p a ≡ true).
-    ⊎_elim
-    (λ (e : r ≡ a). rw e first)
-    (λ (e : r ≢ a). all_pass p (a + 1) n r (rw first at h) (omega arith) (omega arith))
-    (cases_eq r a))
-    (λ (first : p a ≡ false). absurd (false≢true (rw first at h)))
-    (cases_Bool (p a))
+all_pass p a n r h from to = true_from_ne_false (p r) (λ fails. false≢true (sym (fails_in_range p a n r from to fails) ∙ h))
 
 -- where there is no call, no rank can move
-nothing_moves : (reading : Reading) (groups : Groups) (ranks : ℕ) (s : State) → IsStuck (can_move reading groups (replicate ranks [])) s
+nothing_moves : (reading : Reading) (groups : Groups) (ranks : ℕ) (s : State) → NoneCanMove (can_move reading groups (replicate ranks [])) s
 nothing_moves reading groups ranks s rank is_rank =
     ⊎_elim
     (λ (able : can_move reading groups (replicate ranks []) s rank ≡ true).

@@ -11,7 +11,7 @@ use Rattle.pairing.specs.Faults.{fault_of, IsLawfulList, IsLawful}
 use Rattle.pairing.proofs.FaultLemmas.{lawful_push}
 use Rattle.pairing.proofs.RecordingLemmas.{calls_of-appended, calls_of-appended_other}
 use Rattle.pairing.proofs.PlacesLemmas.{no_calls}
-use Rattle.moves.specs.Arrivals.{Arrival, kept_one, kept_from, kept, calls_by, KeptIsLawful, MixesAreKeptAlike}
+use Rattle.moves.specs.Arrivals.{Arrival, kept_one, kept_from, kept_of, calls_by, KeptIsLawful, MixesAreKeptAlike}
 
 length-kept_one : (groups : Groups) (recording : Lists) (arrival : Arrival) → length (kept_one groups recording arrival) ≡ length recording
 length-kept_one groups recording arrival =
@@ -112,7 +112,7 @@ same_recordings (x ∷ xs) (y ∷ ys) l h =
 
 pub mixes_are_kept_alike : MixesAreKeptAlike
 mixes_are_kept_alike groups a b same =
-    same_recordings (kept groups a) (kept groups b)
+    same_recordings (kept_of groups a) (kept_of groups b)
     (length-kept_from groups (replicate (ranks_of groups) []) a ∙ sym (length-kept_from groups (replicate (ranks_of groups) []) b))
     (λ rank is_rank.
     let at : rank < length (replicate (ranks_of groups) []) = rw (← length-kept_from groups (replicate (ranks_of groups) []) a) is_rank in

@@ -1,5 +1,6 @@
 pub mod RunLemmas
 pub mod StayLemmas
+pub mod OntoLemmas
 pub mod NeedLemmas
 pub mod LookLemmas
 pub mod StandLemmas

@@ -2,30 +2,18 @@
 use Rattle.std.proofs.Common.{◌≡◌, ℕ, zero, suc, ◌+◌, ◌<◌, ◌≤◌, ◌++◌, ◌≢◌, Bool, true, false, Option, Some, None, List, [], ◌∷◌, length, replicate, get_or, set, refl, sym, ap, subst, ◌∙◌, ⊎_elim, arith, get_or-set_same, get_or-set_other}
 use Rattle.std.specs.Prelude.{find}
 use Rattle.std.specs.List.{range_with_len}
-use Rattle.std.proofs.lemmas.List.{length-set, length-replicate}
+use Rattle.std.proofs.lemmas.List.{length-set, length-replicate, ext_get_or}
 use Rattle.std.specs.Option.{option_map_or}
 use Rattle.std.proofs.lemmas.Option.{none-some, same_Some}
 use Rattle.std.proofs.lemmas.Bool.{cases_eq, cases_lt, false≢true, cases_Bool}
-use Rattle.moves.specs.Runs.{State, Rule, start, moved, Step, AreSteps, last_state, IsRun, run_end, IsStuck, IsMaximal, IsReached, lowest, lowest_steps, StandsNoLater, IsPersistent, IsBounded, total, lowest_run, AnyEndIsTheEnd, MaximalRunsEndAlike}
+use Rattle.moves.specs.Runs.{State, Rule, start, moved, Step, AreSteps, last_state, IsRun, run_end, NoneCanMove, IsMaximal, IsReached, lowest, lowest_steps, StandsNoLater, IsPersistent, IsBounded, total, lowest_run, AnyEndIsTheEnd, MaximalRunsEndAlike}
 
 pub below_same : (s : State) → StandsNoLater s s
 below_same s = record { ranks = refl; stands = λ rank. omega arith }
 
-pub below_trans : (s t u : State) → StandsNoLater s t → StandsNoLater t u → StandsNoLater s u
-below_trans s t u st tu = record { ranks = st.ranks ∙ tu.ranks; stands = λ rank. omega (arith, st.stands rank, tu.stands rank) }
-
-same_numbers : (s t : List ℕ) → length s ≡ length t → ((k : ℕ) → get_or s k 0 ≡ get_or t k 0) → s ≡ t
-same_numbers [] [] l h = refl
-same_numbers [] (y ∷ ys) l h = absurd (omega arith)
-same_numbers (x ∷ xs) [] l h = absurd (omega arith)
-same_numbers (x ∷ xs) (y ∷ ys) l h =
-    let head : x ≡ y = h 0 in
-    let tail : xs ≡ ys = same_numbers xs ys (omega arith) (λ k. h (suc k)) in
-    cc
-
 pub below_both : (s t : State) → StandsNoLater s t → StandsNoLater t s → s ≡ t
 below_both s t st ts =
-    same_numbers s t st.ranks (λ rank. omega (arith, st.stands rank, ts.stands rank))
+    ext_get_or 0 s t st.ranks (λ rank within. omega (arith, st.stands rank, ts.stands rank))
 
 -- a rank past the last stands at 0
 pub get_start : (n k : ℕ) → ◌≡◌ {A = ℕ} (get_or (replicate n 0) k 0) 0
@@ -59,7 +47,7 @@ moved_below s u rank h is_rank behind = record {
 }
 
 -- a step from below a stuck state stays below it
-pub step_below : (can : Rule) (s t u : State) → IsPersistent can → IsStuck can u → StandsNoLater s u → Step can s t → StandsNoLater t u
+pub step_below : (can : Rule) (s t u : State) → IsPersistent can → NoneCanMove can u → StandsNoLater s u → Step can s t → StandsNoLater t u
 step_below can s t u persistent stuck below step =
     ⊎_elim
     (λ behind. rw step.moves_on (moved_below s u step.rank below step.is_rank behind))
@@ -70,20 +58,20 @@ step_below can s t u persistent stuck below step =
     absurd (false≢true (sym (stuck step.rank is_rank) ∙ can_in_u)))
     (cases_lt (get_or s step.rank 0) (get_or u step.rank 0))
 
-pub steps_below : (can : Rule) (s u : State) (states : List State) → IsPersistent can → IsStuck can u → StandsNoLater s u → AreSteps can s states → StandsNoLater (last_state s states) u
+pub steps_below : (can : Rule) (s u : State) (states : List State) → IsPersistent can → NoneCanMove can u → StandsNoLater s u → AreSteps can s states → StandsNoLater (last_state s states) u
 steps_below can s u [] persistent stuck below h = below
 steps_below can s u (t ∷ rest) persistent stuck below h =
     steps_below can t u rest persistent stuck (step_below can s t u persistent stuck below h.0) h.1
 
 -- what a run reaches is below every stuck state
-pub run_below : (can : Rule) (ranks : ℕ) (u : State) (states : List State) → IsPersistent can → IsStuck can u → length u ≡ ranks → IsRun can ranks states → StandsNoLater (run_end ranks states) u
+pub run_below : (can : Rule) (ranks : ℕ) (u : State) (states : List State) → IsPersistent can → NoneCanMove can u → length u ≡ ranks → IsRun can ranks states → StandsNoLater (run_end ranks states) u
 run_below can ranks u states persistent stuck l h =
     steps_below can (start ranks) u states persistent stuck (start_below ranks u l) h
 
 pub run_keeps_ranks : (can : Rule) (ranks : ℕ) (states : List State) → IsRun can ranks states → length (run_end ranks states) ≡ ranks
 run_keeps_ranks can ranks states h = steps_keep_ranks can (start ranks) states h ∙ length-replicate ranks 0
 
-pub reached_below : (can : Rule) (ranks : ℕ) (s u : State) → IsPersistent can → IsStuck can u → length u ≡ ranks → IsReached can ranks s → StandsNoLater s u
+pub reached_below : (can : Rule) (ranks : ℕ) (s u : State) → IsPersistent can → NoneCanMove can u → length u ≡ ranks → IsReached can ranks s → StandsNoLater s u
 reached_below can ranks s u persistent stuck l reached =
     subst (λ (x : State). StandsNoLater x u) reached.ends_there (run_below can ranks u reached.states persistent stuck l reached.is_run)
 
@@ -128,7 +116,7 @@ none_in p a (suc n) r h from to =
 pub lowest_found : (can : Rule) (s : State) (rank : ℕ) → lowest can s ≡ Some rank → (can s rank ≡ true) × (rank < length s)
 lowest_found can s rank h = let f = found_in (can s) 0 (length s) rank h in (f.0, omega (arith, f.1))
 
-pub lowest_none : (can : Rule) (s : State) → lowest can s ≡ None → IsStuck can s
+pub lowest_none : (can : Rule) (s : State) → lowest can s ≡ None → NoneCanMove can s
 lowest_none can s h rank is_rank = none_in (can s) 0 (length s) rank h (omega arith) (omega arith)
 
 -- the steps by a rule are steps by each one that lets more ranks move
@@ -172,20 +160,20 @@ total_less (x ∷ xs) (y ∷ ys) (suc i) l h less =
     omega (arith, h 0, total_less xs ys i (omega arith) (λ k. h (suc k)) less)
 
 -- once all calls are completed no rank can move
-spent : (can : Rule) (calls : List ℕ) (s : State) → IsBounded can calls → StandsNoLater s calls → total calls ≤ total s → IsStuck can s
+spent : (can : Rule) (calls : List ℕ) (s : State) → IsBounded can calls → StandsNoLater s calls → total calls ≤ total s → NoneCanMove can s
 spent can calls s bounded below all rank is_rank =
     ⊎_elim
     (λ (yes : can s rank ≡ true). absurd (omega (arith, total_less s calls rank below.ranks below.stands (bounded s rank yes))))
     (λ (no : can s rank ≡ false). no)
     (cases_Bool (can s rank))
 
-ends_on : (can : Rule) (calls : List ℕ) (most : ℕ) (s : State) (found : Option ℕ) → IsBounded can calls → StandsNoLater s calls → total calls ≤ suc most + total s → lowest can s ≡ found → ((t : State) → StandsNoLater t calls → total calls ≤ most + total t → IsStuck can (last_state t (lowest_steps can most t))) → IsStuck can (last_state s (option_map_or (λ rank. moved s rank ∷ lowest_steps can most (moved s rank)) found []))
+ends_on : (can : Rule) (calls : List ℕ) (most : ℕ) (s : State) (found : Option ℕ) → IsBounded can calls → StandsNoLater s calls → total calls ≤ suc most + total s → lowest can s ≡ found → ((t : State) → StandsNoLater t calls → total calls ≤ most + total t → NoneCanMove can (last_state t (lowest_steps can most t))) → NoneCanMove can (last_state s (option_map_or (λ rank. moved s rank ∷ lowest_steps can most (moved s rank)) found []))
 ends_on can calls most s None bounded below all h rest = lowest_none can s h
 ends_on can calls most s (Some rank) bounded below all h rest =
     let f = lowest_found can s rank h in
     rest (moved s rank) (moved_below s calls rank below f.1 (bounded s rank f.0)) (omega (arith, total_moved s rank f.1))
 
-lowest_steps_end : (can : Rule) (calls : List ℕ) (most : ℕ) (s : State) → IsBounded can calls → StandsNoLater s calls → total calls ≤ most + total s → IsStuck can (last_state s (lowest_steps can most s))
+lowest_steps_end : (can : Rule) (calls : List ℕ) (most : ℕ) (s : State) → IsBounded can calls → StandsNoLater s calls → total calls ≤ most + total s → NoneCanMove can (last_state s (lowest_steps can most s))
 lowest_steps_end can calls zero s bounded below all = spent can calls s bounded below (omega arith)
 lowest_steps_end can calls (suc most) s bounded below all =
     ends_on can calls most s (lowest can s) bounded below all refl

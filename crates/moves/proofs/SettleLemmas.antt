@@ -23,7 +23,7 @@ use Rattle.moves.specs.Stands.{call_count}
 use Rattle.moves.specs.Analysed.{most_touches, ranks_waiting}
 use Rattle.moves.specs.declared.progress.Progress.{Progress}
 use Rattle.moves.specs.Links.{linked_ranks, AreListed}
-use Rattle.moves.specs.Waiting.{HasJoined, HasArrived, complete_of, met_of, AreWaves, IsNoException, NeedsPartner, NeedsWave, Rests, WaitLists, own_list, comm_list, with_rank, with_awaited, WaitsFor, WaitsIn, HasLists, IsKept, IsNobody, IsInHand, IsSettled, IsReaching, to_do, paid, cost_of, touches_of}
+use Rattle.moves.specs.Waiting.{HasJoined, HasArrived, complete_of, met_of, AreWaves, IsNoException, NeedsPartner, NeedsWave, Rests, WaitLists, own_list, comm_list, with_rank, with_awaited, WaitsFor, WaitsIn, HasLists, HoldsBetweenLooks, IsNobody, IsInHand, IsSettled, IsReaching, to_do, paid, cost_of, touches_of}
 use Rattle.moves.proofs.RunLemmas.{get_start, reached_step, reached_ranks, total_moved, total_most}
 use Rattle.moves.proofs.StandLemmas.{reached_within}
 use Rattle.moves.proofs.NeedLemmas.{length_of_calls}
@@ -66,28 +66,16 @@ WaitsOrWoken reading groups recording s waves awaited rank place other list =
     ⊎ ((list ≡ own_list other) × (other < length recording) × (WaitsFor groups recording rank place other (get_or awaited other 0)))
 
 waits_own : (reading : Reading) (groups : Groups) (recording : Lists) (s : State) (waves : Progress) (awaited : List ℕ) (rank place other owner : ℕ) → owner < length recording → WaitsOrWoken reading groups recording s waves awaited rank place other (own_list owner) → other ≡ owner
-waits_own reading groups recording s waves awaited rank place other owner is_rank waits =
-    ⊎_elim
-    (λ (old : WaitsIn reading groups recording s waves awaited other (own_list owner)).
-    ⊎_elim
-    (λ (own : (own_list owner ≡ own_list other) × (other < length recording) × NeedsPartner reading groups recording s other (get_or awaited other 0)). omega (arith, own.0))
-    (λ (wave : (comm : ℕ) × (own_list owner ≡ comm_list (length recording) comm) × NeedsWave groups recording s waves other comm). absurd (omega (arith, wave.1, is_rank)))
-    old)
-    (λ (new : (own_list owner ≡ own_list other) × (other < length recording) × (WaitsFor groups recording rank place other (get_or awaited other 0))). omega (arith, new.0))
-    waits
+waits_own reading groups recording s waves awaited rank place other owner is_rank (inl (inl own)) = omega (arith, own.0)
+waits_own reading groups recording s waves awaited rank place other owner is_rank (inl (inr wave)) = absurd (omega (arith, wave.1, is_rank))
+waits_own reading groups recording s waves awaited rank place other owner is_rank (inr new) = omega (arith, new.0)
 
 waits_comm : (reading : Reading) (groups : Groups) (recording : Lists) (s : State) (waves : Progress) (awaited : List ℕ) (rank place other comm : ℕ) → WaitsOrWoken reading groups recording s waves awaited rank place other (comm_list (length recording) comm) → NeedsWave groups recording s waves other comm
-waits_comm reading groups recording s waves awaited rank place other comm waits =
-    ⊎_elim
-    (λ (old : WaitsIn reading groups recording s waves awaited other (comm_list (length recording) comm)).
-    ⊎_elim
-    (λ (own : (comm_list (length recording) comm ≡ own_list other) × (other < length recording) × NeedsPartner reading groups recording s other (get_or awaited other 0)). absurd (omega (arith, own.0, own.1)))
-    (λ (wave : (c : ℕ) × (comm_list (length recording) comm ≡ comm_list (length recording) c) × NeedsWave groups recording s waves other c).
+waits_comm reading groups recording s waves awaited rank place other comm (inl (inl own)) = absurd (omega (arith, own.0, own.1))
+waits_comm reading groups recording s waves awaited rank place other comm (inl (inr wave)) =
     let same : wave.0 ≡ comm = omega (arith, wave.1) in
-    subst (λ (c : ℕ). NeedsWave groups recording s waves other c) same wave.2)
-    old)
-    (λ (new : (comm_list (length recording) comm ≡ own_list other) × (other < length recording) × (WaitsFor groups recording rank place other (get_or awaited other 0))). absurd (omega (arith, new.0, new.1)))
-    waits
+    subst (λ (c : ℕ). NeedsWave groups recording s waves other c) same wave.2
+waits_comm reading groups recording s waves awaited rank place other comm (inr new) = absurd (omega (arith, new.0, new.1))
 
 -- what the reaching of a place costs beside the wakes of a wave: four for each half, four for a probe, and one for a
 -- change of how far its wave is
@@ -206,23 +194,6 @@ pub hand_room : (reading : Reading) (groups : Groups) (recording : Lists) (s : S
 hand_room reading groups recording s waves w rank h =
     omega (arith, linked_less (length recording) rank w.lists _ _ h.kept.linked h.is_rank h.in_none, h.kept.has_lists.nodes)
 
--- the rank in hand rests
-pub hand_rests : (reading : Reading) (groups : Groups) (recording : Lists) (s : State) (waves : Progress) (w : WaitLists) (rank : ℕ) → IsInHand reading groups recording s waves w rank → Rests recording s rank → IsKept reading groups recording s waves w IsNobody 0
-hand_rests reading groups recording s waves w rank h rests = record {
-  has_lists = h.kept.has_lists;
-  linked =
-      changed (length recording) w.lists _ (WaitsIn reading groups recording s waves w.awaited) _ (λ other. Rests recording s other ⊎ IsNobody other) h.kept.linked
-      (λ other list is_rank later on waits. waits)
-      (λ other is_rank none rest.
-      ⊎_elim
-      (λ (old : Rests recording s other). inl old)
-      (λ (same : other ≡ rank). inl (rw same rests))
-      rest);
-  are_waves = h.kept.are_waves;
-  is_reached = h.kept.is_reached;
-  is_paid = omega (arith, h.kept.is_paid);
-}
-
 -- The rank in hand is linked where it waits.
 pub record Links (reading : Reading) (groups : Groups) (recording : Lists) (s : State) (waves : Progress) (w last : WaitLists) (rank list : ℕ) : Type 0 where
   pub later : 0 < list
@@ -235,7 +206,7 @@ pub record Links (reading : Reading) (groups : Groups) (recording : Lists) (s : 
   pub awaited : (other : ℕ) → other ≢ rank → get_or last.awaited other 0 ≡ get_or w.awaited other 0
   pub waits : WaitsIn reading groups recording s waves last.awaited rank list
 
-pub hand_links : (reading : Reading) (groups : Groups) (recording : Lists) (s : State) (waves : Progress) (w last : WaitLists) (rank list : ℕ) → IsInHand reading groups recording s waves w rank → Links reading groups recording s waves w last rank list → IsKept reading groups recording s waves last IsNobody 0
+pub hand_links : (reading : Reading) (groups : Groups) (recording : Lists) (s : State) (waves : Progress) (w last : WaitLists) (rank list : ℕ) → IsInHand reading groups recording s waves w rank → Links reading groups recording s waves w last rank list → HoldsBetweenLooks reading groups recording s waves last IsNobody 0
 hand_links reading groups recording s waves w last rank list h links =
     let nodes = linked_nodes w.lists last.lists list rank links.within links.lists in
     let right = changed (length recording) w.lists _ (WaitsIn reading groups recording s waves last.awaited) _ (λ other. (Rests recording s other ⊎ IsNobody other) ⊎ (other ≡ rank)) h.kept.linked
@@ -269,9 +240,6 @@ hand_links reading groups recording s waves w last rank list h links =
       is_paid =
           omega (arith, h.kept.is_paid, links.work, min-le_left (w.work + 1) most_work, ap (length {A = ℕ}) (linked_behind w.lists last.lists list rank links.later links.lists));
     }
-
-pub links_counts : (reading : Reading) (groups : Groups) (recording : Lists) (s : State) (waves : Progress) (w last : WaitLists) (rank list : ℕ) → Links reading groups recording s waves w last rank list → touches_of waves w ≤ touches_of waves last
-links_counts reading groups recording s waves w last rank list links = omega (arith, links.work)
 
 pub links_partner : (reading : Reading) (groups : Groups) (recording : Lists) (s : State) (waves : Progress) (w last : WaitLists) (rank place : ℕ) → IsInHand reading groups recording s waves w rank → NeedsPartner reading groups recording s rank place → 0 < w.spare → last ≡ with_rank (with_awaited w rank place) (own_list rank) rank → Links reading groups recording s waves w last rank (own_list rank)
 links_partner reading groups recording s waves w last rank place h needs room is =
@@ -312,18 +280,14 @@ links_wave reading groups recording s waves w last rank comm h needs room is = r
 
 -- what goes on where calls come to be reached: who waited waits on, or for one of these
 waits_on : (reading : Reading) (groups : Groups) (recording longer : Lists) (s t : State) (waves : Progress) (awaited : List ℕ) (N : ℕ → ℕ → Type 0) (other list : ℕ) → OnlyReaches recording longer s t N → get_or t other 0 ≡ get_or s other 0 → WaitsIn reading groups recording s waves awaited other list → WaitsIn reading groups longer t waves awaited other list ⊎ ((list ≡ own_list other) × (other < length longer) × IsWoken groups longer N other (get_or awaited other 0))
-waits_on reading groups recording longer s t waves awaited N other list only same waits =
-    let same_ranks : length recording ≡ length longer = only.goes_on.same_ranks in
-    ⊎_elim
-    (λ (own : (list ≡ own_list other) × (other < length recording) × NeedsPartner reading groups recording s other (get_or awaited other 0)).
-    let is_rank : other < length longer = omega (arith, own.1, same_ranks) in
+waits_on reading groups recording longer s t waves awaited N other list only same (inl own) =
+    let is_rank : other < length longer = omega (arith, own.1, only.goes_on.same_ranks) in
     ⊎_elim
     (λ (still : NeedsPartner reading groups longer t other (get_or awaited other 0)). inl (inl (own.0, is_rank, still)))
     (λ (new : IsWoken groups longer N other (get_or awaited other 0)). inr (own.0, is_rank, new))
-    (partner_waits_on reading groups recording longer s t N other (get_or awaited other 0) only same own.2))
-    (λ (wave : (comm : ℕ) × (list ≡ comm_list (length recording) comm) × NeedsWave groups recording s waves other comm).
-    inl (inr (wave.0, wave.1 ∙ ap (λ (n : ℕ). comm_list n wave.0) same_ranks, wave_waits_on groups recording longer s t waves other wave.0 only.goes_on same wave.2)))
-    waits
+    (partner_waits_on reading groups recording longer s t N other (get_or awaited other 0) only same own.2)
+waits_on reading groups recording longer s t waves awaited N other list only same (inr wave) =
+    inl (inr (wave.0, wave.1 ∙ ap (λ (n : ℕ). comm_list n wave.0) only.goes_on.same_ranks, wave_waits_on groups recording longer s t waves other wave.0 only.goes_on same wave.2))
 
 -- and where it is one call, each wave is as it was but for that call
 waits_on_or_woken : (reading : Reading) (groups : Groups) (recording longer : Lists) (s t : State) (waves : Progress) (awaited : List ℕ) (rank place other list : ℕ) → OnlyReaches recording longer s t (λ someone there. (someone ≡ rank) × (there ≡ place)) → get_or t other 0 ≡ get_or s other 0 → WaitsIn reading groups recording s waves awaited other list → WaitsOrWoken reading groups longer t waves awaited rank place other list
@@ -394,13 +358,8 @@ cost_most (Some call) = omega arith
 
 -- the call arrives at which its rank stands
 stands_at_end : (reading : Reading) (groups : Groups) (recording : Lists) (s : State) (waves : Progress) (awaited : List ℕ) (rank list : ℕ) → get_or s rank 0 ≡ length (calls_of recording rank) → WaitsIn reading groups recording s waves awaited rank list → ⊥
-stands_at_end reading groups recording s waves awaited rank list at_end waits =
-    ⊎_elim
-    (λ (own : (list ≡ own_list rank) × (rank < length recording) × NeedsPartner reading groups recording s rank (get_or awaited rank 0)).
-    omega (arith, awaited_place recording rank (get_or s rank 0) (get_or awaited rank 0) own.2.is_awaited, at_end))
-    (λ (wave : (comm : ℕ) × (list ≡ comm_list (length recording) comm) × NeedsWave groups recording s waves rank comm).
-    omega (arith, awaited_place recording rank (get_or s rank 0) wave.2.start wave.2.is_awaited, at_end))
-    waits
+stands_at_end reading groups recording s waves awaited rank list at_end (inl own) = omega (arith, awaited_place recording rank (get_or s rank 0) (get_or awaited rank 0) own.2.is_awaited, at_end)
+stands_at_end reading groups recording s waves awaited rank list at_end (inr wave) = omega (arith, awaited_place recording rank (get_or s rank 0) wave.2.start wave.2.is_awaited, at_end)
 
 pub at_end_in_none : (reading : Reading) (groups : Groups) (recording : Lists) (s : State) (waves : Progress) (w : WaitLists) (rank : ℕ) → IsSettled reading groups recording s waves w → get_or s rank 0 ≡ length (calls_of recording rank) → in_all rank w.lists ≡ 0
 at_end_in_none reading groups recording s waves w rank h at_end = none (in_all rank w.lists) refl
@@ -486,7 +445,7 @@ arrival_waits reading groups recording s waves w rank call h is_rank behind end 
         (cases_eq other rank)
 
 -- the first of the worklist is taken
-pub kept_taken : (reading : Reading) (groups : Groups) (recording : Lists) (s : State) (waves : Progress) (w new : WaitLists) (rank : ℕ) → IsKept reading groups recording s waves w IsNobody 0 → slice_get (list_at w.lists 0) 0 ≡ Some rank → new.lists ≡ set w.lists 0 (drop 1 (list_at w.lists 0)) → new.spare ≡ w.spare + 1 → new.work ≡ min (w.work + 1) most_work → new.awaited ≡ w.awaited → IsInHand reading groups recording s waves new rank
+pub kept_taken : (reading : Reading) (groups : Groups) (recording : Lists) (s : State) (waves : Progress) (w new : WaitLists) (rank : ℕ) → HoldsBetweenLooks reading groups recording s waves w IsNobody 0 → slice_get (list_at w.lists 0) 0 ≡ Some rank → new.lists ≡ set w.lists 0 (drop 1 (list_at w.lists 0)) → new.spare ≡ w.spare + 1 → new.work ≡ min (w.work + 1) most_work → new.awaited ≡ w.awaited → IsInHand reading groups recording s waves new rank
 kept_taken reading groups recording s waves w new rank h first lists spare work awaited =
     let it = taken (length recording) w.lists new.lists rank _ _ h.linked (omega (arith, h.has_lists.lists)) first lists in
     record {
@@ -516,15 +475,6 @@ kept_taken reading groups recording s waves w new rank h first lists spare work 
       is_rank = it.is_rank;
       in_none = it.in_none;
     }
-
-pub taken_shorter : (reading : Reading) (groups : Groups) (recording : Lists) (s : State) (waves : Progress) (w new : WaitLists) (rank : ℕ) → IsKept reading groups recording s waves w IsNobody 0 → slice_get (list_at w.lists 0) 0 ≡ Some rank → new.lists ≡ set w.lists 0 (drop 1 (list_at w.lists 0)) → to_do recording s new < to_do recording s w
-taken_shorter reading groups recording s waves w new rank h first lists =
-    let it = taken (length recording) w.lists new.lists rank _ _ h.linked (omega (arith, h.has_lists.lists)) first lists in
-    omega (arith, it.shorter)
-
-pub links_falls : (reading : Reading) (groups : Groups) (recording : Lists) (s : State) (waves : Progress) (w last : WaitLists) (rank list : ℕ) → Links reading groups recording s waves w last rank list → to_do recording s last ≤ to_do recording s w
-links_falls reading groups recording s waves w last rank list links =
-    omega (arith, ap (length {A = ℕ}) (linked_behind w.lists last.lists list rank links.later links.lists))
 
 less_to_do : (a b m l : ℕ) → a < b → l ≤ m → (k : ℕ) → (b - suc a) * (m + 1) + l < (b - a) * (m + 1) + k
 less_to_do a b m l less most k =

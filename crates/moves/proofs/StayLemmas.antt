@@ -1,26 +1,18 @@
 -- What a recording says of a call stays as the lists go on: the call itself, its wave, and what started a
 -- request that it waits for. Where no further call is reached, what is reached was there before.
-use Rattle.std.proofs.Common.{◌≡◌, ℕ, ◌+◌, ◌-◌, ◌<◌, ◌≤◌, ◌++◌, Bool, true, false, Option, Some, None, List, length, take, drop, get_or, refl, sym, ap, ◌∙◌, ⊎_elim, arith}
+use Rattle.std.proofs.Common.{◌≡◌, ℕ, ◌+◌, ◌-◌, ◌<◌, ◌≤◌, ◌++◌, Bool, true, false, Option, Some, None, List, length, take, drop, refl, sym, ap, ◌∙◌, ⊎_elim, arith}
 use Rattle.std.specs.List.{slice_get, list_any}
 use Rattle.std.specs.Option.{option_and_then}
 use Rattle.std.proofs.lemmas.List.{take-append-le, length-take}
 use Rattle.std.proofs.lemmas.Option.{none-some, same_Some}
 use Rattle.std.proofs.lemmas.Bool.{cases_Bool}
 use Rattle.mpicall.specs.declared.call.Call.{Call}
-use Rattle.mpigroup.specs.Groups.{Groups}
-use Rattle.pairing.specs.declared.envelope.Half.{Half}
 use Rattle.pairing.specs.Recordings.{Lists, calls_of, GoesOn}
-use Rattle.pairing.specs.Partners.{partner_of}
-use Rattle.pairing.specs.Probed.{probed_of}
 use Rattle.pairing.specs.Places.{places}
 use Rattle.pairing.specs.Requests.{does_start, does_complete, last_of, unless_completed, started_in, started_before}
-use Rattle.pairing.specs.Waves.{place_in_wave, wave_of}
-use Rattle.pairing.proofs.PartnerLemmas.{partners_stay}
-use Rattle.pairing.proofs.ProbedLemmas.{probed_sends_stay}
+use Rattle.pairing.specs.Waves.{wave_of}
 use Rattle.pairing.proofs.PlaceLemmas.{nth_place, place_nth, slice_get-front}
 use Rattle.pairing.proofs.RequestLemmas.{place_within}
-use Rattle.pairing.proofs.WaveLemmas.{waves_stay}
-use Rattle.moves.specs.Runs.{State}
 
 pub first_calls_stay : (recording longer : Lists) (rank place : ℕ) → GoesOn recording longer → place ≤ length (calls_of recording rank) → take place (calls_of longer rank) ≡ take place (calls_of recording rank)
 first_calls_stay recording longer rank place goes_on within =
@@ -54,28 +46,6 @@ pub start_is_a_call : (recording : Lists) (rank place req start : ℕ) → start
 start_is_a_call recording rank place req start h =
     let within = start_within (take place (calls_of recording rank)) req start (last_of (places (does_start req) (take place (calls_of recording rank)))) refl h in
     omega (arith, within, length-take place (calls_of recording rank))
-
--- The rank's first calls are the same over the other recording, with the same waves and requests, and with each
--- partner, each probed send and each member's call that is reached at the stands.
-pub record Carries (groups : Groups) (recording other : Lists) (stands : State) (rank calls : ℕ) : Type 0 where
-  pub call : (place : ℕ) → place < calls → slice_get (calls_of other rank) place ≡ slice_get (calls_of recording rank) place
-  pub wave : (place : ℕ) → place < calls → wave_of other rank place ≡ wave_of recording rank place
-  pub start : (place req : ℕ) → place < calls → started_before other rank place req ≡ started_before recording rank place req
-  pub start_within : (place req start : ℕ) → place < calls → started_before recording rank place req ≡ Some start → start < calls
-  pub partner : (place : ℕ) (half : Half) (partner there : ℕ) → place < calls → partner_of groups recording rank place half ≡ Some (partner, there) → there ≤ get_or stands partner 0 → partner_of groups other rank place half ≡ Some (partner, there)
-  pub probed : (place sender there : ℕ) → place < calls → probed_of groups recording rank place ≡ Some (sender, there) → there ≤ get_or stands sender 0 → probed_of groups other rank place ≡ Some (sender, there)
-  pub member : (comm wave member place : ℕ) → place_in_wave recording comm wave member ≡ Some place → place ≤ get_or stands member 0 → place_in_wave other comm wave member ≡ Some place
-
-pub carries_on : (groups : Groups) (recording longer : Lists) (stands : State) (rank : ℕ) → GoesOn recording longer → Carries groups recording longer stands rank (length (calls_of recording rank))
-carries_on groups recording longer stands rank goes_on = record {
-  call = λ place within. call_stays recording longer rank place goes_on within;
-  wave = λ place within. wave_stays recording longer rank place goes_on within;
-  start = λ place req within. start_stays recording longer rank place req goes_on (omega (arith, within));
-  start_within = λ place req start within. start_is_a_call recording rank place req start;
-  partner = λ place half partner there within h reached. partners_stay groups recording longer rank place half partner there goes_on h;
-  probed = λ place sender there within h reached. probed_sends_stay groups recording longer rank place sender there goes_on h;
-  member = λ comm wave member place h reached. waves_stay recording longer comm wave member place goes_on h;
-}
 
 -- a place among the first of a list is the one with its number there too
 pub place_before : {A : Type 0} (test : A → Bool) (xs ys : List A) (k p : ℕ) → slice_get (places test (xs ++ ys)) k ≡ Some p → p < length xs → slice_get (places test xs) k ≡ Some p

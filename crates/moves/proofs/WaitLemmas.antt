@@ -1,29 +1,26 @@
 -- What looks tell, and that a rank that waits cannot move on.
 use Rattle.moves.specs.declared.reading.Reading.{Reading}
-use Rattle.std.proofs.Common.{◌≡◌, ℕ, suc, ◌+◌, ◌<◌, ◌≤◌, ◌≢◌, Bool, true, false, Option, Some, None, List, [], ◌∷◌, ◌++◌, length, map, flat_map, take, get_or, refl, sym, ap, subst, ◌∙◌, ⊎_elim, inl, inr, arith}
-use Rattle.std.specs.Prelude.{if◌then◌else◌, nat_le, nat_lt, is_some}
+use Rattle.std.proofs.Common.{◌≡◌, ℕ, suc, ◌+◌, ◌<◌, ◌≤◌, ◌≢◌, Bool, true, false, Option, Some, None, List, [], ◌∷◌, ◌++◌, length, map, flat_map, take, get_or, refl, sym, ap, subst, ◌∙◌, ⊎_elim, arith}
+use Rattle.std.specs.Prelude.{if◌then◌else◌, nat_le, nat_lt}
 use Rattle.std.specs.List.{slice_get, list_all}
 use Rattle.std.specs.Option.{option_map_or, option_and_then}
 use Rattle.std.proofs.lemmas.List.Folds.{list_all-append, list_all-map}
 use Rattle.std.proofs.lemmas.List.{take_all}
 use Rattle.std.proofs.lemmas.Option.{none-some, same_Some, slice_get-get_or}
-use Rattle.std.proofs.lemmas.Bool.{and_parts, and_from, false_from_ne_true, cases_lt, cases_Bool, false≢true, leb-true, le-leb}
-use Rattle.mpicall.specs.Ending.{ends_list}
+use Rattle.std.proofs.lemmas.Bool.{and_parts, and_from, false_from_ne_true, cases_lt, cases_Bool, false≢true, leb-true, le-leb, true_from_ne_false}
 use Rattle.mpicall.specs.declared.call.Call.{Call}
 use Rattle.mpigroup.specs.Groups.{Groups, group_of}
 use Rattle.pairing.specs.Recordings.{Lists, calls_of}
 use Rattle.pairing.specs.Pairs.{completed_of}
-use Rattle.pairing.specs.Requests.{starts, completes, started_before}
+use Rattle.pairing.specs.Requests.{completes, started_before}
 use Rattle.pairing.specs.Waves.{wave_of}
 use Rattle.pairing.proofs.PartnerLemmas.{and_then_parts}
 use Rattle.moves.specs.Runs.{State}
-use Rattle.moves.specs.declared.look.Look.{Look}
-use Rattle.moves.specs.declared.look.Look.TheVariants.{Over, Passes, Partner, Wave}
 use Rattle.moves.specs.declared.progress.Progress.{Progress}
 use Rattle.moves.specs.Needs.{member_need, wave_needs, operation_needs, operation_needs_at, request_needs, needs_of_call, is_met, can_move}
-use Rattle.moves.specs.Waiting.{message_needs, IsAwaited, HasJoined, complete_of, met_of, AreWaves, IsNoException, is_open, open_wave, TellsOperation, TellsRequest, TellsCompleted, TellsCall, TellsRank, NeedsPartner, NeedsWave, Rests}
+use Rattle.moves.specs.Waiting.{message_needs, IsAwaited, HasJoined, complete_of, met_of, AreWaves, IsNoException, is_open, open_wave, NeedsPartner, NeedsWave, Rests}
 use Rattle.moves.proofs.LookLemmas.{passes_more, fails_at, list_all-flat_map}
-use Rattle.moves.proofs.NeedLemmas.{can_pass, can_from_pass}
+use Rattle.moves.proofs.NeedLemmas.{can_pass}
 use Rattle.moves.proofs.WaveLemmas.{met_joined, joined_met, joined_before}
 
 -- each member has reached its call
@@ -114,11 +111,7 @@ start_is recording rank place index req call there named = rw (there, named) ref
 
 -- what a rank needs of each operation that its call waits for, where it can move on
 at_index : (p : ℕ → Bool) (xs : List ℕ) (i x : ℕ) → slice_get xs i ≡ Some x → list_all p xs ≡ true → p x ≡ true
-at_index p xs i x there all =
-    ⊎_elim
-    (λ (yes : p x ≡ true). yes)
-    (λ (no : p x ≡ false). absurd (false≢true (sym (fails_at p xs i x there no) ∙ all)))
-    (cases_Bool (p x))
+at_index p xs i x there all = true_from_ne_false (p x) (λ no. false≢true (sym (fails_at p xs i x there no) ∙ all))
 
 pub index_parts : (recording : Lists) (rank place index start : ℕ) (call : Call) → slice_get (calls_of recording rank) place ≡ Some call → completed_of recording rank place index ≡ Some start → (req : ℕ) × (slice_get (completes call) index ≡ Some req) × (started_before recording rank place req ≡ Some start)
 index_parts recording rank place index start call there h =
@@ -167,47 +160,6 @@ wave_stuck reading groups recording s waves rank comm are h =
 
 pub resting_stuck : (reading : Reading) (groups : Groups) (recording : Lists) (s : State) (rank : ℕ) → Rests recording s rank → can_move reading groups recording s rank ≡ false
 resting_stuck reading groups recording s rank h = rw h refl
-
--- What a look at one request, at a call and at a rank tells, from the looks that it is made of.
-pub told_request : (reading : Reading) (groups : Groups) (recording : Lists) (s : State) (waves : Progress) (rank place index start : ℕ) (look : Look) → completed_of recording rank place index ≡ Some start → TellsOperation reading groups recording s waves rank start look → TellsRequest reading groups recording s waves rank place index look
-told_request reading groups recording s waves rank place index start Over there h = h
-told_request reading groups recording s waves rank place index start Passes there h = rw there h
-told_request reading groups recording s waves rank place index start (Partner p) there h = (there ∙ ap (λ (k : ℕ). Some k) (sym h.0), rw h.0 h.1)
-told_request reading groups recording s waves rank place index start (Wave comm) there h = (start, there, h)
-
-pub told_completed : (reading : Reading) (groups : Groups) (recording : Lists) (s : State) (waves : Progress) (rank place index : ℕ) (call : Call) (look : Look) → look ≢ Passes → TellsRequest reading groups recording s waves rank place index look → TellsCompleted reading groups recording s waves rank place call look
-told_completed reading groups recording s waves rank place index call Over other h = h
-told_completed reading groups recording s waves rank place index call Passes other h = absurd (other refl)
-told_completed reading groups recording s waves rank place index call (Partner p) other h = (index, h.0, h.1)
-told_completed reading groups recording s waves rank place index call (Wave comm) other h = (index, h.0, h.1, h.2)
-
-pub told_call_by_operation : (reading : Reading) (groups : Groups) (recording : Lists) (s : State) (waves : Progress) (rank place : ℕ) (call : Call) (look : Look) → slice_get (calls_of recording rank) place ≡ Some call → is_some (starts call) ≡ false → look ≢ Passes → TellsOperation reading groups recording s waves rank place look → TellsCall reading groups recording s waves rank place call look
-told_call_by_operation reading groups recording s waves rank place call Over there none other h = h
-told_call_by_operation reading groups recording s waves rank place call Passes there none other h = absurd (other refl)
-told_call_by_operation reading groups recording s waves rank place call (Partner p) there none other h = (record { call = call; is_present = there; starts_none = none; which = inl h.0 }, rw h.0 h.1)
-told_call_by_operation reading groups recording s waves rank place call (Wave comm) there none other h = (place, record { call = call; is_present = there; starts_none = none; which = inl refl }, h)
-
-pub told_call_by_requests : (reading : Reading) (groups : Groups) (recording : Lists) (s : State) (waves : Progress) (rank place : ℕ) (call : Call) (look : Look) → slice_get (calls_of recording rank) place ≡ Some call → is_some (starts call) ≡ false → list_all (is_met s) (operation_needs_at reading groups recording rank place) ≡ true → TellsCompleted reading groups recording s waves rank place call look → TellsCall reading groups recording s waves rank place call look
-told_call_by_requests reading groups recording s waves rank place call Over there none own h = h
-told_call_by_requests reading groups recording s waves rank place call Passes there none own h =
-    let own_needs : list_all (is_met s) (operation_needs reading groups recording rank place call) ≡ true = rw there at own in
-    rw none
-    (list_all-append (is_met s) (operation_needs reading groups recording rank place call) (flat_map (request_needs reading groups recording rank place) (completes call))
-    ∙ and_from (list_all (is_met s) (operation_needs reading groups recording rank place call)) (list_all (is_met s) (flat_map (request_needs reading groups recording rank place) (completes call))) own_needs h)
-told_call_by_requests reading groups recording s waves rank place call (Partner p) there none own h = (record { call = call; is_present = there; starts_none = none; which = inr (h.0, h.1) }, h.2)
-told_call_by_requests reading groups recording s waves rank place call (Wave comm) there none own h = (h.1, record { call = call; is_present = there; starts_none = none; which = inr (h.0, h.2) }, h.3)
-
-pub told_rank : (reading : Reading) (groups : Groups) (recording : Lists) (s : State) (waves : Progress) (rank place : ℕ) (call : Call) (look : Look) → place ≡ get_or s rank 0 → slice_get (calls_of recording rank) place ≡ Some call → ends_list call ≡ false → TellsCall reading groups recording s waves rank place call look → TellsRank reading groups recording s waves rank look
-told_rank reading groups recording s waves rank place call look stands there goes h =
-    by_look look
-    (subst (λ (k : ℕ). slice_get (calls_of recording rank) k ≡ Some call) stands there)
-    (subst (λ (k : ℕ). TellsCall reading groups recording s waves rank k call look) stands h)
-  where
-    by_look : (look : Look) → slice_get (calls_of recording rank) (get_or s rank 0) ≡ Some call → TellsCall reading groups recording s waves rank (get_or s rank 0) call look → TellsRank reading groups recording s waves rank look
-    by_look Over there h = absurd h
-    by_look Passes there h = can_from_pass reading groups recording s rank (record { call = call; is_present = there; is_no_end = goes; needs_met = h })
-    by_look (Partner p) there h = record { is_awaited = h.0; is_unmet = h.1 }
-    by_look (Wave comm) there h = record { start = h.0; is_awaited = h.1; is_joined = h.2 }
 
 -- one request more that has what it needs
 pub request_passes : (reading : Reading) (groups : Groups) (recording : Lists) (s : State) (rank place index : ℕ) (call : Call) → slice_get (calls_of recording rank) place ≡ Some call → index < length (completes call) → list_all (λ req. list_all (is_met s) (request_needs reading groups recording rank place req)) (take index (completes call)) ≡ true → list_all (is_met s) (option_map_or (operation_needs_at reading groups recording rank) (completed_of recording rank place index) []) ≡ true → list_all (λ req. list_all (is_met s) (request_needs reading groups recording rank place req)) (take (index + 1) (completes call)) ≡ true

@@ -74,21 +74,6 @@ fewer_excepted groups recording s waves E F h on = record {
       (next.0, next.1, λ joined. on comm next.0 next.1 (next.2 joined));
 }
 
-pub joins_none : (groups : Groups) (recording : Lists) (s : State) (waves : Progress) (rank place : ℕ) → AreWaves groups recording s waves (IsNew recording waves rank place) → wave_of recording rank place ≡ None → AreWaves groups recording s waves IsNoException
-joins_none groups recording s waves rank place h none =
-    fewer_excepted groups recording s waves (IsNew recording waves rank place) IsNoException h
-    (λ comm member is e. none-some (comm, complete_of waves comm) (sym none ∙ e.1))
-
-pub joins_another : (groups : Groups) (recording : Lists) (s : State) (waves : Progress) (rank place comm wave : ℕ) → AreWaves groups recording s waves (IsNew recording waves rank place) → wave_of recording rank place ≡ Some (comm, wave) → ((complete_of waves comm ≡ wave) × (world_rank_of groups comm (met_of waves comm) ≡ Some rank) → ⊥) → AreWaves groups recording s waves IsNoException
-joins_another groups recording s waves rank place comm wave h there not_wanting =
-    fewer_excepted groups recording s waves (IsNew recording waves rank place) IsNoException h
-    (λ other member is e.
-    let same = some_pair_parts comm other wave (complete_of waves other) (sym there ∙ e.1) in
-    not_wanting (
-      ap (complete_of waves) same.0 ∙ sym same.1,
-      subst (λ (c : ℕ). world_rank_of groups c (met_of waves c) ≡ Some rank) (sym same.0) (is ∙ ap (λ (m : ℕ). Some m) e.0),
-    ))
-
 -- The rank whose call was wanting has reached it. Then so have the members from it on up to some one.
 pub record Passes (groups : Groups) (recording : Lists) (s : State) (waves : Progress) (rank place comm wave missing : ℕ) : Type 0 where
   pub before : AreWaves groups recording s waves (IsNew recording waves rank place)

@@ -25,12 +25,12 @@ kept_from groups recording [] = recording
 kept_from groups recording (arrival ∷ rest) = kept_from groups (kept_one groups recording arrival) rest
 
 -- the recording of the arrivals that are kept
-abbrev pub kept : Groups → List Arrival → Lists
-kept groups arrivals = kept_from groups (replicate (ranks_of groups) []) arrivals
+abbrev pub kept_of : Groups → List Arrival → Lists
+kept_of groups arrivals = kept_from groups (replicate (ranks_of groups) []) arrivals
 
 -- the new recording is kept of the arrivals and one more, whatever arrivals the old one is kept of
 abbrev pub IsKeptOn : Groups → Lists → Lists → Arrival → Type 0
-IsKeptOn groups old new arrival = (arrivals : List Arrival) → old ≡ kept groups arrivals → new ≡ kept groups (arrivals ++ arrival ∷ [])
+IsKeptOn groups old new arrival = (arrivals : List Arrival) → old ≡ kept_of groups arrivals → new ≡ kept_of groups (arrivals ++ arrival ∷ [])
 
 -- the calls of one rank among the arrivals, in their order
 abbrev pub calls_by : ℕ → List Arrival → List Call
@@ -39,18 +39,18 @@ calls_by rank (arrival ∷ rest) = if arrival.0 == rank then arrival.1 ∷ calls
 
 -- Law: what is kept is lawful.
 abbrev pub KeptIsLawful : Type 0
-KeptIsLawful = (groups : Groups) (arrivals : List Arrival) → IsLawful groups (kept groups arrivals)
+KeptIsLawful = (groups : Groups) (arrivals : List Arrival) → IsLawful groups (kept_of groups arrivals)
 
 -- Law: however the ranks' records are mixed, the same recording is kept. If each rank's calls arrive in the
 -- same order in both, the two mixes give one recording.
 abbrev pub MixesAreKeptAlike : Type 0
 MixesAreKeptAlike =
     (groups : Groups) (a b : List Arrival) → ((rank : ℕ) → calls_by rank a ≡ calls_by rank b) →
-    kept groups a ≡ kept groups b
+    kept_of groups a ≡ kept_of groups b
 
 -- Law: however the ranks' records are mixed, the ranks come to stand alike. If each rank's calls arrive in
 -- the same order in both, the stands of what is kept of the two mixes are the same.
 abbrev pub MixesStandAlike : Type 0
 MixesStandAlike =
     (reading : Reading) (groups : Groups) (a b : List Arrival) → ((rank : ℕ) → calls_by rank a ≡ calls_by rank b) →
-    stands_of reading groups (kept groups a) ≡ stands_of reading groups (kept groups b)
+    stands_of reading groups (kept_of groups a) ≡ stands_of reading groups (kept_of groups b)

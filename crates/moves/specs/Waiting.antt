@@ -267,7 +267,7 @@ spent waves waiting = waiting.work + waves.changes + 2 * length (list_at waiting
 
 -- What holds between looks: each rank is to be looked at, or waits rightly, or rests. Some may be excepted
 -- from resting. What is spent is paid, and so much more is left.
-pub record IsKept (reading : Reading) (groups : Groups) (recording : Lists) (stands : State) (waves : Progress) (waiting : WaitLists) (IsExcepted : ℕ → Type 0) (left : ℕ) : Type 0 where
+pub record HoldsBetweenLooks (reading : Reading) (groups : Groups) (recording : Lists) (stands : State) (waves : Progress) (waiting : WaitLists) (IsExcepted : ℕ → Type 0) (left : ℕ) : Type 0 where
   pub has_lists : HasLists groups recording waiting
   pub linked : AreListed (length recording) waiting.lists (WaitsIn reading groups recording stands waves waiting.awaited) (λ rank. Rests recording stands rank ⊎ IsExcepted rank)
   pub are_waves : AreWaves groups recording stands waves IsNoException
@@ -279,13 +279,13 @@ IsNobody rank = ⊥
 
 -- the rank was taken off the worklist to be looked at
 pub record IsInHand (reading : Reading) (groups : Groups) (recording : Lists) (stands : State) (waves : Progress) (waiting : WaitLists) (rank : ℕ) : Type 0 where
-  pub kept : IsKept reading groups recording stands waves waiting (λ other. other ≡ rank) 1
+  pub kept : HoldsBetweenLooks reading groups recording stands waves waiting (λ other. other ≡ rank) 1
   pub is_rank : rank < length recording
   pub in_none : in_all rank waiting.lists ≡ 0
 
 -- no rank is to be looked at
 pub record IsSettled (reading : Reading) (groups : Groups) (recording : Lists) (stands : State) (waves : Progress) (waiting : WaitLists) : Type 0 where
-  pub kept : IsKept reading groups recording stands waves waiting IsNobody 0
+  pub kept : HoldsBetweenLooks reading groups recording stands waves waiting IsNobody 0
   pub is_empty : list_at waiting.lists 0 ≡ []
 
 -- The rank has just reached its call at the place: the ranks that wait for it are still to be woken.

@@ -181,6 +181,7 @@ impl Analyser {
         ensures end { IsTheEnd (can_move self.now.reading self.now.groups self.now.recording) (length self.now.recording) self.now.stands }
         ensures stands { self.now.stands ≡ stands_of self.now.reading self.now.groups self.now.recording }
     {
+        // A read of the stands, so that what the analyser's type says of them is known here.
         let _stands = self.stands.len();
     }
 

@@ -1,17 +1,14 @@
 //! Looks: whether a rank can move on where it stands, and if not, what it waits for. A look takes no memory,
 //! and it ends at the first need that is not met.
 
-ghost use Rattle.std.specs.Prelude.{◌≡◌, ◌<◌, Some, true, false, nat_le, nat_lt, length, slice_get, slice_index};
+ghost use Rattle.std.specs.Prelude.{◌≡◌, ◌<◌, Some, true, nat_lt, length, slice_get, slice_index};
 ghost use Rattle.std.specs.List.{list_all};
-ghost use Rattle.std.specs.Option.{option_map_or};
 ghost use Rattle.pairing.specs.Limits.{most_calls};
 ghost use Rattle.pairing.specs.Recordings.{calls_of};
-ghost use Rattle.pairing.specs.Partners.{partner_of};
-ghost use Rattle.pairing.specs.Probed.{probed_of};
 ghost use Rattle.moves.specs.Needs.{half_needs, probe_needs, is_met};
 ghost use Rattle.moves.specs.Waiting.{message_needs, AreWaves, IsNoException, TellsOperation, TellsRequest, TellsCompleted, TellsCall, TellsRank};
 
-use crate::need::{Need, is_met, stand_of};
+use crate::need::{is_reached, stand_of};
 use crate::progress::Progress;
 use crate::reading::{Reading, sends_freely};
 use pairing::envelope::Half;
@@ -32,23 +29,6 @@ pub(crate) enum Look {
     Wave { comm: u16 },
 }
 
-/// Whether the call has a partner by its half, and the partner is reached.
-#[inline(always)]
-fn is_partner_met(pairs: &Pairs, stands: &[u32], rank: u16, place: u32, half: Half) -> bool
-    ensures { result ≡ option_map_or (λ partner. nat_le partner.1 (slice_index stands.now partner.0)) (partner_of pairs.now.groups pairs.now.recording rank place half) false }
-{
-    match pairs.partner(rank, place, half) {
-        Some((other, there)) => {
-            let need = Need::At {
-                rank: other,
-                place: there,
-            };
-            is_met(stands, &need)
-        }
-        None => false,
-    }
-}
-
 /// Whether a half of the call has what it needs: nothing where it has no message, else its partner.
 #[inline(always)]
 fn is_half_met(
@@ -62,24 +42,8 @@ fn is_half_met(
     ensures { result ≡ list_all (is_met stands.now) (half_needs pairs.now.groups pairs.now.recording rank place half call.now) }
 {
     match call.message(half) {
-        Some(_) => is_partner_met(pairs, stands, rank, place, half),
+        Some(_) => is_reached(stands, pairs.partner(rank, place, half)),
         None => true,
-    }
-}
-
-/// Whether the probe at the place sees a send, and the send is reached.
-fn is_probed_met(pairs: &Pairs, stands: &[u32], rank: u16, place: u32) -> bool
-    ensures { result ≡ option_map_or (λ sent. nat_le sent.1 (slice_index stands.now sent.0)) (probed_of pairs.now.groups pairs.now.recording rank place) false }
-{
-    match pairs.probed(rank, place) {
-        Some((other, there)) => {
-            let need = Need::At {
-                rank: other,
-                place: there,
-            };
-            is_met(stands, &need)
-        }
-        None => false,
     }
 }
 
@@ -89,7 +53,7 @@ fn is_probe_met(pairs: &Pairs, stands: &[u32], rank: u16, place: u32, call: &Sto
     ensures { result ≡ list_all (is_met stands.now) (probe_needs pairs.now.groups pairs.now.recording rank place call.now) }
 {
     match call.probed() {
-        Some(_) => is_probed_met(pairs, stands, rank, place),
+        Some(_) => is_reached(stands, pairs.probed(rank, place)),
         None => true,
     }
 }

@@ -1,7 +1,11 @@
 //! What a call waits for.
 
-ghost use Rattle.std.specs.Prelude.{◌≡◌, slice_index};
+ghost use Rattle.std.specs.Prelude.{◌≡◌, false, length, nat_le, slice_index};
+ghost use Rattle.std.specs.Option.{option_map_or};
+ghost use Rattle.mpigroup.specs.Groups.{group_of};
 ghost use Rattle.moves.specs.Needs.{is_met};
+
+use pairing::pairs::Pairs;
 
 /// What a call needs before its rank moves on.
 #[derive(Clone, Copy, PartialEq, Eq)]
@@ -12,7 +16,15 @@ pub enum Need {
     Lacking { rank: u16 },
 }
 
-pub(crate) fn stand_of(stands: &[u32], rank: u16) -> u32
+/// How many members a communicator has.
+pub fn members(pairs: &Pairs, comm: u16) -> u16
+    ensures { result ≡ length (group_of pairs.now.groups comm) }
+{
+    pairs.head().size(comm).unwrap_or(0)
+}
+
+/// Where a rank stands; 0 where there is no such rank.
+pub fn stand_of(stands: &[u32], rank: u16) -> u32
     ensures { result ≡ slice_index stands.now rank }
 {
     match stands.get(usize::from(rank)) {
@@ -28,5 +40,16 @@ pub fn is_met(stands: &[u32], need: &Need) -> bool
     match *need {
         Need::At { rank, place } => place <= stand_of(stands, rank),
         Need::Lacking { .. } => false,
+    }
+}
+
+/// Whether there is a call, told by its rank and its place, and it is reached.
+#[inline(always)]
+pub(crate) fn is_reached(stands: &[u32], call: Option<(u16, u32)>) -> bool
+    ensures { result ≡ option_map_or (λ call. nat_le call.1 (slice_index stands.now call.0)) call false }
+{
+    match call {
+        Some((rank, place)) => place <= stand_of(stands, rank),
+        None => false,
     }
 }

@@ -7,7 +7,7 @@ ghost use Rattle.pairing.specs.Waves.{wave_of};
 ghost use Rattle.moves.specs.Needs.{member_need, is_met};
 ghost use Rattle.moves.specs.Waiting.{complete_of, met_of, is_open, open_wave, AreWaves, IsNoException};
 
-use crate::need::{Need, is_met};
+use crate::need::{Need, is_met, members};
 use mpigroup::head::Head;
 use pairing::pairs::Pairs;
 use std::alloc::{AllocError, Global};
@@ -50,12 +50,6 @@ fn is_member_met(pairs: &Pairs, stands: &[u32], comm: u16, wave: u32, g: u16, me
     }
 }
 
-fn members(head: &Head, comm: u16) -> u16
-    ensures { result ≡ length (group_of head.now comm) }
-{
-    head.size(comm).unwrap_or(0)
-}
-
 /// The first member, from the one with that rank in the group on, that has not reached its call of the wave;
 /// the number of members where each has.
 fn next_missing(pairs: &Pairs, stands: &[u32], comm: u16, wave: u32, from: u16) -> u16
@@ -66,7 +60,7 @@ fn next_missing(pairs: &Pairs, stands: &[u32], comm: u16, wave: u32, from: u16) 
     ensures missing { (member : ℕ) → world_rank_of pairs.now.groups comm result ≡ Some member → is_met stands.now (member_need pairs.now.recording comm wave member) ≡ false }
 {
     let head = pairs.head();
-    let members = members(head, comm);
+    let members = members(pairs, comm);
     for g in from..members {
         if let Some(member) = head.world_rank(comm, g) {
             if !is_member_met(pairs, stands, comm, wave, g, member) {
@@ -103,10 +97,10 @@ impl Progress {
         self.met.get(usize::from(comm)).copied().unwrap_or(0)
     }
 
-    fn is_open(&self, head: &Head, comm: u16, wave: u32) -> bool
-        ensures { result ≡ is_open head.now self.now comm wave }
+    fn is_open(&self, pairs: &Pairs, comm: u16, wave: u32) -> bool
+        ensures { result ≡ is_open pairs.now.groups self.now comm wave }
     {
-        self.complete(comm) <= wave && members(head, comm) > 0
+        self.complete(comm) <= wave && members(pairs, comm) > 0
     }
 
     /// Whether the wave is the next one of its communicator to be complete, and the rank the next member
@@ -122,7 +116,7 @@ impl Progress {
         ensures { result ≡ open_wave pairs.now.groups pairs.now.recording self.now rank place }
     {
         match pairs.wave_of(rank, place) {
-            Some((comm, wave)) if self.is_open(pairs.head(), comm, wave) => Some(comm),
+            Some((comm, wave)) if self.is_open(pairs, comm, wave) => Some(comm),
             _ => None,
         }
     }
@@ -152,7 +146,7 @@ impl Progress {
             return None;
         }
         self.changes = self.changes.saturating_add(1);
-        let members = members(pairs.head(), comm);
+        let members = members(pairs, comm);
         let missing = next_missing(pairs, stands, comm, wave, self.met(comm) + 1);
         if missing < members {
             self.met[usize::from(comm)] = missing;

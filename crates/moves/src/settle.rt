@@ -4,7 +4,7 @@ ghost use Rattle.std.specs.Prelude.{◌≡◌, ◌<◌, ◌≤◌, true, false, 
 ghost use Rattle.pairing.specs.Limits.{most_calls};
 ghost use Rattle.pairing.specs.Partners.{partner_of};
 ghost use Rattle.moves.specs.Runs.{moved, StandsNoLater};
-ghost use Rattle.moves.specs.Waiting.{comm_list, sent_to, sees, prober_of, woken_partner, woken_prober, woken_comm, IsKept, IsNobody, IsInHand, IsSettled, IsReaching, HasArrived, touches_of, to_do};
+ghost use Rattle.moves.specs.Waiting.{comm_list, sent_to, sees, prober_of, woken_partner, woken_prober, woken_comm, HoldsBetweenLooks, IsNobody, IsInHand, IsSettled, IsReaching, HasArrived, touches_of, to_do};
 
 use crate::look::{Look, look_at};
 use crate::need::stand_of;
@@ -120,7 +120,7 @@ fn settle_one(
 ) -> bool
     requires { IsInHand reading pairs.now.groups pairs.now.recording stands.old.items waves.old waiters.old rank }
     ensures in_hand { result ≡ true → IsInHand reading pairs.now.groups pairs.now.recording stands.new.items waves.new waiters.new rank }
-    ensures kept { result ≡ false → IsKept reading pairs.now.groups pairs.now.recording stands.new.items waves.new waiters.new IsNobody 0 }
+    ensures kept { result ≡ false → HoldsBetweenLooks reading pairs.now.groups pairs.now.recording stands.new.items waves.new waiters.new IsNobody 0 }
     ensures no_lower { StandsNoLater stands.old.items stands.new.items }
     ensures counts { touches_of waves.old waiters.old ≤ touches_of waves.new waiters.new }
     ensures no_more { to_do pairs.now.recording stands.new.items waiters.new ≤ to_do pairs.now.recording stands.old.items waiters.old }
@@ -155,7 +155,7 @@ fn settle_rank(
     rank: u16,
 )
     requires { IsInHand reading pairs.now.groups pairs.now.recording stands.old.items waves.old waiters.old rank }
-    ensures kept { IsKept reading pairs.now.groups pairs.now.recording stands.new.items waves.new waiters.new IsNobody 0 }
+    ensures kept { HoldsBetweenLooks reading pairs.now.groups pairs.now.recording stands.new.items waves.new waiters.new IsNobody 0 }
     ensures no_lower { StandsNoLater stands.old.items stands.new.items }
     ensures counts { touches_of waves.old waiters.old ≤ touches_of waves.new waiters.new }
     ensures no_more { to_do pairs.now.recording stands.new.items waiters.new ≤ to_do pairs.now.recording stands.old.items waiters.old }
@@ -171,7 +171,7 @@ fn settle(
     waves: &mut Progress,
     waiters: &mut Waiters,
 )
-    requires { IsKept reading pairs.now.groups pairs.now.recording stands.old.items waves.old waiters.old IsNobody 0 }
+    requires { HoldsBetweenLooks reading pairs.now.groups pairs.now.recording stands.old.items waves.old waiters.old IsNobody 0 }
     ensures settled { IsSettled reading pairs.now.groups pairs.now.recording stands.new.items waves.new waiters.new }
     ensures no_lower { StandsNoLater stands.old.items stands.new.items }
     ensures counts { touches_of waves.old waiters.old ≤ touches_of waves.new waiters.new }

@@ -9,11 +9,13 @@ pub fn every_maximal_run_ends_at_the_stands()
 {}
 
 /// A rank that is not at its end at the stands is brought there by no run, maximal or not.
+#[tactic(auto, using(crate::proofs::StandLemmas::no_run_brings_a_stuck_rank_to_its_end))]
 pub fn no_run_brings_a_stuck_rank_to_its_end()
     ensures { NoRunBringsAStuckRankToItsEnd }
 {}
 
 /// A rank that is at its end at the stands is brought there by every maximal run.
+#[tactic(auto, using(crate::proofs::StandLemmas::every_maximal_run_brings_the_others))]
 pub fn every_maximal_run_brings_the_others()
     ensures { EveryMaximalRunBringsTheOthers }
 {}
@@ -25,6 +27,7 @@ pub fn longer_recordings_lower_no_stand()
 {}
 
 /// No run moves a rank past a call that ends its list, so a call behind it is never reached.
+#[tactic(auto, using(crate::proofs::StandLemmas::no_call_behind_the_end_is_reached))]
 pub fn no_call_behind_the_end_is_reached()
     ensures { NoCallBehindTheEndIsReached }
 {}

@@ -9,7 +9,7 @@ use Rattle.rankfeed.specs.declared.item.Ending.{Ending}
 use Rattle.rankfeed.specs.declared.item.Ending.TheVariants.{Sealed, Torn}
 use Rattle.rankfeed.specs.declared.item.Item.{Item}
 use Rattle.rankfeed.specs.declared.item.Item.TheVariants.{Entry, Mark}
-use Rattle.rankfeed.specs.Items.{may_follow, last_behind, last_item, follow_on, are_in_order, item_ends_list, end_the_list, mark_in, end_of, calls_among, IsFeed}
+use Rattle.rankfeed.specs.Items.{may_follow, last_behind, last_item, follow_on, are_in_order, item_ends_list, end_the_list, mark_in, end_mark_of, calls_among, IsFeed}
 
 pub last_behind-append : (before : Option Item) (xs ys : List Item) → last_behind before (xs ++ ys) ≡ last_behind (last_behind before xs) ys
 last_behind-append before [] ys = refl
@@ -31,7 +31,7 @@ entry_follows (Some (Entry earlier)) call h k = ap not h
 entry_follows (Some (Mark earlier)) call h k = absurd (none-some _ (sym k))
 
 -- a record may follow where neither the record that ends the list nor an end mark came
-pub entry_may_follow : (xs : List Item) (call : Call) → end_the_list xs ≡ false → end_of xs ≡ None → may_follow (last_item xs) (Entry call) ≡ true
+pub entry_may_follow : (xs : List Item) (call : Call) → end_the_list xs ≡ false → end_mark_of xs ≡ None → may_follow (last_item xs) (Entry call) ≡ true
 entry_may_follow xs call h k = entry_follows (last_item xs) call h k
 
 sealed_follows : (before : Option Item) → item_ends_list before ≡ true → may_follow before (Mark Sealed) ≡ true
@@ -49,7 +49,7 @@ torn_follows (Some (Entry earlier)) fault k = refl
 torn_follows (Some (Mark earlier)) fault k = absurd (none-some _ (sym k))
 
 -- Torn may follow where no end mark came
-pub torn_may_follow : (xs : List Item) (fault : SourceFault) → end_of xs ≡ None → may_follow (last_item xs) (Mark (Torn fault)) ≡ true
+pub torn_may_follow : (xs : List Item) (fault : SourceFault) → end_mark_of xs ≡ None → may_follow (last_item xs) (Mark (Torn fault)) ≡ true
 torn_may_follow xs fault k = torn_follows (last_item xs) fault k
 
 follow_on-split : (before : Option Item) (xs ys : List Item) → follow_on before (xs ++ ys) ≡ true → follow_on (last_behind before xs) ys ≡ true

@@ -7,8 +7,8 @@ use Rattle.atomic_table.proofs.Lists.{at_set, at_snoc}
 use Rattle.crossbeam_channel.specs.Fifo.{Pushes, Pops, Forks, Merges, Learns}
 use Rattle.rankfeed.specs.declared.item.Item.{Item}
 use Rattle.rankfeed.specs.declared.channel.rule.Hand.{Hand}
-use Rattle.rankfeed.specs.Items.{may_follow, last_item, are_in_order, end_of, are_ended}
-use Rattle.rankfeed.specs.Relays.{hand, Fits, Relayed, Put, Leaves, Taken, left_in}
+use Rattle.rankfeed.specs.Items.{may_follow, last_item, are_in_order, end_mark_of, are_ended}
+use Rattle.rankfeed.specs.Relays.{hand, Fits, Relayed, Put, Leaves, Taken, left_in_relay}
 use Rattle.rankfeed.proofs.ItemLemmas.{last_item-push, in_order_push, next_may_follow}
 
 at_end : (l : List Hand) (a b : Hand) (j : ℕ) → get_elem? l j ≢ some b → get_elem? (l ++ a ∷ []) j ≡ some b → j ≡ length l
@@ -132,34 +132,34 @@ drop_front [] ys = refl
 drop_front (x ∷ xs) ys = drop_front xs ys
 
 -- a hand that has all that was put knows what is left
-pub left_known : (v : Hand) (items : List Item) → v.may_put ≡ true → Leaves v items → left_in v ≡ items
+pub left_known : (v : Hand) (items : List Item) → v.may_put ≡ true → Leaves v items → left_in_relay v ≡ items
 left_known v items may leaves = rw (may, leaves may) (drop_front v.taken_items items)
 
-left_unknown : (v : Hand) → v.may_put ≡ false → left_in v ≡ []
+left_unknown : (v : Hand) → v.may_put ≡ false → left_in_relay v ≡ []
 left_unknown v may = rw may refl
 
-not_ended : (v : Hand) → left_in v ≡ [] → end_of v.taken_items ≡ None → are_ended (v.taken_items ++ left_in v) ≡ true → ⊥
+not_ended : (v : Hand) → left_in_relay v ≡ [] → end_mark_of v.taken_items ≡ None → are_ended (v.taken_items ++ left_in_relay v) ≡ true → ⊥
 not_ended v none open_still ended =
-    let same : v.taken_items ++ left_in v ≡ v.taken_items = ap (λ l. v.taken_items ++ l) none ∙ append-nil v.taken_items in
+    let same : v.taken_items ++ left_in_relay v ≡ v.taken_items = ap (λ l. v.taken_items ++ l) none ∙ append-nil v.taken_items in
     false≢true (sym (ap is_some open_still) ∙ sym (ap are_ended same) ∙ ended)
 
 -- where the end is known, a taking moves the front of what is left to what was taken
-pub took_left : (v w : Hand) (x : Item) → Taken v x w → end_of v.taken_items ≡ None → are_ended (v.taken_items ++ left_in v) ≡ true → w.taken_items ++ left_in w ≡ v.taken_items ++ left_in v
+pub took_left : (v w : Hand) (x : Item) → Taken v x w → end_mark_of v.taken_items ≡ None → are_ended (v.taken_items ++ left_in_relay v) ≡ true → w.taken_items ++ left_in_relay w ≡ v.taken_items ++ left_in_relay v
 took_left v w x t open_still ended =
     ⊎_elim
     (λ (may : v.may_put ≡ true).
     let all : v.put_items ≡ v.taken_items ++ x ∷ t.behind = t.leaves may in
     let took : w.taken_items ≡ v.taken_items ++ x ∷ [] = ap (λ (y : Hand). y.taken_items) t.takes in
     let rest : (v.taken_items ++ x ∷ []) ++ t.behind ≡ v.taken_items ++ x ∷ t.behind = append_assoc v.taken_items (x ∷ []) t.behind in
-    let before : left_in v ≡ x ∷ t.behind = left_known v (x ∷ t.behind) may t.leaves in
-    let after : left_in w ≡ t.behind =
+    let before : left_in_relay v ≡ x ∷ t.behind = left_known v (x ∷ t.behind) may t.leaves in
+    let after : left_in_relay w ≡ t.behind =
     left_known w t.behind (ap (λ (y : Hand). y.may_put) t.takes ∙ may) (λ _. ap (λ (y : Hand). y.put_items) t.takes ∙ all ∙ sym rest ∙ ap (λ l. l ++ t.behind) (sym took)) in
     ap (λ l. w.taken_items ++ l) after ∙ ap (λ l. l ++ t.behind) took ∙ rest ∙ ap (λ l. v.taken_items ++ l) (sym before))
     (λ (may : v.may_put ≡ false). absurd (not_ended v (left_unknown v may) open_still ended))
     (cases_Bool v.may_put)
 
 -- where the end is known and didn't come, the channel isn't found empty
-pub never_empty : (v : Hand) (items : List Item) → length items ≡ 0 → Leaves v items → end_of v.taken_items ≡ None → are_ended (v.taken_items ++ left_in v) ≡ true → ⊥
+pub never_empty : (v : Hand) (items : List Item) → length items ≡ 0 → Leaves v items → end_mark_of v.taken_items ≡ None → are_ended (v.taken_items ++ left_in_relay v) ≡ true → ⊥
 never_empty v (x ∷ items) none leaves open_still ended = absurd (omega arith)
 never_empty v [] none leaves open_still ended =
     ⊎_elim

@@ -9,7 +9,7 @@ use Rattle.rankfeed.specs.declared.channel.PutFault.TheVariants.{Full, Closed, L
 use Rattle.rankfeed.specs.declared.channel.Feed.{Feed}
 use Rattle.rankfeed.specs.declared.channel.Taker.{Taker}
 use Rattle.rankfeed.specs.declared.channel.Receipt.{Receipt}
-use Rattle.rankfeed.specs.Relays.{left_in}
+use Rattle.rankfeed.specs.Relays.{left_in_relay}
 
 -- the record that a refused put hands back
 abbrev pub handed_back : PutFault → Call
@@ -59,4 +59,4 @@ received_by taker = (view taker.pass).taken_items
 
 -- the items that are known to be left; all of them, once the taker met its receipt
 abbrev pub left_for : Taker → List Item
-left_for taker = left_in (view taker.pass)
+left_for taker = left_in_relay (view taker.pass)

@@ -50,12 +50,12 @@ mark_in (Some (Mark earlier)) = Some earlier
 mark_in (Some (Entry call)) = None
 mark_in None = None
 
-abbrev pub end_of : List Item → Option Ending
-end_of items = mark_in (last_item items)
+abbrev pub end_mark_of : List Item → Option Ending
+end_mark_of items = mark_in (last_item items)
 
 -- the last item is an end mark
 abbrev pub are_ended : List Item → Bool
-are_ended items = is_some (end_of items)
+are_ended items = is_some (end_mark_of items)
 
 -- the records among the items
 abbrev pub calls_among : List Item → List Call

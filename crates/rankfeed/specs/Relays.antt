@@ -41,5 +41,5 @@ pub record Taken (v : Hand) (next : Item) (w : Hand) : Type 0 where
   pub leaves : Leaves v (next ∷ behind)
 
 -- what a hand knows to be left: all that is, where it has all that was put
-abbrev pub left_in : Hand → List Item
-left_in v = if v.may_put then drop (length v.taken_items) v.put_items else []
+abbrev pub left_in_relay : Hand → List Item
+left_in_relay v = if v.may_put then drop (length v.taken_items) v.put_items else []

@@ -20,17 +20,17 @@ pub record FeedName : Type 0 where
   pub names : Names
   pub heap : Global
 
-abbrev pub name_of : {P : Type 0} → ℕ → End Item Global P → FeedName
-name_of number end = record { rank_number = number; words = end.words; slots = end.slots; names = end.names; heap = end.heap }
+abbrev pub name_of_feed : {P : Type 0} → ℕ → End Item Global P → FeedName
+name_of_feed number end = record { rank_number = number; words = end.words; slots = end.slots; names = end.names; heap = end.heap }
 
 abbrev pub feed_ring : Feed → FeedName
-feed_ring feed = name_of feed.rank feed.ring.end
+feed_ring feed = name_of_feed feed.rank feed.ring.end
 
 abbrev pub taker_ring : Taker → FeedName
-taker_ring taker = name_of taker.rank taker.ring.end
+taker_ring taker = name_of_feed taker.rank taker.ring.end
 
 abbrev pub receipt_ring : Receipt → FeedName
-receipt_ring receipt = name_of receipt.rank receipt.ring.end
+receipt_ring receipt = name_of_feed receipt.rank receipt.ring.end
 
 -- the items put so far
 abbrev pub sent_by : Feed → List Item

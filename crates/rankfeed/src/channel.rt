@@ -5,7 +5,7 @@
 ghost use Rattle.std.specs.Prelude.{◌≡◌, ◌<◌, ◌^◌, ◌+◌, ◌≤◌, true, false, None, length};
 ghost use Rattle.crossbeam_channel.specs.Claims.{view, IsSeatAt};
 ghost use Rattle.crossbeam_channel.specs.Ends.{sends_on, receives_on, ruled_capacity};
-ghost use Rattle.rankfeed.specs.Items.{may_follow, last_item, are_in_order, end_the_list, end_of, are_ended};
+ghost use Rattle.rankfeed.specs.Items.{may_follow, last_item, are_in_order, end_the_list, end_mark_of, are_ended};
 
 use crate::answer::{Met, Took, Unsealed};
 use crate::item::{Ending, Item};
@@ -50,7 +50,7 @@ pub struct Feed {
     ghost puts: { (view pass).may_put ≡ true },
     ghost in_order: { are_in_order (view pass).put_items ≡ true },
     ghost closed: { end_the_list (view pass).put_items ≡ done },
-    ghost unended: { end_of (view pass).put_items ≡ None },
+    ghost unended: { end_mark_of (view pass).put_items ≡ None },
     ghost counted: { count ≡ length (view pass).put_items },
     ghost countable: { count + 1 < 2 ^ 64 },
     ghost small: { ruled_capacity (sends_on sender) < 2 ^ 16 },
@@ -67,7 +67,7 @@ pub struct Taker {
     ghost on: { IsSeatAt (receives_on receiver) pass },
     ghost takes: { (view pass).may_take ≡ true },
     ghost in_order: { are_in_order (view pass).taken_items ≡ true },
-    ghost ended: { end_of (view pass).taken_items ≡ end },
+    ghost ended: { end_mark_of (view pass).taken_items ≡ end },
     ghost counted: { count ≡ length (view pass).taken_items },
 }
 
@@ -283,7 +283,7 @@ impl Taker {
     #[tactic(auto, using(crate::proofs::ItemLemmas::item_steps))]
     pub fn try_take<R: Wait>(&mut self, wait: &R) -> Took
         ensures same { SameTaker self.old self.new }
-        ensures received { Receives (end_of (received_by self.old)) result (received_by self.old) (received_by self.new) }
+        ensures received { Receives (end_mark_of (received_by self.old)) result (received_by self.old) (received_by self.new) }
         ensures order { IsFeed (received_by self.new) }
         ensures left { are_ended (received_by self.old ++ left_for self.old) ≡ true → received_by self.new ++ left_for self.new ≡ received_by self.old ++ left_for self.old }
         ensures never_empty { are_ended (received_by self.old ++ left_for self.old) ≡ true → ¬ (result ≡ Took.Empty) }

@@ -2,7 +2,7 @@
 
 ghost use Rattle.std.specs.Prelude.{◌≡◌, ◌<◌, ◌+◌, ◌≤◌, true, false, None, length};
 ghost use Rattle.rtrb.specs.Ring.{sent, received, all_sent, known_free, producer_capacity};
-ghost use Rattle.rankfeed.specs.Items.{may_follow, last_item, are_in_order, end_the_list, end_of, are_ended};
+ghost use Rattle.rankfeed.specs.Items.{may_follow, last_item, are_in_order, end_the_list, end_mark_of, are_ended};
 
 use crate::answer::{Came, Met, PutFault, Took, Unsealed};
 use crate::bell::Bell;
@@ -32,7 +32,7 @@ pub struct Feed {
     done: bool,
     ghost in_order: { are_in_order (sent ring) ≡ true },
     ghost closed: { end_the_list (sent ring) ≡ done },
-    ghost unended: { end_of (sent ring) ≡ None },
+    ghost unended: { end_mark_of (sent ring) ≡ None },
     // The end mark's place.
     ghost kept: { 0 < known_free ring },
     ghost roomy: { producer_capacity ring ≤ length (sent ring) + known_free ring },
@@ -46,7 +46,7 @@ pub struct Taker {
     bell: Bell,
     end: Option<Ending>,
     ghost in_order: { are_in_order (received ring) ≡ true },
-    ghost ended: { end_of (received ring) ≡ end },
+    ghost ended: { end_mark_of (received ring) ≡ end },
 }
 
 /// All that was put on a feed, its end mark last.
@@ -255,8 +255,8 @@ impl Taker {
     #[tactic(auto, using(crate::proofs::ItemLemmas::item_steps))]
     pub fn look(&mut self) -> Came
         ensures name { taker_ring self.new ≡ taker_ring self.old }
-        ensures received { Looks (end_of (received_by self.old)) result (received_by self.old) (received_by self.new) }
-        ensures front { result ≡ Came.Record → IsSome (front_of self.new) × (end_of (received_by self.new) ≡ None) }
+        ensures received { Looks (end_mark_of (received_by self.old)) result (received_by self.old) (received_by self.new) }
+        ensures front { result ≡ Came.Record → IsSome (front_of self.new) × (end_mark_of (received_by self.new) ≡ None) }
         ensures left { are_ended (received_by self.old ++ left_for self.old) ≡ true → received_by self.new ++ left_for self.new ≡ received_by self.old ++ left_for self.old }
         ensures order { IsFeed (received_by self.new) }
         ensures never_empty { are_ended (received_by self.old ++ left_for self.old) ≡ true → ¬ (result ≡ Came.Empty) }
@@ -293,7 +293,7 @@ impl Taker {
     #[tactic(auto, using(crate::proofs::ItemLemmas::item_steps))]
     pub fn pass(&mut self)
         requires front { IsSome (front_of self.old) }
-        requires open { end_of (received_by self.old) ≡ None }
+        requires open { end_mark_of (received_by self.old) ≡ None }
         ensures name { taker_ring self.new ≡ taker_ring self.old }
         ensures received { (call : Call) → front_of self.old ≡ Some call → received_by self.new ≡ received_by self.old ++ Entry call ∷ [] }
         ensures left { received_by self.new ++ left_for self.new ≡ received_by self.old ++ left_for self.old }
@@ -308,7 +308,7 @@ impl Taker {
     /// Takes the item at the front.
     pub fn try_take(&mut self) -> Took
         ensures name { taker_ring self.new ≡ taker_ring self.old }
-        ensures received { Receives (end_of (received_by self.old)) result (received_by self.old) (received_by self.new) }
+        ensures received { Receives (end_mark_of (received_by self.old)) result (received_by self.old) (received_by self.new) }
         ensures left { are_ended (received_by self.old ++ left_for self.old) ≡ true → received_by self.new ++ left_for self.new ≡ received_by self.old ++ left_for self.old }
         ensures order { IsFeed (received_by self.new) }
         ensures never_empty { are_ended (received_by self.old ++ left_for self.old) ≡ true → ¬ (result ≡ Took.Empty) }

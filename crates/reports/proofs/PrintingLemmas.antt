@@ -12,7 +12,7 @@ use Rattle.mpicall.specs.Device.{one_more, AppendsBeginning, CountsFailure}
 use Rattle.mpicall.specs.Spelling.{space, line_feed}
 use Rattle.waitgraph.specs.Causes.{CycleOf}
 use Rattle.reports.specs.TextReport.{cause_line}
-use Rattle.reports.specs.Printing.{IsPrinted, Keeps, Prints}
+use Rattle.reports.specs.Printing.{IsPrinted, KeepsPrinted, Prints}
 use Rattle.reports.specs.declared.report.printer.Printer.{Printer}
 
 -- a beginning of a text is one of a longer text
@@ -36,7 +36,7 @@ printed_push false begun count before written failures waits text h = (
 printed_push true begun count before written failures waits text h = (begins_longer begun written before text h.0, h.1)
 
 pub prints_pushed : {O : Type 0} (written : O → Option (List ℕ)) (failures : O → ℕ) (a b : O) (p q : Printer) (page text : List ℕ) →
-    Keeps written failures a p b q → page ≡ q.page ++ text → Prints written failures a p b (record { page = page; failed = q.failed }) text
+    KeepsPrinted written failures a p b q → page ≡ q.page ++ text → Prints written failures a p b (record { page = page; failed = q.failed }) text
 prints_pushed written failures a b p q page text keeps put begun count before h =
     rw put (printed_push q.failed begun count before (written b) (failures b) q.page text (keeps begun count before h))
 

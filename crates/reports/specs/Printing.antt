@@ -24,8 +24,8 @@ IsPrinted false begun count text written failures waits = IsOnTheWay begun text 
 IsPrinted true begun count text written failures waits = AppendsBeginning begun written text × (failures ≡ one_more count)
 
 -- what was printed before still is
-abbrev pub Keeps : {O : Type 0} → (O → Option (List ℕ)) → (O → ℕ) → O → Printer → O → Printer → Type 0
-Keeps written failures out printer out' printer' =
+abbrev pub KeepsPrinted : {O : Type 0} → (O → Option (List ℕ)) → (O → ℕ) → O → Printer → O → Printer → Type 0
+KeepsPrinted written failures out printer out' printer' =
     (begun : Option (List ℕ)) (count : ℕ) (before : List ℕ) →
     IsPrinted printer.failed begun count before (written out) (failures out) printer.page →
     IsPrinted printer'.failed begun count before (written out') (failures out') printer'.page
@@ -38,6 +38,6 @@ Prints written failures out printer out' printer' text =
     IsPrinted printer'.failed begun count (before ++ text) (written out') (failures out') printer'.page
 
 -- all of a text is with the output; or a beginning of it, and one failure more
-abbrev pub Ends : {T E : Type 0} → Option (List ℕ) → ℕ → Option (List ℕ) → ℕ → List ℕ → Result T E → Type 0
-Ends begun count written failures text result =
+abbrev pub PrintsAll : {T E : Type 0} → Option (List ℕ) → ℕ → Option (List ℕ) → ℕ → List ℕ → Result T E → Type 0
+PrintsAll begun count written failures text result =
     MatchResult result (λ _. Appends begun written text × (failures ≡ count)) (λ _. AppendsBeginning begun written text × (failures ≡ one_more count))

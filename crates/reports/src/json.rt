@@ -37,6 +37,7 @@ fn verdict_text(verdict: Verdict) -> &'static str
 }
 
 /// Puts the causes behind the text, as one array.
+#[tactic(auto, using(crate::proofs::JsonLemmas::no_float_causes))]
 fn push_causes(alloc: Global, text: &mut String, causes: &[Cause]) -> Result<(), AllocError>
     ensures { OnOk result (string_bytes text.new ≡ string_bytes text.old ++ compact_text (each cause_data (map view_of causes.now))) }
 {

@@ -8,6 +8,9 @@
 //! - Where a write fails, what was written before is a beginning of that report. Want of memory is
 //!   told for JSON alone, and then nothing was written.
 //!
+//! Nobody has to believe `Printing`, `ArrayTexts` and `SpelledCalls`: they say how a report is put together, and no
+//! public contract cites them.
+//!
 //! ```text
 //! let graph = Graph::of(alloc, &analyser)?;
 //! write_report(alloc, &analyser, &graph, Format::Text, &mut output)?;

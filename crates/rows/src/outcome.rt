@@ -3,7 +3,7 @@
 use crate::arguments::Arguments;
 use crate::named::fault_of;
 use crate::row::{Asked, Row, Wanted};
-use crate::shelf::{Meeting, Shelf};
+use crate::shelf::{Meeting, RowShelf};
 use crate::sink::Sink;
 use command::capacity::Capacity;
 use command::fault::Fault;
@@ -88,7 +88,7 @@ fn answer_of_program<R: AllocGlobal + Eprint + Threads + Wait + Sync>(rt: &R, ro
     let mut err = FailsAt::new(Counted::new(sink), devices.failing_error);
     let given = (Arguments(row.words.as_slice()), rt.alloc());
     let meeting = Meeting::new();
-    let shelf = Shelf {
+    let shelf = RowShelf {
         row,
         meeting: &meeting,
     };

@@ -76,12 +76,12 @@ impl<'a> io::Read for Pieces<'a> {
 
 /// The files of a row, and the meeting of two of them.
 #[derive(Drop)]
-pub struct Shelf<'a> {
+pub struct RowShelf<'a> {
     pub row: &'a Row,
     pub meeting: &'a Meeting,
 }
 
-impl<'a> Shelf<'a> {
+impl<'a> RowShelf<'a> {
     /// The text of the file that a path names.
     fn text(&self, path: &str) -> Option<&'a [u8]> {
         let row = self.row;
@@ -113,7 +113,7 @@ impl<'a> Shelf<'a> {
     }
 }
 
-impl<'a> Opener for Shelf<'a> {
+impl<'a> Opener for RowShelf<'a> {
     type In = FailsAt<Counted<Pieces<'a>>>;
 
     ghost told = { λ _ _. None };

@@ -1,10 +1,12 @@
 -- What the items of the ranks' feeds say of the traces that the sources tell.
 use Rattle.moves.specs.declared.reading.Reading.{Reading}
-use Rattle.std.proofs.Common.{◌≡◌, ⊎_elim, ℕ, zero, suc, ◌+◌, ◌<◌, ◌-◌, Bool, true, false, Option, Some, None, Ok, Err, IfOk, IfErr, IfSome, option_and_then, Result, All, List, [], ◌∷◌, ◌++◌, length, map, slice_get, refl, sym, ap, subst, ◌∙◌, arith, append_assoc, append-nil}
+use Rattle.std.proofs.Common.{◌≡◌, ⊎_elim, ℕ, zero, suc, ◌+◌, ◌<◌, ◌-◌, Bool, true, false, Option, Some, None, Ok, Err, IfOk, IfErr, IfSome, option_and_then, Result, All, List, [], ◌∷◌, ◌++◌, length, map, slice_get, refl, sym, ap, subst, ◌∙◌, arith, append_assoc, append-nil, get_or, inl, inr}
 use Rattle.std.specs.List.{range_with_len}
 use Rattle.std.proofs.lemmas.List.FromFn.{length-range_with_len}
-use Rattle.std.proofs.lemmas.Option.{none-some}
+use Rattle.std.proofs.lemmas.Option.{none-some, slice_get-map, slice_get-get_or, slice_get_within}
 use Rattle.std.proofs.lemmas.Bool.{false≢true}
+use Rattle.std.proofs.lemmas.List.{length-map}
+use Rattle.std.specs.Option.{option_map}
 use Rattle.mpicall.specs.Trace.{Trace, End}
 use Rattle.mpicall.specs.Trace as Trace
 use Rattle.mpicall.specs.Source.{coming}
@@ -16,7 +18,7 @@ use Rattle.mpigroup.specs.Groups.{Groups, ranks_of}
 use Rattle.pairing.specs.Faults.{fault_of}
 use Rattle.pairing.specs.declared.fault.CallFault.{CallFault}
 use Rattle.pairing.specs.Recordings.{Lists, calls_of, is_ended, IsClosed}
-use Rattle.rankfeed.specs.Items.{calls_among, end_of, end_the_list, item_ends_list, last_behind}
+use Rattle.rankfeed.specs.Items.{calls_among, end_mark_of, end_the_list, item_ends_list, last_behind}
 use Rattle.rankfeed.specs.Rings.{FeedName, feed_ring, receipt_ring, sent_by, sent_whole}
 use Rattle.rankfeed.specs.declared.item.Ending.{Ending}
 use Rattle.rankfeed.specs.declared.item.Ending.TheVariants.{Sealed, Torn}
@@ -25,7 +27,7 @@ use Rattle.rankfeed.specs.declared.item.Item.TheVariants.{Entry}
 use Rattle.rankfeed.specs.declared.answer.Unsealed.{Unsealed}
 use Rattle.rankfeed.specs.declared.ring.Feed.{Feed}
 use Rattle.rankfeed.specs.declared.ring.Receipt.{Receipt}
-use Rattle.gather.specs.Answers.{fault_of_rank, fault_behind, fault_of_end, or_behind, refusal_or, refusal_from, refusal_of, lists_of}
+use Rattle.gather.specs.Answers.{fault_of_rank, fault_onward, fault_of_end, or_behind, refusal_or, refusal_from, refusal_of, recording_of_traces}
 use Rattle.gather.specs.Closes.{Closes, IsOutcomeOver}
 use Rattle.gather.specs.Fed.{marked, end_behind, mark_of, Begins, EndsAs, StopsAs, IsFed, line_behind}
 use Rattle.runs.specs.Ranks.{told_by, AcceptsAll, AcceptsRank, HasNoFault, IsLowestRefusal, IsRefusalOf}
@@ -36,7 +38,7 @@ use Rattle.runs.specs.Runs.{receipt_of, receipt_in, AreFedBy, IsOutcomeOfFeeds, 
 use Rattle.gather.specs.declared.outcome.CloseFault.{CloseFault}
 use Rattle.gather.specs.declared.outcome.CloseFault.TheVariants.{Memory, Unproved, Refused}
 use Rattle.gather.specs.declared.collector.Collector.{Collector}
-use Rattle.gather.specs.Takers.{rank_of, IsFreshFeed}
+use Rattle.gather.specs.Takers.{rank_fed, IsFreshFeed}
 use Rattle.runs.specs.Threads.{IsFedOrNotStarted, AreFedFrom}
 use Rattle.runs.specs.Told.{is_from_outside}
 use Rattle.gather.specs.declared.fault.RankFault.{RankFault}
@@ -46,6 +48,7 @@ use Rattle.moves.specs.Analysed.{Analysed}
 use Rattle.runs.specs.declared.threads.Fed.{Fed}
 use Rattle.gather.proofs.CloseLemmas.{own_none, behind_none}
 use Rattle.gather.proofs.FedLemmas.{marked_calls, marked_end}
+use Rattle.gather.proofs.CollectedLemmas.{torn_behind}
 
 -- One rank's first fault: over its items, and over the trace that its source tells.
 
@@ -59,13 +62,13 @@ or_own place None x y inside same = same inside
 or_own place (Some fault) x y inside same = refl
 
 -- behind a stop from outside: the fault lies before it, so it is that of whatever goes on there
-before_stop : (groups : Groups) (rank : ℕ) (before calls rest : List Call) (fault : SourceFault) (end : End) → is_from_outside (OfSource fault) ≡ true → outside_at (fault_behind groups rank before calls (Trace.Torn fault)) ≡ false → fault_behind groups rank before calls (Trace.Torn fault) ≡ fault_behind groups rank before (calls ++ rest) end
+before_stop : (groups : Groups) (rank : ℕ) (before calls rest : List Call) (fault : SourceFault) (end : End) → is_from_outside (OfSource fault) ≡ true → outside_at (fault_onward groups rank before calls (Trace.Torn fault)) ≡ false → fault_onward groups rank before calls (Trace.Torn fault) ≡ fault_onward groups rank before (calls ++ rest) end
 before_stop groups rank before [] rest fault end stop inside = absurd (false≢true (sym inside ∙ stop))
 before_stop groups rank before (call ∷ calls) rest fault end stop inside =
     or_own (length before) (fault_of groups rank before call) _ _ inside (before_stop groups rank (before ++ call ∷ []) calls rest fault end stop)
 
 -- ends with which the same calls have the same fault
-same_end : (groups : Groups) (rank : ℕ) (before calls : List Call) (a b : End) → fault_of_end (before ++ calls) a ≡ fault_of_end (before ++ calls) b → fault_behind groups rank before calls a ≡ fault_behind groups rank before calls b
+same_end : (groups : Groups) (rank : ℕ) (before calls : List Call) (a b : End) → fault_of_end (before ++ calls) a ≡ fault_of_end (before ++ calls) b → fault_onward groups rank before calls a ≡ fault_onward groups rank before calls b
 same_end groups rank before [] a b same = subst (λ (xs : List Call). fault_of_end xs a ≡ fault_of_end xs b) (append-nil before) same
 same_end groups rank before (call ∷ calls) a b same =
     ap (or_behind (length before) (fault_of groups rank before call))
@@ -93,19 +96,19 @@ end_told records Trace.Sealed = by_ends (end_the_list (map Entry records)) recor
 
 -- the first fault over calls with their mark
 abbrev pub held_fault : Groups → ℕ → List Call → Ending → Option (ℕ × RankFault)
-held_fault groups rank calls end = fault_behind groups rank [] calls (end_by (Some end))
+held_fault groups rank calls end = fault_onward groups rank [] calls (end_by (Some end))
 
-whole_agrees : (groups : Groups) (rank : ℕ) (trace : Trace) (calls : List Call) (end : Ending) → (trace.records ≡ calls) × (end ≡ mark_of trace.records trace.end) → held_fault groups rank calls end ≡ fault_behind groups rank [] trace.records trace.end
+whole_agrees : (groups : Groups) (rank : ℕ) (trace : Trace) (calls : List Call) (end : Ending) → (trace.records ≡ calls) × (end ≡ mark_of trace.records trace.end) → held_fault groups rank calls end ≡ fault_onward groups rank [] trace.records trace.end
 whole_agrees groups rank trace calls end whole =
     ap (λ (xs : List Call). held_fault groups rank xs end) (sym whole.0)
     ∙ ap (held_fault groups rank trace.records) whole.1
     ∙ same_end groups rank [] trace.records (end_by (Some (mark_of trace.records trace.end))) trace.end (end_told trace.records trace.end)
 
-stop_agrees : (groups : Groups) (rank : ℕ) (trace : Trace) (calls : List Call) (fault : SourceFault) → Begins calls trace.records → is_from_outside (OfSource fault) ≡ true → outside_at (held_fault groups rank calls (Torn fault)) ≡ false → held_fault groups rank calls (Torn fault) ≡ fault_behind groups rank [] trace.records trace.end
+stop_agrees : (groups : Groups) (rank : ℕ) (trace : Trace) (calls : List Call) (fault : SourceFault) → Begins calls trace.records → is_from_outside (OfSource fault) ≡ true → outside_at (held_fault groups rank calls (Torn fault)) ≡ false → held_fault groups rank calls (Torn fault) ≡ fault_onward groups rank [] trace.records trace.end
 stop_agrees groups rank trace calls fault begins stop inside =
-    before_stop groups rank [] calls begins.0 fault trace.end stop inside ∙ ap (λ (xs : List Call). fault_behind groups rank [] xs trace.end) (sym begins.1)
+    before_stop groups rank [] calls begins.0 fault trace.end stop inside ∙ ap (λ (xs : List Call). fault_onward groups rank [] xs trace.end) (sym begins.1)
 
-agrees_as : (groups : Groups) (rank : ℕ) (trace : Trace) (calls : List Call) (end : Ending) → EndsAs trace calls end → outside_at (held_fault groups rank calls end) ≡ false → held_fault groups rank calls end ≡ fault_behind groups rank [] trace.records trace.end
+agrees_as : (groups : Groups) (rank : ℕ) (trace : Trace) (calls : List Call) (end : Ending) → EndsAs trace calls end → outside_at (held_fault groups rank calls end) ≡ false → held_fault groups rank calls end ≡ fault_onward groups rank [] trace.records trace.end
 agrees_as groups rank trace calls Sealed ends inside = whole_agrees groups rank trace calls Sealed ends
 agrees_as groups rank trace calls (Torn (Line fault)) ends inside = whole_agrees groups rank trace calls (Torn (Line fault)) ends
 agrees_as groups rank trace calls (Torn TextAfterFinalize) ends inside = whole_agrees groups rank trace calls (Torn TextAfterFinalize) ends
@@ -120,7 +123,7 @@ trace_by calls end = record { records = calls; end = end }
 held_trace : (calls : List Call) (end : Ending) (items : List Item) → items ≡ marked calls end → trace_of_items items ≡ trace_by calls (end_by (Some end))
 held_trace calls end items is =
     ap trace_of_items is
-    ∙ ap (λ (xs : List Call). trace_by xs (end_by (end_of (marked calls end)))) (marked_calls calls end)
+    ∙ ap (λ (xs : List Call). trace_by xs (end_by (end_mark_of (marked calls end)))) (marked_calls calls end)
     ∙ ap (λ (mark : Option Ending). trace_by calls (end_by mark)) (marked_end calls end)
 
 fault_held : (groups : Groups) (rank : ℕ) (calls : List Call) (end : Ending) (items : List Item) → items ≡ marked calls end → fault_of_rank groups rank (trace_of_items items) ≡ held_fault groups rank calls end
@@ -130,25 +133,16 @@ fault_held groups rank calls end items is = ap (fault_of_rank groups rank) (held
 -- a fault over the items that doesn't come from outside is that of the trace, and so is none
 agrees : (groups : Groups) (rank : ℕ) (trace : Trace) (may_stop : ℕ → Type 0) (items : List Item) → IsFedOrNotStarted (Some trace) may_stop items → outside_at (fault_of_rank groups rank (trace_of_items items)) ≡ false → fault_of_rank groups rank (trace_of_items items) ≡ fault_of_rank groups rank trace
 unfolding fault_of_rank
-agrees groups rank trace may_stop items fed inside =
-    ⊎_elim
-    (λ (own : IsFed (Some trace) may_stop items).
+agrees groups rank trace may_stop items (inl own) inside =
     let is = fault_held groups rank own.calls own.end items own.are in
-    is ∙ agrees_as groups rank trace own.calls own.end own.whole (ap outside_at (sym is) ∙ inside))
-    (λ (none : items ≡ marked [] (Torn ThreadNotStarted)).
-    let is = fault_held groups rank [] (Torn ThreadNotStarted) items none in
-    absurd (false≢true (sym inside ∙ ap outside_at is)))
-    fed
+    is ∙ agrees_as groups rank trace own.calls own.end own.whole (ap outside_at (sym is) ∙ inside)
+agrees groups rank trace may_stop items (inr none) inside = absurd (false≢true (sym inside ∙ ap outside_at (fault_held groups rank [] (Torn ThreadNotStarted) items none)))
 
 -- without a fault the records are the trace's
 
-some_fault : (place : ℕ) (own : Option CallFault) (x : Option (ℕ × RankFault)) → ¬ (x ≡ None) → ¬ (or_behind place own x ≡ None)
-some_fault place None x some = some
-some_fault place (Some fault) x some = λ e. none-some _ (sym e)
-
-torn_never_none : (groups : Groups) (rank : ℕ) (before calls : List Call) (fault : SourceFault) → ¬ (fault_behind groups rank before calls (Trace.Torn fault) ≡ None)
+torn_never_none : (groups : Groups) (rank : ℕ) (before calls : List Call) (fault : SourceFault) → ¬ (fault_onward groups rank before calls (Trace.Torn fault) ≡ None)
 torn_never_none groups rank before [] fault = λ e. none-some _ (sym e)
-torn_never_none groups rank before (call ∷ calls) fault = some_fault (length before) (fault_of groups rank before call) _ (torn_never_none groups rank (before ++ call ∷ []) calls fault)
+torn_never_none groups rank before (call ∷ calls) fault = torn_behind (length before) (fault_of groups rank before call) _ (torn_never_none groups rank (before ++ call ∷ []) calls fault)
 
 records_as : (groups : Groups) (rank : ℕ) (trace : Trace) (calls : List Call) (end : Ending) → EndsAs trace calls end → held_fault groups rank calls end ≡ None → calls ≡ trace.records
 records_as groups rank trace calls Sealed ends none = sym ends.0
@@ -197,7 +191,7 @@ unfolding source_at
 or_source place None x at fault e = e
 or_source place (Some own) x at fault e = absurd (false≢true (ap source_at e))
 
-source_fault : (groups : Groups) (rank : ℕ) (before calls : List Call) (end : End) (at : ℕ) (fault : SourceFault) → fault_behind groups rank before calls end ≡ Some (at, OfSource fault) → fault_of_end (before ++ calls) end ≡ Some (at, OfSource fault)
+source_fault : (groups : Groups) (rank : ℕ) (before calls : List Call) (end : End) (at : ℕ) (fault : SourceFault) → fault_onward groups rank before calls end ≡ Some (at, OfSource fault) → fault_of_end (before ++ calls) end ≡ Some (at, OfSource fault)
 source_fault groups rank before [] end at fault e = ap (λ (xs : List Call). fault_of_end xs end) (append-nil before) ∙ e
 source_fault groups rank before (call ∷ calls) end at fault e =
     ap (λ (xs : List Call). fault_of_end xs end) (sym (append_assoc before (call ∷ []) calls))
@@ -211,24 +205,17 @@ sealed_stops_none false calls at is e = let h : Some (length calls, OfSource NoF
 stops_as : (may_stop : ℕ → Type 0) (calls : List Call) (end : Ending) (at : ℕ) → StopsAs may_stop calls end → fault_of_end calls (end_by (Some end)) ≡ Some (at, OfSource GateStopped) → may_stop (line_behind at)
 unfolding gate_at place_at
 stops_as may_stop calls Sealed at stops e = absurd (sealed_stops_none (is_ended calls) calls at refl e)
-stops_as may_stop calls (Torn (Line fault)) at stops e = absurd (false≢true (ap gate_at e))
-stops_as may_stop calls (Torn TextAfterFinalize) at stops e = absurd (false≢true (ap gate_at e))
-stops_as may_stop calls (Torn NoFinalize) at stops e = absurd (false≢true (ap gate_at e))
-stops_as may_stop calls (Torn ReadFailed) at stops e = absurd (false≢true (ap gate_at e))
-stops_as may_stop calls (Torn ThreadNotStarted) at stops e = absurd (false≢true (ap gate_at e))
 stops_as may_stop calls (Torn GateStopped) at stops e = let here : length calls ≡ at = ap place_at e in subst (λ (n : ℕ). may_stop (line_behind n)) here stops
+stops_as may_stop calls end at stops e = absurd (false≢true (ap gate_at e))
 
 stopped_there : (groups : Groups) (rank : ℕ) (told : Option Trace) (may_stop : ℕ → Type 0) (items : List Item) (at : ℕ) → IsFedOrNotStarted told may_stop items → fault_of_rank groups rank (trace_of_items items) ≡ Some (at, OfSource GateStopped) → may_stop (line_behind at)
 unfolding gate_at
-stopped_there groups rank told may_stop items at fed is =
-    ⊎_elim
-    (λ (own : IsFed told may_stop items).
+stopped_there groups rank told may_stop items at (inl own) is =
     stops_as may_stop own.calls own.end at own.stopped
-    (source_fault groups rank [] own.calls (end_by (Some own.end)) at GateStopped (sym (fault_held groups rank own.calls own.end items own.are) ∙ is)))
-    (λ (none : items ≡ marked [] (Torn ThreadNotStarted)).
+    (source_fault groups rank [] own.calls (end_by (Some own.end)) at GateStopped (sym (fault_held groups rank own.calls own.end items own.are) ∙ is))
+stopped_there groups rank told may_stop items at (inr none) is =
     let e : Some (0, OfSource ThreadNotStarted) ≡ Some (at, OfSource GateStopped) = sym (fault_held groups rank [] (Torn ThreadNotStarted) items none) ∙ is in
-    absurd (false≢true (ap gate_at e)))
-    fed
+    absurd (false≢true (ap gate_at e))
 
 -- All ranks.
 
@@ -236,23 +223,15 @@ stopped_there groups rank told may_stop items at fed is =
 
 pub found_at : {A : Type 0} (xs : List A) (k : ℕ) → k < length xs → (x : A) × (slice_get xs k ≡ Some x)
 found_at [] k below = absurd (omega arith)
-found_at (x ∷ xs) zero below = (x, refl)
-found_at (x ∷ xs) (suc k) below = found_at xs k (omega arith)
+found_at (x ∷ xs) k below = (get_or (x ∷ xs) k x, slice_get-get_or (x ∷ xs) k x below)
 
-mapped_at : {A B : Type 0} (f : A → B) (xs : List A) (k : ℕ) (x : A) → slice_get xs k ≡ Some x → slice_get (map f xs) k ≡ Some (f x)
-mapped_at f [] k x e = cc
-mapped_at f (y ∷ ys) zero x e = let same : y ≡ x = cc in ap (λ z. Some (f z)) same
-mapped_at f (y ∷ ys) (suc k) x e = mapped_at f ys k x e
+pub mapped_at : {A B : Type 0} (f : A → B) (xs : List A) (k : ℕ) (x : A) → slice_get xs k ≡ Some x → slice_get (map f xs) k ≡ Some (f x)
+mapped_at f xs k x e = slice_get-map f xs k ∙ ap (option_map f) e
 
 unmapped_at : {A B : Type 0} (f : A → B) (xs : List A) (k : ℕ) (y : B) → slice_get (map f xs) k ≡ Some y → (x : A) × (slice_get xs k ≡ Some x) × (f x ≡ y)
 unmapped_at f [] k y e = cc
 unmapped_at f (x ∷ xs) zero y e = (x, refl, let same : f x ≡ y = cc in same)
 unmapped_at f (x ∷ xs) (suc k) y e = unmapped_at f xs k y e
-
-within_list : {A : Type 0} (xs : List A) (k : ℕ) (x : A) → slice_get xs k ≡ Some x → k < length xs
-within_list [] k x e = cc
-within_list (y ∷ ys) zero x e = omega arith
-within_list (y ∷ ys) (suc k) x e = omega (arith, within_list ys k x e)
 
 module _ {I : Type 0} (left : I → Option (List ℕ)) (may_stop : ℕ → ℕ → Type 0) where
   pub one_list_a_source : (first : ℕ) (sources : List (Source I)) (items : List (List Item)) → AreFedBy left may_stop first sources items → length items ≡ length sources
@@ -335,17 +314,13 @@ refusal_place groups first [] refusal e = cc
 refusal_place groups first (trace ∷ traces) refusal e =
     first_or_behind groups first trace traces refusal (fault_of_rank groups first trace) refl e (refusal_place groups (first + 1) traces refusal)
 
-calls_at : (traces : List Trace) (k : ℕ) (trace : Trace) → slice_get traces k ≡ Some trace → calls_of (lists_of traces) k ≡ trace.records
+calls_at : (traces : List Trace) (k : ℕ) (trace : Trace) → slice_get traces k ≡ Some trace → calls_of (recording_of_traces traces) k ≡ trace.records
 calls_at [] k trace at = cc
 calls_at (t ∷ ts) zero trace at = let same : t ≡ trace = cc in ap (λ (s : Trace). s.records) same
 calls_at (t ∷ ts) (suc k) trace at = calls_at ts k trace at
 
 told_here : {I : Type 0} (left : I → Option (List ℕ)) (sources : List (Source I)) (rank : ℕ) (source : Source I) → slice_get sources rank ≡ Some source → coming left source ≡ told_by left sources rank
 told_here left sources rank source at = sym (ap (option_and_then (coming left)) at)
-
-mapped_length : {A B : Type 0} (f : A → B) (xs : List A) → length (map f xs) ≡ length xs
-mapped_length f [] = refl
-mapped_length f (x ∷ xs) = ap suc (mapped_length f xs)
 
 accepts_at : {I : Type 0} (left : I → Option (List ℕ)) (may_stop : ℕ → ℕ → Type 0) (sources : List (Source I)) (reading : Reading) (groups : Groups) (outcome : Analysed) → IsOutcomeOfFeeds left may_stop sources reading groups outcome → (rank : ℕ) → rank < length sources → AcceptsRank groups rank (told_by left sources rank) (calls_of outcome.recording rank)
 accepts_at left may_stop sources reading groups outcome is rank within =
@@ -362,7 +337,7 @@ accepts_at left may_stop sources reading groups outcome is rank within =
 pub accepts_all : {I : Type 0} (left : I → Option (List ℕ)) (may_stop : ℕ → ℕ → Type 0) (sources : List (Source I)) (reading : Reading) (groups : Groups) (outcome : Analysed) → length sources ≡ ranks_of groups → IsOutcomeOfFeeds left may_stop sources reading groups outcome → AcceptsAll groups (told_by left sources) outcome.recording
 accepts_all left may_stop sources reading groups outcome one is =
     let count : length outcome.recording ≡ length sources =
-    ap (λ (lists : Lists). length lists) is.over.recording ∙ mapped_length (λ (t : Trace). t.records) (map trace_of_items is.items) ∙ mapped_length trace_of_items is.items ∙ one_list_a_source left may_stop 0 sources is.items is.fed in record {
+    ap (λ (lists : Lists). length lists) is.over.recording ∙ length-map (map trace_of_items is.items) (λ (t : Trace). t.records) ∙ length-map is.items trace_of_items ∙ one_list_a_source left may_stop 0 sources is.items is.fed in record {
       one_a_rank = count ∙ one;
       closed = subst IsClosed (sym is.over.recording) is.over.closed;
       accepted = λ rank within. accepts_at left may_stop sources reading groups outcome is rank (omega (arith, count, within));
@@ -374,7 +349,7 @@ lowest_refusal left may_stop sources groups refusal one is =
     let own = unmapped_at trace_of_items is.items at.place at.trace at.there in
     let rank : at.place ≡ refusal.rank = omega (arith, at.rank) in
     let count = one_list_a_source left may_stop 0 sources is.items is.fed in
-    let inside : at.place < length sources = omega (arith, count, within_list is.items at.place own.0 own.1) in
+    let inside : at.place < length sources = omega (arith, count, slice_get_within is.items at.place own.0 own.1) in
     let source = found_at sources at.place inside in
     let fault : fault_of_rank groups refusal.rank (trace_of_items own.0) ≡ Some (refusal.call, refusal.fault) = ap (fault_of_rank groups refusal.rank) own.2 ∙ at.fault in record {
       is_rank = omega (arith, one, inside, rank);
@@ -396,7 +371,7 @@ stops_there left may_stop sources groups refusal is stopped =
     let at = refusal_place groups 0 (map trace_of_items is.items) refusal is.over in
     let own = unmapped_at trace_of_items is.items at.place at.trace at.there in
     let count = one_list_a_source left may_stop 0 sources is.items is.fed in
-    let source = found_at sources at.place (omega (arith, count, within_list is.items at.place own.0 own.1)) in
+    let source = found_at sources at.place (omega (arith, count, slice_get_within is.items at.place own.0 own.1)) in
     let fault : fault_of_rank groups refusal.rank (trace_of_items own.0) ≡ Some (refusal.call, OfSource GateStopped) =
     ap (fault_of_rank groups refusal.rank) own.2 ∙ at.fault ∙ ap (λ (f : RankFault). Some (refusal.call, f)) stopped in
     subst (λ (n : ℕ). may_stop n (line_behind refusal.call)) (sym at.rank)
@@ -411,11 +386,8 @@ if_received P (Err fault) is = tt
 module _ {I : Type 0} (left : I → Option (List ℕ)) (may_stop : ℕ → ℕ → Type 0) where
   pub receipts_of_feeds : (sources : List (Source I)) (feeds : List Feed) (fed : List Fed) → AreFedFrom left may_stop sources feeds fed → AreReceiptsOf (map feed_ring feeds) (map receipt_of fed)
   receipts_of_feeds [] [] [] are = tt
-  receipts_of_feeds [] [] (x ∷ xs) are = absurd are
-  receipts_of_feeds [] (f ∷ fs) xs are = absurd are
-  receipts_of_feeds (s ∷ ss) [] xs are = absurd are
-  receipts_of_feeds (s ∷ ss) (f ∷ fs) [] are = absurd are
   receipts_of_feeds (s ∷ ss) (f ∷ fs) (x ∷ xs) are = (if_received (λ receipt. receipt_ring receipt ≡ feed_ring f) x.receipt are.0.name, receipts_of_feeds ss fs xs are.1)
+  receipts_of_feeds sources feeds fed are = absurd are
 
 -- the items that receipts hold
 pub items_held : List (Option Receipt) → List (List Item)
@@ -437,18 +409,15 @@ one_more_fed left may_stop first number source sources (Ok receipt) receipts own
   behind present,
 )
 
-pub fed_by_threads : {I : Type 0} (left : I → Option (List ℕ)) (may_stop : ℕ → ℕ → Type 0) (first : ℕ) (sources : List (Source I)) (feeds : List Feed) (fed : List Fed) → AreFedFrom left may_stop sources feeds fed → map rank_of feeds ≡ range_with_len first (length feeds) → missing_from first (map receipt_of fed) ≡ None → AreFedBy left may_stop first sources (items_held (map receipt_of fed))
+pub fed_by_threads : {I : Type 0} (left : I → Option (List ℕ)) (may_stop : ℕ → ℕ → Type 0) (first : ℕ) (sources : List (Source I)) (feeds : List Feed) (fed : List Fed) → AreFedFrom left may_stop sources feeds fed → map rank_fed feeds ≡ range_with_len first (length feeds) → missing_from first (map receipt_of fed) ≡ None → AreFedBy left may_stop first sources (items_held (map receipt_of fed))
 unfolding items_held
 fed_by_threads left may_stop first [] [] [] are ranks present = tt
-fed_by_threads left may_stop first [] [] (x ∷ xs) are ranks present = absurd are
-fed_by_threads left may_stop first [] (f ∷ fs) xs are ranks present = absurd are
-fed_by_threads left may_stop first (s ∷ ss) [] xs are ranks present = absurd are
-fed_by_threads left may_stop first (s ∷ ss) (f ∷ fs) [] are ranks present = absurd are
 fed_by_threads left may_stop first (s ∷ ss) (f ∷ fs) (x ∷ xs) are ranks present =
-    let number : rank_of f ≡ first = cc in
-    let others : map rank_of fs ≡ range_with_len (first + 1) (length fs) = cc in
-    one_more_fed left may_stop first (rank_of f) s ss x.receipt (map receipt_of xs) are.0.items number present
+    let number : rank_fed f ≡ first = cc in
+    let others : map rank_fed fs ≡ range_with_len (first + 1) (length fs) = cc in
+    one_more_fed left may_stop first (rank_fed f) s ss x.receipt (map receipt_of xs) are.0.items number present
     (λ behind. fed_by_threads left may_stop (first + 1) ss fs xs are.1 others behind)
+fed_by_threads left may_stop first sources feeds fed are ranks present = absurd are
 
 -- the rank without a receipt is one of the ranks
 missing_below : (first : ℕ) (receipts : List (Option Receipt)) (rank : ℕ) → missing_from first receipts ≡ Some rank → rank < first + length receipts
@@ -464,10 +433,10 @@ missing_rank receipts rank e = let h = missing_below 0 receipts rank e in omega 
 pub none_put : (capacity : ℕ) (feeds : List Feed) → All (IsFreshFeed capacity) feeds → All (λ feed. sent_by feed ≡ []) feeds
 none_put capacity feeds fresh = λ k d within. (fresh k d within).1
 
-feeds_of : (groups : Groups) (feeds : List Feed) → map rank_of feeds ≡ range_with_len 0 (ranks_of groups) → length feeds ≡ ranks_of groups
-feeds_of groups feeds ranks = sym (mapped_length rank_of feeds) ∙ ap (λ (ns : List ℕ). length ns) ranks ∙ length-range_with_len 0 (ranks_of groups)
+feeds_of : (groups : Groups) (feeds : List Feed) → map rank_fed feeds ≡ range_with_len 0 (ranks_of groups) → length feeds ≡ ranks_of groups
+feeds_of groups feeds ranks = sym (length-map feeds rank_fed) ∙ ap (λ (ns : List ℕ). length ns) ranks ∙ length-range_with_len 0 (ranks_of groups)
 
-pub feeds_count : {I : Type 0} (groups : Groups) (feeds : List Feed) (sources : List (Source I)) → length sources ≡ ranks_of groups → map rank_of feeds ≡ range_with_len 0 (ranks_of groups) → length feeds ≡ length sources
+pub feeds_count : {I : Type 0} (groups : Groups) (feeds : List Feed) (sources : List (Source I)) → length sources ≡ ranks_of groups → map rank_fed feeds ≡ range_with_len 0 (ranks_of groups) → length feeds ≡ length sources
 feeds_count groups feeds sources one ranks = feeds_of groups feeds ranks ∙ sym one
 
 module _ {I : Type 0} (left : I → Option (List ℕ)) (may_stop : ℕ → ℕ → Type 0) (sources : List (Source I)) (feeds : List Feed) (fed : List Fed) (collector now : Collector) (receipts : List (Option Receipt)) (reading : Reading) (groups : Groups) where
@@ -475,13 +444,13 @@ module _ {I : Type 0} (left : I → Option (List ℕ)) (may_stop : ℕ → ℕ �
   close_receipts are rings_are same is =
       rw is (subst (λ (names : List FeedName). AreReceiptsOf names (map receipt_of fed)) (sym (same.names ∙ rings_are)) (receipts_of_feeds left may_stop sources feeds fed are))
 
-  all_fed : AreFedFrom left may_stop sources feeds fed → map rank_of feeds ≡ range_with_len 0 (ranks_of groups) → receipts ≡ map receipt_of fed → first_missing receipts ≡ None → AreFedBy left may_stop 0 sources (items_held receipts)
+  all_fed : AreFedFrom left may_stop sources feeds fed → map rank_fed feeds ≡ range_with_len 0 (ranks_of groups) → receipts ≡ map receipt_of fed → first_missing receipts ≡ None → AreFedBy left may_stop 0 sources (items_held receipts)
   all_fed are ranks is present =
-      let whole : map rank_of feeds ≡ range_with_len 0 (length feeds) = ranks ∙ ap (range_with_len 0) (sym (feeds_of groups feeds ranks)) in
+      let whole : map rank_fed feeds ≡ range_with_len 0 (length feeds) = ranks ∙ ap (range_with_len 0) (sym (feeds_of groups feeds ranks)) in
       let every : first_missing (map receipt_of fed) ≡ None = ap first_missing (sym is) ∙ present in
       rw is (fed_by_threads left may_stop 0 sources feeds fed are whole every)
 
-  outcome_of_feeds : (outcome : Analysed) → AreFedFrom left may_stop sources feeds fed → map rank_of feeds ≡ range_with_len 0 (ranks_of groups) → kept collector ≡ nothing_kept reading groups → IsSameSession collector now → receipts ≡ map receipt_of fed → (first_missing receipts ≡ None) × IsOutcomeOver (kept now).reading (kept now).groups (traces_held receipts) outcome → IsOutcomeOfFeeds left may_stop sources reading groups outcome
+  outcome_of_feeds : (outcome : Analysed) → AreFedFrom left may_stop sources feeds fed → map rank_fed feeds ≡ range_with_len 0 (ranks_of groups) → kept collector ≡ nothing_kept reading groups → IsSameSession collector now → receipts ≡ map receipt_of fed → (first_missing receipts ≡ None) × IsOutcomeOver (kept now).reading (kept now).groups (traces_held receipts) outcome → IsOutcomeOfFeeds left may_stop sources reading groups outcome
   outcome_of_feeds outcome are ranks first same is answer =
       let head : (kept now).groups ≡ groups = same.groups ∙ ap (λ (k : Kept). k.groups) first in
       let alike : (kept now).reading ≡ reading = same.reading ∙ ap (λ (k : Kept). k.reading) first in
@@ -491,7 +460,7 @@ module _ {I : Type 0} (left : I → Option (List ℕ)) (may_stop : ℕ → ℕ �
         over = subst (λ (ts : List Trace). IsOutcomeOver reading groups ts outcome) (held_traces receipts) (subst (λ (gs : Groups). IsOutcomeOver reading gs (traces_held receipts) outcome) head now_over);
       }
 
-  refusal_of_feeds : (refusal : Refusal) → AreFedFrom left may_stop sources feeds fed → map rank_of feeds ≡ range_with_len 0 (ranks_of groups) → kept collector ≡ nothing_kept reading groups → IsSameSession collector now → receipts ≡ map receipt_of fed → (first_missing receipts ≡ None) × (refusal_of (kept now).groups (traces_held receipts) ≡ Some refusal) → IsRefusalOfFeeds left may_stop sources groups refusal
+  refusal_of_feeds : (refusal : Refusal) → AreFedFrom left may_stop sources feeds fed → map rank_fed feeds ≡ range_with_len 0 (ranks_of groups) → kept collector ≡ nothing_kept reading groups → IsSameSession collector now → receipts ≡ map receipt_of fed → (first_missing receipts ≡ None) × (refusal_of (kept now).groups (traces_held receipts) ≡ Some refusal) → IsRefusalOfFeeds left may_stop sources groups refusal
   refusal_of_feeds refusal are ranks first same is answer =
       let head : (kept now).groups ≡ groups = same.groups ∙ ap (λ (k : Kept). k.groups) first in record {
         items = items_held receipts;
@@ -501,22 +470,19 @@ module _ {I : Type 0} (left : I → Option (List ℕ)) (may_stop : ℕ → ℕ �
 
   fed_count : (ss : List (Source I)) (fs : List Feed) (xs : List Fed) → AreFedFrom left may_stop ss fs xs → length xs ≡ length ss
   fed_count [] [] [] so = refl
-  fed_count [] [] (x ∷ xs) so = absurd so
-  fed_count [] (f ∷ fs) xs so = absurd so
-  fed_count (s ∷ ss) [] xs so = absurd so
-  fed_count (s ∷ ss) (f ∷ fs) [] so = absurd so
   fed_count (s ∷ ss) (f ∷ fs) (x ∷ xs) so = ap suc (fed_count ss fs xs so.1)
+  fed_count ss fs xs so = absurd so
 
   unproved_rank : (rank : ℕ) → AreFedFrom left may_stop sources feeds fed → length sources ≡ ranks_of groups → receipts ≡ map receipt_of fed → first_missing receipts ≡ Some rank → rank < ranks_of groups
   unproved_rank rank are one is missing =
-      let count : length receipts ≡ ranks_of groups = ap (λ (rs : List (Option Receipt)). length rs) is ∙ mapped_length receipt_of fed ∙ fed_count sources feeds fed are ∙ one in
+      let count : length receipts ≡ ranks_of groups = ap (λ (rs : List (Option Receipt)). length rs) is ∙ length-map fed receipt_of ∙ fed_count sources feeds fed are ∙ one in
       omega (arith, count, missing_rank receipts rank missing)
 
-  pub closes_well : (answer : Result Analysed CloseFault) → AreFedFrom left may_stop sources feeds fed → map rank_of feeds ≡ range_with_len 0 (ranks_of groups) → kept collector ≡ nothing_kept reading groups → IsSameSession collector now → receipts ≡ map receipt_of fed → Closes (kept now).reading (kept now).groups receipts answer → IfOk answer (IsOutcomeOfFeeds left may_stop sources reading groups)
+  pub closes_well : (answer : Result Analysed CloseFault) → AreFedFrom left may_stop sources feeds fed → map rank_fed feeds ≡ range_with_len 0 (ranks_of groups) → kept collector ≡ nothing_kept reading groups → IsSameSession collector now → receipts ≡ map receipt_of fed → Closes (kept now).reading (kept now).groups receipts answer → IfOk answer (IsOutcomeOfFeeds left may_stop sources reading groups)
   closes_well (Ok outcome) are ranks first same is answer = outcome_of_feeds outcome are ranks first same is answer
   closes_well (Err fault) are ranks first same is answer = tt
 
-  pub closes_refusing : (answer : Result Analysed CloseFault) → AreFedFrom left may_stop sources feeds fed → length sources ≡ ranks_of groups → map rank_of feeds ≡ range_with_len 0 (ranks_of groups) → kept collector ≡ nothing_kept reading groups → IsSameSession collector now → receipts ≡ map receipt_of fed → Closes (kept now).reading (kept now).groups receipts answer → IfErr answer (λ fault. RefusesFeeds left may_stop sources groups (of_close fault))
+  pub closes_refusing : (answer : Result Analysed CloseFault) → AreFedFrom left may_stop sources feeds fed → length sources ≡ ranks_of groups → map rank_fed feeds ≡ range_with_len 0 (ranks_of groups) → kept collector ≡ nothing_kept reading groups → IsSameSession collector now → receipts ≡ map receipt_of fed → Closes (kept now).reading (kept now).groups receipts answer → IfErr answer (λ fault. RefusesFeeds left may_stop sources groups (of_close fault))
   closes_refusing (Ok outcome) are one ranks first same is answer = tt
   closes_refusing (Err Memory) are one ranks first same is answer = tt
   closes_refusing (Err (Unproved rank)) are one ranks first same is answer = unproved_rank rank are one is answer
@@ -524,7 +490,5 @@ module _ {I : Type 0} (left : I → Option (List ℕ)) (may_stop : ℕ → ℕ �
 
 -- and no rank is stopped where it may not be
 pub refusing_stops : {I : Type 0} (left : I → Option (List ℕ)) (may_stop : ℕ → ℕ → Type 0) (sources : List (Source I)) (groups : Groups) (answer : Result Analysed CloseFault) → IfErr answer (λ fault. RefusesFeeds left may_stop sources groups (of_close fault)) → IfErr answer (λ fault. StopsWhereAllowed may_stop (of_close fault))
-refusing_stops left may_stop sources groups (Ok outcome) refuses = tt
-refusing_stops left may_stop sources groups (Err Memory) refuses = tt
-refusing_stops left may_stop sources groups (Err (Unproved rank)) refuses = tt
 refusing_stops left may_stop sources groups (Err (Refused refusal)) refuses = stops_there left may_stop sources groups refusal refuses
+refusing_stops left may_stop sources groups answer refuses = tt

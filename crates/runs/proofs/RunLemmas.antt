@@ -10,15 +10,16 @@ use Rattle.mpicall.specs.declared.source.Source.{Source}
 use Rattle.mpigroup.specs.Groups.{Groups, ranks_of}
 use Rattle.pairing.specs.Recordings.{Lists, calls_of, IsClosed}
 use Rattle.std.proofs.lemmas.Bool.{not-true, not_from_false}
+use Rattle.std.proofs.lemmas.Option.{slice_get_within}
 use Rattle.moves.specs.Stands.{lowest_run_over, stands_of, is_at_end}
 use Rattle.waitgraph.specs.Verdicts.{verdict_of, SomeRankIsHeld, SomeRankIsStuck}
 use Rattle.waitgraph.specs.declared.verdict.Verdict.{Verdict}
 use Rattle.waitgraph.specs.declared.verdict.Verdict.TheVariants.{Hang}
 use Rattle.waitgraph.proofs.VerdictLemmas.{hang_tells_of_a_held_rank, hang_tells_of_a_stuck_rank}
 use Rattle.moves.proofs.StandLemmas.{no_run_brings_a_stuck_rank_to_its_end, every_maximal_run_ends_at_the_stands}
-use Rattle.gather.specs.Answers.{fault_of_rank, refusal_or, refusal_from, lists_of, SomeRankCannotEnd}
+use Rattle.gather.specs.Answers.{fault_of_rank, refusal_or, refusal_from, recording_of_traces, SomeRankCannotEnd}
 use Rattle.runs.specs.Told.{Tells, IsVerdictOver, RefusesOver}
-use Rattle.runs.specs.Ranks.{told_by, AcceptsAll, AcceptsRank, LeavesReport, RefusesRun, IsRefusalOf}
+use Rattle.runs.specs.Ranks.{told_by, AcceptsAll, AcceptsRank, LeavesRunReport, RefusesRun, IsRefusalOf}
 use Rattle.runs.proofs.HeldLemmas.{found_at, lowest_refusal}
 use Rattle.runs.specs.Runs.{of_close, RefusesFeeds, StopsWhereAllowed}
 use Rattle.gather.specs.declared.outcome.CloseFault.{CloseFault}
@@ -33,16 +34,13 @@ use Rattle.gather.specs.declared.fault.RunFault.TheVariants.{Memory, Unproved, R
 -- what is told of each place of a list
 told_at : {A B : Type 0} (f : A → Option B) (xs : List A) (ys : List B) (place : ℕ) → map f xs ≡ map Some ys → option_and_then f (slice_get xs place) ≡ slice_get ys place
 told_at f [] [] place e = refl
-told_at f [] (y ∷ ys) place e = cc
-told_at f (x ∷ xs) [] place e = cc
-told_at f (x ∷ xs) (y ∷ ys) zero e = cc
 told_at f (x ∷ xs) (y ∷ ys) (suc place) e = told_at f xs ys place cc
+told_at f xs ys place e = cc
 
 same_length : {A B : Type 0} (f : A → Option B) (xs : List A) (ys : List B) → map f xs ≡ map Some ys → length xs ≡ length ys
 same_length f [] [] e = refl
-same_length f [] (y ∷ ys) e = cc
-same_length f (x ∷ xs) [] e = cc
 same_length f (x ∷ xs) (y ∷ ys) e = ap suc (same_length f xs ys cc)
+same_length f xs ys e = cc
 
 -- no rank of some traces has a fault
 none_from : (groups : Groups) (first : ℕ) (traces : List Trace) → ((k : ℕ) (trace : Trace) → slice_get traces k ≡ Some trace → fault_of_rank groups (first + k) trace ≡ None) → refusal_from groups first traces ≡ None
@@ -75,14 +73,13 @@ told_from groups first (t ∷ traces) (suc place) trace refusal e at none is =
     ap (λ f. refusal_or first f (refusal_from groups (first + 1) traces)) here ∙ behind
 
 -- lists that have each trace's records are those of the traces
-same_lists : (lists : Lists) (traces : List Trace) → length lists ≡ length traces → ((k : ℕ) (trace : Trace) → slice_get traces k ≡ Some trace → calls_of lists k ≡ trace.records) → lists ≡ lists_of traces
+same_lists : (lists : Lists) (traces : List Trace) → length lists ≡ length traces → ((k : ℕ) (trace : Trace) → slice_get traces k ≡ Some trace → calls_of lists k ≡ trace.records) → lists ≡ recording_of_traces traces
 same_lists [] [] e same = refl
-same_lists [] (t ∷ traces) e same = cc
-same_lists (l ∷ lists) [] e same = cc
 same_lists (l ∷ lists) (t ∷ traces) e same =
     let here : l ≡ t.records = same 0 t refl in
-    let behind : lists ≡ lists_of traces = same_lists lists traces (omega arith) (λ k s at. same (suc k) s at) in
+    let behind : lists ≡ recording_of_traces traces = same_lists lists traces (omega arith) (λ k s at. same (suc k) s at) in
     cc
+same_lists lists traces e same = cc
 
 -- a rank that is stuck comes to its end in no run, and one that does so in none is stuck
 cannot_end : (reading : Reading) (groups : Groups) (lists : Lists) → SomeRankIsStuck reading groups lists ↔ SomeRankCannotEnd reading groups lists
@@ -106,20 +103,14 @@ accepted_at : (groups : Groups) (rank : ℕ) (told : Option Trace) (trace : Trac
 accepted_at groups rank None trace calls a e = cc
 accepted_at groups rank (Some t) trace calls a e = let same : t ≡ trace = cc in subst (λ (s : Trace). (calls ≡ s.records) × (fault_of_rank groups rank s ≡ None)) same a
 
-in_list : {A : Type 0} (xs : List A) (k : ℕ) (x : A) → slice_get xs k ≡ Some x → k < length xs
-in_list [] zero x e = cc
-in_list [] (suc k) x e = cc
-in_list (y ∷ ys) zero x e = omega arith
-in_list (y ∷ ys) (suc k) x e = omega (arith, in_list ys k x e)
-
 each_accepted : {I : Type 0} (left : I → Option (List ℕ)) (groups : Groups) (sources : List (Source I)) (lists : Lists) (traces : List Trace) → length sources ≡ ranks_of groups → AcceptsAll groups (told_by left sources) lists → Tells left sources traces → (k : ℕ) (trace : Trace) → slice_get traces k ≡ Some trace → (calls_of lists k ≡ trace.records) × (fault_of_rank groups k trace ≡ None)
 each_accepted left groups sources lists traces one all tells k trace at =
     let count : length sources ≡ length traces = same_length (coming left) sources traces tells in
     let ranks = all.one_a_rank in
-    accepted_at groups k _ trace _ (all.accepted k (omega (arith, in_list traces k trace at))) (told_at (coming left) sources traces k tells ∙ at)
+    accepted_at groups k _ trace _ (all.accepted k (omega (arith, slice_get_within traces k trace at))) (told_at (coming left) sources traces k tells ∙ at)
 
 -- the recording is that of the traces
-lists_are : {I : Type 0} (left : I → Option (List ℕ)) (groups : Groups) (sources : List (Source I)) (lists : Lists) (traces : List Trace) → length sources ≡ ranks_of groups → AcceptsAll groups (told_by left sources) lists → Tells left sources traces → lists ≡ lists_of traces
+lists_are : {I : Type 0} (left : I → Option (List ℕ)) (groups : Groups) (sources : List (Source I)) (lists : Lists) (traces : List Trace) → length sources ≡ ranks_of groups → AcceptsAll groups (told_by left sources) lists → Tells left sources traces → lists ≡ recording_of_traces traces
 lists_are left groups sources lists traces one all tells =
     let count : length sources ≡ length traces = same_length (coming left) sources traces tells in
     let ranks = all.one_a_rank in
@@ -128,17 +119,17 @@ lists_are left groups sources lists traces one all tells =
 verdict_over : {I : Type 0} (left : I → Option (List ℕ)) (reading : Reading) (groups : Groups) (sources : List (Source I)) (lists : Lists) (verdict : Verdict) (traces : List Trace) → length sources ≡ ranks_of groups → AcceptsAll groups (told_by left sources) lists → verdict ≡ verdict_of reading groups lists → Tells left sources traces → IsVerdictOver reading groups traces verdict
 verdict_over left reading groups sources lists verdict traces one all value tells =
     let each = each_accepted left groups sources lists traces one all tells in
-    let same : lists ≡ lists_of traces = lists_are left groups sources lists traces one all tells in
-    let of_traces : verdict ≡ verdict_of reading groups (lists_of traces) = value ∙ ap (verdict_of reading groups) same in
-    let cannot = cannot_end reading groups (lists_of traces) in
-    let stuck = hang_tells_of_a_stuck_rank reading groups (lists_of traces) (subst IsClosed same all.closed) in
+    let same : lists ≡ recording_of_traces traces = lists_are left groups sources lists traces one all tells in
+    let of_traces : verdict ≡ verdict_of reading groups (recording_of_traces traces) = value ∙ ap (verdict_of reading groups) same in
+    let cannot = cannot_end reading groups (recording_of_traces traces) in
+    let stuck = hang_tells_of_a_stuck_rank reading groups (recording_of_traces traces) (subst IsClosed same all.closed) in
     record {
       no_refusal = none_from groups 0 traces (λ k trace at. let e : k ≡ 0 + k = omega arith in subst (λ (n : ℕ). fault_of_rank groups n trace ≡ None) e (each k trace at).1);
       value = of_traces;
-      stands = (every_maximal_run_ends_at_the_stands reading groups (lists_of traces)).1;
-      hang = subst (λ (v : Verdict). (v ≡ Hang) ↔ SomeRankIsHeld reading groups (lists_of traces)) (sym of_traces) (hang_tells_of_a_held_rank reading groups (lists_of traces));
+      stands = (every_maximal_run_ends_at_the_stands reading groups (recording_of_traces traces)).1;
+      hang = subst (λ (v : Verdict). (v ≡ Hang) ↔ SomeRankIsHeld reading groups (recording_of_traces traces)) (sym of_traces) (hang_tells_of_a_held_rank reading groups (recording_of_traces traces));
       closed = λ none.
-          subst (λ (v : Verdict). (v ≡ Hang) ↔ SomeRankCannotEnd reading groups (lists_of traces)) (sym of_traces)
+          subst (λ (v : Verdict). (v ≡ Hang) ↔ SomeRankCannotEnd reading groups (recording_of_traces traces)) (sym of_traces)
           (λ is. cannot.0 ((stuck none).0 is), λ in_no_run. (stuck none).1 (cannot.1 in_no_run));
     }
 
@@ -161,9 +152,6 @@ refusal_told groups refusal None trace h e = cc
 refusal_told groups refusal (Some t) trace h e = let same : t ≡ trace = cc in subst (λ (s : Trace). IsRefusalOf groups refusal.rank s refusal) same h
 
 pub refused_over : {I : Type 0} (left : I → Option (List ℕ)) (groups : Groups) (sources : List (Source I)) (fault : RunFault) (traces : List Trace) → length sources ≡ ranks_of groups → RefusesRun groups (told_by left sources) fault → Tells left sources traces → RefusesOver groups traces fault
-refused_over left groups sources Memory traces one refuses tells = tt
-refused_over left groups sources (Unproved rank) traces one refuses tells = tt
-refused_over left groups sources Write traces one refuses tells = tt
 refused_over left groups sources (Refused refusal) traces one refuses tells =
     let count : length sources ≡ length traces = same_length (coming left) sources traces tells in
     let within : refusal.rank < length traces = omega (arith, refuses.is_rank) in
@@ -177,6 +165,7 @@ refused_over left groups sources (Refused refusal) traces one refuses tells =
           (λ k trace below at. let e : k ≡ 0 + k = omega arith in subst (λ (n : ℕ). fault_of_rank groups n trace ≡ None) e (lower k trace below at))
           (refusal_told groups refusal _ there.0 refuses.its_own (told_at (coming left) sources traces refusal.rank tells ∙ there.1) own);
     }
+refused_over left groups sources fault traces one refuses tells = tt
 
 -- the answer of a report is that of the run
 pub run_verdict : {I : Type 0} (left : I → Option (List ℕ)) (reading known : Reading) (groups told : Groups) (sources : List (Source I)) (lists : Lists) (answer : Result Verdict RunFault) → length sources ≡ ranks_of groups → known ≡ reading → told ≡ groups → AcceptsAll groups (told_by left sources) lists → IfOk answer (λ verdict. verdict ≡ verdict_of known told lists) → IfOk answer (λ verdict. (traces : List Trace) → Tells left sources traces → IsVerdictOver reading groups traces verdict)
@@ -197,7 +186,7 @@ run_written left written failures reading known groups told sources lists format
       both.1,
     )
 
-pub run_output : {I O : Type 0} (left : I → Option (List ℕ)) (written : O → Option (List ℕ)) (failures : O → ℕ) (reading known : Reading) (groups told : Groups) (sources : List (Source I)) (lists : Lists) (format : Format) (old new : O) (answer : Result Verdict RunFault) → length sources ≡ ranks_of groups → known ≡ reading → told ≡ groups → AcceptsAll groups (told_by left sources) lists → IfErr answer (LeavesReport written failures old new (report_of format known told lists)) → IfErr answer (LeavesOutput left written failures sources reading groups format old new)
+pub run_output : {I O : Type 0} (left : I → Option (List ℕ)) (written : O → Option (List ℕ)) (failures : O → ℕ) (reading known : Reading) (groups told : Groups) (sources : List (Source I)) (lists : Lists) (format : Format) (old new : O) (answer : Result Verdict RunFault) → length sources ≡ ranks_of groups → known ≡ reading → told ≡ groups → AcceptsAll groups (told_by left sources) lists → IfErr answer (LeavesRunReport written failures old new (report_of format known told lists)) → IfErr answer (LeavesOutput left written failures sources reading groups format old new)
 run_output left written failures reading known groups told sources lists format old new (Ok verdict) one alike same all leaves = tt
 run_output left written failures reading known groups told sources lists format old new (Err Memory) one alike same all leaves = leaves
 run_output left written failures reading known groups told sources lists format old new (Err (Unproved rank)) one alike same all leaves = absurd leaves
@@ -214,26 +203,21 @@ run_output left written failures reading known groups told sources lists format 
 )
 
 -- a report that fails refuses no rank
-pub report_refuses : {O : Type 0} (written : O → Option (List ℕ)) (failures : O → ℕ) (old new : O) (report : List ℕ) (groups : Groups) (traces : List Trace) (fault : RunFault) → LeavesReport written failures old new report fault → RefusesOver groups traces fault
-report_refuses written failures old new report groups traces Memory leaves = tt
+pub report_refuses : {O : Type 0} (written : O → Option (List ℕ)) (failures : O → ℕ) (old new : O) (report : List ℕ) (groups : Groups) (traces : List Trace) (fault : RunFault) → LeavesRunReport written failures old new report fault → RefusesOver groups traces fault
 report_refuses written failures old new report groups traces (Unproved rank) leaves = absurd leaves
 report_refuses written failures old new report groups traces (Refused refusal) leaves = absurd leaves
-report_refuses written failures old new report groups traces Write leaves = tt
+report_refuses written failures old new report groups traces fault leaves = tt
 
 -- a report that fails is no refusal of the ranks' feeds
-pub report_feeds : {O I : Type 0} (written : O → Option (List ℕ)) (failures : O → ℕ) (old new : O) (report : List ℕ) (left : I → Option (List ℕ)) (may_stop : ℕ → ℕ → Type 0) (sources : List (Source I)) (groups : Groups) (answer : Result Verdict RunFault) → IfErr answer (LeavesReport written failures old new report) → IfErr answer (RefusesFeeds left may_stop sources groups)
-report_feeds written failures old new report left may_stop sources groups (Ok verdict) leaves = tt
-report_feeds written failures old new report left may_stop sources groups (Err Memory) leaves = tt
+pub report_feeds : {O I : Type 0} (written : O → Option (List ℕ)) (failures : O → ℕ) (old new : O) (report : List ℕ) (left : I → Option (List ℕ)) (may_stop : ℕ → ℕ → Type 0) (sources : List (Source I)) (groups : Groups) (answer : Result Verdict RunFault) → IfErr answer (LeavesRunReport written failures old new report) → IfErr answer (RefusesFeeds left may_stop sources groups)
 report_feeds written failures old new report left may_stop sources groups (Err (Unproved rank)) leaves = absurd leaves
 report_feeds written failures old new report left may_stop sources groups (Err (Refused refusal)) leaves = absurd leaves
-report_feeds written failures old new report left may_stop sources groups (Err Write) leaves = tt
+report_feeds written failures old new report left may_stop sources groups answer leaves = tt
 
-pub report_stops : {O : Type 0} (written : O → Option (List ℕ)) (failures : O → ℕ) (old new : O) (report : List ℕ) (may_stop : ℕ → ℕ → Type 0) (answer : Result Verdict RunFault) → IfErr answer (LeavesReport written failures old new report) → IfErr answer (StopsWhereAllowed may_stop)
-report_stops written failures old new report may_stop (Ok verdict) leaves = tt
-report_stops written failures old new report may_stop (Err Memory) leaves = tt
+pub report_stops : {O : Type 0} (written : O → Option (List ℕ)) (failures : O → ℕ) (old new : O) (report : List ℕ) (may_stop : ℕ → ℕ → Type 0) (answer : Result Verdict RunFault) → IfErr answer (LeavesRunReport written failures old new report) → IfErr answer (StopsWhereAllowed may_stop)
 report_stops written failures old new report may_stop (Err (Unproved rank)) leaves = absurd leaves
 report_stops written failures old new report may_stop (Err (Refused refusal)) leaves = absurd leaves
-report_stops written failures old new report may_stop (Err Write) leaves = tt
+report_stops written failures old new report may_stop answer leaves = tt
 
 -- a refusal of the ranks' feeds is one over the traces that their sources tell
 feeds_refuse : {I : Type 0} (left : I → Option (List ℕ)) (may_stop : ℕ → ℕ → Type 0) (groups : Groups) (sources : List (Source I)) (fault : CloseFault) → length sources ≡ ranks_of groups → RefusesFeeds left may_stop sources groups (of_close fault) → RefusesRun groups (told_by left sources) (of_close fault)

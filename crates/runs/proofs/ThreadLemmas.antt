@@ -5,16 +5,13 @@ use Rattle.rankfeed.specs.declared.ring.Feed.{Feed}
 use Rattle.runs.specs.Threads.{IsFedFrom, Promises, AllPromise, AreFedFrom}
 use Rattle.runs.specs.declared.threads.Fed.{Fed}
 use Rattle.runs.specs.declared.threads.Started.{Started}
-use Rattle.runs.proofs.AlongLemmas.{AlongThen, then_begins, then_next, then_ends}
+use Rattle.runs.proofs.AlongLemmas.{AlongThen, then_next, then_ends}
 
 -- what the threads that ended promised has come, and the others, which are left, still promise it
 abbrev pub Comes : {I G : Type 0} → (I → Option (List ℕ)) → (G → ℕ → ℕ → Type 0) → List (Started I G) → List Fed → List (Started I G) → Type 0
 Comes {I = I} {G = G} left may_stop started fed rest =
     (sources : List (Source I)) (feeds : List Feed) (gate : G) → AllPromise left may_stop sources feeds gate started →
     AlongThen (λ source feed one. IsFedFrom left (may_stop gate) source feed one) (λ source feed one. Promises left may_stop source feed gate one) sources feeds fed rest
-
-pub comes_first : {I G : Type 0} (left : I → Option (List ℕ)) (may_stop : G → ℕ → ℕ → Type 0) (started rest : List (Started I G)) (fed : List Fed) → fed ≡ [] → rest ≡ started → Comes left may_stop started fed rest
-comes_first left may_stop started rest fed none is sources feeds gate all = then_begins _ _ sources feeds fed started rest none is all
 
 pub comes_next : {I G : Type 0} (left : I → Option (List ℕ)) (may_stop : G → ℕ → ℕ → Type 0) (started now rest : List (Started I G)) (fed more : List Fed) (thread : Started I G) (one : Fed) → Comes left may_stop started fed now → now ≡ thread ∷ rest → ((source : Source I) (feed : Feed) (gate : G) → Promises left may_stop source feed gate thread → IsFedFrom left (may_stop gate) source feed one) → more ≡ fed ++ one ∷ [] → Comes left may_stop started more rest
 comes_next left may_stop started now rest fed more thread one so is gives grown sources feeds gate all =

@@ -1,10 +1,9 @@
 -- What the turns over the sources keep.
-use Rattle.std.proofs.Common.{◌≡◌, ◌≢◌, ℕ, zero, suc, ◌+◌, ◌<◌, ◌≤◌, Bool, true, false, All, take, Option, Some, None, List, [], ◌∷◌, ◌++◌, length, map, get_or, slice_get, slice_set, refl, sym, ap, subst, ◌∙◌, ⊎_elim, arith, append_assoc, append-nil}
+use Rattle.std.proofs.Common.{◌≡◌, ◌≢◌, ℕ, ◌+◌, ◌<◌, ◌≤◌, Bool, true, false, All, take, Option, Some, None, List, [], ◌∷◌, ◌++◌, length, map, get_or, slice_get, slice_set, refl, sym, ap, subst, ◌∙◌, ⊎_elim, arith, append_assoc, append-nil}
 use Rattle.std.proofs.lemmas.Bool.{cases_eq}
 use Rattle.std.proofs.lemmas.List.{length-map, length-set, map-append, take_all}
-use Rattle.std.proofs.lemmas.List.Elements.{All-append, All-cons, All-tail}
-use Rattle.std.proofs.Math.Seq.{take-suc}
-use Rattle.std.proofs.lemmas.Option.{slice_get-get_or, slice_get_within}
+use Rattle.std.proofs.lemmas.List.Elements.{All-get_or, All-push}
+use Rattle.std.proofs.lemmas.Option.{slice_get-get_or, slice_get_within, get_or_from_slice_get}
 use Rattle.mpicall.specs.Ending.{ends_list}
 use Rattle.mpicall.specs.Source.{coming}
 use Rattle.mpicall.specs.Trace.{Trace}
@@ -13,22 +12,22 @@ use Rattle.mpicall.specs.declared.fault.SourceFault.{SourceFault}
 use Rattle.mpicall.specs.declared.source.Source.{Source}
 use Rattle.pairing.specs.Recordings.{is_ended}
 use Rattle.mpigroup.proofs.ListLemmas.{slice_get-set_same, slice_get-set_other}
-use Rattle.rankfeed.specs.Items.{calls_among, end_of, end_the_list, item_ends_list, last_behind, mark_in}
+use Rattle.rankfeed.specs.Items.{calls_among, end_mark_of, end_the_list, item_ends_list, last_behind, mark_in}
 use Rattle.rankfeed.specs.declared.item.Ending.{Ending}
 use Rattle.rankfeed.specs.declared.item.Ending.TheVariants.{Sealed, Torn}
 use Rattle.rankfeed.specs.declared.item.Item.{Item}
 use Rattle.rankfeed.specs.declared.item.Item.TheVariants.{Entry, Mark}
 use Rattle.rankfeed.proofs.ItemLemmas.{last_item-push}
-use Rattle.gather.specs.Collected.{Kept, nothing_kept, torn, EntersRecord, IsKeptIn, Leaves}
+use Rattle.gather.specs.Collected.{Kept, nothing_kept, torn, EntersRecord, IsKeptIn, LeavesOthers}
 use Rattle.gather.specs.Fed.{marked, Continues, IsFed}
 use Rattle.gather.specs.Reads.{IsReading}
 use Rattle.runs.specs.Turns.{IsWhole, IsGoing, CameOf, IsTurnOf, source_of, IsBegun, IsOver, IsLater, AreTurnsOf, AreLater, IsReadOf, AreReadOf}
 use Rattle.gather.specs.declared.fault.RankFault.TheVariants.{OfSource}
 use Rattle.gather.specs.declared.ledger.Stepped.{Stepped}
 use Rattle.runs.specs.declared.turn.Turn.{Turn}
-use Rattle.gather.proofs.CollectedLemmas.{end_of-push, mark_sealed, nothing_new, record_leaves, record_own, torn_leaves, torn_own}
+use Rattle.gather.proofs.CollectedLemmas.{end_mark_of-push, mark_sealed, nothing_new, record_leaves, record_own, torn_leaves, torn_own}
 use Rattle.gather.proofs.FedLemmas.{begins, marked_calls}
-use Rattle.runs.proofs.HeldLemmas.{found_at, same_ended}
+use Rattle.runs.proofs.HeldLemmas.{found_at, same_ended, mapped_at}
 use Rattle.gather.proofs.OpenLemmas.{kept_at_first, places_at_first}
 
 -- The items of a source that is being read.
@@ -37,12 +36,12 @@ no_mark_behind : (call : Call) (calls : List Call) → mark_in (last_behind (Som
 no_mark_behind call [] = refl
 no_mark_behind call (next ∷ calls) = no_mark_behind next calls
 
-no_mark : (calls : List Call) → end_of (map Entry calls) ≡ None
+no_mark : (calls : List Call) → end_mark_of (map Entry calls) ≡ None
 no_mark [] = refl
 no_mark (call ∷ calls) = no_mark_behind call calls
 
-unended : (told now : Option Trace) (items : List Item) → Continues told items now → end_of items ≡ None
-unended told now items c = ap end_of c.are ∙ no_mark c.calls
+unended : (told now : Option Trace) (items : List Item) → Continues told items now → end_mark_of items ≡ None
+unended told now items c = ap end_mark_of c.are ∙ no_mark c.calls
 
 ends_with : (items : List Item) (call : Call) → end_the_list (items ++ Entry call ∷ []) ≡ ends_list call
 ends_with items call = ap item_ends_list (last_item-push items (Entry call))
@@ -54,8 +53,8 @@ sealed_calls told now items c ends =
     ∙ ap (λ (calls : List Call). is_ended calls) (marked_calls c.calls Sealed)
     ∙ sym (same_ended c.calls) ∙ ap end_the_list (sym c.are) ∙ ends
 
-never_sealed : (items : List Item) (fault : SourceFault) → end_of (items ++ Mark (Torn fault) ∷ []) ≡ Some Sealed → ⊥
-never_sealed items fault is = let e : Some (Torn fault) ≡ Some Sealed = sym (end_of-push items (Mark (Torn fault))) ∙ is in absurd cc
+never_sealed : (items : List Item) (fault : SourceFault) → end_mark_of (items ++ Mark (Torn fault) ∷ []) ≡ Some Sealed → ⊥
+never_sealed items fault is = let e : Some (Torn fault) ≡ Some Sealed = sym (end_mark_of-push items (Mark (Torn fault))) ∙ is in absurd cc
 
 -- One record more of a source, or its end.
 
@@ -118,28 +117,8 @@ module _ {I : Type 0} (left : I → Option (List ℕ)) (may_stop : ℕ → ℕ �
 
 -- Later times follow one another.
 
-leaves_still : (rank : ℕ) (old now new : Kept) → Leaves rank old now → Leaves rank now new → Leaves rank old new
-leaves_still rank old now new first then = record {
-  reading = then.reading ∙ first.reading;
-  groups = then.groups ∙ first.groups;
-  ranks = then.ranks ∙ first.ranks;
-  places = then.places ∙ first.places;
-  unwanted = λ e. first.unwanted (then.unwanted e);
-  calls = λ other differs. then.calls other differs ∙ first.calls other differs;
-  faults = λ other differs. then.faults other differs ∙ first.faults other differs;
-}
-
 pub later_first : {I : Type 0} (left : I → Option (List ℕ)) (may_stop : ℕ → ℕ → Type 0) (rank : ℕ) (turn : Turn I) (kept : Kept) → IsLater left may_stop rank turn kept turn kept
 later_first left may_stop rank turn kept = record { leaves = nothing_new rank kept kept refl; turn = λ source of. of }
-
-pub later_still : {I : Type 0} (left : I → Option (List ℕ)) (may_stop : ℕ → ℕ → Type 0) (rank : ℕ) (old now new : Turn I) (before then after : Kept) → IsLater left may_stop rank old before now then → IsLater left may_stop rank now then new after → IsLater left may_stop rank old before new after
-later_still left may_stop rank old now new before then after first next = record {
-  leaves = leaves_still rank before then after first.leaves next.leaves;
-  turn = λ source of. next.turn source (first.turn source of);
-}
-
-pub are_later_first : {I : Type 0} (left : I → Option (List ℕ)) (may_stop : ℕ → ℕ → Type 0) (turns : List (Turn I)) (kept : Kept) → AreLater left may_stop turns kept turns kept
-are_later_first left may_stop turns kept = record { count = refl; ranks = refl; places = refl; reading = refl; groups = refl; turns = λ sources all. all }
 
 pub are_later_still : {I : Type 0} (left : I → Option (List ℕ)) (may_stop : ℕ → ℕ → Type 0) (old now new : List (Turn I)) (before then after : Kept) → AreLater left may_stop old before now then → AreLater left may_stop now then new after → AreLater left may_stop old before new after
 are_later_still left may_stop old now new before then after first next = record {
@@ -153,7 +132,7 @@ are_later_still left may_stop old now new before then after first next = record 
 
 -- One turn goes on, and the others stay.
 
-other_stays : {I : Type 0} (left : I → Option (List ℕ)) (may_stop : ℕ → ℕ → Type 0) (rank other : ℕ) (source : Source I) (turn : Turn I) (before after : Kept) → Leaves rank before after → other ≢ rank → IsTurnOf left may_stop other source turn before → IsTurnOf left may_stop other source turn after
+other_stays : {I : Type 0} (left : I → Option (List ℕ)) (may_stop : ℕ → ℕ → Type 0) (rank other : ℕ) (source : Source I) (turn : Turn I) (before after : Kept) → LeavesOthers rank before after → other ≢ rank → IsTurnOf left may_stop other source turn before → IsTurnOf left may_stop other source turn after
 other_stays left may_stop rank other source turn before after leaves differs of = record {
   items = of.items;
   places = leaves.places ∙ of.places ∙ sym leaves.ranks;
@@ -193,7 +172,7 @@ set_later left may_stop turns place rank was now before after same within read l
 -- Turns that begin.
 
 pub one_begun : {I : Type 0} (turns more : List (Turn I)) (turn : Turn I) → All (λ turn. IsBegun turn) turns → IsBegun turn → more ≡ turns ++ turn ∷ [] → All (λ turn. IsBegun turn) more
-one_begun turns more turn all one is = rw is (All-append (λ turn. IsBegun turn) turns (turn ∷ []) all (All-cons (λ turn. IsBegun turn) turn [] one (λ k other none. absurd (omega (arith, none)))))
+one_begun turns more turn all one is = rw is (All-push (λ turn. IsBegun turn) turns turn all one)
 
 -- one source more has its turn
 pub one_more_source : {I : Type 0} (turns more : List (Turn I)) (turn : Turn I) (source : Source I) (sources now rest : List (Source I)) → map source_of turns ++ now ≡ sources → now ≡ source ∷ rest → source_of turn ≡ source → more ≡ turns ++ turn ∷ [] → map source_of more ++ rest ≡ sources
@@ -209,14 +188,7 @@ all_sources turns sources [] so none = sym (append-nil (map source_of turns)) �
 all_sources turns sources (s ∷ ss) so none = absurd (omega (arith, none))
 
 all_at : {X : Type 0} (P : X → Type 0) (xs : List X) (k : ℕ) (x : X) → All P xs → slice_get xs k ≡ Some x → P x
-all_at P [] k x all at = cc
-all_at P (y ∷ ys) zero x all at = let same : y ≡ x = cc in subst P same (all 0 y (omega arith))
-all_at P (y ∷ ys) (suc k) x all at = all_at P ys k x (All-tail P y ys all) at
-
-source_at : {I : Type 0} (turns : List (Turn I)) (k : ℕ) (turn : Turn I) → slice_get turns k ≡ Some turn → slice_get (map source_of turns) k ≡ Some turn.source
-source_at [] k turn at = cc
-source_at {I = I} (t ∷ ts) zero turn at = let same : t ≡ turn = cc in ap (λ (one : Turn I). Some one.source) same
-source_at (t ∷ ts) (suc k) turn at = source_at ts k turn at
+all_at P xs k x all at = subst P (get_or_from_slice_get xs k x x at) (All-get_or P xs k x (slice_get_within xs k x at) all)
 
 turn_begun : {I : Type 0} (left : I → Option (List ℕ)) (may_stop : ℕ → ℕ → Type 0) (rank : ℕ) (turn : Turn I) (kept : Kept) → kept ≡ nothing_kept kept.reading kept.groups → IsBegun turn → IsTurnOf left may_stop rank turn.source turn kept
 turn_begun left may_stop rank turn kept nothing begun = record {
@@ -233,7 +205,7 @@ all_begun : {I : Type 0} (left : I → Option (List ℕ)) (may_stop : ℕ → �
 all_begun {I = I} left may_stop sources turns kept nothing are all = record {
   count = sym (length-map turns source_of) ∙ ap length are;
   each = λ rank source turn at_source at_turn.
-      let there : Some turn.source ≡ Some source = sym (source_at turns rank turn at_turn) ∙ ap (λ (ss : List (Source I)). slice_get ss rank) are ∙ at_source in
+      let there : Some turn.source ≡ Some source = sym (mapped_at source_of turns rank turn at_turn) ∙ ap (λ (ss : List (Source I)). slice_get ss rank) are ∙ at_source in
       let same : turn.source ≡ source = cc in
       subst (λ (one : Source I). IsTurnOf left may_stop rank one turn kept) same (turn_begun left may_stop rank turn kept nothing (all_at (λ turn. IsBegun turn) turns rank turn all at_turn));
 }
@@ -257,12 +229,6 @@ all_read left may_stop sources begun over first last one nothing are all later e
           read_by left may_stop rank source turn.0 last (all_at (λ turn. IsOver turn) over rank turn.0 ends turn.1) (turns.each rank source turn.0 at turn.1);
     }
 
--- one turn more is over
-pub over_more : {X : Type 0} (P : X → Type 0) (xs : List X) (i : ℕ) (x d : X) → i < length xs → x ≡ get_or xs i d → P x → All P (take i xs) → All P (take (i + 1) xs)
-over_more P xs i x d within is p all =
-    let next : i + 1 ≡ suc i = omega arith in
-    rw (next, take-suc xs i d within) (All-append P (take i xs) (get_or xs i d ∷ []) all (All-cons P (get_or xs i d) [] (subst P is p) (λ k other none. absurd (omega (arith, none)))))
-
--- all were looked at
+-- all turns were looked at
 pub over_all : {X : Type 0} (P : X → Type 0) (xs : List X) (i : ℕ) → length xs ≤ i → All P (take i xs) → All P xs
 over_all {X = X} P xs i whole all = subst (λ (ys : List X). All P ys) (take_all i xs whole) all

@@ -8,11 +8,11 @@ use Rattle.mpigroup.specs.Groups.{Groups}
 use Rattle.pairing.specs.Recordings.{Lists, calls_of, is_ended, IsClosed}
 use Rattle.pairing.specs.Faults.{IsLawful}
 use Rattle.pairing.proofs.FaultLemmas.{an_ended_lawful_list_is_closed}
-use Rattle.rankfeed.specs.Items.{calls_among, end_of}
+use Rattle.rankfeed.specs.Items.{calls_among, end_mark_of}
 use Rattle.rankfeed.specs.declared.item.Ending.{Ending}
 use Rattle.rankfeed.specs.declared.item.Ending.TheVariants.{Sealed, Torn}
 use Rattle.rankfeed.specs.declared.item.Item.{Item}
-use Rattle.gather.specs.Answers.{fault_of_rank, refusal_or, refusal_from, refusal_of, lists_of}
+use Rattle.gather.specs.Answers.{fault_of_rank, refusal_or, refusal_from, refusal_of, recording_of_traces}
 use Rattle.gather.specs.Closes.{IsOutcomeOver}
 use Rattle.gather.specs.Collected.{PlacedFault, fault_in, fault_of_items, records_before, Kept, fault_at, refusal_in, refusal_kept}
 use Rattle.gather.specs.Concluded.{Concludes, IsOutcomeOfKept}
@@ -24,17 +24,18 @@ use Rattle.gather.specs.declared.fault.Refusal.{Refusal}
 use Rattle.gather.specs.declared.outcome.CloseFault.{CloseFault}
 use Rattle.gather.specs.declared.outcome.CloseFault.TheVariants.{Memory, Unproved, Refused}
 use Rattle.moves.specs.Analysed.{Analysed}
-use Rattle.gather.proofs.CloseLemmas.{own_none, behind_none, same_sealed, same_torn, torn_has_fault}
+use Rattle.gather.proofs.CloseLemmas.{own_none, behind_none, same_sealed, same_torn}
 use Rattle.gather.proofs.FedLemmas.{marked_end}
+use Rattle.gather.proofs.CollectedLemmas.{torn_has_fault}
 
 -- The first fault over whole items is that of their trace.
 
-same_by : (groups : Groups) (rank : ℕ) (items : List Item) (mark : Ending) → (end_of items ≡ Some Sealed → is_ended (calls_among items) ≡ true) → end_of items ≡ Some mark → fault_of_items groups rank items ≡ fault_of_rank groups rank (trace_of_items items)
+same_by : (groups : Groups) (rank : ℕ) (items : List Item) (mark : Ending) → (end_mark_of items ≡ Some Sealed → is_ended (calls_among items) ≡ true) → end_mark_of items ≡ Some mark → fault_of_items groups rank items ≡ fault_of_rank groups rank (trace_of_items items)
 unfolding fault_of_rank
 same_by groups rank items Sealed sealed is = rw is (same_sealed groups rank [] (calls_among items) (sealed is))
 same_by groups rank items (Torn fault) sealed is = rw is (same_torn groups rank [] (calls_among items) fault)
 
-ended_by : (groups : Groups) (rank : ℕ) (items : List Item) (mark : Ending) → (end_of items ≡ Some Sealed → is_ended (calls_among items) ≡ true) → end_of items ≡ Some mark → fault_of_items groups rank items ≡ None → is_ended (calls_among items) ≡ true
+ended_by : (groups : Groups) (rank : ℕ) (items : List Item) (mark : Ending) → (end_mark_of items ≡ Some Sealed → is_ended (calls_among items) ≡ true) → end_mark_of items ≡ Some mark → fault_of_items groups rank items ≡ None → is_ended (calls_among items) ≡ true
 ended_by groups rank items Sealed sealed is none = sealed is
 ended_by groups rank items (Torn fault) sealed is none =
     absurd (torn_has_fault groups rank [] (calls_among items) fault (ap (λ (m : Option Ending). fault_in groups rank [] (calls_among items) m) (sym is) ∙ none))
@@ -51,7 +52,7 @@ kept_whole : {I : Type 0} (left : I → Option (List ℕ)) (may_stop : ℕ → �
 kept_whole left may_stop rank source kept read calm =
     let k = read.kept_so calm in
     let fed = read.whole.fed in
-    let is : end_of read.items ≡ Some fed.end = ap end_of fed.are ∙ marked_end fed.calls fed.end in
+    let is : end_mark_of read.items ≡ Some fed.end = ap end_mark_of fed.are ∙ marked_end fed.calls fed.end in
     let every : fault_at kept.faults rank ≡ None → calls_of kept.recording rank ≡ calls_among read.items =
     λ none. k.before ∙ ap (λ (f : Option PlacedFault). records_before f (calls_among read.items)) none in record {
       items = read.items;
@@ -72,15 +73,11 @@ record AreKeptWhole {I : Type 0} (left : I → Option (List ℕ)) (may_stop : �
   items : List (List Item)
   fed : AreFedBy left may_stop first sources items
   refusal : refusal_in first faults ≡ refusal_from groups first (map trace_of_items items)
-  recording : refusal_in first faults ≡ None → lists ≡ lists_of (map trace_of_items items)
+  recording : refusal_in first faults ≡ None → lists ≡ recording_of_traces (map trace_of_items items)
   ended : refusal_in first faults ≡ None → (k : ℕ) → k < length lists → is_ended (calls_of lists k) ≡ true
 
 all_whole : {I : Type 0} (left : I → Option (List ℕ)) (may_stop : ℕ → ℕ → Type 0) (groups : Groups) (first : ℕ) (sources : List (Source I)) (faults : List (Option PlacedFault)) (lists : Lists) → length faults ≡ length sources → length lists ≡ length sources → ((k : ℕ) (source : Source I) → slice_get sources k ≡ Some source → IsKeptWhole left may_stop groups (first + k) source (calls_of lists k) (fault_at faults k)) → AreKeptWhole left may_stop groups first sources faults lists
 all_whole left may_stop groups first [] [] [] places one each = record { items = []; fed = tt; refusal = refl; recording = λ none. refl; ended = λ none k within. absurd (omega (arith, within)) }
-all_whole left may_stop groups first [] (f ∷ fs) lists places one each = cc
-all_whole left may_stop groups first [] [] (l ∷ ls) places one each = cc
-all_whole left may_stop groups first (s ∷ ss) [] lists places one each = cc
-all_whole left may_stop groups first (s ∷ ss) (f ∷ fs) [] places one each = cc
 all_whole left may_stop groups first (s ∷ ss) (f ∷ fs) (l ∷ ls) places one each =
     let zero_more : first + 0 ≡ first = omega arith in
     let own : IsKeptWhole left may_stop groups first s l f = subst (λ (n : ℕ). IsKeptWhole left may_stop groups n s l f) zero_more (each 0 s refl) in
@@ -93,6 +90,7 @@ all_whole left may_stop groups first (s ∷ ss) (f ∷ fs) (l ∷ ls) places one
       recording = λ none. ap (λ (x : List Call). x ∷ ls) (own.all (own_none first f _ none)) ∙ ap (λ (xs : Lists). calls_among own.items ∷ xs) (rest.recording (behind_none first f _ none));
       ended = λ none k within. ended_at l ls k (own.ended (own_none first f _ none)) (rest.ended (behind_none first f _ none)) within;
     }
+all_whole left may_stop groups first sources faults lists places one each = cc
 
 module _ {I : Type 0} (left : I → Option (List ℕ)) (may_stop : ℕ → ℕ → Type 0) (sources : List (Source I)) (kept : Kept) where
   read_whole : AreReadOf left may_stop sources kept → kept.wanted ≡ false → AreKeptWhole left may_stop kept.groups 0 sources kept.faults kept.recording

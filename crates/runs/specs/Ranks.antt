@@ -50,9 +50,9 @@ RefusesRun groups told Write = ⊥
 
 -- what a report leaves on the output where it fails: only a failed write, which adds one to the count of
 -- failures, leaves a beginning of it
-abbrev pub LeavesReport : {O : Type 0} → (O → Option (List ℕ)) → (O → ℕ) → O → O → List ℕ → RunFault → Type 0
-LeavesReport written failures old new report Memory = new ≡ old
-LeavesReport written failures old new report (Unproved rank) = ⊥
-LeavesReport written failures old new report (Refused refusal) = ⊥
-LeavesReport written failures old new report Write =
+abbrev pub LeavesRunReport : {O : Type 0} → (O → Option (List ℕ)) → (O → ℕ) → O → O → List ℕ → RunFault → Type 0
+LeavesRunReport written failures old new report Memory = new ≡ old
+LeavesRunReport written failures old new report (Unproved rank) = ⊥
+LeavesRunReport written failures old new report (Refused refusal) = ⊥
+LeavesRunReport written failures old new report Write =
     AppendsBeginning (written old) (written new) report × (failures new ≡ one_more (failures old))

@@ -11,7 +11,7 @@ use Rattle.moves.specs.Runs.{IsTheEnd}
 use Rattle.moves.specs.Needs.{can_move}
 use Rattle.moves.specs.Stands.{stands_of}
 use Rattle.waitgraph.specs.Held.{is_some_left_open}
-use Rattle.gather.specs.Answers.{fault_of_rank, refusal_of, lists_of, SomeRankCannotEnd}
+use Rattle.gather.specs.Answers.{fault_of_rank, refusal_of, recording_of_traces, SomeRankCannotEnd}
 use Rattle.waitgraph.specs.Verdicts.{verdict_of, SomeRankIsHeld}
 use Rattle.waitgraph.specs.declared.verdict.Verdict.{Verdict}
 use Rattle.waitgraph.specs.declared.verdict.Verdict.TheVariants.{Hang}
@@ -19,7 +19,7 @@ use Rattle.gather.specs.declared.fault.RankFault.{RankFault}
 use Rattle.gather.specs.declared.fault.RankFault.TheVariants.{OfSource}
 use Rattle.gather.specs.declared.fault.Refusal.{Refusal}
 use Rattle.gather.specs.declared.fault.RunFault.{RunFault}
-use Rattle.gather.specs.declared.fault.RunFault.TheVariants.{Memory, Unproved, Refused, Write}
+use Rattle.gather.specs.declared.fault.RunFault.TheVariants.{Refused}
 
 -- the fault is none of the bytes: a read failed, the gate stopped the reading, or no thread started
 abbrev pub is_from_outside : RankFault → Bool
@@ -44,17 +44,15 @@ pub record IsRefusalOver (groups : Groups) (traces : List Trace) (refusal : Refu
   pub its_own : is_from_outside refusal.fault ≡ false → refusal_of groups traces ≡ Some refusal
 
 abbrev pub RefusesOver : Groups → List Trace → RunFault → Type 0
-RefusesOver groups traces Memory = ⊤
-RefusesOver groups traces (Unproved rank) = ⊤
 RefusesOver groups traces (Refused refusal) = IsRefusalOver groups traces refusal
-RefusesOver groups traces Write = ⊤
+RefusesOver groups traces fault = ⊤
 
 -- No rank has a fault over these traces, and the verdict is theirs: every maximal run over them ends where the ranks
 -- stand, and it is hang exactly if some rank is held there; where no list was left open, exactly if some rank comes to
 -- its Finalize in no run.
 pub record IsVerdictOver (reading : Reading) (groups : Groups) (traces : List Trace) (verdict : Verdict) : Type 0 where
   pub no_refusal : refusal_of groups traces ≡ None
-  pub value : verdict ≡ verdict_of reading groups (lists_of traces)
-  pub stands : IsTheEnd (can_move reading groups (lists_of traces)) (length (lists_of traces)) (stands_of reading groups (lists_of traces))
-  pub hang : (verdict ≡ Hang) ↔ SomeRankIsHeld reading groups (lists_of traces)
-  pub closed : is_some_left_open (lists_of traces) ≡ false → (verdict ≡ Hang) ↔ SomeRankCannotEnd reading groups (lists_of traces)
+  pub value : verdict ≡ verdict_of reading groups (recording_of_traces traces)
+  pub stands : IsTheEnd (can_move reading groups (recording_of_traces traces)) (length (recording_of_traces traces)) (stands_of reading groups (recording_of_traces traces))
+  pub hang : (verdict ≡ Hang) ↔ SomeRankIsHeld reading groups (recording_of_traces traces)
+  pub closed : is_some_left_open (recording_of_traces traces) ≡ false → (verdict ≡ Hang) ↔ SomeRankCannotEnd reading groups (recording_of_traces traces)

@@ -4,10 +4,10 @@ use Rattle.mpicall.specs.Source.{coming}
 use Rattle.mpicall.specs.Trace.{Trace}
 use Rattle.mpicall.specs.declared.source.Source.{Source}
 use Rattle.pairing.specs.Recordings.{is_ended}
-use Rattle.rankfeed.specs.Items.{calls_among, end_the_list, end_of}
+use Rattle.rankfeed.specs.Items.{calls_among, end_the_list, end_mark_of}
 use Rattle.rankfeed.specs.declared.item.Ending.TheVariants.{Sealed}
 use Rattle.rankfeed.specs.declared.item.Item.{Item}
-use Rattle.gather.specs.Collected.{Kept, IsKeptIn, Leaves}
+use Rattle.gather.specs.Collected.{Kept, IsKeptIn, LeavesOthers}
 use Rattle.gather.specs.Fed.{IsFed}
 use Rattle.gather.specs.Reads.{IsReading}
 use Rattle.runs.specs.declared.turn.Turn.{Turn}
@@ -15,7 +15,7 @@ use Rattle.runs.specs.declared.turn.Turn.{Turn}
 -- the items are all that is read of a source, with the end mark Sealed only behind the record that ends the list
 pub record IsWhole (told : Option Trace) (may_stop : ℕ → Type 0) (items : List Item) : Type 0 where
   pub fed : IsFed told may_stop items
-  pub sealed : end_of items ≡ Some Sealed → is_ended (calls_among items) ≡ true
+  pub sealed : end_mark_of items ≡ Some Sealed → is_ended (calls_among items) ≡ true
 
 -- the items were read of this source, which is still being read
 pub record IsGoing {I : Type 0} (left : I → Option (List ℕ)) (source : Source I) (turn : Turn I) (items : List Item) : Type 0 where
@@ -48,7 +48,7 @@ IsOver turn = turn.over ≡ true
 
 -- a later time of a rank's turn: whatever source it was a turn of, it still is, and of other ranks the same is kept
 pub record IsLater {I : Type 0} (left : I → Option (List ℕ)) (may_stop : ℕ → ℕ → Type 0) (rank : ℕ) (old : Turn I) (before : Kept) (new : Turn I) (after : Kept) : Type 0 where
-  pub leaves : Leaves rank before after
+  pub leaves : LeavesOthers rank before after
   pub turn : (source : Source I) → IsTurnOf left may_stop rank source old before → IsTurnOf left may_stop rank source new after
 
 -- at each rank's place stands the turn of the source there

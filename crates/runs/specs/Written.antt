@@ -11,18 +11,18 @@ use Rattle.waitgraph.specs.Verdicts.{verdict_of}
 use Rattle.waitgraph.specs.declared.verdict.Verdict.{Verdict}
 use Rattle.reports.specs.Reports.{report_of}
 use Rattle.reports.specs.declared.report.Format.{Format}
-use Rattle.gather.specs.Answers.{lists_of}
+use Rattle.gather.specs.Answers.{recording_of_traces}
 use Rattle.runs.specs.Told.{Tells}
 use Rattle.runs.specs.Ranks.{told_by, AcceptsAll}
 use Rattle.gather.specs.declared.fault.RunFault.{RunFault}
-use Rattle.gather.specs.declared.fault.RunFault.TheVariants.{Memory, Unproved, Refused, Write}
+use Rattle.gather.specs.declared.fault.RunFault.TheVariants.{Write}
 
 -- the report of a run, and the verdict that it says: they are those of a recording, which is closed and has the
 -- calls of each rank whose source tells its trace; where all of them tell, it is the recording of their traces
 pub record IsReportOver {I : Type 0} (left : I → Option (List ℕ)) (sources : List (Source I)) (reading : Reading) (groups : Groups) (format : Format) (verdict : Verdict) (report : List ℕ) : Type 0 where
   pub recording : Lists
   pub accepted : AcceptsAll groups (told_by left sources) recording
-  pub of_traces : (traces : List Trace) → Tells left sources traces → recording ≡ lists_of traces
+  pub of_traces : (traces : List Trace) → Tells left sources traces → recording ≡ recording_of_traces traces
   pub report_is : report ≡ report_of format reading groups recording
   pub verdict_is : verdict ≡ verdict_of reading groups recording
 
@@ -40,7 +40,5 @@ module _ {I O : Type 0} (left : I → Option (List ℕ)) (written : O → Option
 
   -- but for a write that failed, the output is as it was
   abbrev pub LeavesOutput : RunFault → Type 0
-  LeavesOutput Memory = new ≡ old
-  LeavesOutput (Unproved rank) = new ≡ old
-  LeavesOutput (Refused refusal) = new ≡ old
   LeavesOutput Write = FailsToReport
+  LeavesOutput fault = new ≡ old

@@ -7,7 +7,7 @@ ghost use Rattle.waitgraph.specs.Verdicts.{verdict_of};
 ghost use Rattle.std.specs.Io.KnownBytes.{Appends};
 ghost use Rattle.reports.specs.Reports.{report_of};
 ghost use Rattle.runs.specs.Told.{AreFresh, Tells, IsVerdictOver, RefusesOver};
-ghost use Rattle.runs.specs.Ranks.{LeavesReport};
+ghost use Rattle.runs.specs.Ranks.{LeavesRunReport};
 ghost use Rattle.runs.specs.Written.{LeavesOutput, WritesReport};
 ghost use Rattle.runs.specs.Runs.{receipt_of, of_close, IsOutcomeOfFeeds, RefusesFeeds, StopsWhereAllowed};
 
@@ -189,7 +189,7 @@ fn report<O: Output>(
     ensures value { IfOk result (λ verdict. verdict ≡ verdict_of outcome.now.reading outcome.now.groups outcome.now.recording) }
     ensures written { OnOk result (Appends (O.written out.old) (O.written out.new) (report_of format outcome.now.reading outcome.now.groups outcome.now.recording)) }
     ensures no_write_failed { OnOk result (O.failures out.new ≡ O.failures out.old) }
-    ensures fault { IfErr result (LeavesReport O.written O.failures out.old out.new (report_of format outcome.now.reading outcome.now.groups outcome.now.recording)) }
+    ensures fault { IfErr result (LeavesRunReport O.written O.failures out.old out.new (report_of format outcome.now.reading outcome.now.groups outcome.now.recording)) }
 {
     match write_report(alloc, outcome.analyser(), outcome.graph(), format, out) {
         Ok(()) => Ok(outcome.verdict()),

@@ -1,5 +1,5 @@
 -- The receipts of feeds that are ended one by one.
-use Rattle.std.proofs.Common.{◌≡◌, List, [], ◌∷◌, ◌++◌, Option, IfSome, length, refl, arith}
+use Rattle.std.proofs.Common.{◌≡◌, List, [], ◌∷◌, ◌++◌, Option, IfSome, refl}
 use Rattle.rankfeed.specs.Rings.{FeedName, receipt_ring}
 use Rattle.rankfeed.specs.declared.ring.Receipt.{Receipt}
 use Rattle.gather.specs.Receipts.{AreReceiptsOf}
@@ -20,7 +20,3 @@ all_receipts [] [] so = tt
 all_receipts (n ∷ ns) [] so = cc
 all_receipts [] (r ∷ rs) so = absurd so
 all_receipts (n ∷ ns) (r ∷ rs) so = (so.0, all_receipts ns rs so.1)
-
-pub is_empty : {A : Type 0} (xs : List A) → length xs ≡ 0 → xs ≡ []
-is_empty [] e = refl
-is_empty (x ∷ xs) e = absurd (omega (arith, e))

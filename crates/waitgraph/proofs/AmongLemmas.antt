@@ -4,7 +4,7 @@ use Rattle.std.specs.List.{slice_get, filter, filter_map, cons_option, list_all,
 use Rattle.std.proofs.lemmas.Option.{none-some, same_Some}
 use Rattle.std.proofs.lemmas.Bool.{and_parts, cases_Bool, cases_eq, false≢true}
 use Rattle.moves.specs.declared.need.Need.{Need}
-use Rattle.waitgraph.specs.Stuck.{comes_before, with_need, with_needs, are_in_order}
+use Rattle.waitgraph.specs.Stuck.{comes_before, with_need, with_needs, are_needs_in_order}
 use Rattle.waitgraph.proofs.OrderLemmas.{before_total, stays_in_order}
 
 -- the need is one of the list
@@ -166,6 +166,6 @@ with_needs_new need xs (y ∷ ys) (inl e) =
     with_needs_old need (with_need xs y) ys (subst (λ (z : Need). Among need (with_need xs z)) (sym e) (with_need_new need xs))
 with_needs_new need xs (y ∷ ys) (inr h) = with_needs_new need (with_need xs y) ys h
 
-pub with_needs_in_order : (xs ys : List Need) → are_in_order xs ≡ true → are_in_order (with_needs xs ys) ≡ true
+pub with_needs_in_order : (xs ys : List Need) → are_needs_in_order xs ≡ true → are_needs_in_order (with_needs xs ys) ≡ true
 with_needs_in_order xs [] order = order
 with_needs_in_order xs (y ∷ ys) order = with_needs_in_order (with_need xs y) ys (stays_in_order xs y order)

@@ -1,11 +1,12 @@
 -- Members without a call in a wave: nothing is found of them in it, nor in those behind it.
-use Rattle.std.proofs.Common.{◌≡◌, ℕ, ◌≤◌, Bool, false, Option, Some, None, List, [], ◌∷◌, ◌++◌, inl, inr, length, flat_map, refl, sym, ap, ◌∙◌, arith}
+use Rattle.std.proofs.Common.{◌≡◌, ℕ, ◌≤◌, Bool, false, Option, Some, None, List, [], ◌∷◌, ◌++◌, inl, inr, length, flat_map, refl, ap, ◌∙◌, arith}
 use Rattle.std.specs.Prelude.{is_some, option_and_then}
-use Rattle.std.specs.List.{filter, slice_get}
-use Rattle.std.proofs.lemmas.Bool.{cases_Bool, cases_lt}
-use Rattle.std.proofs.lemmas.Option.{none-some, slice_get-get_or, slice_get_past}
+use Rattle.std.specs.List.{filter}
+use Rattle.std.proofs.lemmas.Bool.{cases_Bool}
+use Rattle.std.proofs.lemmas.Option.{slice_get_past}
 use Rattle.mpicall.specs.declared.call.Call.{Call}
 use Rattle.mpigroup.specs.Groups.{Groups, world_rank_of}
+use Rattle.mpigroup.proofs.ListLemmas.{none_there}
 use Rattle.pairing.specs.Recordings.{Lists, calls_of}
 use Rattle.pairing.specs.Places.{places}
 use Rattle.pairing.specs.Waves.{does_join, place_in_wave, member_of}
@@ -20,14 +21,6 @@ kept_lists kept listed none (x ∷ xs) =
     elim (cases_Bool (kept x)) [
       | inl stays ↦ rw stays (ap (λ rest. listed x ++ rest) (kept_lists kept listed none xs))
       | inr goes ↦ rw (goes, none x goes) (kept_lists kept listed none xs)
-    ]
-
-none_there : {A : Type 0} (xs : List A) (i : ℕ) → slice_get xs i ≡ None → length xs ≤ i
-none_there [] i h = omega arith
-none_there {A} (x ∷ xs) i h =
-    elim (cases_lt i (length (x ∷ xs))) [
-      | inl within ↦ absurd (none-some _ (sym h ∙ slice_get-get_or (x ∷ xs) i x within))
-      | inr past ↦ past
     ]
 
 no_later_call : (recording : Lists) (comm wave later rank : ℕ) (place : Option ℕ) → place_in_wave recording comm wave rank ≡ place → is_some place ≡ false → wave ≤ later → call_in_wave recording comm later rank ≡ None

@@ -4,7 +4,7 @@ use Rattle.std.specs.Prelude.{if◌then◌else◌, nat_le, option_map, option_an
 use Rattle.std.specs.List.{slice_get, list_all}
 use Rattle.std.proofs.lemmas.Option.{none-some, same_Some, slice_get_within}
 use Rattle.std.proofs.lemmas.Bool.{cases_eq, cases_lt, eq-eqb, ne_eqb, and_parts, leb-true, le-leb}
-use Rattle.waitgraph.specs.Causes.{Walks, next_in, way_home, after, IsCycle}
+use Rattle.waitgraph.specs.Causes.{Walks, next_in, way_home, after_steps, IsCycle}
 
 -- the ranks are those of a way home: each waits for the next, which is not home, and the last for home
 abbrev pub IsWay : Walks → ℕ → List ℕ → Type 0
@@ -50,8 +50,8 @@ way_home_is walks (suc most) home rank ranks h =
 -- after so many steps the walk comes home, and not before
 pub record ComesHome (walks : Walks) (home rank steps : ℕ) : Type 0 where
   pub some : 0 < steps
-  pub comes : after walks steps rank ≡ Some home
-  pub not_before : (early : ℕ) → 0 < early → early < steps → after walks early rank ≡ Some home → ⊥
+  pub comes : after_steps walks steps rank ≡ Some home
+  pub not_before : (early : ℕ) → 0 < early → early < steps → after_steps walks early rank ≡ Some home → ⊥
 
 comes_home : (walks : Walks) (home rank : ℕ) (rest : List ℕ) → IsWay walks home (rank ∷ rest) → ComesHome walks home rank (length (rank ∷ rest))
 comes_home walks home rank [] way =
@@ -68,7 +68,7 @@ comes_home walks home rank (next ∷ rest) way =
       not_before = λ early low high h. not_at walks home rank next early (length (next ∷ rest)) way.0 way.1 later.not_before low high h;
     }
   where
-    not_at : (walks : Walks) (home rank next early steps : ℕ) → next_in walks rank ≡ Some next → next ≢ home → ((early : ℕ) → 0 < early → early < steps → after walks early next ≡ Some home → ⊥) → 0 < early → early < suc steps → after walks early rank ≡ Some home → ⊥
+    not_at : (walks : Walks) (home rank next early steps : ℕ) → next_in walks rank ≡ Some next → next ≢ home → ((early : ℕ) → 0 < early → early < steps → after_steps walks early next ≡ Some home → ⊥) → 0 < early → early < suc steps → after_steps walks early rank ≡ Some home → ⊥
     not_at walks home rank next zero steps is other later low high h = omega arith
     not_at walks home rank next (suc zero) steps is other later low high h = other (same_Some next home (rw is at h))
     not_at walks home rank next (suc (suc early)) steps is other later low high h = later (suc early) (omega arith) (omega arith) (rw is at h)
@@ -140,18 +140,18 @@ pub record HasWayHome (walks : Walks) (most home rank low : ℕ) : Type 0 where
   pub is_way : way_home walks most home rank ≡ Some ranks
   pub no_lower : list_all (nat_le low) ranks ≡ true
 
-more_steps : (walks : Walks) (steps next home : ℕ) → next ≢ home → after walks steps next ≡ Some home → 0 < steps
+more_steps : (walks : Walks) (steps next home : ℕ) → next ≢ home → after_steps walks steps next ≡ Some home → 0 < steps
 more_steps walks zero next home other comes = absurd (other (same_Some next home comes))
 more_steps walks (suc steps) next home other comes = omega arith
 
-pub finds_way : (walks : Walks) (most steps home rank low : ℕ) → 0 < steps → steps ≤ most → after walks steps rank ≡ Some home → ((some by : ℕ) → some < steps → after walks some rank ≡ Some by → low ≤ by) → HasWayHome walks most home rank low
+pub finds_way : (walks : Walks) (most steps home rank low : ℕ) → 0 < steps → steps ≤ most → after_steps walks steps rank ≡ Some home → ((some by : ℕ) → some < steps → after_steps walks some rank ≡ Some by → low ≤ by) → HasWayHome walks most home rank low
 finds_way walks zero steps home rank low some few comes above = absurd (omega arith)
 finds_way walks (suc most) zero home rank low some few comes above = absurd (omega arith)
 finds_way walks (suc most) (suc steps) home rank low some few comes above =
     by_next walks most steps home rank low (next_in walks rank) refl comes (above 0 rank (omega arith) refl)
     (λ next is. λ more there. finds_way walks most steps home next low more (omega arith) there (λ early by less here. above (suc early) by (omega arith) (rw is here)))
   where
-    by_next : (walks : Walks) (most steps home rank low : ℕ) (present : Option ℕ) → next_in walks rank ≡ present → option_and_then (after walks steps) present ≡ Some home → low ≤ rank → ((next : ℕ) → next_in walks rank ≡ Some next → 0 < steps → after walks steps next ≡ Some home → HasWayHome walks most home next low) → HasWayHome walks (suc most) home rank low
+    by_next : (walks : Walks) (most steps home rank low : ℕ) (present : Option ℕ) → next_in walks rank ≡ present → option_and_then (after_steps walks steps) present ≡ Some home → low ≤ rank → ((next : ℕ) → next_in walks rank ≡ Some next → 0 < steps → after_steps walks steps next ≡ Some home → HasWayHome walks most home next low) → HasWayHome walks (suc most) home rank low
     by_next walks most steps home rank low None is comes above later = absurd (none-some home comes)
     by_next walks most steps home rank low (Some next) is comes above later =
         ⊎_elim

@@ -10,7 +10,7 @@ use Rattle.waitgraph.specs.Least.{Set}
 use Rattle.waitgraph.specs.Waits.{Waits, needs_in}
 use Rattle.waitgraph.specs.Loose.{standing_of, is_on, are_loose, is_held_at, are_held, goes_on, onward, onward_by, FitTogether, GoesOnOrEnds, HeldRanksGoOn}
 use Rattle.waitgraph.specs.declared.standing.Standing.{Standing}
-use Rattle.waitgraph.specs.declared.standing.Standing.TheVariants.{AtFinalize, AtOpen, Stuck}
+use Rattle.waitgraph.specs.declared.standing.Standing.TheVariants.{AtOpen, Stuck}
 use Rattle.waitgraph.specs.declared.onward.Onward.{Onward}
 use Rattle.waitgraph.proofs.SweepLemmas.{the_loose_are_the_least}
 
@@ -54,10 +54,8 @@ finds test (first ∷ needs) (suc index) need there passes =
     (cases_Bool (test first))
 
 held_is_stuck : (standing : Standing) (loose : Bool) → is_held_at standing loose ≡ true → (standing ≡ Stuck) × (loose ≡ false)
-held_is_stuck AtFinalize loose h = absurd (false≢true h)
-held_is_stuck AtOpen loose h = absurd (false≢true h)
-held_is_stuck Stuck true h = absurd (false≢true h)
 held_is_stuck Stuck false h = (refl, refl)
+held_is_stuck standing loose h = absurd (false≢true h)
 
 stuck_is_held : (standing : Standing) (loose : Bool) → standing ≡ Stuck → loose ≡ false → is_held_at standing loose ≡ true
 stuck_is_held standing loose is not_loose = rw (is, not_loose) refl

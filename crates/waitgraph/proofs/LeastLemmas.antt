@@ -3,12 +3,12 @@ use Rattle.std.proofs.Common.{◌≡◌, ◌⊎◌, ℕ, zero, suc, ◌+◌, ◌
 use mathlib.Core.Logic.{inl, inr}
 use Rattle.std.proofs.lemmas.Bool.{cases_eq, cases_Bool, false≢true}
 use Rattle.waitgraph.specs.Loose.{size}
-use Rattle.waitgraph.specs.Least.{Set, SetRule, after, IsWithin, IsRising, MakesBelow, IsClosedUnder, RoundsGiveTheLeastSet}
+use Rattle.waitgraph.specs.Least.{Set, SetRule, after_rounds, IsWithin, IsRising, MakesBelow, IsClosedUnder, RoundsGiveTheLeastSet}
 
 -- each round keeps what was made
-one_more : (rule : SetRule) → IsRising rule → (rounds : ℕ) → IsWithin (after rule rounds) (after rule (suc rounds))
+one_more : (rule : SetRule) → IsRising rule → (rounds : ℕ) → IsWithin (after_rounds rule rounds) (after_rounds rule (suc rounds))
 one_more rule rising zero rank h = absurd (false≢true h)
-one_more rule rising (suc rounds) rank h = rising (after rule rounds) (after rule (suc rounds)) (one_more rule rising rounds) rank h
+one_more rule rising (suc rounds) rank h = rising (after_rounds rule rounds) (after_rounds rule (suc rounds)) (one_more rule rising rounds) rank h
 
 -- how many of the first numbers pass
 pub size_most : (f : ℕ → Bool) (n : ℕ) → size f n ≤ n
@@ -64,28 +64,28 @@ grows f g (suc n) more =
     (cases_Bool (f n))
 
 -- after some rounds nothing more is made, or as many ranks are in as there were rounds
-settles : (rule : SetRule) (ranks : ℕ) → IsRising rule → MakesBelow ranks rule → (rounds : ℕ) → IsClosedUnder rule (after rule rounds) ⊎ (rounds ≤ size (after rule rounds) ranks)
+settles : (rule : SetRule) (ranks : ℕ) → IsRising rule → MakesBelow ranks rule → (rounds : ℕ) → IsClosedUnder rule (after_rounds rule rounds) ⊎ (rounds ≤ size (after_rounds rule rounds) ranks)
 settles rule ranks rising below zero = inr (omega arith)
 settles rule ranks rising below (suc rounds) =
     ⊎_elim
-    (λ closed. inl (rising (after rule (suc rounds)) (after rule rounds) closed))
+    (λ closed. inl (rising (after_rounds rule (suc rounds)) (after_rounds rule rounds) closed))
     (λ many.
     ⊎_elim
-    (λ same. inl (rising (after rule (suc rounds)) (after rule rounds) (λ rank h. same.0 rank (below (after rule rounds) rank h) h)))
+    (λ same. inl (rising (after_rounds rule (suc rounds)) (after_rounds rule rounds) (λ rank h. same.0 rank (below (after_rounds rule rounds) rank h) h)))
     (λ less. inr (omega (arith, less, many)))
-    (grows (after rule rounds) (after rule (suc rounds)) ranks (one_more rule rising rounds)))
+    (grows (after_rounds rule rounds) (after_rounds rule (suc rounds)) ranks (one_more rule rising rounds)))
     (settles rule ranks rising below rounds)
 
-pub in_each : (rule : SetRule) → IsRising rule → (set : Set) → IsClosedUnder rule set → (rounds : ℕ) → IsWithin (after rule rounds) set
+pub in_each : (rule : SetRule) → IsRising rule → (set : Set) → IsClosedUnder rule set → (rounds : ℕ) → IsWithin (after_rounds rule rounds) set
 in_each rule rising set closed zero rank h = absurd (false≢true h)
-in_each rule rising set closed (suc rounds) rank h = closed rank (rising (after rule rounds) set (in_each rule rising set closed rounds) rank h)
+in_each rule rising set closed (suc rounds) rank h = closed rank (rising (after_rounds rule rounds) set (in_each rule rising set closed rounds) rank h)
 
 pub rounds_give_the_least_set : RoundsGiveTheLeastSet
 rounds_give_the_least_set rule ranks rising below = (
   λ rank h.
       ⊎_elim
       (λ closed. closed rank h)
-      (λ many. size_all (after rule ranks) ranks many rank (below (after rule ranks) rank h))
+      (λ many. size_all (after_rounds rule ranks) ranks many rank (below (after_rounds rule ranks) rank h))
       (settles rule ranks rising below ranks),
   λ set closed. in_each rule rising set closed ranks,
 )

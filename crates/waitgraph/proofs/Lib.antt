@@ -7,7 +7,6 @@ pub mod AmongLemmas
 pub mod SortLemmas
 pub mod KeptLemmas
 pub mod CallerLemmas
-pub mod MakingLemmas
 pub mod RangeLemmas
 pub mod UnmetLemmas
 pub mod WalkLemmas
@@ -24,5 +23,4 @@ pub mod WalkingLemmas
 pub mod AlikeLemmas
 pub mod PlainLemmas
 pub mod VerdictLemmas
-pub mod OntoLemmas
 pub mod StaysLemmas

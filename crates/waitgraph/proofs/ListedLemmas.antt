@@ -5,7 +5,7 @@ use Rattle.std.specs.List.{slice_get, list_all, filter_map, cons_option, range_w
 use Rattle.std.proofs.lemmas.Option.{none-some, same_Some}
 use Rattle.std.proofs.lemmas.Bool.{cases_lt}
 use Rattle.pairing.proofs.PlaceLemmas.{slice_get-front}
-use Rattle.waitgraph.specs.Causes.{CauseView, CycleOf, MissingOf, Walks, onward_in, next_in, lacks_in, way_home, cycle_by, cycle_at, missing_at, causes_in, EndsWith}
+use Rattle.waitgraph.specs.Causes.{CauseView, CycleOf, MissingOf, Walks, onward_in, next_in, lacks_in, way_home, cycle_by, cycle_at, missing_at, causes_in, ComesTo}
 use Rattle.waitgraph.proofs.AmongLemmas.{Among, in_among, among_both, among_given, among_range}
 use Rattle.waitgraph.proofs.WalkLaws.{IsWaiting, told_by_way, lacks_is_waiting, next_is_waiting}
 
@@ -46,7 +46,7 @@ missing_parts walks rank cause h =
 pub record HasStart (walks : Walks) (cause : CauseView) : Type 0 where
   pub rank : ℕ
   pub is_waiting : IsWaiting walks rank
-  pub ends : EndsWith walks rank cause
+  pub ends : ComesTo walks rank cause
 
 way_waits : (walks : Walks) (most home rank : ℕ) (ranks : List ℕ) → way_home walks most home rank ≡ Some ranks → IsWaiting walks rank
 way_waits walks zero home rank ranks h = absurd (none-some ranks h)

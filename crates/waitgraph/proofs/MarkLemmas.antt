@@ -1,8 +1,8 @@
 -- What is marked as completed is the request that was started there.
-use Rattle.std.proofs.Common.{◌≡◌, ℕ, zero, suc, ◌+◌, ◌<◌, Bool, true, false, eqb, ◌&&◌, ◌||◌, get_or, Option, Some, None, List, [], ◌∷◌, length, take, refl, sym, ap, ◌∙◌, ⊎_elim, arith}
+use Rattle.std.proofs.Common.{◌≡◌, ℕ, ◌+◌, ◌<◌, Bool, true, false, eqb, ◌&&◌, ◌||◌, get_or, Option, Some, None, List, [], ◌∷◌, length, take, refl, sym, ap, ◌∙◌, ⊎_elim, arith}
 use Rattle.std.specs.List.{slice_get, list_any, range_with_len}
 use Rattle.std.specs.Option.{option_map_or, option_and_then}
-use Rattle.std.proofs.lemmas.List.Folds.{list_any_more}
+use Rattle.std.proofs.lemmas.List.Folds.{list_any_more, list_any-append}
 use Rattle.std.proofs.lemmas.Option.{slice_get-get_or}
 use Rattle.std.proofs.Math.Bool.{or_assoc}
 use Rattle.std.proofs.lemmas.Bool.{false≢true, cases_Bool, eqb-true, eq-eqb}
@@ -14,6 +14,7 @@ use Rattle.pairing.specs.Pairs.{completed_of}
 use Rattle.waitgraph.specs.Places.{call_at}
 use Rattle.waitgraph.specs.Findings.{completes_start, is_completed}
 use Rattle.waitgraph.specs.Marks.{is_place, completes_at, marks_at, is_marked_before, is_marked}
+use Rattle.waitgraph.proofs.RangeLemmas.{range_next}
 
 or_false : (a : Bool) → (a || false) ≡ a
 or_false true = refl
@@ -21,14 +22,7 @@ or_false false = refl
 
 -- what is true of one number more
 any_next : (test : ℕ → Bool) (a n j : ℕ) → a + n ≡ j → list_any test (range_with_len a (n + 1)) ≡ (list_any test (range_with_len a n) || test j)
-any_next test a zero j e =
-    let is : a ≡ j = omega arith in
-    or_false (test a) ∙ ap test is
-any_next test a (suc n) j e =
-    let next : suc n + 1 ≡ suc (n + 1) = omega arith in
-    rw next
-    (ap (λ (b : Bool). test a || b) (any_next test (a + 1) n j (omega arith))
-    ∙ sym (or_assoc (test a) (list_any test (range_with_len (a + 1) n)) (test j)))
+any_next test a n j e = ap (list_any test) (range_next a n j e) ∙ list_any-append test (range_with_len a n) (j ∷ []) ∙ ap (λ (b : Bool). list_any test (range_with_len a n) || b) (or_false (test j))
 
 place_is : (start : ℕ) (found : Option ℕ) → is_place start found ≡ true → found ≡ Some start
 place_is start None h = absurd (false≢true h)

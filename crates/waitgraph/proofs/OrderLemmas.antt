@@ -7,7 +7,7 @@ use Rattle.std.proofs.lemmas.Bool.Decides.{nat_tests}
 use Rattle.std.proofs.lemmas.List.Folds.{list_all-append}
 use Rattle.moves.specs.declared.need.Need.{Need}
 use Rattle.moves.specs.declared.need.Need.TheVariants.{At, Lacking}
-use Rattle.waitgraph.specs.Stuck.{comes_before, with_need, are_in_order}
+use Rattle.waitgraph.specs.Stuck.{comes_before, with_need, are_needs_in_order}
 
 pub before_asym : (a b : Need) → comes_before a b ≡ true → comes_before b a ≡ false
 before_asym (At r p) (At r' p') h = grind (arith, nat_tests)
@@ -72,26 +72,26 @@ kept_are q (x ∷ xs) =
     (λ (is : q x ≡ false). rw is (kept_are q xs))
     (cases_Bool (q x))
 
-kept_in_order : (q : Need → Bool) (xs : List Need) → are_in_order xs ≡ true → are_in_order (filter q xs) ≡ true
+kept_in_order : (q : Need → Bool) (xs : List Need) → are_needs_in_order xs ≡ true → are_needs_in_order (filter q xs) ≡ true
 kept_in_order q [] h = refl
 kept_in_order q (x ∷ xs) h =
-    let both = and_parts (list_all (comes_before x) xs) (are_in_order xs) h in
+    let both = and_parts (list_all (comes_before x) xs) (are_needs_in_order xs) h in
     ⊎_elim
     (λ (is : q x ≡ true). rw is (rw (kept_pass (comes_before x) q xs both.0) (kept_in_order q xs both.1)))
     (λ (is : q x ≡ false). rw is (kept_in_order q xs both.1))
     (cases_Bool (q x))
 
 -- lists in order around the need
-around : (need : Need) (xs ys : List Need) → are_in_order xs ≡ true → list_all (λ other. comes_before other need) xs ≡ true → list_all (comes_before need) ys ≡ true → are_in_order ys ≡ true → are_in_order (xs ++ need ∷ ys) ≡ true
+around : (need : Need) (xs ys : List Need) → are_needs_in_order xs ≡ true → list_all (λ other. comes_before other need) xs ≡ true → list_all (comes_before need) ys ≡ true → are_needs_in_order ys ≡ true → are_needs_in_order (xs ++ need ∷ ys) ≡ true
 around need [] ys order before behind rest = rw behind rest
 around need (x ∷ xs) ys order before behind rest =
-    let both = and_parts (list_all (comes_before x) xs) (are_in_order xs) order in
+    let both = and_parts (list_all (comes_before x) xs) (are_needs_in_order xs) order in
     let first = and_parts (comes_before x need) (list_all (λ other. comes_before other need) xs) before in
     let all : list_all (comes_before x) (xs ++ need ∷ ys) ≡ true =
     list_all-append (comes_before x) xs (need ∷ ys) ∙ rw (both.0, first.0) (all_behind x need ys first.0 behind) in
     rw all (around need xs ys both.1 first.1 behind rest)
 
-pub stays_in_order : (xs : List Need) (need : Need) → are_in_order xs ≡ true → are_in_order (with_need xs need) ≡ true
+pub stays_in_order : (xs : List Need) (need : Need) → are_needs_in_order xs ≡ true → are_needs_in_order (with_need xs need) ≡ true
 stays_in_order xs need order =
     around need (filter (λ other. comes_before other need) xs) (filter (comes_before need) xs)
     (kept_in_order (λ other. comes_before other need) xs order)

@@ -9,17 +9,17 @@ use Rattle.pairing.specs.Recordings.{Lists, calls_of}
 use Rattle.pairing.specs.Requests.{starts}
 use Rattle.pairing.specs.Waves.{joins, wave_of}
 use Rattle.waitgraph.specs.Places.{call_at, over_places, over_ranks}
-use Rattle.waitgraph.specs.Findings.{request_at, group_at, is_wrong_group}
+use Rattle.waitgraph.specs.Findings.{lost_at, group_at, is_wrong_group}
 use Rattle.waitgraph.proofs.AlikeLemmas.{no_wave_is_wrong, nothing_listed}
 
 -- a call that starts no request
-pub no_request : (recording : Lists) (rank place : ℕ) (call : Call) → call_at recording rank place ≡ Some call → starts call ≡ None → request_at recording rank place ≡ []
-unfolding request_at
+pub no_request : (recording : Lists) (rank place : ℕ) (call : Call) → call_at recording rank place ≡ Some call → starts call ≡ None → lost_at recording rank place ≡ []
+unfolding lost_at
 no_request recording rank place call is none = rw (is, none) refl
 
 -- no call at the place
-pub no_request_past : (recording : Lists) (rank place : ℕ) → call_at recording rank place ≡ None → request_at recording rank place ≡ []
-unfolding request_at
+pub no_request_past : (recording : Lists) (rank place : ℕ) → call_at recording rank place ≡ None → lost_at recording rank place ≡ []
+unfolding lost_at
 no_request_past recording rank place is = rw is refl
 
 pub no_group_past : (groups : Groups) (recording : Lists) (rank place : ℕ) → call_at recording rank place ≡ None → group_at groups recording rank place ≡ []

@@ -9,7 +9,7 @@ use Rattle.std.proofs.lemmas.Bool.Decides.{nat_tests}
 use Rattle.moves.specs.declared.need.Need.{Need}
 use Rattle.moves.specs.declared.need.Need.TheVariants.{At, Lacking}
 use Rattle.moves.specs.contracts.need.NeedPartialEq.TheImpl as need_eq
-use Rattle.waitgraph.specs.Stuck.{comes_before, in_order, are_in_order}
+use Rattle.waitgraph.specs.Stuck.{comes_before, needs_in_order, are_needs_in_order}
 use Rattle.waitgraph.proofs.OrderLemmas.{before_asym, before_trans, before_total}
 use Rattle.waitgraph.proofs.AmongLemmas.{Among, among_in, in_among, among_all, with_needs_from, with_needs_new, with_needs_in_order}
 
@@ -47,7 +47,7 @@ before_all same is z x (y ∷ ys) before h =
           (before_all same is z y ys (before_trans z x y before (steps_on same is x y ys apart h)) (sorted_rest x (y ∷ ys) h))
     ]
 
-once_in_order : (same : Need → Need → Bool) → IsSame same → (x : Need) (xs : List Need) → IsSortedBy comes_before (x ∷ xs) → are_in_order (dedup_from same x xs) ≡ true
+once_in_order : (same : Need → Need → Bool) → IsSame same → (x : Need) (xs : List Need) → IsSortedBy comes_before (x ∷ xs) → are_needs_in_order (dedup_from same x xs) ≡ true
 once_in_order same is x [] h = refl
 once_in_order same is x (y ∷ ys) h =
     elim (cases_Bool (same y x)) [
@@ -108,13 +108,13 @@ same_rest need x y xs ys first before h (inl e) =
 same_rest need x y xs ys first before h (inr k) = k
 
 -- lists in order with the same needs are the same
-same_in_order : (xs ys : List Need) → are_in_order xs ≡ true → are_in_order ys ≡ true → ((need : Need) → Among need xs → Among need ys) → ((need : Need) → Among need ys → Among need xs) → xs ≡ ys
+same_in_order : (xs ys : List Need) → are_needs_in_order xs ≡ true → are_needs_in_order ys ≡ true → ((need : Need) → Among need xs → Among need ys) → ((need : Need) → Among need ys → Among need xs) → xs ≡ ys
 same_in_order [] [] order other to from = refl
 same_in_order [] (y ∷ ys) order other to from = absurd (from y (inl refl))
 same_in_order (x ∷ xs) [] order other to from = absurd (to x (inl refl))
 same_in_order (x ∷ xs) (y ∷ ys) order other to from =
-    let one = and_parts (list_all (comes_before x) xs) (are_in_order xs) order in
-    let two = and_parts (list_all (comes_before y) ys) (are_in_order ys) other in
+    let one = and_parts (list_all (comes_before x) xs) (are_needs_in_order xs) order in
+    let two = and_parts (list_all (comes_before y) ys) (are_needs_in_order ys) other in
     let first : x ≡ y = same_first x y xs ys one.0 two.0 (to x (inl refl)) (from y (inl refl)) in
     let rest : xs ≡ ys =
     same_in_order xs ys one.1 two.1
@@ -130,13 +130,13 @@ among_moved need xs ys moved h =
     in_among need ys (found.0, slice_get-get_or ys found.0 need found.1 ∙ ap (λ (z : Need). Some z) found.2)
 
 -- needs that were sorted, each once
-pub sorted_once_is : (same : Need → Need → Bool) → IsSame same → (xs ys : List Need) → IsPermutation xs ys → IsSortedBy comes_before ys → dedup same ys ≡ in_order xs
+pub sorted_once_is : (same : Need → Need → Bool) → IsSame same → (xs ys : List Need) → IsPermutation xs ys → IsSortedBy comes_before ys → dedup same ys ≡ needs_in_order xs
 sorted_once_is same is xs ys moved sorted =
-    same_in_order (dedup same ys) (in_order xs) (in_order_of ys sorted) (with_needs_in_order [] xs refl)
+    same_in_order (dedup same ys) (needs_in_order xs) (in_order_of ys sorted) (with_needs_in_order [] xs refl)
     (λ need h. with_needs_new need [] xs (among_moved need ys xs (IsPermutation-sym xs ys moved) (from_once need ys h)))
     (λ need h. to_once need ys (among_moved need xs ys moved (from_none need xs (with_needs_from need [] xs h))))
   where
-    in_order_of : (ys : List Need) → IsSortedBy comes_before ys → are_in_order (dedup same ys) ≡ true
+    in_order_of : (ys : List Need) → IsSortedBy comes_before ys → are_needs_in_order (dedup same ys) ≡ true
     in_order_of [] sorted = refl
     in_order_of (y ∷ ys) sorted = once_in_order same is y ys sorted
 

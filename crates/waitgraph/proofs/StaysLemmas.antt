@@ -7,11 +7,12 @@ use Rattle.std.specs.Option.{option_map_or}
 use Rattle.std.proofs.lemmas.List.{take-append-le, length-append, get_or_past}
 use Rattle.std.proofs.lemmas.List.FromFn.{length-map-range_with_len}
 use Rattle.std.proofs.lemmas.Option.{none-some, same_Some, slice_get_within, slice_get_past}
-use Rattle.std.proofs.lemmas.Bool.{cases_eq, cases_Bool, cases_lt, false≢true, leb-true, le-leb}
+use Rattle.std.proofs.lemmas.Bool.{cases_eq, cases_Bool, cases_lt, false≢true, leb-true, le-leb, or_left, or_right}
 use Rattle.mpicall.specs.Ending.{ends_list}
 use Rattle.mpicall.specs.declared.call.Call.{Call}
 use Rattle.mpicall.specs.declared.call.Call.TheVariants.{Open}
 use Rattle.mpigroup.specs.Groups.{Groups}
+use Rattle.mpigroup.proofs.ListLemmas.{get_end}
 use Rattle.pairing.specs.Recordings.{Lists, calls_of, GoesOn}
 use Rattle.pairing.specs.Places.{places}
 use Rattle.pairing.specs.Requests.{started_before}
@@ -32,13 +33,14 @@ use Rattle.waitgraph.specs.Waits.{needs_in, waits_of}
 use Rattle.waitgraph.specs.Stays.{calls_before_open, StandsInPlace, HeldRanksStay}
 use Rattle.waitgraph.specs.Stuck.{unmet_of}
 use Rattle.waitgraph.specs.declared.standing.Standing.{Standing}
-use Rattle.waitgraph.specs.declared.standing.Standing.TheVariants.{AtFinalize, AtOpen, Stuck}
+use Rattle.waitgraph.specs.declared.standing.Standing.TheVariants.{AtOpen, Stuck}
 use Rattle.waitgraph.proofs.AmongLemmas.{Among, in_among, among_all, one_fails, kept_among}
-use Rattle.waitgraph.proofs.OntoLemmas.{nth_need, Onto, Same, needs_onto}
+use Rattle.moves.proofs.OntoLemmas.{nth_need, Onto, Same, needs_onto}
 use Rattle.waitgraph.proofs.StuckLemmas.{calls_past}
 use Rattle.waitgraph.proofs.SweepLemmas.{the_loose_are_the_least}
 use Rattle.waitgraph.proofs.UnmetLemmas.{unmet_from, waits_are}
-use Rattle.waitgraph.proofs.WalkingLemmas.{in_table, past_table, standing_is, opened_is, stuck_there}
+use Rattle.waitgraph.proofs.WalkingLemmas.{standing_is, opened_is, stuck_there}
+use Rattle.waitgraph.proofs.RangeLemmas.{in_table, past_table}
 
 -- both recordings go on from their common part: the one with the opens, the other with what stands in their place
 record Parted (recording later : Lists) : Type 0 where
@@ -126,23 +128,11 @@ earlier : (before longer : Lists) (rank place req start' : ℕ) → GoesOn befor
 earlier before longer rank place req start' goes_on within found =
     start_is_a_call before rank place req start' (sym (start_stays before longer rank place req goes_on (omega (arith, within))) ∙ found)
 
-or_left : (a b : Bool) → a ≡ true → (a || b) ≡ true
-or_left true b h = refl
-or_left false b h = absurd (false≢true h)
-
-or_right : (a b : Bool) → b ≡ true → (a || b) ≡ true
-or_right true b h = refl
-or_right false b h = h
-
 -- no rank stands behind its open
 before_open : (reading : Reading) (groups : Groups) (recording later : Lists) (h : Parted recording later) (k : ℕ) → calls_of recording k ≡ calls_of h.before k ++ Open ∷ [] → get_or (stands_of reading groups recording) k 0 ≤ length (calls_of h.before k)
 before_open reading groups recording later h k is =
     no_call_behind_the_end_is_reached reading groups recording k (length (calls_of h.before k)) Open (lowest_run_over reading groups recording) (every_maximal_run_ends_at_the_stands reading groups recording).0.is_run
-    (rw is (get_end (calls_of h.before k))) refl
-  where
-    get_end : (xs : List Call) → slice_get (xs ++ Open ∷ []) (length xs) ≡ Some Open
-    get_end [] = refl
-    get_end (x ∷ xs) = get_end xs
+    (rw is (get_end (calls_of h.before k) Open)) refl
 
 -- whoever stands there is in the set
 at_open : (reading : Reading) (groups : Groups) (recording later : Lists) (h : Parted recording later) (set : Set) → Closed reading groups recording set → (k : ℕ) → opened_of recording k ≡ true → calls_of recording k ≡ calls_of h.before k ++ Open ∷ [] → length (calls_of h.before k) ≤ get_or (stands_of reading groups recording) k 0 → set k ≡ true
@@ -157,7 +147,7 @@ abbrev Bound : Set → State → State → Type 0
 Bound set s t = (k : ℕ) → set k ≡ false → get_or t k 0 ≤ get_or s k 0
 
 onto_back : (reading : Reading) (groups : Groups) (recording later : Lists) (h : Parted recording later) (set : Set) → Closed reading groups recording set → (t : State) → Bound set (stands_of reading groups recording) t → Onto later recording (is_met t) (met_or_on (stands_of reading groups recording) (opened_of recording) set)
-onto_back reading groups recording later h set closed t bound = record { nth = nth; none = λ rank. refl }
+onto_back reading groups recording later h set closed t bound = record { nth = nth; none = λ rank h. absurd (false≢true h) }
   where
     s : State
     s = stands_of reading groups recording
@@ -193,7 +183,7 @@ onto_back reading groups recording later h set closed t bound = record { nth = n
     nth test k number fails met = by_later test k number (slice_get (places test (calls_of later k)) number) refl met
 
 onto_on : (recording later : Lists) (h : Parted recording later) (u : State) → Onto recording later (is_met u) (is_met u)
-onto_on recording later h u = record { nth = λ test k number fails met. by_first test k number (slice_get (places test (calls_of recording k)) number) refl fails met; none = λ rank. refl }
+onto_on recording later h u = record { nth = λ test k number fails met. by_first test k number (slice_get (places test (calls_of recording k)) number) refl fails met; none = λ rank met. met }
   where
     by_first : (test : Call → Bool) (k number : ℕ) (o : Option ℕ) → slice_get (places test (calls_of recording k)) number ≡ o → test Open ≡ false → is_met u (option_map_or (At k) o (Lacking k)) ≡ true → is_met u (nth_need later test k number) ≡ true
     by_first test k number None is fails met = absurd (false≢true met)
@@ -214,8 +204,8 @@ would_loosen reading groups recording later h set closed t bound r outside same 
     (as_opened recording later h r) in
     let first = same_back recording later h r in
     let present : slice_get (calls_of recording r) (get_or t r 0) ≡ Some pass.call = first.call (get_or t r 0) within ∙ pass.is_present in
-    let each = needs_onto reading groups later recording (is_met t) (met_or_on (stands_of reading groups recording) (opened_of recording) set) r (length (calls_of h.before r)) (get_or t r 0) pass.call
-    (onto_back reading groups recording later h set closed t bound) first within (λ req start'. earlier h.before later r (get_or t r 0) req start' h.to_later within) pass.is_present pass.needs_met in
+    let each = needs_onto reading reading groups later recording (is_met t) (met_or_on (stands_of reading groups recording) (opened_of recording) set) r (length (calls_of h.before r)) (λ call e. e)
+    (onto_back reading groups recording later h set closed t bound) first (get_or t r 0) pass.call within (λ req start'. earlier h.before later r (get_or t r 0) req start' h.to_later within) pass.is_present pass.needs_met in
     false≢true (sym outside ∙ closed.stuck r pass.call (rw same at present) pass.is_no_end (rw same at each))
 
 step_bound : (reading : Reading) (groups : Groups) (recording later : Lists) (h : Parted recording later) (set : Set) → Closed reading groups recording set → (t u : State) → Bound set (stands_of reading groups recording) t → Step (can_move reading groups later) t u → Bound set (stands_of reading groups recording) u
@@ -260,8 +250,8 @@ moves_too reading groups recording later h u r can =
       call = pass.call;
       is_present = first.call (get_or u r 0) within ∙ pass.is_present;
       is_no_end = pass.is_no_end;
-      needs_met = needs_onto reading groups recording later (is_met u) (is_met u) r (length (calls_of h.before r)) (get_or u r 0) pass.call
-          (onto_on recording later h u) first within (λ req start'. earlier h.before recording r (get_or u r 0) req start' h.to_open within) pass.is_present pass.needs_met;
+      needs_met = needs_onto reading reading groups recording later (is_met u) (is_met u) r (length (calls_of h.before r)) (λ call e. e)
+          (onto_on recording later h u) first (get_or u r 0) pass.call within (λ req start'. earlier h.before recording r (get_or u r 0) req start' h.to_open within) pass.is_present pass.needs_met;
     })
 
 steps_too : (reading : Reading) (groups : Groups) (recording later : Lists) (h : Parted recording later) (s : State) (states : List State) → AreSteps (can_move reading groups recording) s states → AreSteps (can_move reading groups later) s states
@@ -346,9 +336,7 @@ loose_closed reading groups recording = record { at_open = at_open'; stuck = stu
 
 held_outside : (standing : Standing) (loose : Bool) → is_held_at standing loose ≡ true → loose ≡ false
 held_outside Stuck false h = refl
-held_outside Stuck true h = cc
-held_outside AtOpen loose h = cc
-held_outside AtFinalize loose h = cc
+held_outside standing loose h = cc
 
 -- a list that was left open, and its open
 is_open : (call : Call) → leaves_open call ≡ true → call ≡ Open

@@ -1,7 +1,7 @@
 -- Stuck ranks of a closed recording: each waits, and for a rank that is stuck.
 use Rattle.moves.specs.declared.reading.Reading.{Reading}
 use Rattle.moves.specs.declared.reading.Reading.TheVariants.{Strict, Eager}
-use Rattle.std.proofs.Common.{◌≡◌, ◌≢◌, ℕ, zero, suc, ◌+◌, ◌<◌, ◌≤◌, Bool, true, false, ◌&&◌, Option, Some, List, [], ◌∷◌, ◌++◌, length, get_or, refl, sym, ap, ◌∙◌, ⊎_elim, arith, length-append}
+use Rattle.std.proofs.Common.{◌≡◌, ◌≢◌, ℕ, zero, suc, ◌+◌, ◌<◌, ◌≤◌, Bool, true, false, ◌&&◌, Option, Some, List, [], ◌∷◌, length, get_or, refl, sym, ap, ◌∙◌, ⊎_elim, arith, length-append}
 use Rattle.std.specs.Prelude.{nat_lt, slice_index}
 use Rattle.std.specs.List.{slice_get, list_all, list_any}
 use Rattle.std.specs.Option.{option_map_or}
@@ -11,6 +11,7 @@ use Rattle.mpicall.specs.Ending.{ends_list}
 use Rattle.mpicall.specs.declared.call.Call.{Call}
 use Rattle.mpicall.specs.declared.call.Call.TheVariants.{Finalize, Open}
 use Rattle.mpigroup.specs.Groups.{Groups}
+use Rattle.mpigroup.proofs.ListLemmas.{get_end}
 use Rattle.pairing.specs.Recordings.{Lists, calls_of, IsClosedList, IsClosed}
 use Rattle.pairing.proofs.PlaceLemmas.{slice_get-front}
 use Rattle.moves.specs.declared.need.Need.{Need}
@@ -29,10 +30,6 @@ none_of p [] index call none h = absurd (none-some call h)
 none_of p (first ∷ rest) zero call none h = ap p (sym (same_Some first call h)) ∙ (or_parts (p first) (list_any p rest) none).0
 none_of p (first ∷ rest) (suc index) call none h = none_of p rest index call (or_parts (p first) (list_any p rest) none).1 h
 
-at_last : (before : List Call) (last : Call) → slice_get (before ++ last ∷ []) (length before) ≡ Some last
-at_last [] last = refl
-at_last (call ∷ before) last = at_last before last
-
 -- a closed list has the call that ends it in the last place, and another one in each place before
 pub record EndsAt (calls : List Call) : Type 0 where
   pub end : ℕ
@@ -49,7 +46,7 @@ ends_at calls closed = record {
   last = closed.last;
   is_there =
       ap (λ (cs : List Call). slice_get cs (length closed.before)) closed.is_all
-      ∙ at_last closed.before closed.last;
+      ∙ get_end closed.before closed.last;
   ends = closed.is_the_end;
   before = λ place call low h.
       none_of ends_list closed.before place call closed.has_no_other

@@ -1,9 +1,9 @@
 -- Sweeps find the least set.
-use Rattle.std.proofs.Common.{◌≡◌, ◌≢◌, ℕ, zero, suc, ◌+◌, ◌<◌, ◌≤◌, Bool, true, false, ◌&&◌, Option, unwrap_or, List, [], ◌∷◌, length, set, ◌-◌, replicate, refl, sym, ap, subst, ◌∙◌, ⊎_elim, arith, get_or-set_same, get_or-set_other}
+use Rattle.std.proofs.Common.{◌≡◌, ◌≢◌, ℕ, zero, suc, ◌+◌, ◌<◌, ◌≤◌, Bool, true, false, Option, unwrap_or, List, [], ◌∷◌, length, set, ◌-◌, replicate, refl, sym, ap, subst, ◌∙◌, ⊎_elim, arith, get_or-set_same, get_or-set_other}
 use Rattle.std.specs.List.{list_all}
 use Rattle.std.proofs.lemmas.Option.{slice_get_past}
 use Rattle.std.proofs.lemmas.List.{length-set}
-use Rattle.std.proofs.lemmas.Bool.{and_parts, cases_Bool, cases_eq, cases_lt, false≢true}
+use Rattle.std.proofs.lemmas.Bool.{and_parts, cases_Bool, cases_eq, cases_lt, false≢true, and_from}
 use Rattle.moves.specs.declared.need.Need.{Need}
 use Rattle.moves.specs.declared.need.Need.TheVariants.{At, Lacking}
 use Rattle.waitgraph.specs.Least.{Set, SetRule, IsWithin, IsRising, MakesBelow, IsClosedUnder}
@@ -13,20 +13,17 @@ use Rattle.waitgraph.specs.declared.standing.Standing.{Standing}
 use Rattle.waitgraph.specs.declared.standing.Standing.TheVariants.{AtFinalize, AtOpen, Stuck}
 use Rattle.waitgraph.proofs.LeastLemmas.{grows, size_most, rounds_give_the_least_set}
 
-pub and_both : (a b : Bool) → a ≡ true → b ≡ true → (a && b) ≡ true
-and_both a b h g = rw (h, g) refl
-
 on_more : (opened f g : Set) → IsWithin f g → (need : Need) → is_on opened f need ≡ true → is_on opened g need ≡ true
 on_more opened f g more (At rank place) h = more rank h
 on_more opened f g more (Lacking rank) h =
     let both = and_parts (opened rank) (f rank) h in
-    and_both (opened rank) (g rank) both.0 (more rank both.1)
+    and_from (opened rank) (g rank) both.0 (more rank both.1)
 
 all_more : (opened f g : Set) → IsWithin f g → (needs : List Need) → list_all (is_on opened f) needs ≡ true → list_all (is_on opened g) needs ≡ true
 all_more opened f g more [] h = refl
 all_more opened f g more (need ∷ needs) h =
     let both = and_parts (is_on opened f need) (list_all (is_on opened f) needs) h in
-    and_both (is_on opened g need) (list_all (is_on opened g) needs) (on_more opened f g more need both.0) (all_more opened f g more needs both.1)
+    and_from (is_on opened g need) (list_all (is_on opened g) needs) (on_more opened f g more need both.0) (all_more opened f g more needs both.1)
 
 at_more : (standing : Standing) (a b : Bool) → (a ≡ true → b ≡ true) → loosens_at standing a ≡ true → loosens_at standing b ≡ true
 at_more AtFinalize a b more h = h

@@ -1,10 +1,9 @@
 -- What the unmet needs of a rank are.
 use Rattle.moves.specs.declared.reading.Reading.{Reading}
-use Rattle.std.proofs.Common.{true, false, ◌≡◌, ℕ, ◌<◌, ◌≤◌, Option, List, [], length, map, refl, sym, ap, ◌∙◌, ⊎_elim, arith}
+use Rattle.std.proofs.Common.{true, false, ◌≡◌, ℕ, ◌<◌, ◌≤◌, Option, List, [], length, refl, sym, ap, ◌∙◌, ⊎_elim}
 use Rattle.std.specs.Prelude.{unwrap_or, slice_index}
-use Rattle.std.specs.List.{filter, range_with_len}
-use Rattle.std.proofs.lemmas.List.FromFn.{length-map-range_with_len, get_or-map-range_with_len}
-use Rattle.std.proofs.lemmas.Option.{slice_get-get_or, slice_get_past}
+use Rattle.std.specs.List.{filter}
+use Rattle.std.proofs.lemmas.Option.{slice_get_past}
 use Rattle.std.proofs.lemmas.Bool.{cases_lt, not-true, not_from_false}
 use Rattle.mpigroup.specs.Groups.{Groups}
 use Rattle.pairing.specs.Recordings.{Lists}
@@ -12,9 +11,10 @@ use Rattle.moves.specs.Runs.{State}
 use Rattle.moves.specs.Needs.{needs_of, is_met}
 use Rattle.moves.specs.Stands.{stands_of}
 use Rattle.moves.specs.declared.need.Need.{Need}
-use Rattle.waitgraph.specs.Stuck.{are_in_order, is_unmet, unmet_at, UnmetNeedsAreToldInOrder}
+use Rattle.waitgraph.specs.Stuck.{are_needs_in_order, is_unmet, unmet_at, UnmetNeedsAreToldInOrder}
 use Rattle.waitgraph.specs.Waits.{waits_at, needs_in}
 use Rattle.waitgraph.proofs.AmongLemmas.{Among, among_in, in_among, kept_among, among_kept, with_needs_from, with_needs_new, with_needs_in_order}
+use Rattle.waitgraph.proofs.RangeLemmas.{in_table, past_table}
 
 -- a rank that the recording lacks needs nothing
 pub none_past : (reading : Reading) (groups : Groups) (recording : Lists) (stands : State) (rank : ℕ) → length recording ≤ rank → unmet_at reading groups recording stands rank ≡ []
@@ -24,17 +24,12 @@ none_past reading groups recording stands rank past = rw (slice_get_past recordi
 -- the waits of a rank are its unmet needs
 pub waits_are : (reading : Reading) (groups : Groups) (recording : Lists) (stands : State) (rank : ℕ) → needs_in (waits_at reading groups recording stands) rank ≡ unmet_at reading groups recording stands rank
 waits_are reading groups recording stands rank =
-    let f = unmet_at reading groups recording stands in
-    let n = length recording in
-    let count : length (map f (range_with_len 0 n)) ≡ n = length-map-range_with_len f 0 n in
     ⊎_elim
-    (λ (within : rank < n).
-    ap (λ (needs : Option (List Need)). unwrap_or needs []) (slice_get-get_or (map f (range_with_len 0 n)) rank [] (omega (arith, count)))
-    ∙ get_or-map-range_with_len f 0 n rank rank [] within (omega arith))
-    (λ (past : n ≤ rank).
-    ap (λ (needs : Option (List Need)). unwrap_or needs []) (slice_get_past (map f (range_with_len 0 n)) rank (omega (arith, count)))
+    (λ (within : rank < length recording). ap (λ (needs : Option (List Need)). unwrap_or needs []) (in_table (unmet_at reading groups recording stands) (length recording) rank [] within))
+    (λ (past : length recording ≤ rank).
+    ap (λ (needs : Option (List Need)). unwrap_or needs []) (past_table (unmet_at reading groups recording stands) (length recording) rank past)
     ∙ sym (none_past reading groups recording stands rank past))
-    (cases_lt rank n)
+    (cases_lt rank (length recording))
 
 -- what is unmet is needed and not met
 pub unmet_from : (reading : Reading) (groups : Groups) (recording : Lists) (stands : State) (rank : ℕ) (need : Need) → Among need (unmet_at reading groups recording stands rank) → Among need (needs_of reading groups recording rank (slice_index stands rank)) × (is_met stands need ≡ false)
@@ -55,7 +50,7 @@ unmet_all reading groups recording stands rank need h unmet =
     let needs = needs_of reading groups recording rank (slice_index stands rank) in
     with_needs_new need [] (filter (is_unmet stands) needs) (among_kept need (is_unmet stands) needs h (not_from_false (is_met stands need) unmet))
 
-pub unmet_in_order : (reading : Reading) (groups : Groups) (recording : Lists) (stands : State) (rank : ℕ) → are_in_order (unmet_at reading groups recording stands rank) ≡ true
+pub unmet_in_order : (reading : Reading) (groups : Groups) (recording : Lists) (stands : State) (rank : ℕ) → are_needs_in_order (unmet_at reading groups recording stands rank) ≡ true
 unfolding unmet_at
 unmet_in_order reading groups recording stands rank = with_needs_in_order [] (filter (is_unmet stands) (needs_of reading groups recording rank (slice_index stands rank))) refl
 

@@ -15,7 +15,7 @@ use Rattle.moves.specs.Stands.{stands_of}
 use Rattle.moves.specs.declared.need.Need.{Need}
 use Rattle.moves.specs.declared.need.Need.TheVariants.{At, Lacking}
 use Rattle.waitgraph.specs.Waits.{Waits, needs_in, waits_of}
-use Rattle.waitgraph.specs.Least.{Set, after}
+use Rattle.waitgraph.specs.Least.{Set, after_rounds}
 use Rattle.waitgraph.specs.Loose.{set_of, standing_of, is_on, loosens_at, loosens, are_loose, is_held_at}
 use Rattle.waitgraph.specs.Held.{leaves_open, is_left_open, left_open_in, standing_by, opened_of, is_some_left_open, standings_at, is_held, held_of}
 use Rattle.waitgraph.specs.Verdicts.{verdict_by, HangTellsOfAHeldRank, WithoutOpenTheStuckAreHeld, HangTellsOfAStuckRank}
@@ -75,14 +75,14 @@ no_rank_at_open AtOpen all not_open stuck = absurd (not_open refl)
 no_rank_at_open Stuck all not_open stuck = stuck refl
 
 -- no rank is loose where none is at an open and each stuck one has an unmet need
-none_loose : (opened : Set) (standings : List Standing) (waits : Waits) → ((rank : ℕ) → standing_of standings rank ≡ AtOpen → ⊥) → ((rank : ℕ) → standing_of standings rank ≡ Stuck → (need : Need) × (slice_get (needs_in waits rank) 0 ≡ Some need)) → (rounds rank : ℕ) → after (loosens opened standings waits) rounds rank ≡ false
+none_loose : (opened : Set) (standings : List Standing) (waits : Waits) → ((rank : ℕ) → standing_of standings rank ≡ AtOpen → ⊥) → ((rank : ℕ) → standing_of standings rank ≡ Stuck → (need : Need) × (slice_get (needs_in waits rank) 0 ≡ Some need)) → (rounds rank : ℕ) → after_rounds (loosens opened standings waits) rounds rank ≡ false
 none_loose opened standings waits closed needs zero rank = refl
 none_loose opened standings waits closed needs (suc rounds) rank =
-    no_rank_at_open (standing_of standings rank) (list_all (is_on opened (after (loosens opened standings waits) rounds)) (needs_in waits rank)) (closed rank)
+    no_rank_at_open (standing_of standings rank) (list_all (is_on opened (after_rounds (loosens opened standings waits) rounds)) (needs_in waits rank)) (closed rank)
     (λ stuck.
     let first = needs rank stuck in
-    first_fails (is_on opened (after (loosens opened standings waits) rounds)) (needs_in waits rank) first.0 first.1
-    (λ need. on_none opened (after (loosens opened standings waits) rounds) need (λ other. none_loose opened standings waits closed needs rounds other)))
+    first_fails (is_on opened (after_rounds (loosens opened standings waits) rounds)) (needs_in waits rank) first.0 first.1
+    (λ need. on_none opened (after_rounds (loosens opened standings waits) rounds) need (λ other. none_loose opened standings waits closed needs rounds other)))
 
 ended_stands : (call : Call) → ends_list call ≡ true → standing_by (Some call) ≡ Stuck → ⊥
 ended_stands Finalize ends h = cc

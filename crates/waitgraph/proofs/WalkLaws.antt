@@ -4,7 +4,7 @@ use Rattle.std.specs.Prelude.{nat_le, option_and_then, unwrap_or}
 use Rattle.std.specs.List.{slice_get, list_all, filter_map, range_with_len}
 use Rattle.std.proofs.lemmas.Option.{none-some, same_Some, slice_get_past}
 use Rattle.std.proofs.lemmas.Bool.{cases_lt}
-use Rattle.waitgraph.specs.Causes.{CauseView, CycleOf, MissingOf, Walks, onward_in, to_of, lacked_by, next_in, lacks_in, way_home, cycle_at, missing_at, causes_in, after, IsCycle, EndsWith}
+use Rattle.waitgraph.specs.Causes.{CauseView, CycleOf, MissingOf, Walks, onward_in, to_of, lacked_by, next_in, lacks_in, way_home, cycle_at, missing_at, causes_in, after_steps, IsCycle, ComesTo}
 use Rattle.waitgraph.specs.declared.onward.Onward.{Onward}
 use Rattle.waitgraph.specs.declared.onward.Onward.TheVariants.{To, Lacks}
 use Rattle.waitgraph.proofs.AmongLemmas.{Among, among_left, among_right, given_among, range_among}
@@ -17,7 +17,7 @@ pub record IsWaiting (walks : Walks) (rank : ℕ) : Type 0 where
   pub goes_there : onward_in walks rank ≡ Some there
 
 -- for whom a rank waits, waits too
-pub record GoesOn (walks : Walks) : Type 0 where
+pub record WalkGoesOn (walks : Walks) : Type 0 where
   pub goes_on : (rank next : ℕ) → next_in walks rank ≡ Some next → IsWaiting walks next
 
 pub waiting_is_rank : (walks : Walks) (rank : ℕ) → IsWaiting walks rank → rank < length walks
@@ -28,17 +28,17 @@ waiting_is_rank walks rank waiting =
     (cases_lt rank (length walks))
 
 -- a walk of more steps goes on from where fewer steps come
-after_on : (walks : Walks) (a b : ℕ) (o : Option ℕ) → ((k : ℕ) → after walks (a + b) k ≡ option_and_then (after walks b) (after walks a k)) → option_and_then (after walks (a + b)) o ≡ option_and_then (after walks b) (option_and_then (after walks a) o)
+after_on : (walks : Walks) (a b : ℕ) (o : Option ℕ) → ((k : ℕ) → after_steps walks (a + b) k ≡ option_and_then (after_steps walks b) (after_steps walks a k)) → option_and_then (after_steps walks (a + b)) o ≡ option_and_then (after_steps walks b) (option_and_then (after_steps walks a) o)
 after_on walks a b None later = refl
 after_on walks a b (Some k) later = later k
 
-after_both : (walks : Walks) (a b rank : ℕ) → after walks (a + b) rank ≡ option_and_then (after walks b) (after walks a rank)
+after_both : (walks : Walks) (a b rank : ℕ) → after_steps walks (a + b) rank ≡ option_and_then (after_steps walks b) (after_steps walks a rank)
 after_both walks zero b rank = let e : 0 + b ≡ b = omega arith in rw e refl
 after_both walks (suc a) b rank =
     let e : suc a + b ≡ suc (a + b) = omega arith in
     rw e (after_on walks a b (next_in walks rank) (λ k. after_both walks a b k))
 
-after_then : (walks : Walks) (a b whole rank there : ℕ) → a + b ≡ whole → after walks a rank ≡ Some there → after walks whole rank ≡ after walks b there
+after_then : (walks : Walks) (a b whole rank there : ℕ) → a + b ≡ whole → after_steps walks a rank ≡ Some there → after_steps walks whole rank ≡ after_steps walks b there
 after_then walks a b whole rank there e h = rw (← e) (after_both walks a b rank ∙ rw h refl)
 
 -- the walk comes to a missing call
@@ -46,13 +46,13 @@ record ComesToMissing (walks : Walks) (rank : ℕ) : Type 0 where
   steps : ℕ
   end : ℕ
   peer : ℕ
-  comes_there : after walks steps rank ≡ Some end
+  comes_there : after_steps walks steps rank ≡ Some end
   lacks : lacks_in walks end ≡ Some peer
 
 -- the walk goes on for so many steps
 record Stands (walks : Walks) (rank steps : ℕ) : Type 0 where
   there : ℕ
-  comes_there : after walks steps rank ≡ Some there
+  comes_there : after_steps walks steps rank ≡ Some there
   is_waiting : IsWaiting walks there
 
 record StepsOn (walks : Walks) (rank : ℕ) (most : ℕ) : Type 0 where
@@ -72,7 +72,7 @@ stands_on walks rank next most (suc steps) waiting is later few =
     let rest = later.at steps (omega arith) in
     record { there = rest.there; comes_there = rw is rest.comes_there; is_waiting = rest.is_waiting }
 
-runs : (walks : Walks) → GoesOn walks → (most rank : ℕ) → IsWaiting walks rank → ComesToMissing walks rank ⊎ StepsOn walks rank most
+runs : (walks : Walks) → WalkGoesOn walks → (most rank : ℕ) → IsWaiting walks rank → ComesToMissing walks rank ⊎ StepsOn walks rank most
 runs walks on zero rank waiting = inr (record { at = λ steps few. stands_here walks rank steps waiting few })
 runs walks on (suc most) rank waiting =
     by_step walks on most rank waiting (λ next more. runs walks on most next more) (one_step walks rank waiting.there waiting.goes_there)
@@ -81,15 +81,15 @@ runs walks on (suc most) rank waiting =
     by_rest walks most rank next waiting is (inl found) = inl (record { steps = suc found.steps; end = found.end; peer = found.peer; comes_there = rw is found.comes_there; lacks = found.lacks })
     by_rest walks most rank next waiting is (inr later) = inr (record { at = λ steps few. stands_on walks rank next most steps waiting is later few })
 
-    by_step : (walks : Walks) → GoesOn walks → (most rank : ℕ) → IsWaiting walks rank → ((next : ℕ) → IsWaiting walks next → ComesToMissing walks next ⊎ StepsOn walks next most) → ((peer : ℕ) × (lacks_in walks rank ≡ Some peer)) ⊎ ((next : ℕ) × (next_in walks rank ≡ Some next)) → ComesToMissing walks rank ⊎ StepsOn walks rank (suc most)
+    by_step : (walks : Walks) → WalkGoesOn walks → (most rank : ℕ) → IsWaiting walks rank → ((next : ℕ) → IsWaiting walks next → ComesToMissing walks next ⊎ StepsOn walks next most) → ((peer : ℕ) × (lacks_in walks rank ≡ Some peer)) ⊎ ((next : ℕ) × (next_in walks rank ≡ Some next)) → ComesToMissing walks rank ⊎ StepsOn walks rank (suc most)
     by_step walks on most rank waiting rest (inl lacks) = inl (record { steps = 0; end = rank; peer = lacks.0; comes_there = refl; lacks = lacks.1 })
     by_step walks on most rank waiting rest (inr next) = by_rest walks most rank next.0 waiting next.1 (rest next.0 (on.goes_on rank next.0 next.1))
 
 -- the rank to which the walk comes
 there_of : Walks → ℕ → ℕ → ℕ
-there_of walks rank steps = unwrap_or (after walks steps rank) 0
+there_of walks rank steps = unwrap_or (after_steps walks steps rank) 0
 
-comes_to : (walks : Walks) (rank most steps : ℕ) → StepsOn walks rank most → steps ≤ most → after walks steps rank ≡ Some (there_of walks rank steps)
+comes_to : (walks : Walks) (rank most steps : ℕ) → StepsOn walks rank most → steps ≤ most → after_steps walks steps rank ≡ Some (there_of walks rank steps)
 unfolding there_of
 comes_to walks rank most steps on few = let here = on.at steps few in rw here.comes_there refl
 
@@ -101,12 +101,12 @@ stays_below walks rank most steps on few = let here = on.at steps few in rw here
 pub record ComesToCycle (walks : Walks) (rank : ℕ) : Type 0 where
   pub steps : ℕ
   pub low : ℕ
-  pub comes_there : after walks steps rank ≡ Some low
+  pub comes_there : after_steps walks steps rank ≡ Some low
   pub is_rank : low < length walks
   pub way : HasWayHome walks (length walks) low low low
 
 -- where the walk comes after `first` steps it comes again after `second`; `place` steps on is the lowest rank
-above_there : (walks : Walks) (rank most first second place more by : ℕ) → StepsOn walks rank most → first < second → second ≤ most → there_of walks rank first ≡ there_of walks rank second → place < second - first → ((other : ℕ) → other < second - first → there_of walks rank (first + place) ≤ there_of walks rank (first + other)) → more < second - first → after walks more (there_of walks rank (first + place)) ≡ Some by → there_of walks rank (first + place) ≤ by
+above_there : (walks : Walks) (rank most first second place more by : ℕ) → StepsOn walks rank most → first < second → second ≤ most → there_of walks rank first ≡ there_of walks rank second → place < second - first → ((other : ℕ) → other < second - first → there_of walks rank (first + place) ≤ there_of walks rank (first + other)) → more < second - first → after_steps walks more (there_of walks rank (first + place)) ≡ Some by → there_of walks rank (first + place) ≤ by
 above_there walks rank most first second place more by on before within same low is_lowest less here =
     let start = comes_to walks rank most (first + place) on (omega arith) in
     let whole = after_then walks (first + place) more (first + place + more) rank (there_of walks rank (first + place)) refl start in
@@ -114,7 +114,7 @@ above_there walks rank most first second place more by on before within same low
     (λ (once : place + more < second - first).
     let there = comes_to walks rank most (first + (place + more)) on (omega arith) in
     let sum : first + place + more ≡ first + (place + more) = omega arith in
-    let is : there_of walks rank (first + (place + more)) ≡ by = same_Some (there_of walks rank (first + (place + more))) by (sym there ∙ ap (λ (n : ℕ). after walks n rank) (sym sum) ∙ whole ∙ here) in
+    let is : there_of walks rank (first + (place + more)) ≡ by = same_Some (there_of walks rank (first + (place + more))) by (sym there ∙ ap (λ (n : ℕ). after_steps walks n rank) (sym sum) ∙ whole ∙ here) in
     omega (arith, is_lowest (place + more) once))
     (λ (twice_round : second - first ≤ place + more).
     let rest : first + ((place + more) - (second - first)) ≤ most = omega arith in
@@ -125,7 +125,7 @@ above_there walks rank most first second place more by on before within same low
     omega (arith, is_lowest ((place + more) - (second - first)) (omega arith)))
     (cases_lt (place + more) (second - first))
 
-back_there : (walks : Walks) (rank most first second place : ℕ) → StepsOn walks rank most → first < second → second ≤ most → there_of walks rank first ≡ there_of walks rank second → place < second - first → after walks (second - first) (there_of walks rank (first + place)) ≡ Some (there_of walks rank (first + place))
+back_there : (walks : Walks) (rank most first second place : ℕ) → StepsOn walks rank most → first < second → second ≤ most → there_of walks rank first ≡ there_of walks rank second → place < second - first → after_steps walks (second - first) (there_of walks rank (first + place)) ≡ Some (there_of walks rank (first + place))
 back_there walks rank most first second place on before within same low =
     let start = comes_to walks rank most (first + place) on (omega arith) in
     let whole = after_then walks (first + place) (second - first) (second + place) rank (there_of walks rank (first + place)) (omega arith) start in
@@ -191,9 +191,9 @@ next_is_waiting walks rank next (Some there) is h = record { there = there; goes
 pub record HasEnd (walks : Walks) (rank : ℕ) : Type 0 where
   pub cause : CauseView
   pub is_listed : Among cause (causes_in walks)
-  pub ends : EndsWith walks rank cause
+  pub ends : ComesTo walks rank cause
 
-pub walk_ends : (walks : Walks) → GoesOn walks → (rank : ℕ) → IsWaiting walks rank → HasEnd walks rank
+pub walk_ends : (walks : Walks) → WalkGoesOn walks → (rank : ℕ) → IsWaiting walks rank → HasEnd walks rank
 walk_ends walks on rank waiting =
     by_run walks rank (runs walks on (length walks) rank waiting)
   where

@@ -6,7 +6,7 @@ use Rattle.std.specs.List.{slice_get, range_with_len}
 use Rattle.std.specs.Option.{option_map_or}
 use Rattle.std.proofs.lemmas.List.{get_or_past}
 use Rattle.std.proofs.lemmas.List.FromFn.{length-map-range_with_len, get_or-map-range_with_len}
-use Rattle.std.proofs.lemmas.Option.{none-some, same_Some, slice_get_past, slice_get-get_or}
+use Rattle.std.proofs.lemmas.Option.{none-some, same_Some}
 use Rattle.std.proofs.lemmas.Bool.{cases_lt, cases_eq, cases_Bool, false≢true}
 use Rattle.mpicall.specs.Ending.{ends_list}
 use Rattle.mpicall.specs.declared.call.Call.{Call}
@@ -31,17 +31,9 @@ use Rattle.waitgraph.proofs.AmongLemmas.{Among, among_in, in_among}
 use Rattle.waitgraph.proofs.UnmetLemmas.{waits_are}
 use Rattle.waitgraph.proofs.GoingLemmas.{held_ranks_go_on}
 use Rattle.waitgraph.proofs.StuckLemmas.{ends_at, StandsBefore, stands_before, not_past, awaited_stands}
-use Rattle.waitgraph.proofs.WalkLaws.{IsWaiting, GoesOn, waiting_is_rank, next_is_waiting, walk_ends}
+use Rattle.waitgraph.proofs.WalkLaws.{IsWaiting, WalkGoesOn, waiting_is_rank, next_is_waiting, walk_ends}
 use Rattle.waitgraph.proofs.ListedLemmas.{each_is_an_end, none_twice}
-
--- a table over the ranks, asked for one of them
-pub in_table : {X : Type 0} (f : ℕ → X) (n rank : ℕ) (d : X) → rank < n → slice_get (map f (range_with_len 0 n)) rank ≡ Some (f rank)
-in_table f n rank d within =
-    slice_get-get_or (map f (range_with_len 0 n)) rank d (omega (arith, length-map-range_with_len f 0 n, within))
-    ∙ ap (λ x. Some x) (get_or-map-range_with_len f 0 n rank rank d within (omega arith))
-
-pub past_table : {X : Type 0} (f : ℕ → X) (n rank : ℕ) → n ≤ rank → slice_get (map f (range_with_len 0 n)) rank ≡ None
-past_table f n rank past = slice_get_past (map f (range_with_len 0 n)) rank (omega (arith, length-map-range_with_len f 0 n, past))
+use Rattle.waitgraph.proofs.RangeLemmas.{in_table, past_table}
 
 -- where a rank of the recording stands
 pub standing_is : (recording : Lists) (stands : State) (rank : ℕ) → rank < length recording → standing_of (standings_at recording stands) rank ≡ standing_at recording stands rank
@@ -154,7 +146,7 @@ next_held opened held None next h is = absurd h
 next_held opened held (Some (To other)) next h is = subst (λ (k : ℕ). held k ≡ true) (same_Some other next is) h
 next_held opened held (Some (Lacks other)) next h is = absurd (none-some next is)
 
-goes_on : (reading : Reading) (groups : Groups) (recording : Lists) → IsClosed recording → GoesOn (walks_of reading groups recording)
+goes_on : (reading : Reading) (groups : Groups) (recording : Lists) → IsClosed recording → WalkGoesOn (walks_of reading groups recording)
 goes_on reading groups recording closed =
     record {
       goes_on = λ rank next h.

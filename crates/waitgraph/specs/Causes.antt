@@ -92,9 +92,9 @@ abbrev pub causes_of : Reading → Groups → Lists → List CauseView
 causes_of reading groups recording = causes_in (walks_of reading groups recording)
 
 -- the rank to which the walk from a rank comes after so many steps
-abbrev pub after : Walks → ℕ → ℕ → Option ℕ
-after walks zero rank = Some rank
-after walks (suc steps) rank = option_and_then (after walks steps) (next_in walks rank)
+abbrev pub after_steps : Walks → ℕ → ℕ → Option ℕ
+after_steps walks zero rank = Some rank
+after_steps walks (suc steps) rank = option_and_then (after_steps walks steps) (next_in walks rank)
 
 -- A cycle: distinct ranks, each of which waits for the next one and the last for the first, written from the
 -- lowest on.
@@ -111,10 +111,10 @@ IsEnd walks rank (CycleOf ranks) = IsCycle walks ranks × (slice_get ranks 0 ≡
 IsEnd walks rank (MissingOf waiting peer) = (waiting ≡ rank) × (lacks_in walks rank ≡ Some peer)
 
 -- the walk from the rank comes to the cause
-pub record EndsWith (walks : Walks) (rank : ℕ) (cause : CauseView) : Type 0 where
+pub record ComesTo (walks : Walks) (rank : ℕ) (cause : CauseView) : Type 0 where
   pub steps : ℕ
   pub end : ℕ
-  pub comes_there : after walks steps rank ≡ Some end
+  pub comes_there : after_steps walks steps rank ≡ Some end
   pub is_end : IsEnd walks end cause
 
 -- the cause stands in the list
@@ -124,9 +124,9 @@ IsListed cause causes = (index : ℕ) × (slice_get causes index ≡ Some cause)
 -- the causes of a recording are those to which the walks from its held ranks come, each listed once
 pub record TellsCauses (reading : Reading) (groups : Groups) (recording : Lists) : Type 0 where
   pub each_walk_ends : (rank : ℕ) → rank < length recording → is_held reading groups recording rank ≡ true →
-      (cause : CauseView) × IsListed cause (causes_of reading groups recording) × EndsWith (walks_of reading groups recording) rank cause
+      (cause : CauseView) × IsListed cause (causes_of reading groups recording) × ComesTo (walks_of reading groups recording) rank cause
   pub each_is_an_end : (cause : CauseView) → IsListed cause (causes_of reading groups recording) →
-      (rank : ℕ) × (rank < length recording) × (is_held reading groups recording rank ≡ true) × EndsWith (walks_of reading groups recording) rank cause
+      (rank : ℕ) × (rank < length recording) × (is_held reading groups recording rank ≡ true) × ComesTo (walks_of reading groups recording) rank cause
   pub none_twice : (index other : ℕ) (cause : CauseView) →
       slice_get (causes_of reading groups recording) index ≡ Some cause → slice_get (causes_of reading groups recording) other ≡ Some cause → index ≡ other
 

@@ -136,13 +136,13 @@ is_completed recording rank req start =
 abbrev pub is_lost : Lists → ℕ → ℕ → ℕ → Bool
 is_lost recording rank req start = not (is_completed recording rank req start) && not (is_left_open recording rank)
 
-unfoldable pub request_at : Lists → ℕ → ℕ → List Finding
-request_at recording rank place =
+unfoldable pub lost_at : Lists → ℕ → ℕ → List Finding
+lost_at recording rank place =
     option_map_or (λ req. where_so (is_lost recording rank req place) (Request rank place req))
     (option_and_then starts (call_at recording rank place)) []
 
-unfoldable pub requests_of : Lists → List Finding
-requests_of recording = over_ranks (request_at recording) recording
+unfoldable pub lost_requests : Lists → List Finding
+lost_requests recording = over_ranks (lost_at recording) recording
 
 -- Groups of new communicators (MPI 4.0, section 7.4.2). MPI_Comm_dup gives the group of the old one, and
 -- MPI_Comm_split the members with the same colour, by their keys; the head says which group the
@@ -214,5 +214,5 @@ wrong_groups_of groups recording = over_ranks (group_at groups recording) record
 -- all findings: kinds, roots, messages, requests and groups, each by rising numbers
 unfoldable pub findings_of : Groups → Lists → List Finding
 findings_of groups recording =
-    kinds_of groups recording ++ roots_of groups recording ++ unreceived_of groups recording ++ requests_of recording
+    kinds_of groups recording ++ roots_of groups recording ++ unreceived_of groups recording ++ lost_requests recording
     ++ wrong_groups_of groups recording

@@ -3,7 +3,7 @@ use Rattle.std.specs.Prelude.{◌≡◌, ℕ, zero, suc, ◌+◌, ◌<◌, ◌�
 use Rattle.std.specs.List.{list_all}
 use Rattle.moves.specs.declared.need.Need.{Need}
 use Rattle.moves.specs.declared.need.Need.TheVariants.{At, Lacking}
-use Rattle.waitgraph.specs.Least.{Set, SetRule, after, IsWithin, IsClosedUnder}
+use Rattle.waitgraph.specs.Least.{Set, SetRule, after_rounds, IsWithin, IsClosedUnder}
 use Rattle.waitgraph.specs.Waits.{Waits, needs_in}
 use Rattle.waitgraph.specs.declared.onward.Onward.{Onward}
 use Rattle.waitgraph.specs.declared.onward.Onward.TheVariants.{To, Lacks}
@@ -36,7 +36,7 @@ loosens opened standings waits set rank = loosens_at (standing_of standings rank
 
 -- the least such set, by as many rounds as there are ranks
 abbrev pub are_loose : Set → List Standing → Waits → Set
-are_loose opened standings waits = after (loosens opened standings waits) (length standings)
+are_loose opened standings waits = after_rounds (loosens opened standings waits) (length standings)
 
 -- a stuck rank is held if it isn't loose
 abbrev pub is_held_at : Standing → Bool → Bool

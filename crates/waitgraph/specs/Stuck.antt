@@ -27,9 +27,9 @@ abbrev pub stuck_of : Reading → Groups → Lists → List ℕ
 stuck_of reading groups recording = stuck_at recording (stands_of reading groups recording)
 
 -- the rank that a need names
-abbrev pub rank_of : Need → ℕ
-rank_of (At rank place) = rank
-rank_of (Lacking rank) = rank
+abbrev pub rank_needed : Need → ℕ
+rank_needed (At rank place) = rank
+rank_needed (Lacking rank) = rank
 
 -- of two needs of one rank, the one with the lower place comes first, and what the rank lacks comes last
 abbrev pub is_earlier : Need → Need → Bool
@@ -39,7 +39,7 @@ is_earlier (Lacking rank) need = false
 
 -- needs are ordered by rank, those of one rank by place
 abbrev pub comes_before : Need → Need → Bool
-comes_before need other = nat_lt (rank_of need) (rank_of other) || (rank_of need == rank_of other && is_earlier need other)
+comes_before need other = nat_lt (rank_needed need) (rank_needed other) || (rank_needed need == rank_needed other && is_earlier need other)
 
 -- a need put among others: those that come before it, it once, and those that come behind it
 abbrev pub with_need : List Need → Need → List Need
@@ -51,15 +51,15 @@ with_needs needs [] = needs
 with_needs needs (need ∷ more) = with_needs (with_need needs need) more
 
 -- the needs in order, each once
-abbrev pub in_order : List Need → List Need
-in_order needs = with_needs [] needs
+abbrev pub needs_in_order : List Need → List Need
+needs_in_order needs = with_needs [] needs
 
 abbrev pub is_unmet : State → Need → Bool
 is_unmet stands need = not (is_met stands need)
 
 -- what the rank's present call in a state needs and is not met there, in order and each once
 unfoldable pub unmet_at : Reading → Groups → Lists → State → ℕ → List Need
-unmet_at reading groups recording stands rank = in_order (filter (is_unmet stands) (needs_of reading groups recording rank (slice_index stands rank)))
+unmet_at reading groups recording stands rank = needs_in_order (filter (is_unmet stands) (needs_of reading groups recording rank (slice_index stands rank)))
 
 -- the same at the stands
 abbrev pub unmet_of : Reading → Groups → Lists → ℕ → List Need
@@ -70,13 +70,13 @@ abbrev pub IsIn : Need → List Need → Type 0
 IsIn need needs = (index : ℕ) × (slice_get needs index ≡ Some need)
 
 -- each need of the list comes before all that are behind it
-abbrev pub are_in_order : List Need → Bool
-are_in_order [] = true
-are_in_order (need ∷ needs) = list_all (comes_before need) needs && are_in_order needs
+abbrev pub are_needs_in_order : List Need → Bool
+are_needs_in_order [] = true
+are_needs_in_order (need ∷ needs) = list_all (comes_before need) needs && are_needs_in_order needs
 
 -- what a rank still needs at the stands: each unmet need of its present call and no other, in order
 pub record TellsUnmet (reading : Reading) (groups : Groups) (recording : Lists) (rank : ℕ) : Type 0 where
-  pub stand_in_order : are_in_order (unmet_of reading groups recording rank) ≡ true
+  pub stand_in_order : are_needs_in_order (unmet_of reading groups recording rank) ≡ true
   pub are_needs : (need : Need) → IsIn need (unmet_of reading groups recording rank) → IsIn need (needs_of reading groups recording rank (slice_index (stands_of reading groups recording) rank))
   pub are_unmet : (need : Need) → IsIn need (unmet_of reading groups recording rank) → is_met (stands_of reading groups recording) need ≡ false
   pub are_all : (need : Need) → IsIn need (needs_of reading groups recording rank (slice_index (stands_of reading groups recording) rank)) → is_met (stands_of reading groups recording) need ≡ false → IsIn need (unmet_of reading groups recording rank)

@@ -2,7 +2,7 @@
 
 ghost use Rattle.std.specs.Prelude.{◌≡◌, ◌≤◌, length};
 ghost use Rattle.std.specs.Option.{option_map_or};
-ghost use Rattle.mpigroup.specs.Groups.{group_of, world_rank_of};
+ghost use Rattle.mpigroup.specs.Groups.{world_rank_of};
 ghost use Rattle.pairing.specs.Limits.{most_calls};
 ghost use Rattle.pairing.specs.Recordings.{calls_of};
 ghost use Rattle.waitgraph.specs.Findings.{waves_in};
@@ -31,13 +31,6 @@ pub(crate) fn calls(pairs: &Pairs, rank: u16) -> u32
     pairs.accepted(rank).unwrap_or(0)
 }
 
-/// How many members a communicator has.
-pub(crate) fn members(pairs: &Pairs, comm: u16) -> u16
-    ensures { result ≡ length (group_of pairs.now.groups comm) }
-{
-    pairs.head().size(comm).unwrap_or(0)
-}
-
 /// How many calls the first member of a communicator has, in all.
 fn first_calls(pairs: &Pairs, comm: u16) -> u32
     ensures { result ≡ option_map_or (λ rank. length (calls_of pairs.now.recording rank)) (world_rank_of pairs.now.groups comm 0) 0 }
@@ -49,6 +42,7 @@ fn first_calls(pairs: &Pairs, comm: u16) -> u32
 }
 
 /// How many waves of a communicator its first member has a call in.
+#[tactic(auto, using(crate::proofs::WaveLemmas::most_waves))]
 pub(crate) fn waves(pairs: &Pairs, comm: u16) -> u32
     ensures { result ≡ waves_in pairs.now.groups pairs.now.recording comm }
 {

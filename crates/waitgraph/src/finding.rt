@@ -1,7 +1,7 @@
 //! What is wrong with a recorded run beside what makes it hang.
 
 ghost use Rattle.std.specs.Prelude.{◌≡◌, ◌++◌, IfOk, OnOk};
-ghost use Rattle.waitgraph.specs.Findings.{kinds_of, roots_of, requests_of, wrong_groups_of, findings_of};
+ghost use Rattle.waitgraph.specs.Findings.{kinds_of, roots_of, lost_requests, wrong_groups_of, findings_of};
 
 use crate::finding::group::add_wrong_groups;
 use crate::finding::kind::add_kinds;
@@ -81,7 +81,7 @@ fn add_of_makers(
     pairs: &Pairs,
 ) -> Result<(), AllocError>
     ensures { OnOk result (findings.new.items
-        ≡ findings.old.items ++ (requests_of pairs.now.recording ++ wrong_groups_of pairs.now.groups pairs.now.recording)) }
+        ≡ findings.old.items ++ (lost_requests pairs.now.recording ++ wrong_groups_of pairs.now.groups pairs.now.recording)) }
 {
     if are_all_plain(pairs) {
         return Ok(());

@@ -16,6 +16,9 @@
 //!   stuck too; the loose ranks are the least set that has each rank which it makes loose; the walk from each
 //!   held rank comes to a listed cause, each listed cause is the end of such a walk, and none is listed twice.
 //!
+//! Nobody has to believe `Comparisons`, `Makings`, `Marks` and `Spans`: they say how findings are looked for and needs
+//! are kept, and no public contract cites them.
+//!
 //! ```text
 //! // rank 0: send 0 1 0 / recv 0 1 0 / finalize      rank 1: send 0 0 0 / recv 0 0 0 / finalize
 //! let graph = Graph::of(alloc, &analyser)?;

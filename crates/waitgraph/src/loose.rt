@@ -225,6 +225,7 @@ fn onward_of(
 }
 
 /// How the walk goes on from each rank.
+#[tactic(auto, using(crate::proofs::FindingLemmas::one_mapped))]
 pub(crate) fn walks_in(
     alloc: Global,
     opened: &[bool],
@@ -255,6 +256,7 @@ pub fn held_ranks_stay()
 {}
 
 /// The walk from a held rank goes on to a held rank, or ends at a call that is lacking for good.
+#[tactic(auto, using(crate::proofs::GoingLemmas::held_ranks_go_on))]
 pub fn held_ranks_go_on()
     ensures { HeldRanksGoOn }
 {}

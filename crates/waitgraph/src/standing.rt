@@ -5,7 +5,7 @@ ghost use Rattle.std.specs.List.{list_any};
 ghost use Rattle.waitgraph.specs.Held.{is_left_open, left_open_in, leaves_open, standing_at, standings_at};
 
 use crate::extent::calls;
-use crate::unmet::stand_of;
+use moves::need::stand_of;
 use mpicall::call::Call;
 use pairing::pairs::Pairs;
 use pairing::stored::StoredCall;
@@ -44,6 +44,7 @@ pub(crate) fn is_left_open(pairs: &Pairs, rank: u16) -> bool
 }
 
 /// Of each rank, whether its list was left open.
+#[tactic(auto, using(crate::proofs::FindingLemmas::one_mapped))]
 pub(crate) fn left_open_in(alloc: Global, pairs: &Pairs) -> Result<Vec<bool>, AllocError>
     ensures { IfOk result (λ marks. marks.items ≡ left_open_in pairs.now.recording) }
 {

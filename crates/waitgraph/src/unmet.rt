@@ -1,6 +1,6 @@
 //! Needs that aren't met where the ranks stand.
 
-ghost use Rattle.std.specs.Prelude.{◌≡◌, [], ◌∷◌, ◌++◌, Some, map, flat_map, slice_get, slice_index, IfOk, OnOk};
+ghost use Rattle.std.specs.Prelude.{◌≡◌, [], ◌∷◌, ◌++◌, Some, map, flat_map, slice_get, IfOk, OnOk};
 ghost use Rattle.std.specs.List.{filter};
 ghost use Rattle.std.specs.Option.{option_map_or};
 ghost use Rattle.std.specs.Ordering.{is_lt};
@@ -9,10 +9,9 @@ ghost use Rattle.pairing.specs.Recordings.{calls_of};
 ghost use Rattle.pairing.specs.Requests.{completes};
 ghost use Rattle.pairing.specs.Pairs.{completed_of};
 ghost use Rattle.moves.specs.Needs.{world_of, half_needs, probe_needs, member_need, wave_needs, operation_needs, operation_needs_at, request_needs, needs_of_call, needs_of};
-ghost use Rattle.waitgraph.specs.Stuck.{comes_before, in_order, is_unmet, unmet_at, UnmetNeedsAreToldInOrder, StuckRanksWaitForStuckRanks};
+ghost use Rattle.waitgraph.specs.Stuck.{comes_before, needs_in_order, is_unmet, unmet_at, UnmetNeedsAreToldInOrder, StuckRanksWaitForStuckRanks};
 
-use crate::extent::members;
-use moves::need::{Need, is_met};
+use moves::need::{Need, is_met, members, stand_of};
 use moves::reading::{Reading, sends_freely};
 use mpigroup::head::Head;
 use pairing::envelope::{Half, Message};
@@ -50,7 +49,7 @@ fn order_of(need: &Need, other: &Need) -> Ordering
 
 /// Puts needs in order, each once.
 fn put_in_order(needs: &mut Vec<Need>)
-    ensures { needs.new.items ≡ in_order needs.old.items }
+    ensures { needs.new.items ≡ needs_in_order needs.old.items }
 {
     needs.sort_unstable_by(|need, other| order_of(need, other));
     needs.dedup();
@@ -277,15 +276,6 @@ fn add_needs(
     }
 }
 
-pub(crate) fn stand_of(stands: &[u32], rank: u16) -> u32
-    ensures { result ≡ slice_index stands.now rank }
-{
-    match stands.get(usize::from(rank)) {
-        Some(stand) => *stand,
-        None => 0,
-    }
-}
-
 /// The unmet needs of the rank's present call, in order and each once. All are found, and then they are sorted.
 pub(crate) fn unmet_at(
     alloc: Global,
@@ -317,6 +307,7 @@ pub fn unmet_needs_are_told_in_order()
 
 /// A stuck rank of a closed recording has an unmet need, a rank that isn't stuck has none, and a rank whose
 /// call is needed and not reached is stuck itself.
+#[tactic(auto, using(crate::proofs::StuckLemmas::stuck_ranks_wait_for_stuck_ranks))]
 pub fn stuck_ranks_wait_for_stuck_ranks()
     ensures { StuckRanksWaitForStuckRanks }
 {}

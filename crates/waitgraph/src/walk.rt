@@ -74,6 +74,7 @@ fn add_cycle(
     Ok(())
 }
 
+#[tactic(auto, using(crate::proofs::RangeLemmas::one_given))]
 fn add_cycles(
     alloc: Global,
     causes: &mut Vec<Cause>,
@@ -102,6 +103,7 @@ fn add_missing(
     Ok(())
 }
 
+#[tactic(auto, using(crate::proofs::RangeLemmas::one_given))]
 fn add_missing_calls(causes: &mut Vec<Cause>, walks: &[Option<Onward>]) -> Result<(), AllocError>
     requires { length walks.now < 65536 }
     ensures { OnOk result (map view_of causes.new.items ≡ map view_of causes.old.items ++ filter_map (missing_at walks.now) (range_with_len 0 (length walks.now))) }
@@ -125,6 +127,7 @@ pub(crate) fn causes_in(alloc: Global, walks: &[Option<Onward>]) -> Result<Vec<C
 
 /// The walk from each held rank of a closed recording comes to a cause that is listed, and each cause that
 /// is listed is one to which the walk from some held rank comes. None is listed twice.
+#[tactic(auto, using(crate::proofs::WalkingLemmas::walks_end_in_the_causes))]
 pub fn walks_end_in_the_causes()
     ensures { WalksEndInTheCauses }
 {}

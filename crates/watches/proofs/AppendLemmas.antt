@@ -6,7 +6,7 @@ use mathlib.Core.List.{IsPrefix}
 use prog.Atomic.{either}
 use Rattle.logbook.specs.Pages.{Cell, cell, keeps, no_nib, step, Moves, Goes}
 use Rattle.watches.specs.declared.stands.Stands.{Stands}
-use Rattle.watches.specs.Publications.{IsListed, AppendsOne, last_of}
+use Rattle.watches.specs.Publications.{IsLogged, AppendsOne, last_published}
 use Rattle.watches.proofs.PrefixLemmas.{prefix_whole}
 
 abbrev pub shown : List Stands → List Stands
@@ -17,7 +17,7 @@ moved xs ys n = Unit {0}
 
 pub adds_goes : (log v : List Stands) (e : Stands) (old : ℕ) → length v ≡ old → IsPrefix v log
     → (b : Bool) → (length log == old) ≡ b
-    → Goes IsListed shown moved 0 (v, (no_nib, None)) (λ n. either (n == old) (old + 1) n) (AppendsOne (step 0 old (old + 1) e) (v, (no_nib, None))) ((length log, true) ∷ (0, true) ∷ []) log
+    → Goes IsLogged shown moved 0 (v, (no_nib, None)) (λ n. either (n == old) (old + 1) n) (AppendsOne (step 0 old (old + 1) e) (v, (no_nib, None))) ((length log, true) ∷ (0, true) ∷ []) log
 adds_goes log v e old len pre true is =
     let here : length log ≡ old = grind (arith, nat_tests) in
     let same : v ≡ log = prefix_whole v log pre (omega arith) in
@@ -43,12 +43,12 @@ adds_goes log v e old len pre false is =
     )
 
 pub adds_moves : (v : List Stands) (e : Stands) (old : ℕ) → length v ≡ old
-    → Moves IsListed shown moved 0 (v, (no_nib, None)) (λ n. either (n == old) (old + 1) n) (AppendsOne (step 0 old (old + 1) e) (v, (no_nib, None)))
+    → Moves IsLogged shown moved 0 (v, (no_nib, None)) (λ n. either (n == old) (old + 1) n) (AppendsOne (step 0 old (old + 1) e) (v, (no_nib, None)))
 adds_moves v e old len cs log kept pre away =
-    let P : List Cell → Type 0 = λ c. (0 < length c) × ((cell c 0).1 ≡ true) × Goes IsListed shown moved 0 (v, (no_nib, None)) (λ n. either (n == old) (old + 1) n) (AppendsOne (step 0 old (old + 1) e) (v, (no_nib, None))) c log in
+    let P : List Cell → Type 0 = λ c. (0 < length c) × ((cell c 0).1 ≡ true) × Goes IsLogged shown moved 0 (v, (no_nib, None)) (λ n. either (n == old) (old + 1) n) (AppendsOne (step 0 old (old + 1) e) (v, (no_nib, None))) c log in
     subst P (sym kept.words) (omega arith, refl, adds_goes log v e old len pre (length log == old) refl)
 
-pub last_of_snoc : (xs : List Stands) (e : Stands) → last_of (xs ++ e ∷ []) ≡ Some e
+pub last_of_snoc : (xs : List Stands) (e : Stands) → last_published (xs ++ e ∷ []) ≡ Some e
 last_of_snoc [] e = refl
 last_of_snoc (x ∷ []) e = refl
 last_of_snoc (x ∷ y ∷ ys) e = last_of_snoc (y ∷ ys) e

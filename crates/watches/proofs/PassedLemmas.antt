@@ -15,8 +15,8 @@ use Rattle.moves.specs.Needs.{can_move}
 use Rattle.moves.specs.Stands.{stands_of}
 use Rattle.moves.proofs.RunLemmas.{get_start, reached_start}
 use Rattle.moves.proofs.StandLemmas.{reached_on, every_maximal_run_ends_at_the_stands}
-use Rattle.watches.specs.Stands.{places_of, Passes, IsPassed, PassedStatesStayPassed}
-use Rattle.watches.specs.Publications.{ArePassed, Publishes, at_start, last_of}
+use Rattle.watches.specs.Stands.{shown_places, Passes, IsPassed, PassedStatesStayPassed}
+use Rattle.watches.specs.Publications.{ArePassed, Publishes, at_start, last_published}
 use Rattle.watches.specs.declared.stands.Stands.{Stands}
 
 passes_on : (reading : Reading) (groups : Groups) (recording longer : Lists) (places : List ℕ) → GoesOn recording longer → Passes reading groups recording places → Passes reading groups longer places
@@ -33,7 +33,7 @@ pub passed_on : (reading : Reading) (groups : Groups) (recording longer : Lists)
 passed_on reading groups recording longer list more are = λ k d below. passed_states_stay_passed reading groups recording longer _ more (are k d below)
 
 -- some run passes the stands of now: each maximal one ends there
-stands_passed : (reading : Reading) (groups : Groups) (recording : Lists) (places : List ℕ) → places ≡ places_of (stands_of reading groups recording) → Passes reading groups recording places
+stands_passed : (reading : Reading) (groups : Groups) (recording : Lists) (places : List ℕ) → places ≡ shown_places (stands_of reading groups recording) → Passes reading groups recording places
 stands_passed reading groups recording places are = record {
   state = stands_of reading groups recording;
   is_reached = (every_maximal_run_ends_at_the_stands reading groups recording).1.is_reached;
@@ -42,10 +42,10 @@ stands_passed reading groups recording places are = record {
 
 -- the list is as it was, or has one more
 either_way : {A E : Type 0} (answer : Result A E) (stands : Stands) (old new : List Stands) → OnOk answer (Publishes stands old new) → OnErr answer (new ≡ old) → (new ≡ old ++ stands ∷ []) ⊎ (new ≡ old)
-either_way (Ok told) stands old new done failed = ⊎_elim (λ (more : new ≡ old ++ stands ∷ []). inl more) (λ (same : (new ≡ old) × (last_of old ≡ Some stands)). inr same.0) done
+either_way (Ok told) stands old new done failed = ⊎_elim (λ (more : new ≡ old ++ stands ∷ []). inl more) (λ (same : (new ≡ old) × (last_published old ≡ Some stands)). inr same.0) done
 either_way (Err fault) stands old new done failed = inr failed
 
-pub still_passed : {A E : Type 0} (reading : Reading) (groups : Groups) (recording : Lists) (answer : Result A E) (stands : Stands) (old new : List Stands) → stands.places ≡ places_of (stands_of reading groups recording) → OnOk answer (Publishes stands old new) → OnErr answer (new ≡ old) → ArePassed reading groups recording old → ArePassed reading groups recording new
+pub still_passed : {A E : Type 0} (reading : Reading) (groups : Groups) (recording : Lists) (answer : Result A E) (stands : Stands) (old new : List Stands) → stands.places ≡ shown_places (stands_of reading groups recording) → OnOk answer (Publishes stands old new) → OnErr answer (new ≡ old) → ArePassed reading groups recording old → ArePassed reading groups recording new
 still_passed reading groups recording answer stands old new are done failed were =
     ⊎_elim
     (λ (more : new ≡ old ++ stands ∷ []). rw more (All-push (λ (s : Stands). IsPassed reading groups recording s.places) old stands were (merely (stands_passed reading groups recording stands.places are))))
@@ -54,8 +54,8 @@ still_passed reading groups recording answer stands old new are done failed were
 
 -- at the opening
 
-start_places : (ranks : ℕ) → at_start.places ≡ places_of (start ranks)
-unfolding places_of at_start
+start_places : (ranks : ℕ) → at_start.places ≡ shown_places (start ranks)
+unfolding shown_places at_start
 start_places ranks = fill_by_all (λ k. get_or (start ranks) k 0) at_start.places MOST_RANKS 0 (length-replicate {A = ℕ} MOST_RANKS 0) (λ k below. get_start MOST_RANKS k ∙ sym (get_start ranks k))
 
 start_passed : (reading : Reading) (groups : Groups) (recording : Lists) → Passes reading groups recording at_start.places

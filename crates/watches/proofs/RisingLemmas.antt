@@ -1,7 +1,7 @@
 -- No stand falls along the publications.
 use Rattle.std.proofs.Common.{◌≡◌, ℕ, ◌<◌, Bool, true, false, if◌then◌else◌, nat_le, nat_lt, List, [], ◌∷◌, ◌++◌, Option, Some, None, sum, refl, arith, slice_index, slice_get, suc, IfSome}
 use Rattle.std.specs.List.{range_with_len}
-use Rattle.std.proofs.lemmas.Bool.{and_parts, and_from}
+use Rattle.std.proofs.lemmas.Bool.{and_parts}
 use Rattle.std.proofs.lemmas.Bool.Decides.{nat_tests}
 use Rattle.std.proofs.lemmas.List.Sums.{AllPass-from_list_all, list_all-from_AllPass}
 use Rattle.mpigroup.specs.declared.limits.TheConstants.{MOST_RANKS}
@@ -9,7 +9,7 @@ use mathlib.Core.List.{IsPrefix}
 use Rattle.watches.specs.declared.stands.Stands.{Stands}
 use Rattle.watches.specs.Stands.{is_no_lower, is_further}
 use Rattle.watches.proofs.PrefixLemmas.{prefix_get}
-use Rattle.watches.specs.Publications.{last_of, is_rising, NeverFalls}
+use Rattle.watches.specs.Publications.{last_published, is_rising, NeverFalls}
 
 then_of : (b r : Bool) → (if b then r else false) ≡ true → (b ≡ true) × (r ≡ true)
 then_of true r e = (refl, e)
@@ -38,15 +38,12 @@ pub further_is_more : (xs ys : List ℕ) → is_further xs ys ≡ true → sum x
 further_is_more xs ys e =
     let more = (and_parts (is_no_lower xs ys) (nat_lt (sum xs) (sum ys)) e).1 in grind (arith, nat_tests, more)
 
-pub further_is : (xs ys : List ℕ) → is_no_lower xs ys ≡ true → sum xs < sum ys → is_further xs ys ≡ true
-further_is xs ys within more = and_from (is_no_lower xs ys) (nat_lt (sum xs) (sum ys)) within (grind (arith, nat_tests, more))
-
 -- what may stand behind the last of a list
 abbrev pub may_follow : Option Stands → Stands → Bool
 may_follow None stands = true
 may_follow (Some last) stands = is_further last.places stands.places
 
-pub rising_snoc : (xs : List Stands) (e : Stands) → is_rising xs ≡ true → may_follow (last_of xs) e ≡ true → is_rising (xs ++ e ∷ []) ≡ true
+pub rising_snoc : (xs : List Stands) (e : Stands) → is_rising xs ≡ true → may_follow (last_published xs) e ≡ true → is_rising (xs ++ e ∷ []) ≡ true
 rising_snoc [] e r m = refl
 rising_snoc (x ∷ []) e r m = then_is (is_further x.places e.places) true m refl
 rising_snoc (x ∷ y ∷ ys) e r m =
@@ -57,17 +54,17 @@ passes_to : (x y : Stands) (last : Option Stands) → is_no_lower x.places y.pla
 passes_to x y None p q = tt
 passes_to x y (Some z) p q = no_lower_trans x.places y.places z.places p q
 
-passes : (x y : Stands) (ys : List Stands) → is_further x.places y.places ≡ true → NeverFalls (Some y) (last_of (y ∷ ys)) → NeverFalls (Some x) (last_of (y ∷ ys))
-passes x y ys p q = passes_to x y (last_of (y ∷ ys)) (further_is_no_lower x.places y.places p) q
+passes : (x y : Stands) (ys : List Stands) → is_further x.places y.places ≡ true → NeverFalls (Some y) (last_published (y ∷ ys)) → NeverFalls (Some x) (last_published (y ∷ ys))
+passes x y ys p q = passes_to x y (last_published (y ∷ ys)) (further_is_no_lower x.places y.places p) q
 
 -- the last is no lower than the first
-pub first_below : (x : Stands) (xs : List Stands) → is_rising (x ∷ xs) ≡ true → NeverFalls (Some x) (last_of (x ∷ xs))
+pub first_below : (x : Stands) (xs : List Stands) → is_rising (x ∷ xs) ≡ true → NeverFalls (Some x) (last_published (x ∷ xs))
 first_below x [] r = no_lower_self x.places
 first_below x (y ∷ ys) r =
     let r' = then_of (is_further x.places y.places) (is_rising (y ∷ ys)) r in
     passes x y ys r'.0 (first_below y ys r'.1)
 
-pub never_falls : (xs ys : List Stands) → IsPrefix xs ys → is_rising ys ≡ true → NeverFalls (last_of xs) (last_of ys)
+pub never_falls : (xs ys : List Stands) → IsPrefix xs ys → is_rising ys ≡ true → NeverFalls (last_published xs) (last_published ys)
 never_falls [] ys p r = tt
 never_falls (x ∷ []) [] p r = absurd (cc p.1)
 never_falls (x ∷ []) (y ∷ ys) p r = let e : x ≡ y = cc p.1 in rw e (first_below y ys r)
@@ -81,16 +78,16 @@ self_of : (last : Option Stands) → NeverFalls last last
 self_of None = tt
 self_of (Some x) = no_lower_self x.places
 
-pub never_falls_self : (xs : List Stands) → NeverFalls (last_of xs) (last_of xs)
-never_falls_self xs = self_of (last_of xs)
+pub never_falls_self : (xs : List Stands) → NeverFalls (last_published xs) (last_published xs)
+never_falls_self xs = self_of (last_published xs)
 
 one_behind : (last : Option Stands) (y : Stands) (ys : List Stands) → IfSome last (λ stands. (place : ℕ) × (slice_get ys place ≡ Some stands)) → IfSome last (λ stands. (place : ℕ) × (slice_get (y ∷ ys) place ≡ Some stands))
 one_behind None y ys at = tt
 one_behind (Some stands) y ys at = (suc at.0, at.1)
 
 -- the last of a beginning stands in the whole
-pub last_among : (xs ys : List Stands) → IsPrefix xs ys → IfSome (last_of xs) (λ stands. (place : ℕ) × (slice_get ys place ≡ Some stands))
+pub last_among : (xs ys : List Stands) → IsPrefix xs ys → IfSome (last_published xs) (λ stands. (place : ℕ) × (slice_get ys place ≡ Some stands))
 last_among [] ys p = tt
 last_among (x ∷ []) ys p = (0, prefix_get (x ∷ []) ys 0 x p refl)
 last_among (x ∷ x' ∷ xs) [] p = absurd (cc p.1)
-last_among (x ∷ x' ∷ xs) (y ∷ ys) p = one_behind (last_of (x' ∷ xs)) y ys (last_among (x' ∷ xs) ys (p.0, cc p.1))
+last_among (x ∷ x' ∷ xs) (y ∷ ys) p = one_behind (last_published (x' ∷ xs)) y ys (last_among (x' ∷ xs) ys (p.0, cc p.1))

@@ -13,10 +13,10 @@ unfoldable pub at_start : Stands
 at_start = record { places = replicate MOST_RANKS 0 }
 
 -- the last of a list, if it has one
-abbrev pub last_of : List Stands → Option Stands
-last_of [] = None
-last_of (x ∷ []) = Some x
-last_of (x ∷ y ∷ ys) = last_of (y ∷ ys)
+abbrev pub last_published : List Stands → Option Stands
+last_published [] = None
+last_published (x ∷ []) = Some x
+last_published (x ∷ y ∷ ys) = last_published (y ∷ ys)
 
 -- each is further than the one before it, and no rank stands lower there
 abbrev pub is_rising : List Stands → Bool
@@ -34,7 +34,7 @@ NeverFalls earlier later = IfSome earlier (λ a. IfSome later (λ b. is_no_lower
 
 -- the stands are published: they are one more, or they were the last already
 abbrev pub Publishes : Stands → List Stands → List Stands → Type 0
-Publishes stands old new = (new ≡ old ++ stands ∷ []) ⊎ ((new ≡ old) × (last_of old ≡ Some stands))
+Publishes stands old new = (new ≡ old ++ stands ∷ []) ⊎ ((new ≡ old) × (last_published old ≡ Some stands))
 
 -- each is a state that some run over the recording passes
 abbrev pub ArePassed : Reading → Groups → Lists → List Stands → Type 0
@@ -42,7 +42,7 @@ ArePassed reading groups recording list = All (λ stands. IsPassed reading group
 
 -- Below is how the list is kept: a book that only grows, and a shared number, which is the list's length.
 
-pub record IsListed (cells : List Cell) (log : List Stands) : Type 0 where
+pub record IsLogged (cells : List Cell) (log : List Stands) : Type 0 where
   pub words : cells ≡ (length log, true) ∷ (0, true) ∷ []
 
 -- the shared number of a book

@@ -5,8 +5,8 @@ use Rattle.watches.specs.declared.stands.Stands.{Stands}
 use Rattle.watches.specs.declared.publication.Publication.{Publication}
 
 -- the publications up to it
-abbrev pub list_of : Publication → List Stands
-list_of publication = publication.known.log
+abbrev pub list_known : Publication → List Stands
+list_known publication = publication.known.log
 
 -- which list it is of
 abbrev pub book_of : Publication → Book

@@ -4,13 +4,13 @@ use Rattle.std.specs.Option.{ForSome}
 use Rattle.core.specs.Mem.{manually_drop_value}
 use Rattle.logbook.specs.Pages.{Book}
 use Rattle.watches.specs.Boards.{shown}
-use Rattle.watches.specs.Published.{list_of, book_of}
+use Rattle.watches.specs.Published.{list_known, book_of}
 use Rattle.watches.specs.declared.stands.Stands.{Stands}
 use Rattle.watches.specs.declared.publisher.Publisher.{Publisher}
 
 -- the publications, in order
 abbrev pub published_by : Publisher → List Stands
-published_by publisher = list_of publisher.last
+published_by publisher = list_known publisher.last
 
 -- which list they are
 abbrev pub book_published : Publisher → Book
@@ -22,4 +22,4 @@ is_watched publisher = is_some publisher.board
 
 -- where there are watches, what they are shown is the last publication
 abbrev pub IsShown : Publisher → Type 0
-IsShown publisher = ForSome publisher.board (λ board. list_of (shown (manually_drop_value board)) ≡ list_of publisher.last)
+IsShown publisher = ForSome publisher.board (λ board. list_known (shown (manually_drop_value board)) ≡ list_known publisher.last)

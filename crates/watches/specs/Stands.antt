@@ -10,8 +10,8 @@ use Rattle.moves.specs.Runs.{State, IsReached}
 use Rattle.moves.specs.Needs.{can_move}
 
 -- the places of a state: each rank's stand, 0 where the run has no such rank
-unfoldable pub places_of : State → List ℕ
-places_of state = map (slice_index state) (range_with_len 0 MOST_RANKS)
+unfoldable pub shown_places : State → List ℕ
+shown_places state = map (slice_index state) (range_with_len 0 MOST_RANKS)
 
 -- no rank stands lower in the second
 unfoldable pub is_no_lower : List ℕ → List ℕ → Bool
@@ -25,7 +25,7 @@ is_further xs ys = is_no_lower xs ys && nat_lt (sum xs) (sum ys)
 pub record Passes (reading : Reading) (groups : Groups) (recording : Lists) (places : List ℕ) : Type 0 where
   pub state : State
   pub is_reached : IsReached (can_move reading groups recording) (length recording) state
-  pub are_its_places : places ≡ places_of state
+  pub are_its_places : places ≡ shown_places state
 
 -- there is a state with these places that some run over the recording passes
 abbrev pub IsPassed : Reading → Groups → Lists → List ℕ → Type 0

@@ -1,15 +1,15 @@
 -- What contracts see of a watch, and of what it is told.
 use Rattle.std.specs.Prelude.{◌≡◌, ℕ, ◌<◌, ◌≤◌, List, Option, Some, None, IfSome, slice_get}
 use Rattle.logbook.specs.Pages.{Book}
-use Rattle.watches.specs.Publications.{last_of}
-use Rattle.watches.specs.Published.{list_of, book_of}
+use Rattle.watches.specs.Publications.{last_published}
+use Rattle.watches.specs.Published.{list_known, book_of}
 use Rattle.watches.specs.declared.stands.Stands.{Stands}
 use Rattle.watches.specs.declared.watch.Watch.{Watch}
 use Rattle.watches.specs.declared.watch.Told.{Told}
 
 -- the publications that the watch has seen or was told of
 abbrev pub seen_by : Watch → List Stands
-seen_by watch = list_of watch.known
+seen_by watch = list_known watch.known
 
 -- which session's list it reads
 abbrev pub list_watched : Watch → Book
@@ -21,7 +21,7 @@ ranks_watched watch = watch.ranks
 
 -- the publications that are told of
 abbrev pub publications_told : Told → List Stands
-publications_told told = list_of told.publication
+publications_told told = list_known told.publication
 
 -- which session's list they are of
 abbrev pub list_told : Told → Book
@@ -29,12 +29,12 @@ list_told told = book_of told.publication
 
 -- the answer for a rank is its stand in the last of what was seen; none exactly where there is no such rank
 abbrev pub ReadsAt : ℕ → Watch → Option ℕ → Type 0
-ReadsAt rank watch (Some stand) = (rank < ranks_watched watch) × IfSome (last_of (seen_by watch)) (λ stands. slice_get stands.places rank ≡ Some stand)
+ReadsAt rank watch (Some stand) = (rank < ranks_watched watch) × IfSome (last_published (seen_by watch)) (λ stands. slice_get stands.places rank ≡ Some stand)
 ReadsAt rank watch None = ranks_watched watch ≤ rank
 
 -- the watch answers by one of these publications
 abbrev pub AnswersBy : List Stands → Watch → Type 0
-AnswersBy list watch = IfSome (last_of (seen_by watch)) (λ stands. (place : ℕ) × (slice_get list place ≡ Some stands))
+AnswersBy list watch = IfSome (last_published (seen_by watch)) (λ stands. (place : ℕ) × (slice_get list place ≡ Some stands))
 
 -- the watch is of so many ranks, reads this list, and knows these publications of it
 pub record IsWatchOf (ranks : ℕ) (book : Book) (list : List Stands) (watch : Watch) : Type 0 where

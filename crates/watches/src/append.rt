@@ -16,9 +16,9 @@ pub struct Listed;
 impl Rule<Stands, u64> for Listed {
     ghost use Rattle.std.specs.Prelude.{[], ◌∷◌};
     ghost use base.Fml.{ftrue};
-    ghost use Rattle.watches.specs.Publications.{at_start, IsListed};
+    ghost use Rattle.watches.specs.Publications.{at_start, IsLogged};
 
-    ghost holds = { IsListed };
+    ghost holds = { IsLogged };
 
     ghost first = { at_start ∷ [] };
 

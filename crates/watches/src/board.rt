@@ -3,7 +3,7 @@
 ghost use Rattle.std.specs.Prelude.{◌≡◌, ◌<◌, ◌≤◌, ◌⊎◌, IfOk, IfSome};
 ghost use Rattle.left_right.specs.Sides.{view};
 ghost use Rattle.mpigroup.specs.declared.limits.TheConstants.{MOST_RANKS};
-ghost use Rattle.watches.specs.Published.{list_of, book_of};
+ghost use Rattle.watches.specs.Published.{list_known, book_of};
 ghost use Rattle.watches.specs.Shown.{list_shown, nobody};
 
 use crate::publication::Publication;
@@ -133,7 +133,7 @@ impl Board {
     pub(crate) fn watch(&mut self, ranks: u16) -> Option<Watch>
         requires { ranks ≤ MOST_RANKS }
         ensures kept { shown self.new ≡ shown self.old }
-        ensures watch { IfSome result (IsWatchOf ranks (book_of (shown self.old)) (list_of (shown self.old))) }
+        ensures watch { IfSome result (IsWatchOf ranks (book_of (shown self.old)) (list_known (shown self.old))) }
     {
         let Ok(mut reader) = self.writer.factory().reader() else {
             return None;

@@ -11,8 +11,7 @@
 //!
 //! Sessions of the crate `gather` publish by it. The definitions stand in `specs/`: `Stands` says what a state that
 //! some run passes is, `Publications` what is published, `Publishers` and `Watches` what contracts see of those who
-//! publish and read. Nobody has to believe `Shown` and `Boards`: they say how the board is kept, and no public contract
-//! cites them.
+//! publish and read. Nobody has to believe `Shown`: it says how the board is kept, and no public contract cites it.
 //!
 //! ```text
 //! let (mut publisher, mut watches) = Publisher::open(alloc, 2, 1, wait)?;

@@ -2,7 +2,7 @@
 
 ghost use Rattle.std.specs.Prelude.{◌≡◌, ◌≤◌, ◌+◌, [], ◌∷◌, ◌++◌, length, nat_le, slice_get, sum, true, false, Some};
 ghost use mathlib.Core.List.{IsPrefix};
-ghost use Rattle.watches.specs.Publications.{at_start, head_of, last_of, is_rising};
+ghost use Rattle.watches.specs.Publications.{at_start, head_of, last_published, is_rising};
 
 use crate::append::{Count, Known, append};
 use crate::stands::Stands;
@@ -15,7 +15,7 @@ pub struct Publication {
     number: u64,
     known: Known,
     ghost counts: { number ≡ length known.log },
-    ghost last: { last_of known.log ≡ Some stands },
+    ghost last: { last_published known.log ≡ Some stands },
     ghost first: { slice_get known.log 0 ≡ Some at_start },
     ghost rising: { is_rising known.log ≡ true },
     // Each publication is further than the one before it, so their number doesn't run out.
@@ -23,12 +23,12 @@ pub struct Publication {
 }
 
 impl Publication {
-    ghost use Rattle.watches.specs.Published.{list_of, book_of};
+    ghost use Rattle.watches.specs.Published.{list_known, book_of};
 
     /// The first one.
     pub(crate) fn first(known: Known) -> Publication
         requires { known.log ≡ at_start ∷ [] }
-        ensures list { list_of result ≡ at_start ∷ [] }
+        ensures list { list_known result ≡ at_start ∷ [] }
         ensures book { book_of result ≡ known.book }
     {
         Publication {
@@ -51,7 +51,7 @@ impl Publication {
 
     /// The stands that it shows.
     pub(crate) fn stands(&self) -> &Stands
-        ensures { last_of (list_of self.now) ≡ Some result.now }
+        ensures { last_published (list_known self.now) ≡ Some result.now }
     {
         &self.stands
     }
@@ -69,9 +69,9 @@ impl Publication {
     /// of the later one.
     pub(crate) fn covers(&self, other: &Publication) -> bool
         requires { book_of other.now ≡ book_of self.now }
-        ensures value { result ≡ nat_le (length (list_of other.now)) (length (list_of self.now)) }
-        ensures within { result ≡ true → IsPrefix (list_of other.now) (list_of self.now) }
-        ensures beyond { result ≡ false → IsPrefix (list_of self.now) (list_of other.now) }
+        ensures value { result ≡ nat_le (length (list_known other.now)) (length (list_known self.now)) }
+        ensures within { result ≡ true → IsPrefix (list_known other.now) (list_known self.now) }
+        ensures beyond { result ≡ false → IsPrefix (list_known self.now) (list_known other.now) }
     {
         let mut both = self.known.again();
         both.learn(&other.known);
@@ -82,8 +82,8 @@ impl Publication {
     pub(crate) fn become_newer(&mut self, other: &Publication)
         requires { book_of other.now ≡ book_of self.old }
         ensures book { book_of self.new ≡ book_of self.old }
-        ensures this { IsPrefix (list_of self.old) (list_of self.new) }
-        ensures that { IsPrefix (list_of other.now) (list_of self.new) }
+        ensures this { IsPrefix (list_known self.old) (list_known self.new) }
+        ensures that { IsPrefix (list_known other.now) (list_known self.new) }
     {
         if !self.covers(other) {
             self.copy_from(other);
@@ -94,7 +94,7 @@ impl Publication {
     /// the ranks are no further it stays as it is.
     pub(crate) fn become_next(&mut self, count: &Count, stands: &Stands) -> bool
         requires { count.now ≡ head_of (book_of self.old) }
-        ensures yes { result ≡ true → list_of self.new ≡ list_of self.old ++ stands.now ∷ [] }
+        ensures yes { result ≡ true → list_known self.new ≡ list_known self.old ++ stands.now ∷ [] }
         ensures no { result ≡ false → self.new ≡ self.old }
         ensures book { book_of self.new ≡ book_of self.old }
     {

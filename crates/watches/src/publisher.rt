@@ -5,7 +5,7 @@ ghost use Rattle.std.specs.Option.{ForSome};
 ghost use Rattle.core.specs.Mem.{manually_drop_value};
 ghost use Rattle.mpigroup.specs.declared.limits.TheConstants.{MOST_RANKS};
 ghost use Rattle.watches.specs.Boards.{shown};
-ghost use Rattle.watches.specs.Published.{list_of, book_of};
+ghost use Rattle.watches.specs.Published.{list_known, book_of};
 ghost use Rattle.watches.specs.Publications.{head_of};
 ghost use Rattle.watches.specs.Watches.{IsWatchOf};
 
@@ -61,7 +61,7 @@ fn watch_all(board: &mut Board, watches: u16, ranks: u16, all: Vec<Watch>) -> Op
     requires room { watches ≤ vec_capacity all }
     ensures kept { shown board.new ≡ shown board.old }
     ensures len { IfSome result (λ all. vec_len all ≡ watches) }
-    ensures watches { IfSome result (λ all. All (IsWatchOf ranks (book_of (shown board.old)) (list_of (shown board.old))) all.items) }
+    ensures watches { IfSome result (λ all. All (IsWatchOf ranks (book_of (shown board.old)) (list_known (shown board.old))) all.items) }
 {
     let mut all = all;
     for _ in 0..watches {

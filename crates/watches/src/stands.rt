@@ -2,7 +2,7 @@
 
 ghost use Rattle.std.specs.Prelude.{◌≡◌, ◌<◌, ◌≤◌, ◌*◌, sum, slice_get, Some};
 ghost use Rattle.moves.specs.Stands.{stands_of};
-ghost use Rattle.watches.specs.Stands.{places_of, is_no_lower, is_further, PassedStatesStayPassed};
+ghost use Rattle.watches.specs.Stands.{shown_places, is_no_lower, is_further, PassedStatesStayPassed};
 ghost use Rattle.mpigroup.specs.declared.limits.TheConstants.{MOST_RANKS};
 
 use moves::analyser::Analyser;
@@ -33,7 +33,7 @@ impl Stands {
     /// Becomes the stands of now: each rank's place is where the rank stands over the calls that were accepted,
     /// by definition.
     pub fn set(&mut self, analyser: &Analyser)
-        ensures { self.new.places ≡ places_of (stands_of analyser.now.reading analyser.now.groups analyser.now.recording) }
+        ensures { self.new.places ≡ shown_places (stands_of analyser.now.reading analyser.now.groups analyser.now.recording) }
     {
         for rank in 0..MOST_RANKS {
             self.places[usize::from(rank)] = analyser.stand(rank).unwrap_or(0);

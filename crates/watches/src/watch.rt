@@ -26,8 +26,8 @@ ghost use Rattle.std.specs.Option.{ForSome};
 ghost use mathlib.Core.List.{IsPrefix};
 ghost use Rattle.left_right.specs.Sides.{view};
 ghost use Rattle.mpigroup.specs.declared.limits.TheConstants.{MOST_RANKS};
-ghost use Rattle.watches.specs.Published.{list_of, book_of};
-ghost use Rattle.watches.specs.Publications.{last_of, NeverFalls};
+ghost use Rattle.watches.specs.Published.{list_known, book_of};
+ghost use Rattle.watches.specs.Publications.{last_published, NeverFalls};
 ghost use Rattle.watches.specs.Shown.{list_shown};
 
 use crate::board::{OneList, Sees, View};
@@ -64,7 +64,7 @@ impl Told {
     ghost use Rattle.watches.specs.Watches.{publications_told, list_told};
 
     pub(crate) fn of(publication: &Publication) -> Told
-        ensures told { publications_told result ≡ list_of publication.now }
+        ensures told { publications_told result ≡ list_known publication.now }
         ensures list { list_told result ≡ book_of publication.now }
     {
         Told {
@@ -78,7 +78,7 @@ impl Told {
 fn look(reader: BoardReader, known: &mut Publication) -> (BoardReader, bool)
     requires same { view reader.place ≡ list_shown known.old }
     ensures same { view result.0.place ≡ list_shown known.new }
-    ensures this { IsPrefix (list_of known.old) (list_of known.new) }
+    ensures this { IsPrefix (list_known known.old) (list_known known.new) }
     ensures gone { result.1 ≡ false → known.new ≡ known.old }
     ensures list { book_of known.new ≡ book_of known.old }
 {
@@ -97,7 +97,7 @@ impl Watch {
     pub(crate) fn new(ranks: u16, reader: BoardReader, known: Publication) -> Watch
         requires few { ranks ≤ MOST_RANKS }
         requires same { view reader.place ≡ list_shown known }
-        ensures { IsWatchOf ranks (book_of known) (list_of known) result }
+        ensures { IsWatchOf ranks (book_of known) (list_known known) result }
     {
         Watch {
             ranks,
@@ -113,7 +113,7 @@ impl Watch {
         ensures none { ranks_watched self.old ≤ rank → result ≡ Ok None }
         ensures ok { IfOk result (λ stand. ReadsAt rank self.new stand) }
         ensures grows { IsPrefix (seen_by self.old) (seen_by self.new) }
-        ensures never_falls { NeverFalls (last_of (seen_by self.old)) (last_of (seen_by self.new)) }
+        ensures never_falls { NeverFalls (last_published (seen_by self.old)) (last_published (seen_by self.new)) }
         ensures gone { OnErr result (seen_by self.new ≡ seen_by self.old) }
         ensures list { list_watched self.new ≡ list_watched self.old }
         ensures ranks { ranks_watched self.new ≡ ranks_watched self.old }
@@ -145,9 +145,9 @@ impl Watch {
     pub fn learn(&mut self, told: &Told)
         requires { list_told told.now ≡ list_watched self.old }
         ensures told { IsPrefix (publications_told told.now) (seen_by self.new) }
-        ensures no_less { NeverFalls (last_of (publications_told told.now)) (last_of (seen_by self.new)) }
+        ensures no_less { NeverFalls (last_published (publications_told told.now)) (last_published (seen_by self.new)) }
         ensures grows { IsPrefix (seen_by self.old) (seen_by self.new) }
-        ensures never_falls { NeverFalls (last_of (seen_by self.old)) (last_of (seen_by self.new)) }
+        ensures never_falls { NeverFalls (last_published (seen_by self.old)) (last_published (seen_by self.new)) }
         ensures list { list_watched self.new ≡ list_watched self.old }
         ensures ranks { ranks_watched self.new ≡ ranks_watched self.old }
     {

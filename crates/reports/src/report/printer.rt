@@ -1,7 +1,7 @@
 //! What a report is printed by: a page of bytes that wait, and whether the output refused a write.
 
 ghost use Rattle.std.specs.Prelude.{◌≡◌, ◌+◌, ◌≤◌, ℕ, Option, List, [], false, length};
-ghost use Rattle.reports.specs.Printing.{IsPrinted, Keeps, Ends};
+ghost use Rattle.reports.specs.Printing.{IsPrinted, KeepsPrinted, PrintsAll};
 
 use crate::report::page::{PAGE_BYTES, Page, ROOM_BYTES};
 use mpicall::device::{DeviceFault, Output, write_all};
@@ -26,9 +26,9 @@ impl Printer {
         }
     }
 
-    /// Gives what waits to the output, unless a write failed before; whether one has failed then.
+    /// Gives what waits to the output, unless a write failed before, and answers whether one has failed then.
     #[tactic(auto, using(crate::proofs::PrintingLemmas::printed_given))]
-    fn is_refused<O: Output>(&self, out: &mut O) -> bool
+    fn give<O: Output>(&self, out: &mut O) -> bool
         ensures { (begun : Option (List ℕ)) (count : ℕ) (text : List ℕ) →
             IsPrinted self.now.failed begun count text (O.written out.old) (O.failures out.old) self.now.page →
             IsPrinted result begun count text (O.written out.new) (O.failures out.new) [] }
@@ -41,16 +41,16 @@ impl Printer {
 
     /// Gives what waits to the output, unless a write failed before.
     fn flush<O: Output>(&mut self, out: &mut O)
-        ensures keeps { Keeps O.written O.failures out.old self.old out.new self.new }
+        ensures keeps { KeepsPrinted O.written O.failures out.old self.old out.new self.new }
         ensures none_waits { self.new.page ≡ [] }
     {
-        self.failed = self.is_refused(out);
+        self.failed = self.give(out);
         self.page.clear();
     }
 
     /// Has room for a line on the page.
     pub(crate) fn make_room<O: Output>(&mut self, out: &mut O)
-        ensures keeps { Keeps O.written O.failures out.old self.old out.new self.new }
+        ensures keeps { KeepsPrinted O.written O.failures out.old self.old out.new self.new }
         ensures room { length self.new.page + ROOM_BYTES ≤ PAGE_BYTES }
     {
         if self.page.len() > PAGE_BYTES - ROOM_BYTES {
@@ -63,7 +63,7 @@ impl Printer {
     pub(crate) fn finish<O: Output>(&mut self, out: &mut O) -> Result<(), DeviceFault>
         ensures { (begun : Option (List ℕ)) (count : ℕ) (text : List ℕ) →
             IsPrinted self.old.failed begun count text (O.written out.old) (O.failures out.old) self.old.page →
-            Ends begun count (O.written out.new) (O.failures out.new) text result }
+            PrintsAll begun count (O.written out.new) (O.failures out.new) text result }
     {
         self.flush(out);
         if self.failed {

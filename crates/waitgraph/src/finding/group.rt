@@ -11,11 +11,12 @@ ghost use Rattle.waitgraph.specs.Findings.{same_word, all_call_alike, choice_of,
 ghost use Rattle.waitgraph.specs.Makings.{is_wrong_making, is_same_making, known_of, IsKnown};
 ghost use Rattle.waitgraph.specs.declared.finding.making.Making.{Making};
 
-use crate::extent::{calls, members, ranks};
+use crate::extent::{calls, ranks};
 use crate::finding::Finding;
 use crate::finding::kind::is_same_word;
 use crate::finding::making::{Making, making_call, making_of};
 use crate::finding::wave::call_of_member;
+use moves::need::members;
 use mpicall::call::Call;
 use mpigroup::split::colour_group;
 use pairing::comm::makes;

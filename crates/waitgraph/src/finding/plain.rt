@@ -5,7 +5,7 @@ ghost use Rattle.mpigroup.specs.Groups.{Groups};
 ghost use Rattle.pairing.specs.Recordings.{Lists};
 ghost use Rattle.pairing.specs.Requests.{starts};
 ghost use Rattle.waitgraph.specs.Places.{call_at, over_places};
-ghost use Rattle.waitgraph.specs.Findings.{request_at, requests_of, group_at, wrong_groups_of};
+ghost use Rattle.waitgraph.specs.Findings.{lost_at, lost_requests, group_at, wrong_groups_of};
 
 use crate::extent::{calls, ranks};
 use pairing::pairs::Pairs;
@@ -30,7 +30,7 @@ fn is_plain(call: &StoredCall<'_>) -> bool
 /// Whether the call at the place, if there is one, is such a call.
 #[tactic(auto, using(crate::proofs::PlainLemmas::no_request, crate::proofs::PlainLemmas::no_request_past, crate::proofs::PlainLemmas::no_group_past))]
 fn is_plain_at(pairs: &Pairs, rank: u16, place: u32) -> bool
-    ensures requests { IsTrue result → request_at pairs.now.recording rank place ≡ [] }
+    ensures requests { IsTrue result → lost_at pairs.now.recording rank place ≡ [] }
     ensures groups { IsTrue result → group_at pairs.now.groups pairs.now.recording rank place ≡ [] }
 {
     match pairs.call(rank, place) {
@@ -41,7 +41,7 @@ fn is_plain_at(pairs: &Pairs, rank: u16, place: u32) -> bool
 
 /// The same of each call of a rank.
 fn are_plain(pairs: &Pairs, rank: u16) -> bool
-    ensures requests { IsTrue result → over_places (request_at pairs.now.recording rank) pairs.now.recording rank ≡ [] }
+    ensures requests { IsTrue result → over_places (lost_at pairs.now.recording rank) pairs.now.recording rank ≡ [] }
     ensures groups { IsTrue result → over_places (group_at pairs.now.groups pairs.now.recording rank) pairs.now.recording rank ≡ [] }
 {
     for place in 0..calls(pairs, rank) {
@@ -54,7 +54,7 @@ fn are_plain(pairs: &Pairs, rank: u16) -> bool
 
 /// The same of each rank's calls. It ends at the first that isn't plain.
 pub(crate) fn are_all_plain(pairs: &Pairs) -> bool
-    ensures requests { IsTrue result → requests_of pairs.now.recording ≡ [] }
+    ensures requests { IsTrue result → lost_requests pairs.now.recording ≡ [] }
     ensures groups { IsTrue result → wrong_groups_of pairs.now.groups pairs.now.recording ≡ [] }
 {
     for rank in 0..ranks(pairs) {

@@ -5,7 +5,7 @@ ghost use Rattle.pairing.specs.Recordings.{calls_of};
 ghost use Rattle.pairing.specs.Requests.{starts};
 ghost use Rattle.waitgraph.specs.Places.{call_at, over_places};
 ghost use Rattle.waitgraph.specs.Marks.{is_place, completes_at, marks_at, is_marked};
-ghost use Rattle.waitgraph.specs.Findings.{request_at, requests_of};
+ghost use Rattle.waitgraph.specs.Findings.{lost_at, lost_requests};
 
 use crate::extent::{calls, ranks};
 use crate::finding::Finding;
@@ -69,7 +69,7 @@ fn started_req(pairs: &Pairs, rank: u16, place: u32) -> Option<u32>
     pairs.call(rank, place)?.starts()
 }
 
-#[tactic(auto, using(crate::proofs::MarkLemmas::marked_is_completed), unfolding(crate::specs::Findings::request_at))]
+#[tactic(auto, using(crate::proofs::MarkLemmas::marked_is_completed), unfolding(crate::specs::Findings::lost_at))]
 fn add_at(
     findings: &mut Vec<Finding>,
     pairs: &Pairs,
@@ -78,7 +78,7 @@ fn add_at(
     is_completed: bool,
 ) -> Result<(), AllocError>
     requires { is_completed ≡ is_marked pairs.now.recording rank place }
-    ensures { OnOk result (findings.new.items ≡ findings.old.items ++ request_at pairs.now.recording rank place) }
+    ensures { OnOk result (findings.new.items ≡ findings.old.items ++ lost_at pairs.now.recording rank place) }
 {
     match started_req(pairs, rank, place) {
         Some(req) => {
@@ -103,7 +103,7 @@ fn add_unmarked(
     requires marks { (start : ℕ) → start < length (calls_of pairs.now.recording rank) →
         slice_index_or marks.now start false ≡ is_marked pairs.now.recording rank start }
     ensures { OnOk result (findings.new.items
-        ≡ findings.old.items ++ over_places (request_at pairs.now.recording rank) pairs.now.recording rank) }
+        ≡ findings.old.items ++ over_places (lost_at pairs.now.recording rank) pairs.now.recording rank) }
 {
     for place in 0..calls(pairs, rank) {
         add_at(findings, pairs, rank, place, marks[place as usize])?;
@@ -118,20 +118,20 @@ fn add_of_rank(
     rank: u16,
 ) -> Result<(), AllocError>
     ensures { OnOk result (findings.new.items
-        ≡ findings.old.items ++ over_places (request_at pairs.now.recording rank) pairs.now.recording rank) }
+        ≡ findings.old.items ++ over_places (lost_at pairs.now.recording rank) pairs.now.recording rank) }
 {
     let marks = marks_of(alloc, pairs, rank)?;
     add_unmarked(findings, marks.as_slice(), pairs, rank)
 }
 
 /// Adds the requests that no wait completes, by rank and place of their starts.
-#[tactic(auto, using(crate::proofs::FindingLemmas::one_more), unfolding(crate::specs::Findings::requests_of))]
+#[tactic(auto, using(crate::proofs::FindingLemmas::one_more), unfolding(crate::specs::Findings::lost_requests))]
 pub fn add_requests(
     alloc: Global,
     findings: &mut Vec<Finding>,
     pairs: &Pairs,
 ) -> Result<(), AllocError>
-    ensures { OnOk result (findings.new.items ≡ findings.old.items ++ requests_of pairs.now.recording) }
+    ensures { OnOk result (findings.new.items ≡ findings.old.items ++ lost_requests pairs.now.recording) }
 {
     for rank in 0..ranks(pairs) {
         add_of_rank(alloc, findings, pairs, rank)?;

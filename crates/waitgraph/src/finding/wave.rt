@@ -9,10 +9,11 @@ ghost use Rattle.waitgraph.specs.Findings.{found_of_member, found_in_comm, found
 ghost use Rattle.waitgraph.specs.Comparisons.{comparison_of};
 ghost use Rattle.waitgraph.specs.declared.finding.wave.Compared.{Compared};
 
-use crate::extent::{comms, members, waves};
+use crate::extent::{comms, waves};
 use crate::finding::Finding;
 use crate::finding::kind::kind_found;
 use crate::finding::root::root_found;
+use moves::need::members;
 use mpicall::call::Call;
 use mpicall::record::Record;
 use pairing::pairs::Pairs;

@@ -1,5 +1,5 @@
 -- The answer over the sources is that of the files' texts.
-use Rattle.std.proofs.Common.{map, rules, ℕ, List, Bor}
+use Rattle.std.proofs.Common.{map, rules, ℕ, List, Bor, ap, sym, ◌∙◌, length, length-map}
 use Rattle.mpicall.specs.Trace.{trace_of}
 use Rattle.command.proofs.TextLemmas.{head_of_told, report_says, run_fault_says, tells_texts}
 use Rattle.command.proofs.check.check.Goals as goal
@@ -25,6 +25,7 @@ returns-in-Ok-clause-written g c =
 pub returns-in-Err-clause-fault : goal.returns-in-Err-clause-fault
 returns-in-Err-clause-fault g c =
     let says = run_fault_says (g.P.Opener.told c.args.opener.now) c.args.head.now c.args.files.now g.P.In.Input.left _ _ c.in_ok-head.head c.in-Err.fault
+    (sym (length-map c.in_ok-sources.sources.items _) ∙ ap length c.in_ok-sources.ensures.told ∙ length-map c.args.files.now _)
     (record { is_head = c.in_ok-head.ensures.head; one_a_rank = search rules })
     c.in-Err.ensures.fed
     c.in-Err.ensures.stopped

@@ -1,11 +1,12 @@
 -- One turn more was looked at, or all were.
-use Rattle.std.proofs.Common.{rules, arith}
+use Rattle.std.proofs.Common.{rules, arith, subst}
 use Rattle.runs.specs.Turns.{IsOver}
-use Rattle.runs.proofs.TurnLemmas.{over_more, over_all}
+use Rattle.std.proofs.lemmas.List.Elements.{All-more}
+use Rattle.runs.proofs.TurnLemmas.{over_all}
 use Rattle.runs.proofs.turns.are_over.Goals as goal
 
 pub loop-turn-preserved : goal.loop-turn-preserved
-loop-turn-preserved g c = over_more (λ turn. IsOver turn) c.args.turns.now c.loop-turn.turn-index c.turn-item.result _ (omega arith) c.turn-item.is (search rules) c.loop-turn.invariant
+loop-turn-preserved g c = All-more (λ turn. IsOver turn) c.args.turns.now c.loop-turn.turn-index _ (omega arith) c.loop-turn.invariant (subst (λ turn. IsOver turn) c.turn-item.is (search rules))
 
 pub returns : goal.returns
 returns g c h = over_all (λ turn. IsOver turn) c.args.turns.now c.loop-turn.turn-index (omega arith) c.loop-turn.invariant

@@ -1,8 +1,8 @@
 -- One turn more has begun.
 use Rattle.std.proofs.Common.{rules, arith, ◌≡◌, length, None, ap}
 use Rattle.std.specs.Vec.Iter.{into_iter_items}
+use Rattle.std.proofs.lemmas.List.Elements.{All-rest}
 use Rattle.mpicall.specs.Source.{ended}
-use Rattle.runs.proofs.AlongLemmas.{rest_of_all}
 use Rattle.runs.proofs.TurnLemmas.{one_begun, one_more_source, all_sources}
 use Rattle.runs.proofs.turns.begin_all.Goals as goal
 
@@ -15,7 +15,7 @@ loop-source-preserved g c =
       count = search rules;
       left = omega (arith, ap length steps);
       room = search rules;
-      fresh = rest_of_all (λ source. ended source ≡ None) _ c.in-Some.source _ steps was.fresh;
+      fresh = All-rest (λ source. ended source ≡ None) c.in-Some.source _ _ steps was.fresh;
       sources = one_more_source c.loop-source.turns.items _ c.of.result c.in-Some.source c.args.sources.items _ _ was.sources steps c.of.ensures.source (search rules);
       begun = one_begun c.loop-source.turns.items _ c.of.result was.begun c.of.ensures.begun (search rules);
     }

@@ -1,7 +1,8 @@
 use Rattle.std.proofs.Common.{rules, ◌≡◌, length, map, [], sym, ap, ◌∙◌, subst, arith}
 use Rattle.std.specs.Vec.Iter.{into_iter_items}
+use Rattle.std.proofs.lemmas.List.{nil_from_length}
 use Rattle.rankfeed.specs.Rings.{FeedName, feed_ring}
-use Rattle.runtests.proofs.ReceiptLemmas.{ReceiptsTo, one_receipt_more, all_receipts, is_empty}
+use Rattle.runtests.proofs.ReceiptLemmas.{ReceiptsTo, one_receipt_more, all_receipts}
 use Rattle.runtests.proofs.sessions.end_feeds.Goals as goal
 
 pub loop-feed-preserved : goal.loop-feed-preserved
@@ -17,4 +18,4 @@ loop-feed-preserved c =
     }
 
 pub returns : goal.returns
-returns c = all_receipts (map feed_ring c.args.feeds.items) c.loop-feed.receipts.items (subst (λ fs. ReceiptsTo (map feed_ring c.args.feeds.items) c.loop-feed.receipts.items (map feed_ring fs)) (is_empty (into_iter_items c.loop-feed.feed-iterator) (sym c.loop-feed.invariant.len ∙ c.in-None.ensures.steps.0)) c.loop-feed.invariant.receipts)
+returns c = all_receipts (map feed_ring c.args.feeds.items) c.loop-feed.receipts.items (subst (λ fs. ReceiptsTo (map feed_ring c.args.feeds.items) c.loop-feed.receipts.items (map feed_ring fs)) (nil_from_length (into_iter_items c.loop-feed.feed-iterator) (sym c.loop-feed.invariant.len ∙ c.in-None.ensures.steps.0)) c.loop-feed.invariant.receipts)

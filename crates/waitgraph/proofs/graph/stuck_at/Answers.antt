@@ -1,6 +1,6 @@
 use Rattle.std.proofs.Common.{ℕ, List, [], ◌∷◌, ◌++◌, sym, ap, ◌∙◌}
 use Rattle.waitgraph.specs.Stuck.{is_stuck_at}
-use Rattle.waitgraph.proofs.RangeLemmas.{kept_more, kept_no_more}
+use Rattle.mpigroup.proofs.ListLemmas.{filter_more, filter_no_more}
 use Rattle.waitgraph.proofs.graph.stuck_at.Goals.{then-is_stuck_at+in_ok-push, else-is_stuck_at}
 use Rattle.waitgraph.proofs.graph.stuck_at.Goals as goal
 
@@ -11,9 +11,9 @@ loop-rank-preserved c =
           ap (λ v. v.items) w.stuck-is
           ∙ w.in_ok-push.ensures.items
           ∙ ap (λ (so_far : List ℕ). so_far ++ c.loop-rank.rank ∷ []) c.loop-rank.invariant
-          ∙ sym (kept_more (is_stuck_at c.args.pairs.now.recording c.args.stands.now) c.loop-rank.rank (sym c.is_stuck_at.ensures ∙ w.if-is_stuck_at.true))
+          ∙ sym (filter_more (is_stuck_at c.args.pairs.now.recording c.args.stands.now) c.loop-rank.rank (sym c.is_stuck_at.ensures ∙ w.if-is_stuck_at.true))
       | else-is_stuck_at w ↦
           ap (λ v. v.items) w.stuck-is
           ∙ c.loop-rank.invariant
-          ∙ sym (kept_no_more (is_stuck_at c.args.pairs.now.recording c.args.stands.now) c.loop-rank.rank (sym c.is_stuck_at.ensures ∙ w.if-is_stuck_at.false))
+          ∙ sym (filter_no_more (is_stuck_at c.args.pairs.now.recording c.args.stands.now) c.loop-rank.rank (sym c.is_stuck_at.ensures ∙ w.if-is_stuck_at.false))
     ]

@@ -1,5 +1,4 @@
-use Rattle.std.proofs.Common.{◌≡◌, ◌+◌, ℕ, length, set, refl, sym, ap, ◌∙◌, arith}
-use Rattle.mpigroup.specs.Groups.{Groups, group_of}
+use Rattle.std.proofs.Common.{◌+◌, ℕ, set, refl, sym, ap, ◌∙◌, arith}
 use Rattle.moves.specs.Waiting.{met_of}
 use Rattle.moves.proofs.WaveLemmas.{comm_is, wave_few, Passes, passes_on, passes_wave}
 use Rattle.moves.proofs.progress.Progress.reach.Goals as goal
@@ -8,7 +7,6 @@ pub returns-then-missing-members-clause-waves : goal.returns-then-missing-member
 returns-then-missing-members-clause-waves c =
     let p = c.args.pairs.now in
     let wanting = rw c.head.ensures.value at (c.is_wanting.ensures.0 c.if-not-is_wanting.false) in
-    let members : c.members-members.result ≡ length (group_of p.groups c.in_ok-comm.comm) = c.members-members.ensures ∙ ap (λ (g : Groups). length (group_of g c.in_ok-comm.comm)) c.head-2.ensures.value in
     let passes : Passes p.groups p.recording c.args.stands.now c.args.self.now c.args.rank c.args.place c.in_ok-comm.comm c.in_ok-comm.wave c.next_missing-missing.result = record {
       before = c.requires.waves;
       there = sym c.wave_of.ensures ∙ c.in_ok-comm.was;
@@ -18,7 +16,7 @@ returns-then-missing-members-clause-waves c =
       least = omega (arith, c.next_missing-missing.ensures.least, c.met.ensures);
       met = λ g member least less is. c.next_missing-missing.ensures.met g member (omega (arith, c.met.ensures)) less is;
     } in
-    passes_on p.groups p.recording c.args.stands.now c.args.self.now _ c.args.rank c.args.place c.in_ok-comm.comm c.in_ok-comm.wave c.next_missing-missing.result passes (omega (arith, members, c.if-missing-members.true)) c.next_missing-missing.ensures.missing refl (ap (λ (i : ℕ). set c.args.self.now.met.items i c.next_missing-missing.result) c.from.ensures)
+    passes_on p.groups p.recording c.args.stands.now c.args.self.now _ c.args.rank c.args.place c.in_ok-comm.comm c.in_ok-comm.wave c.next_missing-missing.result passes (omega (arith, c.members-members.ensures, c.if-missing-members.true)) c.next_missing-missing.ensures.missing refl (ap (λ (i : ℕ). set c.args.self.now.met.items i c.next_missing-missing.result) c.from.ensures)
 
 pub overflow_add-wave : goal.overflow_add-wave
 overflow_add-wave c = omega (arith, wave_few c.args.pairs.now.recording c.args.rank c.args.place c.in_ok-comm.comm c.in_ok-comm.wave (sym c.wave_of.ensures ∙ c.in_ok-comm.was), c.requires.few)
@@ -44,7 +42,6 @@ pub returns-clause-waves : goal.returns-clause-waves
 returns-clause-waves c =
     let p = c.args.pairs.now in
     let wanting = rw c.head.ensures.value at (c.is_wanting.ensures.0 c.if-not-is_wanting.false) in
-    let members : c.members-members.result ≡ length (group_of p.groups c.in_ok-comm.comm) = c.members-members.ensures ∙ ap (λ (g : Groups). length (group_of g c.in_ok-comm.comm)) c.head-2.ensures.value in
     let passes : Passes p.groups p.recording c.args.stands.now c.args.self.now c.args.rank c.args.place c.in_ok-comm.comm c.in_ok-comm.wave c.next_missing-missing.result = record {
       before = c.requires.waves;
       there = sym c.wave_of.ensures ∙ c.in_ok-comm.was;
@@ -54,7 +51,7 @@ returns-clause-waves c =
       least = omega (arith, c.next_missing-missing.ensures.least, c.met.ensures);
       met = λ g member least less is. c.next_missing-missing.ensures.met g member (omega (arith, c.met.ensures)) less is;
     } in
-    passes_wave p.groups p.recording c.args.stands.now c.args.self.now _ c.args.rank c.args.place c.in_ok-comm.comm c.in_ok-comm.wave c.next_missing-missing.result c.next_missing.result passes (omega (arith, members, c.if-missing-members.false)) c.next_missing.ensures.most c.next_missing.ensures.met c.next_missing.ensures.missing
+    passes_wave p.groups p.recording c.args.stands.now c.args.self.now _ c.args.rank c.args.place c.in_ok-comm.comm c.in_ok-comm.wave c.next_missing-missing.result c.next_missing.result passes (omega (arith, c.members-members.ensures, c.if-missing-members.false)) c.next_missing.ensures.most c.next_missing.ensures.met c.next_missing.ensures.missing
     (ap (λ (i : ℕ). set c.args.self.now.complete.items i (c.in_ok-comm.wave + 1)) c.from-2.ensures)
     (ap (λ (i : ℕ). set c.args.self.now.met.items i c.next_missing.result) c.from-3.ensures)
 

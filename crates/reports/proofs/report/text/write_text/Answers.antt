@@ -11,7 +11,7 @@ use Rattle.waitgraph.specs.Stuck.{stuck_of}
 use Rattle.waitgraph.specs.Verdicts.{verdict_by}
 use Rattle.waitgraph.specs.declared.cause.Cause.{Cause}
 use Rattle.waitgraph.specs.declared.finding.Finding.{Finding}
-use Rattle.reports.specs.Printing.{IsPrinted, Ends}
+use Rattle.reports.specs.Printing.{IsPrinted, PrintsAll}
 use Rattle.reports.specs.TextReport.{cause_line, finding_line, rank_lines, text_report, verdict_line}
 use Rattle.reports.proofs.report.text.write_text.Goals as goal
 
@@ -47,5 +47,5 @@ returns g c =
     let last = c.write_findings.ensures begun count ((verdict ++ ranks) ++ causes)
     (c.write_causes.ensures begun count (verdict ++ ranks) (c.write_ranks.ensures begun count verdict first)) in
     let whole = in_parts reading groups recording _ _ _ _ _ c.requires.held c.requires.left_open (c.stuck.ensures ∙ c.requires.stuck) (c.causes.ensures ∙ c.requires.causes) (c.findings.ensures ∙ c.requires.findings) in
-    subst (λ (text : List ℕ). Ends begun count (g.O.Output.written c.finish.new.out) (g.O.Output.failures c.finish.new.out) text c.finish.result) whole
+    subst (λ (text : List ℕ). PrintsAll begun count (g.O.Output.written c.finish.new.out) (g.O.Output.failures c.finish.new.out) text c.finish.result) whole
     (c.finish.ensures begun count (((verdict ++ ranks) ++ causes) ++ findings) last)

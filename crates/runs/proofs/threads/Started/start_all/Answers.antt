@@ -1,10 +1,11 @@
 -- One thread more was started.
 use Rattle.std.proofs.Common.{rules, arith, ◌≡◌, length, None, [], ap}
 use Rattle.std.specs.Vec.Iter.{into_iter_items}
+use Rattle.std.proofs.lemmas.List.Elements.{All-rest}
 use Rattle.mpicall.specs.Source.{ended}
 use Rattle.rankfeed.specs.Rings.{sent_by}
 use Rattle.runs.specs.Threads.{Promises}
-use Rattle.runs.proofs.AlongLemmas.{first_of_all, rest_of_all, along_next, along_end}
+use Rattle.runs.proofs.AlongLemmas.{first_of_all, along_next, along_end}
 use Rattle.runs.proofs.threads.Started.start_all.Goals as goal
 
 pub start-thread-requires-clause-nothing_put : goal.start-thread-requires-clause-nothing_put
@@ -22,8 +23,8 @@ loop-source-preserved g c =
       sources_len = omega (arith, ap length sources);
       feeds_len = omega (arith, ap length feeds);
       room = search rules;
-      fresh = rest_of_all (λ source. ended source ≡ None) _ c.in-Some.source _ sources was.fresh;
-      nothing_put = rest_of_all (λ feed. sent_by feed ≡ []) _ c.in-Some-next.feed_end _ feeds was.nothing_put;
+      fresh = All-rest (λ source. ended source ≡ None) c.in-Some.source _ _ sources was.fresh;
+      nothing_put = All-rest (λ feed. sent_by feed ≡ []) c.in-Some-next.feed_end _ _ feeds was.nothing_put;
       promises = along_next (λ source feed one. Promises g.I.Input.left g.G.Gate.may_stop source feed c.args.gate.now one) c.args.sources.items c.args.feeds.items c.loop-source.started.items _ c.in-Some.source c.in-Some-next.feed_end c.start-thread.result _ _ _ _ was.promises sources feeds c.start-thread.ensures (search rules);
     }
 

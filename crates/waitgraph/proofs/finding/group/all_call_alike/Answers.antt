@@ -3,12 +3,13 @@ use Rattle.std.specs.Option.{option_map_or}
 use Rattle.mpigroup.specs.Groups.{group_of}
 use Rattle.waitgraph.specs.Places.{call_of_member}
 use Rattle.waitgraph.specs.Findings.{same_word}
-use Rattle.waitgraph.proofs.FindingLemmas.{all_next, not_all}
+use Rattle.waitgraph.proofs.FindingLemmas.{all_next}
 use Rattle.waitgraph.proofs.finding.group.all_call_alike.Goals as goal
+use Rattle.moves.proofs.LookLemmas.{fails_in_range}
 
 pub returns-then-not-calls_alike : goal.returns-then-not-calls_alike
 returns-then-not-calls_alike c =
-    sym (not_all (λ g. option_map_or (same_word c.args.call.now) (call_of_member c.args.pairs.now.groups c.args.pairs.now.recording c.args.comm c.args.wave g) false) 0 (length (group_of c.args.pairs.now.groups c.args.comm)) c.loop-g.g
+    sym (fails_in_range (λ g. option_map_or (same_word c.args.call.now) (call_of_member c.args.pairs.now.groups c.args.pairs.now.recording c.args.comm c.args.wave g) false) 0 (length (group_of c.args.pairs.now.groups c.args.comm)) c.loop-g.g
     (omega arith)
     (omega (arith, c.members-g-end.ensures, c.loop-g-test.true))
     (sym c.calls_alike.ensures ∙ c.if-not-calls_alike.true))

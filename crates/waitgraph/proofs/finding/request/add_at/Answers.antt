@@ -2,7 +2,7 @@ use Rattle.std.proofs.Common.{inl, inr, ◌⊎◌, ◌≡◌, Some, Bool, true, 
 use Rattle.std.specs.Option.{option_and_then}
 use Rattle.pairing.specs.Requests.{starts}
 use Rattle.waitgraph.specs.Places.{call_at}
-use Rattle.waitgraph.specs.Findings.{is_completed, is_lost, request_at}
+use Rattle.waitgraph.specs.Findings.{is_completed, is_lost, lost_at}
 use Rattle.waitgraph.proofs.MarkLemmas.{marked_is_completed}
 use Rattle.waitgraph.specs.Held.{is_left_open}
 use Rattle.waitgraph.proofs.finding.request.add_at.Goals.{else-not-is_completed-via-then-not-is_completed+else-not-is_left_open, else-not-is_completed-via-else-not-is_completed}
@@ -15,7 +15,7 @@ not_lost true open_list (inr is) = refl
 not_lost false open_list (inr is) = rw is refl
 
 pub returns-else-not-is_completed : goal.returns-else-not-is_completed
-unfolding request_at
+unfolding lost_at
 returns-else-not-is_completed c =
     let starts_it : option_and_then starts (call_at c.args.pairs.now.recording c.args.rank c.args.place) ≡ Some c.in-Some.req = sym c.started_req.ensures ∙ c.in-Some.is in
     let found : is_lost c.args.pairs.now.recording c.args.rank c.in-Some.req c.args.place ≡ false =

@@ -1,5 +1,5 @@
 use Rattle.std.proofs.Common.{rules, ◌≡◌, ◌++◌, ◌∷◌, [], List, Option, Some, true, length, sym, ap, subst, ◌∙◌, arith, length-append}
-use Rattle.watches.specs.Publications.{at_start, last_of, is_rising}
+use Rattle.watches.specs.Publications.{at_start, last_published, is_rising}
 use Rattle.watches.specs.declared.stands.Stands.{Stands}
 use Rattle.watches.specs.Stands.{is_further}
 use Rattle.watches.proofs.RisingLemmas.{may_follow, further_is_more, rising_snoc}
@@ -8,7 +8,7 @@ use Rattle.watches.proofs.AppendLemmas.{last_of_snoc}
 use Rattle.watches.proofs.publication.Publication.become_next.Goals as goal
 
 -- one more behind a list that rises
-rises_on : (list longer : List Stands) (last stands : Stands) → longer ≡ list ++ stands ∷ [] → last_of list ≡ Some last → is_rising list ≡ true → is_further last.places stands.places ≡ true → is_rising longer ≡ true
+rises_on : (list longer : List Stands) (last stands : Stands) → longer ≡ list ++ stands ∷ [] → last_published list ≡ Some last → is_rising list ≡ true → is_further last.places stands.places ≡ true → is_rising longer ≡ true
 rises_on list longer last stands is end rising further =
     ap is_rising is ∙ rising_snoc list stands rising (subst (λ (last : Option Stands). may_follow last stands ≡ true) (sym end) further)
 
@@ -19,7 +19,7 @@ invariant_of-self c =
     let longer : c.in-Some.known.log ≡ old.known.log ++ stands ∷ [] = search rules in
     let further : is_further old.stands.places stands.places ≡ true = sym c.is_behind.ensures.value ∙ c.if-not-is_behind.false in record {
       counts = omega (arith, old.counts, ap length longer, length-append old.known.log (stands ∷ []));
-      last = ap last_of longer ∙ last_of_snoc old.known.log stands;
+      last = ap last_published longer ∙ last_of_snoc old.known.log stands;
       first = prefix_get old.known.log c.in-Some.known.log 0 at_start (stands ∷ [], sym longer) old.first;
       rising = rises_on old.known.log c.in-Some.known.log old.stands stands longer old.last old.rising further;
       few = omega (arith, old.few, further_is_more old.stands.places stands.places further);

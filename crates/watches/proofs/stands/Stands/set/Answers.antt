@@ -6,7 +6,7 @@ use Rattle.std.specs.Option.{unwrap_or}
 use Rattle.mpigroup.specs.declared.limits.TheConstants.{MOST_RANKS}
 use Rattle.moves.specs.Runs.{State}
 use Rattle.moves.specs.Stands.{stands_of}
-use Rattle.watches.specs.Stands.{places_of}
+use Rattle.watches.specs.Stands.{shown_places}
 use Rattle.watches.proofs.stands.Stands.set.Goals as goal
 
 -- one more place is that of its rank
@@ -26,5 +26,5 @@ loop-rank-preserved c =
     }
 
 pub returns : goal.returns
-unfolding places_of
+unfolding shown_places
 returns c = fill_by_all (λ k. get_or (stands_of c.args.analyser.now.reading c.args.analyser.now.groups c.args.analyser.now.recording) k 0) c.loop-rank.self.places MOST_RANKS 0 c.loop-rank.invariant.len (λ k below. c.loop-rank.invariant.stands k (omega (arith, below, c.loop-rank-test.false)))
