@@ -1,5 +1,5 @@
 -- What the devices of this crate show.
-use Rattle.std.specs.Prelude.{◌≡◌, ℕ, ◌-◌, ◌==◌, min, Bool, false, MatchBool, if◌then◌else◌, Option, Some, None, is_none, Result, Ok, IsErr, List, length}
+use Rattle.std.specs.Prelude.{◌≡◌, ℕ, ◌-◌, ◌==◌, min, Bool, false, MatchBool, if◌then◌else◌, Option, Some, None, is_none, Result, Ok, IfOk, IsErr, List, length}
 use Rattle.mpicall.specs.Device.{count_if, CountsFailure}
 use Rattle.mpicall.specs.declared.memory.MemoryInput.{MemoryInput}
 use Rattle.mpicall.specs.declared.memory.MemoryOutput.{MemoryOutput}
@@ -21,6 +21,14 @@ GivesPiece input answer into = answer ≡ Ok (min (min (length (bytes_left input
 -- the bytes that an output over memory has taken
 abbrev pub bytes_written : MemoryOutput → List ℕ
 bytes_written output = output.bytes.items
+
+-- the most bytes that it takes a write
+abbrev pub most_a_write : MemoryOutput → ℕ
+most_a_write output = output.most
+
+-- a write that memory isn't refused to takes as many bytes as there are and as it takes at most
+abbrev pub TakesPiece : {E : Type 0} → MemoryOutput → Result ℕ E → List ℕ → Type 0
+TakesPiece output answer from = IfOk answer (λ n. n ≡ min (length from) (most_a_write output))
 
 -- how often an output over memory was refused memory
 abbrev pub refusals : MemoryOutput → ℕ

@@ -1,9 +1,9 @@
 //! Inputs and outputs over memory, which tell their bytes.
 
 ghost use Rattle.std.specs.Prelude.{◌≡◌, ◌+◌, ◌<◌, [], Some};
-ghost use Rattle.std.specs.Io.{ReadsAtMost};
-ghost use Rattle.std.specs.Io.KnownBytes.{ReadConsumes};
-ghost use Rattle.mpicall.specs.Device.{one_more, CountsFailure};
+ghost use Rattle.std.specs.Io.{ReadsAtMost, WritesAtMost};
+ghost use Rattle.std.specs.Io.KnownBytes.{ReadConsumes, WriteAppends};
+ghost use Rattle.mpicall.specs.Device.{one_more, CountsFailure, MakesProgress};
 
 use crate::device::{DeviceFault, Input, Output};
 use std::alloc::Global;
@@ -63,23 +63,39 @@ impl<'a> Input for MemoryInput<'a> {
 }
 
 /// An output that keeps its bytes in memory, and fails where memory is refused.
+///
+/// It takes at most `most` bytes a write, so that a test can see a text written in pieces.
 #[derive(Drop)]
 pub struct MemoryOutput {
     bytes: Vec<u8>,
     failures: u64,
+    most: usize,
+    ghost some: { 0 < most },
 }
 
 impl MemoryOutput {
-    ghost use Rattle.mpicall.specs.Devices.{bytes_written, refusals};
+    ghost use Rattle.mpicall.specs.Devices.{bytes_written, most_a_write, refusals};
 
-    /// An output to which nothing was written.
+    /// An output to which nothing was written, and which takes all bytes of a write.
     pub fn new(alloc: Global) -> MemoryOutput
         ensures nothing { bytes_written result ≡ [] }
         ensures fresh { refusals result ≡ 0 }
+        ensures most { most_a_write result ≡ usize.MAX }
+    {
+        MemoryOutput::in_pieces(alloc, usize::MAX)
+    }
+
+    /// An output to which nothing was written, and which takes at most `most` bytes a write.
+    pub fn in_pieces(alloc: Global, most: usize) -> MemoryOutput
+        requires { 0 < most }
+        ensures nothing { bytes_written result ≡ [] }
+        ensures fresh { refusals result ≡ 0 }
+        ensures most { most_a_write result ≡ most }
     {
         MemoryOutput {
             bytes: Vec::new(alloc),
             failures: 0,
+            most,
         }
     }
 
@@ -92,13 +108,24 @@ impl MemoryOutput {
 }
 
 impl Output for MemoryOutput {
+    ghost use Rattle.mpicall.specs.Devices.{bytes_written, most_a_write, refusals, TakesPiece};
+
     ghost written = { λ output. Some output.bytes.items };
 
     ghost failures = { λ output. output.failures };
 
-    fn write_some(&mut self, from: &[u8]) -> Result<usize, DeviceFault> {
-        match self.bytes.extend_from_slice(from) {
-            Ok(()) => Ok(from.len()),
+    fn write_some(&mut self, from: &[u8]) -> Result<usize, DeviceFault>
+        ensures bound { WritesAtMost result from.now }
+        ensures bytes { WriteAppends
+            (Some (bytes_written self.old)) (Some (bytes_written self.new)) result from.now }
+        ensures progress { MakesProgress result from.now }
+        ensures count { CountsFailure (refusals self.old) (refusals self.new) result }
+        ensures piece { TakesPiece self.old result from.now }
+        ensures most { most_a_write self.new ≡ most_a_write self.old }
+    {
+        let count = from.len().min(self.most);
+        match self.bytes.extend_from_slice(&from[..count]) {
+            Ok(()) => Ok(count),
             Err(_) => {
                 self.failures = self.failures.saturating_add(1);
                 Err(DeviceFault)

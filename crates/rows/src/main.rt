@@ -50,7 +50,6 @@ mod outcome;
 mod reading;
 mod row;
 mod shelf;
-mod sink;
 
 use outcome::answer_of;
 use reading::{Reading, Step};

@@ -4,13 +4,12 @@ use crate::arguments::Arguments;
 use crate::named::fault_of;
 use crate::row::{Asked, Row, Wanted};
 use crate::shelf::{Meeting, RowShelf};
-use crate::sink::Sink;
 use command::capacity::Capacity;
 use command::fault::Fault;
 use command::given::{WordsFault, run};
 use command::words::{Words, parse};
-use mpicall::counted::Counted;
 use mpicall::fails_at::FailsAt;
+use mpicall::memory::MemoryOutput;
 use std::alloc::{AllocError, Global};
 use std::io;
 use std::process::{ExitCode, Termination};
@@ -71,21 +70,24 @@ fn is_output(wanted: &Wanted, told: &[u8]) -> bool {
     wanted.parts.iter().all(|part| told.contains(part.as_str()))
 }
 
+/// An output that takes at most so many bytes a write, and one at least.
+fn output_of(alloc: Global, most: usize) -> MemoryOutput {
+    if most > 0 {
+        MemoryOutput::in_pieces(alloc, most)
+    } else {
+        MemoryOutput::new(alloc)
+    }
+}
+
 /// What the program answers on the words and files of a row.
-fn answer_of_program<R: AllocGlobal + Eprint + Threads + Wait + Sync>(rt: &R, row: &Row) -> Answer {
-    let mut taken = Vec::new(rt.alloc());
-    let mut told = Vec::new(rt.alloc());
+fn answer_of_program<R: AllocGlobal + Eprint + Threads + Wait + Sync>(
+    rt: &R,
+    row: &Row,
+) -> Result<Answer, AllocError> {
     let devices = &row.devices;
-    let sink = Sink {
-        taken: &mut taken,
-        most: devices.most_written,
-    };
-    let mut out = FailsAt::new(Counted::new(sink), devices.failing_output);
-    let sink = Sink {
-        taken: &mut told,
-        most: usize::MAX,
-    };
-    let mut err = FailsAt::new(Counted::new(sink), devices.failing_error);
+    let out = output_of(rt.alloc(), devices.most_written);
+    let mut out = FailsAt::new(out, devices.failing_output);
+    let mut err = FailsAt::new(MemoryOutput::new(rt.alloc()), devices.failing_error);
     let given = (Arguments(row.words.as_slice()), rt.alloc());
     let meeting = Meeting::new();
     let shelf = RowShelf {
@@ -93,13 +95,11 @@ fn answer_of_program<R: AllocGlobal + Eprint + Threads + Wait + Sync>(rt: &R, ro
         meeting: &meeting,
     };
     let ended = run(&given, &shelf, rt, &mut out, &mut err);
-    drop(out);
-    drop(err);
-    Answer {
+    Ok(Answer {
         code: ended.report(rt),
-        out: taken,
-        err: told,
-    }
+        out: out.device().bytes().to_vec(rt.alloc())?,
+        err: err.device().bytes().to_vec(rt.alloc())?,
+    })
 }
 
 /// A number of records as text.
@@ -169,7 +169,7 @@ pub fn answer_of<R: AllocGlobal + Eprint + Threads + Wait + Sync>(
     let alloc = rt.alloc();
     let words = texts(alloc, row.words.as_slice())?;
     match row.asked {
-        Some(Asked::Program) => Ok(answer_of_program(rt, row)),
+        Some(Asked::Program) => answer_of_program(rt, row),
         Some(Asked::Capacity) => answer_of_capacity(alloc, words.as_slice()),
         Some(Asked::Number) => match words.as_slice() {
             [word] => answer_of_number(alloc, Capacity::read(word)),

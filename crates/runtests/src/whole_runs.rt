@@ -8,7 +8,6 @@ ghost use Rattle.runs.specs.Told.{AreFresh};
 use gather::fault::{RankFault, Refusal, RunFault};
 use gather::gate::{Gate, OpenGate};
 use moves::reading::Reading;
-use mpicall::counted::Counted;
 use mpicall::device::Input;
 use mpicall::fails_at::FailsAt;
 use mpicall::fault::SourceFault;
@@ -23,8 +22,8 @@ use std::process::Abort;
 use std::sync::Wait;
 use std::sync::atomic::{AtomicBool, AtomicU32, Ordering};
 use std::test::Fail;
+use std::thread;
 use std::thread::Threads;
-use std::{io, thread};
 use waitgraph::verdict::Verdict;
 
 const TEXTS: [&[u8]; 2] = [
@@ -317,39 +316,21 @@ fn turns_keep_the_ranks_abreast(rt: HostRuntime) -> Result<(), Fail> {
     Ok(())
 }
 
-/// A writer that takes five bytes a write.
-#[derive(Drop)]
-struct Writer<'a>(&'a mut Vec<u8>);
-
-impl<'a> io::Write for Writer<'a> {
-    fn write(&mut self, buf: &[u8]) -> io::Result<usize> {
-        let count = buf.len().min(5);
-        match self.0.extend_from_slice(&buf[..count]) {
-            Ok(()) => Ok(count),
-            Err(_) => Err(io::Error::from(io::ErrorKind::OutOfMemory)),
-        }
-    }
-
-    fn flush(&mut self) -> io::Result<()> {
-        Ok(())
-    }
-}
-
-/// What a run over the two texts answers where one write of its report fails.
+/// What a run over the two texts answers where one write of its report fails, five bytes a write, and what was
+/// written.
 fn answer_to<R: Threads + Wait + Sync>(
     alloc: Global,
     format: Format,
     at: u64,
-    taken: &mut Vec<u8>,
     rt: &R,
-) -> Result<Result<Verdict, RunFault>, Fail> {
+) -> Result<(Result<Verdict, RunFault>, FailsAt<MemoryOutput>), Fail> {
     let head = Head::read(alloc, b"ranks 2\n")?;
     let sources = sources_of(alloc, &TEXTS)?;
     if sources.len() != usize::from(head.ranks()) {
         return Err("one source a rank".into());
     }
-    let mut out = FailsAt::new(Counted::new(Writer(taken)), at);
-    Ok(run(
+    let mut out = FailsAt::new(MemoryOutput::in_pieces(alloc, 5), at);
+    let answer = run(
         alloc,
         head,
         Reading::Strict,
@@ -359,7 +340,8 @@ fn answer_to<R: Threads + Wait + Sync>(
         format,
         &mut out,
         rt,
-    ))
+    );
+    Ok((answer, out))
 }
 
 /// Asserts that a report which fails at one of its writes ends there, for each of these and for none.
@@ -370,8 +352,7 @@ fn ends_at_each_write<R: Abort + AllocGlobal + Threads + Wait + Sync>(
 ) -> Result<(), Fail> {
     let writes = report.len().div_ceil(5);
     for at in 0..=writes {
-        let mut taken = Vec::new(rt.alloc());
-        let answer = answer_to(rt.alloc(), format, at as u64, &mut taken, rt)?;
+        let (answer, out) = answer_to(rt.alloc(), format, at as u64, rt)?;
         let wanted = if at < writes {
             Err(RunFault::Write)
         } else {
@@ -379,7 +360,11 @@ fn ends_at_each_write<R: Abort + AllocGlobal + Threads + Wait + Sync>(
         };
         assert_eq!(rt; answer, wanted, "at {at}");
         let count = at.saturating_mul(5).min(report.len());
-        assert_eq!(rt; taken.as_slice(), &report.as_bytes()[..count], "at {at}");
+        assert_eq!(rt;
+            out.device().bytes(),
+            &report.as_bytes()[..count],
+            "at {at}"
+        );
     }
     Ok(())
 }
