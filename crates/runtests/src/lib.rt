@@ -9,6 +9,8 @@ mod feeding;
 #[cfg(test)]
 mod kept;
 #[cfg(test)]
+mod opened;
+#[cfg(test)]
 mod pairs;
 #[cfg(test)]
 mod sessions;

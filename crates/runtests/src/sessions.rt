@@ -1,19 +1,18 @@
 //! Sessions of two ranks, by several orders of what comes.
 
-ghost use Rattle.std.specs.Prelude.{◌≡◌, ◌<◌, ◌≤◌, [], ◌∷◌, length, map, vec_capacity, IfOk, IfSome};
+ghost use Rattle.std.specs.Prelude.{◌≡◌, ◌<◌, [], ◌∷◌, length, map, IfOk, IfSome};
 ghost use Rattle.rankfeed.specs.Rings.{feed_ring, receipt_ring};
 ghost use Rattle.gather.specs.Receipts.{AreReceiptsOf};
 ghost use Rattle.gather.specs.Collectors.{rings};
 
+use crate::opened::Opened;
 use gather::collector::{Collector, Stepped};
 use gather::fault::{RankFault, Refusal};
 use gather::outcome::CloseFault;
-use gather::session::{OpenFault, Session};
 use moves::reading::Reading;
 use mpicall::fault::{LineFault, SourceFault};
 use mpicall::line::read_line;
 use mpicall::record::Record;
-use mpigroup::head::Head;
 use pairing::fault::CallFault;
 use rankfeed::{Feed, Receipt};
 use std::alloc::{AllocError, Global};
@@ -68,24 +67,6 @@ pub(crate) fn put_at(feeds: &mut Vec<Feed>, rank: u16, record: Record) -> bool
     feeds[usize::from(rank)].try_put(record).is_ok()
 }
 
-/// Puts the records in this order, with a step behind each, and counts those that were accepted.
-fn deal(feeds: &mut Vec<Feed>, collector: &mut Collector, order: &[Line]) -> Result<usize, Fail>
-    requires { rings collector.old ≡ map feed_ring feeds.old.items }
-    ensures { rings collector.new ≡ map feed_ring feeds.new.items }
-{
-    let mut took = 0usize;
-    for &(rank, line) in order {
-        let record = read_line(line)?;
-        if rank >= collector.ranks() || !put_at(feeds, rank, record) {
-            return Err("no such place".into());
-        }
-        if collector.step(rank) == Stepped::Took {
-            took = took.saturating_add(1);
-        }
-    }
-    Ok(took)
-}
-
 /// Ends a feed: sealed behind its end record, else torn with the fault. The receipt may be lost.
 fn end_feed(feed: Feed, fault: SourceFault, is_lost: bool) -> Option<Receipt>
     ensures { IfSome result (λ receipt. receipt_ring receipt ≡ feed_ring feed) }
@@ -98,6 +79,16 @@ fn end_feed(feed: Feed, fault: SourceFault, is_lost: bool) -> Option<Receipt>
     if is_lost { None } else { receipt }
 }
 
+/// Room for so many receipts, asked for again where memory is refused.
+fn room_for(alloc: Global, count: usize) -> Result<Vec<Option<Receipt>>, AllocError>
+    ensures { IfOk result (λ receipts. receipts.items ≡ []) }
+{
+    match Vec::with_capacity(alloc, count) {
+        Ok(receipts) => Ok(receipts),
+        Err(_) => Vec::with_capacity(alloc, count),
+    }
+}
+
 /// Ends all feeds, and loses the receipt of one rank.
 pub(crate) fn end_feeds(
     alloc: Global,
@@ -107,25 +98,12 @@ pub(crate) fn end_feeds(
 ) -> Result<Vec<Option<Receipt>>, AllocError>
     ensures { IfOk result (λ receipts. AreReceiptsOf (map feed_ring feeds.items) receipts.items) }
 {
-    let mut receipts = Vec::new(alloc);
+    let mut receipts = room_for(alloc, feeds.len())?;
     for feed in feeds {
         let is_lost = lost == Some(feed.rank());
         receipts.push(end_feed(feed, fault, is_lost))?;
     }
     Ok(receipts)
-}
-
-/// What a session answers at its close.
-pub(crate) fn verdict_of_close(
-    collector: Collector,
-    receipts: Vec<Option<Receipt>>,
-) -> Result<Verdict, CloseFault>
-    requires { AreReceiptsOf (rings collector) receipts.items }
-{
-    match collector.close(receipts) {
-        Ok(outcome) => Ok(outcome.verdict()),
-        Err(fault) => Err(fault),
-    }
 }
 
 /// How many records of the order are accepted at once, and what the session answers at its close. Each feed
@@ -138,11 +116,14 @@ fn answer(
     lost: Option<u16>,
     wait: &impl Wait,
 ) -> Result<(usize, Result<Verdict, CloseFault>), Fail> {
-    let head = Head::read(alloc, b"ranks 2\n")?;
-    let (mut feeds, mut collector, _watches) = Session::open(alloc, head, reading, 1, 0, wait)?;
-    let took = deal(&mut feeds, &mut collector, order)?;
-    let receipts = end_feeds(alloc, feeds, fault, lost)?;
-    Ok((took, verdict_of_close(collector, receipts)))
+    let mut session = Opened::of(alloc, b"ranks 2\n", reading, 1, 0, wait)?;
+    let mut took = 0usize;
+    for &(rank, line) in order {
+        if session.deal(rank, line)? == Stepped::Took {
+            took = took.saturating_add(1);
+        }
+    }
+    Ok((took, session.close(alloc, fault, lost)))
 }
 
 /// The record that a rank has at a place, where rank 0 sends a thousand times to rank 1.
@@ -154,43 +135,27 @@ pub(crate) fn one_of_a_thousand(rank: u16, place: u32) -> Line {
     }
 }
 
-#[test]
-fn ranks_by_turns(rt: HostRuntime) -> Result<(), Fail> {
-    let mut order = Vec::new(rt.alloc());
-    for place in 0..=1000u32 {
-        order.push(one_of_a_thousand(0, place))?;
-        order.push(one_of_a_thousand(1, place))?;
+/// The records of a thousand messages: a rank's wholly first, or by turns.
+fn a_thousand(alloc: Global, first: Option<u16>) -> Result<Vec<Line>, AllocError> {
+    let mut order = Vec::new(alloc);
+    for turn in 0..2002u32 {
+        let line = match first {
+            None if turn % 2 == 0 => one_of_a_thousand(0, turn / 2),
+            None => one_of_a_thousand(1, turn / 2),
+            Some(first) if turn <= 1000 => one_of_a_thousand(first, turn),
+            Some(first) => one_of_a_thousand(first ^ 1, turn - 1001),
+        };
+        order.push(line)?;
     }
-    let answer = answer(
-        rt.alloc(),
-        Reading::Strict,
-        &order,
-        SourceFault::NoFinalize,
-        None,
-        &rt,
-    )?;
-    assert_eq!(rt; answer, (2002, Ok(Verdict::Free)));
-    Ok(())
+    Ok(order)
 }
 
 #[test]
-fn one_rank_wholly_first(rt: HostRuntime) -> Result<(), Fail> {
-    for first in 0..2u16 {
-        let mut order = Vec::new(rt.alloc());
-        for place in 0..=1000u32 {
-            order.push(one_of_a_thousand(first, place))?;
-        }
-        for place in 0..=1000u32 {
-            order.push(one_of_a_thousand(1 - first, place))?;
-        }
-        let answer = answer(
-            rt.alloc(),
-            Reading::Strict,
-            &order,
-            SourceFault::NoFinalize,
-            None,
-            &rt,
-        )?;
+fn a_thousand_messages_in_three_orders(rt: HostRuntime) -> Result<(), Fail> {
+    for first in [None, Some(0), Some(1)] {
+        let order = a_thousand(rt.alloc(), first)?;
+        let none = SourceFault::NoFinalize;
+        let answer = answer(rt.alloc(), Reading::Strict, &order, none, None, &rt)?;
         assert_eq!(rt; answer, (2002, Ok(Verdict::Free)));
     }
     Ok(())
@@ -325,98 +290,27 @@ fn stepped(collector: Collector, wait: &impl Wait) -> Collector
     unreachable!()
 }
 
-/// Room for two receipts, asked for again where memory is refused.
-fn room_for_two(alloc: Global) -> Result<Vec<Option<Receipt>>, AllocError>
-    ensures none { IfOk result (λ receipts. receipts.items ≡ []) }
-    ensures room { IfOk result (λ receipts. 2 ≤ vec_capacity receipts) }
-{
-    match Vec::with_capacity(alloc, 2) {
-        Ok(receipts) => Ok(receipts),
-        Err(_) => Vec::with_capacity(alloc, 2),
-    }
-}
-
-/// A head, read again where memory is refused.
-pub(crate) fn head_again(alloc: Global, text: &[u8]) -> Result<Head, Fail> {
-    match Head::read(alloc, text) {
-        Ok(head) => Ok(head),
-        Err(_) => Ok(Head::read(alloc, text)?),
-    }
-}
-
 /// How many records of a thousand messages are thrown away, and what the close answers.
-type Thrown = (u32, Option<Result<Verdict, CloseFault>>);
+type Thrown = (u32, Result<Verdict, CloseFault>);
 
-/// A session of two ranks with room for their receipts, which one call drops, so that an exit of a test is proved
-/// by that call.
-struct TwoFeeds {
-    first: Feed,
-    second: Feed,
-    collector: Collector,
-    receipts: Vec<Option<Receipt>>,
-    ghost rings: { rings collector ≡ feed_ring first ∷ feed_ring second ∷ [] },
-    ghost none: { receipts.items ≡ [] },
-    ghost room: { 2 ≤ vec_capacity receipts },
-}
-
-impl Drop for TwoFeeds {
-    fn drop(self) {
-        let TwoFeeds {
-            first: _,
-            second: _,
-            collector: _,
-            receipts: _,
-        } = self;
-    }
-}
-
-/// The session of two feeds, if there are two.
-fn paired(
-    feeds: Vec<Feed>,
-    collector: Collector,
-    receipts: Vec<Option<Receipt>>,
-) -> Option<TwoFeeds>
-    requires feeds { rings collector ≡ map feed_ring feeds.items }
-    requires none { receipts.items ≡ [] }
-    requires room { 2 ≤ vec_capacity receipts }
+/// Two feeds, if there are two.
+fn two_of(feeds: Vec<Feed>) -> Option<(Feed, Feed)>
+    ensures { IfSome result (λ two. map feed_ring feeds.items ≡ feed_ring two.0 ∷ feed_ring two.1 ∷ []) }
 {
     let mut feeds = feeds;
-    if let (Some(second), Some(first), true) = (feeds.pop(), feeds.pop(), feeds.is_empty()) {
-        Some(TwoFeeds {
-            first,
-            second,
-            collector,
-            receipts,
-        })
-    } else {
-        None
+    match (feeds.pop(), feeds.pop(), feeds.is_empty()) {
+        (Some(second), Some(first), true) => Some((first, second)),
+        _ => None,
     }
 }
 
-impl TwoFeeds {
-    /// None where the session isn't opened for want of memory.
-    fn open(alloc: Global, capacity: u16, wait: &impl Wait) -> Result<Option<TwoFeeds>, Fail> {
-        let head = head_again(alloc, b"ranks 2\n")?;
-        let receipts = room_for_two(alloc)?;
-        match Session::open(alloc, head, Reading::Strict, capacity.max(1), 0, wait) {
-            Ok((feeds, collector, _watches)) => match paired(feeds, collector, receipts) {
-                Some(session) => Ok(Some(session)),
-                None => Err("not two feeds".into()),
-            },
-            Err(OpenFault::Memory) => Ok(None),
-            Err(fault) => Err(fault.into()),
-        }
-    }
-
-    /// Puts two ranks' records by a thread each while a third one steps, and tells whether the close has an
-    /// outcome.
-    fn put_by_threads<R: Threads + Wait + Sync>(self, rt: &R) -> bool {
-        let TwoFeeds {
-            first,
-            second,
-            collector,
-            mut receipts,
-        } = self;
+impl Opened {
+    /// Puts two ranks' records by a thread each while a third one steps, and tells whether the close has an outcome.
+    fn put_by_threads<R: Threads + Wait + Sync>(self, alloc: Global, rt: &R) -> Result<bool, Fail> {
+        let (feeds, collector) = self.into_parts();
+        let Some((first, second)) = two_of(feeds) else {
+            return Err("not two feeds".into());
+        };
         let (put, collector) = thread::join(
             rt,
             move || -> (Option<Receipt>, Option<Receipt>)
@@ -427,98 +321,64 @@ impl TwoFeeds {
                 ensures { rings result ≡ rings collector }
             { stepped(collector, rt) },
         );
-        receipts.push_reserved(put.0);
-        receipts.push_reserved(put.1);
-        collector.close(receipts).is_ok()
+        let mut receipts = room_for(alloc, 2)?;
+        receipts.push(put.0)?;
+        receipts.push(put.1)?;
+        Ok(collector.close(receipts).is_ok())
     }
 
-    /// Puts a record on its rank's feed, takes it, and tells what was found.
-    fn deal(&mut self, line: Line) -> Result<Stepped, Fail> {
-        let (rank, line) = line;
-        let record = read_line(line)?;
-        let feed = if rank == 0 {
-            self.first.try_put(record)
-        } else {
-            self.second.try_put(record)
+    /// Tears the second rank's feed at once, steps with it, and then puts the first rank's records: what the step
+    /// answers, and the close.
+    fn tear_the_second(
+        self,
+        alloc: Global,
+        wait: &impl Wait,
+    ) -> Result<(Stepped, Option<CloseFault>), Fail> {
+        let (feeds, mut collector) = self.into_parts();
+        let Some((first, second)) = two_of(feeds) else {
+            return Err("not two feeds".into());
         };
-        if rank >= self.collector.ranks() || feed.is_err() {
-            return Err("no such place".into());
-        }
-        Ok(self.collector.step(rank))
-    }
-
-    /// Deals the records of a thousand messages by turns, and counts those that were thrown away. Each has to
-    /// be from the first one on.
-    fn deal_a_thousand(&mut self) -> Result<u32, Fail> {
-        let mut discarded = 0u32;
-        for turn in 0..2002u32 {
-            let rank = if turn % 2 == 0 { 0 } else { 1 };
-            match self.deal(one_of_a_thousand(rank, turn / 2))? {
-                Stepped::Took if discarded == 0 => {}
-                Stepped::Discarded => discarded = discarded.saturating_add(1),
-                _ => return Err("neither kept nor thrown away".into()),
-            }
-        }
-        Ok(discarded)
-    }
-
-    /// Ends both feeds and closes the session. None where a feed gives no receipt.
-    fn close(self) -> Option<Result<Verdict, CloseFault>> {
-        let TwoFeeds {
-            first,
-            second,
-            collector,
-            mut receipts,
-        } = self;
-        let first = end_feed(first, SourceFault::NoFinalize, false);
-        let second = end_feed(second, SourceFault::NoFinalize, false);
-        let are_there = first.is_some() && second.is_some();
-        receipts.push_reserved(first);
-        receipts.push_reserved(second);
-        let answer = verdict_of_close(collector, receipts);
-        if are_there { Some(answer) } else { None }
-    }
-
-    /// Deals a thousand messages and closes the session.
-    fn thrown_of(self) -> Result<Thrown, Fail> {
-        let mut session = self;
-        let discarded = session.deal_a_thousand();
-        let answer = session.close();
-        Ok((discarded?, answer))
-    }
-
-    /// Tears the second rank's feed at once, steps with it, and then puts the first rank's records: what the
-    /// step answers, and the close.
-    fn tear_the_second(self, wait: &impl Wait) -> (Stepped, Option<CloseFault>) {
-        let TwoFeeds {
-            first,
-            second,
-            mut collector,
-            mut receipts,
-        } = self;
         let torn = end_feed(second, SourceFault::ThreadNotStarted, false);
         let stepped = collector.step(1);
-        receipts.push_reserved(put_all(first, &BUFFERED, wait));
-        receipts.push_reserved(torn);
-        (stepped, collector.close(receipts).err())
+        let mut receipts = room_for(alloc, 2)?;
+        receipts.push(put_all(first, &BUFFERED, wait))?;
+        receipts.push(torn)?;
+        Ok((stepped, collector.close(receipts).err()))
     }
 }
 
 #[test]
 fn two_threads_put_and_a_third_steps(rt: HostRuntime) -> Result<(), Fail> {
-    match TwoFeeds::open(rt.alloc(), 1, &rt)? {
-        Some(session) => assert!(rt; session.put_by_threads(&rt)),
-        None => return Err("memory".into()),
-    }
+    let session = Opened::of(rt.alloc(), b"ranks 2\n", Reading::Strict, 1, 0, &rt)?;
+    assert!(rt; session.put_by_threads(rt.alloc(), &rt)?);
     Ok(())
+}
+
+/// Deals the records of a thousand messages by turns, and counts those that were thrown away. Each has to be from
+/// the first one on.
+fn deal_a_thousand(session: &mut Opened) -> Result<u32, Fail> {
+    let mut discarded = 0u32;
+    for turn in 0..2002u32 {
+        let rank = if turn % 2 == 0 { 0 } else { 1 };
+        let (rank, line) = one_of_a_thousand(rank, turn / 2);
+        match session.deal(rank, line)? {
+            Stepped::Took if discarded == 0 => {}
+            Stepped::Discarded => discarded = discarded.saturating_add(1),
+            _ => return Err("neither kept nor thrown away".into()),
+        }
+    }
+    Ok(discarded)
 }
 
 /// What comes of a thousand messages. None where the session isn't opened for want of memory.
 fn thrown_away(alloc: Global, wait: &impl Wait) -> Result<Option<Thrown>, Fail> {
-    match TwoFeeds::open(alloc, 1, wait)? {
-        Some(session) => Ok(Some(session.thrown_of()?)),
-        None => Ok(None),
-    }
+    let strict = Reading::Strict;
+    let Some(mut session) = Opened::unless_refused(alloc, b"ranks 2\n", strict, 1, 0, wait)? else {
+        return Ok(None);
+    };
+    let discarded = deal_a_thousand(&mut session)?;
+    let answer = session.close(alloc, SourceFault::NoFinalize, None);
+    Ok(Some((discarded, answer)))
 }
 
 /// The sweep of `bench/refuse` runs this with each request for memory refused in turn: by the opening, by a
@@ -527,11 +387,8 @@ fn thrown_away(alloc: Global, wait: &impl Wait) -> Result<Option<Thrown>, Fail> 
 fn records_are_thrown_away_for_want_of_memory(rt: HostRuntime) -> Result<(), Fail> {
     match thrown_away(rt.alloc(), &rt)? {
         None => {}
-        Some((0, answer)) => {
-            let is_free = answer == Some(Ok(Verdict::Free));
-            assert!(rt; is_free || answer == Some(Err(CloseFault::Memory)));
-        }
-        Some((_, answer)) => assert!(rt; answer == Some(Err(CloseFault::Memory))),
+        Some((0, Ok(verdict))) => assert!(rt; verdict == Verdict::Free),
+        Some((_, answer)) => assert!(rt; answer == Err(CloseFault::Memory)),
     }
     Ok(())
 }
@@ -543,12 +400,8 @@ fn a_caller_tears_a_feed_at_once(rt: HostRuntime) -> Result<(), Fail> {
         call: 0,
         fault: RankFault::OfSource(SourceFault::ThreadNotStarted),
     });
-    match TwoFeeds::open(rt.alloc(), 3, &rt)? {
-        Some(session) => {
-            let answer = session.tear_the_second(&rt);
-            assert!(rt; answer == (Stepped::Ended, Some(refused)));
-        }
-        None => return Err("memory".into()),
-    }
+    let session = Opened::of(rt.alloc(), b"ranks 2\n", Reading::Strict, 3, 0, &rt)?;
+    let answer = session.tear_the_second(rt.alloc(), &rt)?;
+    assert!(rt; answer == (Stepped::Ended, Some(refused)));
     Ok(())
 }

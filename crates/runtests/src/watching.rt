@@ -5,15 +5,11 @@ ghost use Rattle.rankfeed.specs.Rings.{feed_ring};
 ghost use Rattle.gather.specs.Collectors.{rings, list_published};
 ghost use Rattle.watches.specs.Watches.{list_watched, list_told};
 
-use crate::sessions::{end_feeds, head_again, one_of_a_thousand, put_at, verdict_of_close};
-use gather::collector::{Collector, Stepped};
-use gather::outcome::CloseFault;
-use gather::session::{OpenFault, Session};
+use crate::opened::Opened;
+use crate::sessions::one_of_a_thousand;
+use gather::collector::Stepped;
 use moves::reading::Reading;
 use mpicall::fault::SourceFault;
-use mpicall::line::read_line;
-use mpigroup::head::Head;
-use rankfeed::Feed;
 use std::alloc::Global;
 use std::sync::Wait;
 use std::test::Fail;
@@ -32,63 +28,12 @@ const FREE: [(u16, &[u8]); 6] = [
     (1, b"finalize\n"),
 ];
 
-/// A session that one call drops, so that an exit of a test is proved by that call.
-struct Opened {
-    feeds: Vec<Feed>,
-    collector: Collector,
-    watches: Vec<Watch>,
-    ghost rings: { rings collector ≡ map feed_ring feeds.items },
-    ghost list: { All (λ watch. list_watched watch ≡ list_published collector) watches.items },
-}
-
-impl Drop for Opened {
-    fn drop(self) {
-        let Opened {
-            feeds: _,
-            collector: _,
-            watches: _,
-        } = self;
-    }
+/// A session of a head, with room for two records of a rank.
+fn opened(alloc: Global, head: &[u8], watches: u16, wait: &impl Wait) -> Result<Opened, Fail> {
+    Opened::of(alloc, head, Reading::Strict, 2, watches, wait)
 }
 
 impl Opened {
-    fn of(alloc: Global, head: &[u8], watches: u16, wait: &impl Wait) -> Result<Opened, Fail> {
-        match Opened::unless_refused(alloc, head, watches, wait)? {
-            Some(session) => Ok(session),
-            None => Err("memory".into()),
-        }
-    }
-
-    /// None where the session isn't opened for want of memory.
-    fn unless_refused(
-        alloc: Global,
-        head: &[u8],
-        watches: u16,
-        wait: &impl Wait,
-    ) -> Result<Option<Opened>, Fail> {
-        let head = head_again(alloc, head)?;
-        match Session::open(alloc, head, Reading::Strict, 2, watches.min(2), wait) {
-            Ok((feeds, collector, watches)) => Ok(Some(Opened {
-                feeds,
-                collector,
-                watches,
-            })),
-            Err(OpenFault::Memory) => Ok(None),
-            Err(fault) => Err(fault.into()),
-        }
-    }
-
-    /// Puts a line's record on a rank's feed, takes it, and tells what was found.
-    fn deal(&mut self, rank: u16, line: &[u8]) -> Result<Stepped, Fail>
-        ensures { list_published self.new.collector ≡ list_published self.old.collector }
-    {
-        let record = read_line(line)?;
-        if rank >= self.collector.ranks() || !put_at(&mut self.feeds, rank, record) {
-            return Err("no such place".into());
-        }
-        Ok(self.collector.step(rank))
-    }
-
     /// Deals a barrier and a Finalize to each of these ranks.
     fn deal_barriers(&mut self, first: u16, end: u16) -> Result<(), Fail>
         ensures { list_published self.new.collector ≡ list_published self.old.collector }
@@ -134,39 +79,12 @@ impl Opened {
             Err(Gone)
         }
     }
-
-    /// Ends the feeds and closes the session: its verdict, and how often its analyser linked ranks that wait.
-    fn close_with_touches(self, alloc: Global) -> Result<(Verdict, u64), CloseFault> {
-        let Opened {
-            feeds,
-            collector,
-            watches: _,
-        } = self;
-        let Ok(receipts) = end_feeds(alloc, feeds, SourceFault::NoFinalize, None) else {
-            return Err(CloseFault::Memory);
-        };
-        let outcome = collector.close(receipts)?;
-        Ok((outcome.verdict(), outcome.analyser().touches()))
-    }
-
-    /// Ends the feeds and closes the session.
-    fn close(self, alloc: Global) -> Result<Verdict, CloseFault> {
-        let Opened {
-            feeds,
-            collector,
-            watches: _,
-        } = self;
-        match end_feeds(alloc, feeds, SourceFault::NoFinalize, None) {
-            Ok(receipts) => verdict_of_close(collector, receipts),
-            Err(_) => Err(CloseFault::Memory),
-        }
-    }
 }
 
 /// What a watch answers for rank 0 before a run of two ranks and after it was told of its end, and then for
 /// rank 2.
 fn answers(alloc: Global, wait: &impl Wait) -> Result<[Result<Option<u32>, Gone>; 3], Fail> {
-    let mut session = Opened::of(alloc, b"ranks 2\n", 1, wait)?;
+    let mut session = opened(alloc, b"ranks 2\n", 1, wait)?;
     let at_start = session.read(0, 0);
     session.deal_free(wait)?;
     let told = session.publish(wait)?;
@@ -183,7 +101,7 @@ fn a_watch_tells_where_the_ranks_stand(rt: HostRuntime) -> Result<(), Fail> {
 
 /// What a watch answers for a rank once the collector was withdrawn, and where there is no such rank.
 fn answers_behind(alloc: Global, wait: &impl Wait) -> Result<[Result<Option<u32>, Gone>; 2], Fail> {
-    let mut session = Opened::of(alloc, b"ranks 2\n", 1, wait)?;
+    let mut session = opened(alloc, b"ranks 2\n", 1, wait)?;
     session.collector.withdraw(wait);
     session.publish(wait)?;
     Ok([session.read(0, 1), session.read(0, 2)])
@@ -197,10 +115,10 @@ fn a_watch_tells_that_the_collector_was_withdrawn(rt: HostRuntime) -> Result<(),
 
 /// What a watch answers for a rank once the session was closed.
 fn answer_behind_close(alloc: Global, wait: &impl Wait) -> Result<Result<Option<u32>, Gone>, Fail> {
-    let mut session = Opened::of(alloc, b"ranks 2\n", 1, wait)?;
+    let mut session = opened(alloc, b"ranks 2\n", 1, wait)?;
     session.deal_free(wait)?;
     let watch = session.watches.pop();
-    session.close(alloc)?;
+    session.close(alloc, SourceFault::NoFinalize, None)?;
     match watch {
         Some(mut watch) => Ok(watch.read(1)),
         None => Err("no watch".into()),
@@ -222,7 +140,7 @@ fn answers_of_two(
     last: u16,
     wait: &impl Wait,
 ) -> Result<[Result<Option<u32>, Gone>; 4], Fail> {
-    let mut session = Opened::of(alloc, head, 2, wait)?;
+    let mut session = opened(alloc, head, 2, wait)?;
     session.deal_barriers(0, last)?;
     let earlier = session.publish(wait)?;
     session.learn(0, &earlier);
@@ -253,7 +171,7 @@ fn watches_of_many_ranks(rt: HostRuntime) -> Result<(), Fail> {
 /// What comes of a session of 1,024 ranks in one thread, each in one barrier and the last rank first: how many
 /// stand behind it, by a watch, and the verdict with the touches.
 fn barrier_of_1024(alloc: Global, wait: &impl Wait) -> Result<(u16, Verdict, u64), Fail> {
-    let mut session = Opened::of(alloc, b"ranks 1024\n", 1, wait)?;
+    let mut session = opened(alloc, b"ranks 1024\n", 1, wait)?;
     for before in 0..1024u16 {
         session.deal_barriers(1023 - before, 1024 - before)?;
     }
@@ -265,8 +183,8 @@ fn barrier_of_1024(alloc: Global, wait: &impl Wait) -> Result<(u16, Verdict, u64
             over = over.saturating_add(1);
         }
     }
-    let (verdict, touches) = session.close_with_touches(alloc)?;
-    Ok((over, verdict, touches))
+    let outcome = session.outcome(alloc, SourceFault::NoFinalize, None)?;
+    Ok((over, outcome.verdict(), outcome.analyser().touches()))
 }
 
 #[test]
@@ -301,7 +219,7 @@ fn beside_the_collector<R: Threads + Wait + Sync>(
     rt: &R,
     alloc: Global,
 ) -> Result<[bool; 2], Fail> {
-    let mut session = Opened::of(alloc, b"ranks 2\n", 2, rt)?;
+    let mut session = opened(alloc, b"ranks 2\n", 2, rt)?;
     let first = session.watches.pop();
     let second = session.watches.pop();
     let (dealt, (one, other)) = thread::join(
@@ -351,7 +269,15 @@ impl Opened {
 
 /// What a watch is told of a thousand messages. None where the session isn't opened for want of memory.
 fn seen_of_a_thousand(alloc: Global, wait: &impl Wait) -> Result<Option<Seen>, Fail> {
-    let Some(mut session) = Opened::unless_refused(alloc, b"ranks 2\n", 1, wait)? else {
+    let Some(mut session) = Opened::unless_refused(
+        alloc,
+        b"ranks 2\n",
+        Reading::Strict,
+        2,
+        1,
+        wait,
+    )?
+    else {
         return Ok(None);
     };
     let mut seen = Seen {
@@ -380,7 +306,14 @@ fn stands_stay_where_memory_was_wanted(rt: HostRuntime) -> Result<(), Fail> {
 /// The sweep of `bench/refuse` runs this with each request for memory refused in turn.
 #[test]
 fn an_opening_is_refused_for_want_of_memory_alone(rt: HostRuntime) -> Result<(), Fail> {
-    if let Some(mut session) = Opened::unless_refused(rt.alloc(), b"ranks 64\n", 2, &rt)? {
+    if let Some(mut session) = Opened::unless_refused(
+        rt.alloc(),
+        b"ranks 64\n",
+        Reading::Strict,
+        2,
+        2,
+        &rt,
+    )? {
         assert_eq!(rt; session.read(1, 63), Ok(Some(0)));
     }
     Ok(())
