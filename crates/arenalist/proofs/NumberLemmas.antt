@@ -18,9 +18,6 @@ count_other r x h = rw (ne_eqb r x h) refl
 pub count_head : (r : ℕ) (xs : List ℕ) → count r (r ∷ xs) ≡ 1 + count r xs
 count_head r xs = rw (eq-eqb r r refl) refl
 
-pub count_tail : (r x : ℕ) (xs : List ℕ) → count r xs ≤ count r (x ∷ xs)
-count_tail r x xs = omega arith
-
 pub in_all-set : (r : ℕ) (ls : List (List ℕ)) (l : ℕ) (xs : List ℕ) → l < length ls → in_all r (set ls l xs) + count r (list_at ls l) ≡ in_all r ls + count r xs
 in_all-set r [] l xs h = absurd (omega arith)
 in_all-set r (y ∷ ys) zero xs h = omega arith

@@ -5,7 +5,7 @@ use Rattle.std.proofs.lemmas.List.{length-set, length-map, get_or-map, ext_get_o
 use Rattle.std.proofs.lemmas.Bool.{cases_eq, eq-eqb, ne_eqb}
 use Rattle.arenalist.specs.Numbers.{count, in_all, list_at, without}
 use Rattle.arenalist.specs.Rings.{Chain, IsRing, walk, rings_of, lists_of, AreLinked, nexts_linked, prevs_linked}
-use Rattle.arenalist.proofs.NumberLemmas.{count-append, count_one, count_other, count_head, in_all-set, count_in_all, count_in_two, found_in, cut_at, without_none, without_cut, in_all_without, count_drop, apart, at_map}
+use Rattle.arenalist.proofs.NumberLemmas.{count-append, count_one, count_other, count_head, in_all-set, count_in_all, count_in_two, cut_at, without_none, without_cut, in_all_without, count_drop, apart, at_map}
 use Rattle.arenalist.proofs.SumLemmas.{length_most}
 
 -- chains
@@ -158,13 +158,6 @@ unlinks_from nexts prevs rings n l h l_in some =
 
 pub lists_at : (rings : List (List ℕ)) (l : ℕ) → l < length rings → list_at (lists_of rings) l ≡ drop 1 (list_at rings l)
 lists_at rings l h = at_map (λ ring. drop 1 ring) rings l h
-
--- a number of a list is unlinked
-pub unlinks : (nexts prevs : List ℕ) (rings : List (List ℕ)) (n : ℕ) → AreLinked nexts prevs rings → 0 < in_all n (lists_of rings) → Unlinks nexts prevs rings n
-unlinks nexts prevs rings n h some =
-    let at = found_in n (lists_of rings) some in
-    let l_in : at.0 < length rings = omega (arith, at.1, length-map rings (λ (ring : List ℕ). drop 1 ring)) in
-    unlinks_from nexts prevs rings n at.0 h l_in (omega (arith, at.2, ap (count n) (lists_at rings at.0 l_in)))
 
 next_linked_last : (nexts prevs : List ℕ) (h n : ℕ) → get_or prevs h 0 < length nexts → n ≢ get_or prevs h 0 → get_or (nexts_linked nexts prevs h n) (get_or prevs h 0) 0 ≡ n
 next_linked_last nexts prevs h n p_in differs = get_or-set_other (set nexts (get_or prevs h 0) n) n (get_or prevs h 0) h 0 (λ e. differs (sym e)) ∙ get_or-set_same nexts (get_or prevs h 0) n 0 p_in

@@ -1,15 +1,11 @@
 //! Tests of the crates at the base, through their public calls, of what no row of text can say: devices that fail,
-//! texts that change at random, lists in an arena, and feeds.
+//! lists in an arena, and feeds.
 //!
 //! They stand in a crate of their own, so that those crates are proved once, and not again with their tests.
 #![tactic(auto)]
 
 #[cfg(test)]
-mod changed_texts;
-#[cfg(test)]
 mod channels;
-#[cfg(test)]
-mod cut_texts;
 #[cfg(test)]
 mod linked_lists;
 #[cfg(test)]

@@ -75,6 +75,20 @@ fn a_failed_read_comes_behind_the_whole_lines(rt: HostRuntime) {
     }
 }
 
+/// The second read fails, and is asked for only where the first left a line open that may still be one.
+#[test]
+fn a_line_that_is_too_long_asks_for_no_read(rt: HostRuntime) {
+    for (most, fault) in [
+        (1024, SourceFault::ReadFailed),
+        (1025, SourceFault::Line(LineFault::TooLong)),
+    ] {
+        assert!(rt; most > 0);
+        let input = FailsAt::new(MemoryInput::in_pieces(&[b'x'; 2000], most), 1);
+        let told = lint(&mut Source::new(input), &rt);
+        assert!(rt; told == Err(LintFault { call: 0, fault }), "{most} a read");
+    }
+}
+
 /// Behind the end record a source asks its input only while it holds no byte.
 #[test]
 fn a_held_byte_behind_the_end_asks_for_no_read(rt: HostRuntime) {
@@ -103,15 +117,4 @@ fn a_failed_write_leaves_a_beginning(rt: HostRuntime) -> Result<(), Fail> {
         assert!(rt; output.device().bytes() == &TRACE[..ends[at as usize]]);
     }
     Ok(())
-}
-
-#[test]
-fn records_are_read_into_one_place_that_a_fault_leaves_alone(rt: HostRuntime) {
-    let mut source = Source::new(MemoryInput::new(b"wait 7\nfinalize 7\n"));
-    let mut entry = Record::finalize();
-    assert!(rt; source.next_into(&mut entry) == Ok(true));
-    assert!(rt; entry.call() == Call::Wait { req: 7 });
-    let fault = SourceFault::Line(LineFault::FieldCount);
-    assert!(rt; source.next_into(&mut entry) == Err(fault));
-    assert!(rt; entry.call() == Call::Wait { req: 7 });
 }

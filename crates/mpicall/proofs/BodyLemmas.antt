@@ -4,7 +4,7 @@ use Rattle.std.specs.Prelude.{if◌then◌else◌}
 use Rattle.std.specs.Fmt.{decimal}
 use Rattle.std.specs.List.{list_all}
 use Rattle.std.proofs.lemmas.Bool.Decides.{nat_tests}
-use Rattle.std.proofs.lemmas.List.{length-map, map-append, append-nil}
+use Rattle.std.proofs.lemmas.List.{map-append, append-nil}
 use Rattle.std.proofs.lemmas.List.Folds.{list_all-append}
 use Rattle.std.proofs.lemmas.Bool.{and_parts, and_from}
 use Rattle.mpicall.specs.Argument.{Argument, Form, NumberUpTo, Number, spell, is_in_range, is_in_form, request_form, bytes_form, request_argument, index_form, read_argument}
@@ -105,11 +105,6 @@ pub record SoFar (all : List (List ℕ)) (reqs : List ℕ) (left : List (List �
   pub least : 1 ≤ length reqs
   pub most : length reqs ≤ 64
 
--- a field that is no request, behind some others
-unfit_behind : (reqs : List ℕ) (field : List ℕ) (left : List (List ℕ)) → is_in_form request_form field ≡ false → all_requests (map spell (map request_argument reqs) ++ field ∷ left) ≡ false
-unfit_behind [] field left no_form = rw no_form refl
-unfit_behind (req ∷ reqs) field left no_form = not_both _ _ (λ yes. unfit_behind reqs field left no_form)
-
 no_request : (field : List ℕ) → number_up_to 2147483647 field ≡ None → is_in_form request_form field ≡ false
 no_request field e = rw e refl
 
@@ -117,33 +112,6 @@ not_all : (a b c : Bool) → c ≡ false → (a && b && c) ≡ false
 not_all true true c h = h
 not_all true false c h = refl
 not_all false b c h = refl
-
-pub requests_unfit : (all : List (List ℕ)) (reqs : List ℕ) (field : List ℕ) (left : List (List ℕ)) → SoFar all reqs (field ∷ left) → number_up_to 2147483647 field ≡ None → requests_fit all ≡ false
-requests_unfit all reqs field left s none =
-    let unfit = unfit_behind reqs field left (no_request field none) in
-    ap requests_fit s.fields_are
-    ∙ not_all (nat_le 1 (length (map spell (map request_argument reqs) ++ field ∷ left))) (nat_le (length (map spell (map request_argument reqs) ++ field ∷ left)) 64) _ unfit
-
-not_middle : (a b c : Bool) → b ≡ false → (a && b && c) ≡ false
-not_middle true b c h = rw h refl
-not_middle false b c h = refl
-
-pub requests_too_many : (all : List (List ℕ)) (reqs : List ℕ) (field : List ℕ) (left : List (List ℕ)) → SoFar all reqs (field ∷ left) → length reqs ≡ 64 → requests_fit all ≡ false
-requests_too_many all reqs field left s full =
-    let count : length all ≡ length (map spell (map request_argument reqs)) + length (field ∷ left) = ap length s.fields_are ∙ length-append (map spell (map request_argument reqs)) (field ∷ left) in
-    let same : length (map spell (map request_argument reqs)) ≡ length reqs = length-map (map request_argument reqs) spell ∙ length-map reqs request_argument in
-    let above : nat_le (length all) 64 ≡ false = grind (arith, nat_tests, count, same, full) in
-    not_middle _ _ _ above
-
-first_cases : (field : List ℕ) (o : Option Argument) (left : List (List ℕ)) → o ≡ read_argument request_form field → with_behind left o ≡ None → is_in_form request_form field ≡ false
-first_cases field None left is e = rw (sym is) refl
-first_cases field (Some a) left is e = cc
-
-pub requests_missing : (all : List (List ℕ)) → next_argument request_form all ≡ None → requests_fit all ≡ false
-requests_missing [] e = refl
-requests_missing (field ∷ left) e =
-    let unfit : all_requests (field ∷ left) ≡ false = rw (first_cases field (read_argument request_form field) left refl e) refl in
-    not_all (nat_le 1 (length (field ∷ left))) (nat_le (length (field ∷ left)) 64) (all_requests (field ∷ left)) unfit
 
 abbrev read_of : Option (Argument × List (List ℕ)) → Option Argument
 read_of None = None
@@ -179,13 +147,6 @@ requests_step all reqs field left req s room e =
       least = omega (arith, length-append reqs (req ∷ []), s.least);
       most = omega (arith, length-append reqs (req ∷ []));
     }
-
-pub requests_end : (all : List (List ℕ)) (reqs : List ℕ) → SoFar all reqs [] → SpellsRequests all reqs
-requests_end all reqs s = record {
-  fields_are = s.fields_are ∙ append-nil (map spell (map request_argument reqs));
-  in_range = s.in_range;
-  enough = and_from _ _ (le_to 1 (length reqs) s.least) (le_to (length reqs) 64 s.most);
-}
 
 -- A chosen request and the list in which it is.
 

@@ -1,8 +1,8 @@
 -- Where the first line feed of held bytes stands, by a search behind those that were searched.
-use Rattle.std.proofs.Common.{◌≡◌, ℕ, ◌+◌, ◌-◌, ◌≤◌, ◌<◌, true, List, ◌++◌, length, get_or, take, drop, sym, ap, ◌∙◌, arith, Some, None, inl, inr}
+use Rattle.std.proofs.Common.{◌≡◌, ℕ, ◌+◌, ◌-◌, ◌≤◌, ◌<◌, true, List, length, get_or, take, drop, sym, ap, ◌∙◌, arith, Some, None, inl, inr}
 use Rattle.std.proofs.lemmas.Bool.Decides.{nat_tests}
 use Rattle.std.proofs.lemmas.Bool.{cases_lt}
-use Rattle.std.proofs.lemmas.List.{take_all, length-drop, get_or-drop, get_or_append_left}
+use Rattle.std.proofs.lemmas.List.{take_all, length-drop, get_or-drop}
 use Rattle.memchr.specs.Find.{IsFirstByte, is_byte}
 use Rattle.mpicall.specs.Spelling.{line_feed}
 use Rattle.mpicall.specs.Window.{NoFeedBelow, FirstFeed}
@@ -40,8 +40,3 @@ feed_missing bytes from within before first =
     let nowhere = rw (rest_is bytes from within) at first in
     let count : from + length (drop from bytes) ≡ length bytes = omega (arith, length-drop from bytes) in
     rw count at (none_further bytes from (length (drop from bytes)) before (λ j below. nowhere j (omega arith) below))
-
--- more bytes behind leave no feed below
-pub none_appended : (bytes more now : List ℕ) (n : ℕ) → now ≡ bytes ++ more → n ≤ length bytes → NoFeedBelow bytes n → NoFeedBelow now n
-none_appended bytes more now n is within none k below feed =
-    none k below (sym (ap (λ (xs : List ℕ). get_or xs k 0) is ∙ get_or_append_left bytes more 0 k (omega arith)) ∙ feed)

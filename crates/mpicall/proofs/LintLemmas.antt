@@ -1,8 +1,8 @@
 -- A source that is read record by record.
-use Rattle.std.proofs.Common.{◌≡◌, ℕ, ◌+◌, ◌-◌, ◌^◌, min, Bool, true, false, ◌&&◌, List, [], ◌∷◌, ◌++◌, length, length-append, append_assoc, append-nil, subst, sym, ap, ◌∙◌, refl, arith, Option, Some, None, is_none, Ok, Err, IfSome}
+use Rattle.std.proofs.Common.{◌≡◌, ℕ, ◌+◌, ◌-◌, ◌^◌, min, Bool, true, false, ◌&&◌, List, [], ◌∷◌, ◌++◌, length, length-append, append_assoc, subst, sym, ap, ◌∙◌, refl, arith, Option, Some, None, is_none, Ok, Err, IfSome}
 use Rattle.std.specs.Io.KnownBytes.{Consumes}
 use Rattle.mpicall.specs.Device.{count_if}
-use Rattle.mpicall.specs.Lint.{capped, TellsTrace, EndsWith}
+use Rattle.mpicall.specs.Lint.{capped, EndsWith}
 use Rattle.mpicall.specs.Source.{Gives, CutsOff, answer_of, count_after, ended_at, trace_at}
 use Rattle.mpicall.specs.Spelling.{spelling}
 use Rattle.mpicall.specs.Trace.{Trace, End, Sealed, Torn, ends_here}
@@ -24,10 +24,6 @@ SoFar None now count = Unit {0}
 SoFar (Some old) None count = ⊥
 SoFar (Some old) (Some now) count = Given old now count
 
-pub lint_begins : (trace : Option Trace) → SoFar trace trace 0
-lint_begins None = tt
-lint_begins (Some trace) = record { given = 0; records = omega arith; end = refl; count_is = omega arith }
-
 pub lint_steps : (old now next : Option Trace) (count : ℕ) (call : Call) → SoFar old now count → Gives now next (Ok (Some call)) → SoFar old next (min (count + 1) (2 ^ 64 - 1))
 lint_steps None now next count call s g = tt
 lint_steps (Some old) None next count call s g = absurd s
@@ -44,14 +40,6 @@ lint_steps (Some old) (Some now) (Some next) count call s g =
       count_is = omega arith;
     }
 
-pub lint_ends : (old now next : Option Trace) (count : ℕ) → SoFar old now count → Gives now next (Ok None) → TellsTrace old (Ok count)
-lint_ends None now next count s g = tt
-lint_ends (Some old) None next count s g = absurd s
-lint_ends (Some old) (Some now) next count s g =
-    let none = ap (λ (t : Trace). length t.records) g.0 in
-    let all : length old.records ≡ s.given = omega (arith, s.records) in
-    (s.end ∙ ap (λ (t : Trace). t.end) g.0, s.count_is ∙ ap capped (sym all))
-
 ends_with : (old now : Trace) (count : ℕ) (fault : SourceFault) → Given old now count → now ≡ ends_here (Torn fault) → (old.end ≡ Torn fault) × (count ≡ capped (length old.records))
 ends_with old now count fault s is =
     let none = ap (λ (t : Trace). length t.records) is in
@@ -65,11 +53,6 @@ faults old now next count NoFinalize s g = ends_with old now count NoFinalize s 
 faults old now next count ReadFailed s g = (s.given, omega (arith, s.records), s.count_is)
 faults old now next count GateStopped s g = ends_with old now count GateStopped s g.0
 faults old now next count ThreadNotStarted s g = ends_with old now count ThreadNotStarted s g.0
-
-pub lint_faults : (old now next : Option Trace) (count : ℕ) (fault : SourceFault) → SoFar old now count → Gives now next (Err fault) → TellsTrace old (Err (record { call = count; fault = fault }))
-lint_faults None now next count fault s g = tt
-lint_faults (Some old) None next count fault s g = absurd s
-lint_faults (Some old) (Some now) next count fault s g = faults old now next count fault s g
 
 -- a source that gives a record had no end
 pub gives_none : {A : Type 0} (end : Option End) (call : Call) (x y : A) → IfSome end (λ e. (Ok (Some call) ≡ answer_of e) × (x ≡ y)) → end ≡ None
@@ -92,9 +75,6 @@ FirstGiven old known now next count =
     (given : List Call) × (count ≡ capped (length given))
     × ((left : Option (List ℕ)) (calls : List Call) → CutsOff now next left calls → CutsOff old known left (given ++ calls))
 
-pub first_begins : (stage : Stage) (known : Option (List ℕ)) → FirstGiven stage known stage known 0
-first_begins stage known = ([], omega arith, λ left calls cut. cut)
-
 pub first_steps : (old now next : Stage) (known between left : Option (List ℕ)) (count : ℕ) (call : Call) → FirstGiven old known now between count → Gives (trace_at now between) (trace_at next left) (Ok (Some call)) → ended_at next ≡ None → Consumes between left (spelling call) → FirstGiven old known next left (min (count + 1) (2 ^ 64 - 1))
 first_steps old now next known between left count call first gives none consumed =
     let is = first.1 in (
@@ -104,7 +84,3 @@ first_steps old now next known between left count call first gives none consumed
           let whole = first.2 last (call ∷ calls) (given_first now next between left last call calls gives none consumed cut) in
           subst (CutsOff old known last) (sym (append_assoc first.0 (call ∷ []) calls)) whole,
     )
-
-pub first_cut : (old now : Stage) (known between left : Option (List ℕ)) (count : ℕ) → FirstGiven old known now between count → CutsOff now between left [] → (calls : List Call) × (count ≡ capped (length calls)) × CutsOff old known left calls
-first_cut old now known between left count first cut =
-    (first.0, first.1, subst (CutsOff old known left) (append-nil first.0) (first.2 left [] cut))

@@ -1,6 +1,6 @@
 -- The lines of a text and their fields. A line goes through its line feed; its body is its bytes without
 -- the last line feed, and its fields are what lies between single spaces.
-use Rattle.std.specs.Prelude.{ℕ, ◌-◌, Bool, true, false, ◌&&◌, ◌==◌, nat_lt, nat_le, Option, Some, None, if◌then◌else◌, List, [], ◌∷◌, length, slice_index, take}
+use Rattle.std.specs.Prelude.{ℕ, ◌-◌, Bool, true, false, ◌&&◌, ◌==◌, nat_lt, Option, Some, None, if◌then◌else◌, List, [], ◌∷◌, length, slice_index, take}
 use Rattle.std.specs.List.{slice_split, onto_first, count_by}
 use Rattle.std.specs.Borrow.{Bor}
 use Rattle.mpicall.specs.declared.limits.TheConstants.{MOST_LINE_BYTES}
@@ -35,10 +35,6 @@ body_of line = take (length line - 1) line
 -- the field has no bytes
 abbrev pub is_blank : List ℕ → Bool
 is_blank field = length field == 0
-
--- the line isn't too long, and ends with its line feed
-abbrev pub is_whole : List ℕ → Bool
-is_whole line = nat_le (length line) most_bytes && has_line_feed line
 
 -- no fields are left
 abbrev pub is_empty : List (List ℕ) → Bool

@@ -1,10 +1,9 @@
 -- Members that are read one by one, and what makes a group of them.
-use Rattle.std.proofs.Common.{◌≡◌, ℕ, ◌<◌, ◌≤◌, Bool, true, false, ◌&&◌, cond, List, [], ◌∷◌, ◌++◌, length, map, eqb, ltb, sym, ◌∙◌, refl, arith, Ok, Err, append_assoc, inl, inr, ◌⊎◌, codes}
+use Rattle.std.proofs.Common.{◌≡◌, ℕ, ◌<◌, ◌≤◌, Bool, true, false, ◌&&◌, cond, List, [], ◌∷◌, ◌++◌, length, map, eqb, ltb, sym, ◌∙◌, refl, arith, Err, append_assoc, inl, inr, ◌⊎◌, codes}
 use Rattle.std.specs.List.{list_all, list_any, IsDistinct, AllByRecursion}
-use Rattle.std.proofs.lemmas.List.{append-nil}
 use Rattle.std.proofs.lemmas.Map.Keys.{IsDistinct-cons}
 use Rattle.std.proofs.lemmas.Map.Steps.{length-le_from_distinct_below}
-use Rattle.std.proofs.lemmas.Bool.{cases_Bool, or_cases, or_left, or_right, or_parts, or_from, and_from, and_left, and_right, and_parts, not_from_true, not_from_false, lt-ltb, le-ltb, le-leb, ltb-true, eq-eqb, eqb-true}
+use Rattle.std.proofs.lemmas.Bool.{cases_Bool, or_cases, or_left, or_right, or_parts, or_from, and_from, and_left, and_right, and_parts, not_from_true, lt-ltb, le-ltb, ltb-true, eq-eqb, eqb-true}
 use Rattle.std.proofs.lemmas.List.Folds.{list_all-append, list_any-append}
 use Rattle.std.proofs.lemmas.Bool.Decides.{nat_tests}
 use Rattle.mpicall.specs.Number.{is_canonical, value_of}
@@ -76,21 +75,6 @@ fault_of_rest ranks all group number numbers so_far refused = elim (cases_Bool (
       rw (holds, forms) bad
   | inr fails ↦ let forms : list_all is_canonical all ≡ false = sym so_far.canonical ∙ fails in rw (fails, forms) refl
 ]
-
--- all numbers are read: their members are a group if there is one
-members_are : (ranks : ℕ) (all : List (List ℕ)) (group : List ℕ) → AreMembers ranks all group [] → group_of_fields ranks (codes "comm" ∷ all) ≡ checked_group ranks group
-members_are ranks all group so_far =
-    let whole : map value_of all ≡ group = sym so_far.whole ∙ append-nil group in
-    rw (← so_far.canonical, whole) refl
-
-pub group_of_members : (ranks : ℕ) (all : List (List ℕ)) (group : List ℕ) → AreMembers ranks all group [] → 0 < length group → group_of_fields ranks (codes "comm" ∷ all) ≡ Ok group
-group_of_members ranks all group so_far some =
-    let good : is_group ranks group ≡ true = and_from _ _ (and_from _ _ (le-leb 1 (length group) some) so_far.below) (not_from_false _ so_far.once) in
-    members_are ranks all group so_far ∙ rw good refl
-
-pub group_of_none : (ranks : ℕ) (all : List (List ℕ)) (group : List ℕ) → AreMembers ranks all group [] → length group ≡ 0 → group_of_fields ranks (codes "comm" ∷ all) ≡ Err Group
-group_of_none ranks all [] so_far none = members_are ranks all [] so_far
-group_of_none ranks all (x ∷ group) so_far none = absurd (omega (arith, none))
 
 -- there are no more of them than the run has ranks
 apart : (x : ℕ) (xs : List ℕ) → list_any (λ y. eqb y x) xs ≡ false → AllByRecursion (λ y. eqb x y ≡ false) xs

@@ -51,9 +51,6 @@ no_place zero rank = refl
 no_place (suc n) zero = refl
 no_place (suc n) (suc rank) = no_place n rank
 
-pub AreTold-none : (n : ℕ) → AreTold [] (replicate n NO_PLACE)
-AreTold-none n = record { told = no_place n }
-
 -- what makes a field name a new member
 pub record IsNew (places : List ℕ) (field : List ℕ) (m : ℕ) : Type 0 where
   pub canonical : is_canonical field ≡ true

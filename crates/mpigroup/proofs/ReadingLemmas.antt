@@ -71,6 +71,3 @@ AreRead-push ranks number all groups line left group so_far is =
 fault_of_line : (groups : Groups) (reading : Result (List ℕ) HeadFault) (more all : Result Groups HeadFault) (fault : ReadFault) → behind_groups groups (put_line reading more) ≡ all → IsHeadFaultOf reading fault → IsHeadFaultOf all fault
 fault_of_line groups reading more all (Text fault) same is = sym same ∙ ap (λ r. behind_groups groups (put_line r more)) is
 fault_of_line groups reading more all Memory same is = tt
-
-pub IsHeadFaultOf-line : (ranks number : ℕ) (all : Result Groups HeadFault) (groups : Groups) (line : List ℕ) (left : List (List ℕ)) (fault : ReadFault) → AreRead ranks number all groups (line ∷ left) → IsHeadFaultOf (at_line number (group_of_line ranks number line)) fault → IsHeadFaultOf all fault
-IsHeadFaultOf-line ranks number all groups line left fault so_far is = fault_of_line groups _ _ all fault so_far.same is

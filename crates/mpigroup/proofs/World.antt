@@ -1,5 +1,5 @@
 -- What the look-ups answer of the world, whose group has the ranks in order, and of the other groups.
-use Rattle.std.proofs.Common.{◌≡◌, ℕ, ◌+◌, ◌-◌, ◌<◌, ◌≤◌, zero, suc, List, length, get_or, not, eqb, ltb, true, false, Some, None, [], ◌∷◌, arith, refl, ap}
+use Rattle.std.proofs.Common.{◌≡◌, ℕ, ◌+◌, ◌<◌, ◌≤◌, zero, suc, List, length, get_or, not, eqb, ltb, true, false, Some, None, [], ◌∷◌, arith, refl, ap}
 use Rattle.std.specs.List.{range_with_len, position, position_or_len, slice_get, list_all, All}
 use Rattle.std.proofs.lemmas.List.FromFn.{length-range_with_len, get_or-range_with_len}
 use Rattle.std.proofs.lemmas.List.Sums.{prefix_len_is}
@@ -59,11 +59,6 @@ group_rank_of-member groups n further comm rank is world h = rw (is, world) (fou
 
 pub group_rank_of-past : (groups : Groups) (n : ℕ) (further : Groups) (comm rank : ℕ) → BeginsWithWorld groups n further → comm ≡ 0 → n ≤ rank → group_rank_of groups comm rank ≡ None
 group_rank_of-past groups n further comm rank is world h = rw (is, world) (not_found n rank h)
-
--- the other groups stand behind the world's
-pub slice_get-further : (groups : Groups) (n : ℕ) (further : Groups) (comm : ℕ) → BeginsWithWorld groups n further → 0 < comm → slice_get groups comm ≡ slice_get further (comm - 1)
-slice_get-further groups n further zero is h = absurd (omega arith)
-slice_get-further groups n further (suc comm) is h = let e : suc comm - 1 ≡ comm = omega arith in rw (is, e) refl
 
 -- each group names ranks of the run, one at least and none twice
 is_group-at : (ranks : ℕ) (groups : Groups) (k : ℕ) (group : List ℕ) → list_all (is_group ranks) groups ≡ true → slice_get groups k ≡ Some group → is_group ranks group ≡ true
