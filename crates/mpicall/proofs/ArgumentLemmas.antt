@@ -163,10 +163,6 @@ argument_field (New o) small h = field_or (codes "none") GREATEST_COMM o (text_f
 
 -- What is read as an argument was spelled so, in its range.
 
-record Spelled (field : List ℕ) (a : Argument) : Type 0 where
-  pub field_is : field ≡ spell a
-  pub in_range : is_in_range a ≡ true
-
 pub map_some : {A B : Type 0} (f : A → B) (o : Option A) (b : B) → option_map f o ≡ Some b → (x : A) × (o ≡ Some x) × (b ≡ f x)
 map_some f (Some x) b e = (x, refl, cc)
 map_some f None b e = cc

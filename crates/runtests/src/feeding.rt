@@ -1,3 +1,4 @@
+use crate::whole_runs::StopsAt;
 use gather::feed::feed;
 use gather::gate::{Gate, OpenGate};
 use mpicall::fault::SourceFault;
@@ -10,19 +11,6 @@ use std::cell::Cell;
 use std::process::Abort;
 use std::sync::Wait;
 use std::test::Fail;
-
-// A gate that lets no record at its line be read.
-struct ClosedAt(u32);
-
-impl Gate for ClosedAt {
-    ghost use Rattle.std.specs.Prelude.{◌≡◌};
-
-    ghost may_stop = { λ gate rank line. line ≡ gate.0 };
-
-    fn ask(&self, _rank: u16, line: u32) -> bool {
-        line != self.0
-    }
-}
 
 // A gate that writes down the rank and the line of each question, as two digits.
 #[derive(Drop)]
@@ -59,16 +47,14 @@ fn record(rt: &impl Abort, line: &[u8]) -> Took {
 #[test]
 fn all_records_and_the_end(rt: HostRuntime) -> Result<(), Fail> {
     let took = taken(rt.alloc(), &OpenGate, &rt)?;
-    assert!(rt; took[0] == record(&rt, b"send 0 1 5\n"));
-    assert!(rt; took[1] == record(&rt, b"recv 0 1 5\n"));
-    assert!(rt; took[2] == record(&rt, b"finalize\n"));
-    assert!(rt; took[3] == Took::Sealed);
+    assert!(rt; took[0] == record(&rt, b"send 0 1 5\n") && took[1] == record(&rt, b"recv 0 1 5\n"));
+    assert!(rt; took[2] == record(&rt, b"finalize\n") && took[3] == Took::Sealed);
     Ok(())
 }
 
 #[test]
 fn a_gate_that_closes_behind_one_record(rt: HostRuntime) -> Result<(), Fail> {
-    let took = taken(rt.alloc(), &ClosedAt(1), &rt)?;
+    let took = taken(rt.alloc(), &StopsAt(7, 1), &rt)?;
     assert!(rt; took[0] == record(&rt, b"send 0 1 5\n"));
     assert!(rt; took[1] == Took::Torn(SourceFault::GateStopped));
     Ok(())

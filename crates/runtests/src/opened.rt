@@ -40,7 +40,7 @@ impl Drop for Opened {
 }
 
 /// A head, read again where memory is refused.
-fn head_again(alloc: Global, text: &[u8]) -> Result<Head, Fail> {
+pub(crate) fn head_again(alloc: Global, text: &[u8]) -> Result<Head, Fail> {
     match Head::read(alloc, text) {
         Ok(head) => Ok(head),
         Err(_) => Ok(Head::read(alloc, text)?),

@@ -1,9 +1,9 @@
 //! Pairs to which calls are added again where memory is refused.
 
 use crate::kept::Kept;
+use crate::opened::head_again;
 use mpicall::line::read_line;
 use mpicall::record::Record;
-use mpigroup::head::Head;
 use pairing::added::{Added, PairFault};
 use pairing::envelope::Half;
 use pairing::pairs::Pairs;
@@ -20,15 +20,19 @@ fn add(pairs: &mut Pairs, rank: u16, call: &Record) -> Result<Result<Added, Pair
 }
 
 /// Pairs of a head, made again where memory is refused.
-fn pairs_again(alloc: Global, head: &str) -> Result<Kept<Pairs>, Fail> {
-    for _ in 0..2u32 {
-        if let Ok(head) = Head::read(alloc, head.as_bytes()) {
-            if let Ok(pairs) = Pairs::new(alloc, head) {
-                return Ok(Kept(pairs));
-            }
-        }
+fn pairs_again(alloc: Global, head: &[u8]) -> Result<Kept<Pairs>, Fail> {
+    match Pairs::new(alloc, head_again(alloc, head)?) {
+        Ok(pairs) => Ok(Kept(pairs)),
+        Err(_) => Ok(Kept(Pairs::new(alloc, head_again(alloc, head)?)?)),
     }
-    Err("refused twice".into())
+}
+
+/// The call of a rank at a place, if there is one.
+fn record_at(pairs: &Pairs, rank: u16, place: u32) -> Option<Record> {
+    match pairs.call(rank, place) {
+        Some(call) => Some(call.record()),
+        None => None,
+    }
 }
 
 /// Whether both tell the same of the requests of a call.
@@ -46,15 +50,7 @@ fn have_same_requests(one: &Pairs, other: &Pairs, rank: u16, place: u32) -> bool
 
 /// Whether both tell the same of a call.
 fn have_same_call(one: &Pairs, other: &Pairs, rank: u16, place: u32) -> bool {
-    let record = match one.call(rank, place) {
-        Some(call) => Some(call.record()),
-        None => None,
-    };
-    let other_record = match other.call(rank, place) {
-        Some(call) => Some(call.record()),
-        None => None,
-    };
-    record == other_record
+    record_at(one, rank, place) == record_at(other, rank, place)
         && one.partner(rank, place, Half::Send) == other.partner(rank, place, Half::Send)
         && one.partner(rank, place, Half::Recv) == other.partner(rank, place, Half::Recv)
         && one.wave_of(rank, place) == other.wave_of(rank, place)
@@ -98,8 +94,8 @@ fn add_again(
 /// The sweep of `bench/refuse` runs this with each request for memory refused in turn.
 #[test]
 fn a_refused_call_is_added_again(rt: HostRuntime) -> Result<(), Fail> {
-    let mut one = pairs_again(rt.alloc(), "ranks 2\ncomm 1 0\n")?;
-    let mut other = pairs_again(rt.alloc(), "ranks 2\ncomm 1 0\n")?;
+    let mut one = pairs_again(rt.alloc(), b"ranks 2\ncomm 1 0\n")?;
+    let mut other = pairs_again(rt.alloc(), b"ranks 2\ncomm 1 0\n")?;
     let rows = [
         (0, "dup 0 1\n"),
         (0, "sendrecv 0 1 5 1 6\n"),

@@ -1,10 +1,10 @@
 //! An analyser whose calls are offered again where memory is refused.
 
 use crate::kept::Kept;
+use crate::opened::head_again;
 use moves::analyser::{Analyser, OfferFault};
 use moves::reading::Reading;
 use mpicall::line::read_line;
-use mpigroup::head::Head;
 use std::alloc::Global;
 use std::test::Fail;
 
@@ -17,33 +17,27 @@ fn refusal(analyser: &mut Analyser, rank: u16, line: &str) -> Result<Option<Offe
     Ok(analyser.offer(rank, &call).err())
 }
 
-fn offer_line(analyser: &mut Analyser, rank: u16, line: &str) -> Result<(), Fail> {
-    match refusal(analyser, rank, line)? {
-        Some(fault) => Err(fault.into()),
-        None => Ok(()),
-    }
-}
-
 /// An analyser of a head, made again where memory is refused.
-fn run_again(alloc: Global, head: &str) -> Result<Kept<Analyser>, Fail> {
-    for _ in 0..2u32 {
-        if let Ok(head) = Head::read(alloc, head.as_bytes()) {
-            if let Ok(analyser) = Analyser::new(alloc, head, Reading::Strict) {
-                return Ok(Kept(analyser));
-            }
+fn run_again(alloc: Global, head: &[u8]) -> Result<Kept<Analyser>, Fail> {
+    match Analyser::new(alloc, head_again(alloc, head)?, Reading::Strict) {
+        Ok(run) => Ok(Kept(run)),
+        Err(_) => {
+            let head = head_again(alloc, head)?;
+            Ok(Kept(Analyser::new(alloc, head, Reading::Strict)?))
         }
     }
-    Err("refused twice".into())
 }
 
 /// Offers the call of a line, again where memory is refused.
 fn offer_again(analyser: &mut Analyser, rank: u16, line: &str) -> Result<(), Fail> {
     let before = (analyser.accepted(rank), analyser.touches());
     match refusal(analyser, rank, line)? {
+        None => return Ok(()),
+        Some(OfferFault::Memory) if before == (analyser.accepted(rank), analyser.touches()) => {}
+        Some(fault) => return Err(fault.into()),
+    }
+    match refusal(analyser, rank, line)? {
         None => Ok(()),
-        Some(OfferFault::Memory) if before == (analyser.accepted(rank), analyser.touches()) => {
-            offer_line(analyser, rank, line)
-        }
         Some(fault) => Err(fault.into()),
     }
 }
@@ -51,7 +45,7 @@ fn offer_again(analyser: &mut Analyser, rank: u16, line: &str) -> Result<(), Fai
 /// The sweep of `bench/refuse` runs this with each request for memory refused in turn.
 #[test]
 fn a_barrier_of_many_ranks(rt: HostRuntime) -> Result<(), Fail> {
-    let mut run = run_again(rt.alloc(), "ranks 64\n")?;
+    let mut run = run_again(rt.alloc(), b"ranks 64\n")?;
     for rank in (0..64).rev() {
         offer_again(&mut run.0, rank, "barrier 0\n")?;
         offer_again(&mut run.0, rank, "finalize\n")?;

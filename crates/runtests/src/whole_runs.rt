@@ -132,7 +132,7 @@ fn the_ranks_are_read_at_once(rt: HostRuntime) -> Result<(), Fail> {
 
 /// A gate that stops one rank at a line.
 #[derive(Drop)]
-struct StopsAt(u16, u32);
+pub(crate) struct StopsAt(pub(crate) u16, pub(crate) u32);
 
 impl Gate for StopsAt {
     fn ask(&self, rank: u16, line: u32) -> bool {
