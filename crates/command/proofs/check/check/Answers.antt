@@ -1,5 +1,6 @@
 -- The answer over the sources is that of the files' texts.
-use Rattle.std.proofs.Common.{map, rules, ℕ, List, Bor, ap, sym, ◌∙◌, length, length-map}
+use Rattle.std.proofs.Common.{map, rules, ℕ, List, Bor, ap, sym, ◌∙◌, length}
+use Rattle.std.proofs.lemmas.List.{length-map}
 use Rattle.mpicall.specs.Trace.{trace_of}
 use Rattle.command.proofs.TextLemmas.{head_of_told, report_says, run_fault_says, tells_texts}
 use Rattle.command.proofs.check.check.Goals as goal
