@@ -263,8 +263,9 @@ class Trace:
             self._end_requests(requests)
 
     def _choose(self, word, fields):
-        chosen = [request for told in self._told if told[0] == "=chose" for request in told[1:]]
-        if not chosen:
+        lists = [requests for what, *requests in self._told if what == "=chose"]
+        chosen = [request for requests in lists for request in requests]
+        if not lists:
             self._note("O", f"a wait for one of {len(fields) or 'many'} requests that never came back")
         elif word == "waitsome":
             self._wait_for(self._named(chosen), "waitall")

@@ -110,11 +110,19 @@ static void put_list(const char *word, int count, const int places[]) {
     }
 }
 
-/* A wait for one or some of several: all are named, if one line holds them. */
-static void put_choice(const char *word, int count) {
+/* A wait for one or some of several: all are named, if one line holds them. Answers whether there is such a line. */
+static bool put_choice(const char *word, int count) {
     int named = pack(count, NULL);
     if (named > 0)
         journal_call(word, named > MOST_NAMED ? 0 : named, asked.packed, here);
+    return named > 0;
+}
+
+/* Those that it chose; none is named where it chose requests of calls that aren't recorded. */
+static void tell_chosen(int count, const int places[]) {
+    put_list("=chose", count, places);
+    if (pack(count, places) == 0)
+        journal_told("=chose", 0, NULL);
 }
 
 /* The requests at these places (NULL: all) completed. */
@@ -189,13 +197,12 @@ ALSO_PMPI(Testall)
 int MPI_Waitany(int count, MPI_Request handles[], int *chosen, MPI_Status *status) {
     bool begun = BEGINS, needed = begun && ask(count, handles);
     MPI_Status *told = place_for(status, needed, MPI_STATUS_IGNORE);
-    if (begun)
-        put_choice("waitany", count);
+    bool put = begun && put_choice("waitany", count);
     int result = CALL(Waitany, (count, handles, chosen, told));
     if (!begun || result != MPI_SUCCESS || *chosen == MPI_UNDEFINED)
         return result;
-    if (asked.numbers[*chosen])
-        journal_told("=chose", 1, &asked.numbers[*chosen]);
+    if (put)
+        tell_chosen(1, chosen);
     finish_all(1, chosen, needed ? told : NULL);
     return result;
 }
@@ -220,12 +227,12 @@ ALSO_PMPI(Testany)
 int MPI_Waitsome(int count, MPI_Request handles[], int *done, int places[], MPI_Status statuses[]) {
     bool begun = BEGINS, needed = begun && ask(count, handles);
     MPI_Status *told = place_for(statuses, needed, MPI_STATUSES_IGNORE);
-    if (begun)
-        put_choice("waitsome", count);
+    bool put = begun && put_choice("waitsome", count);
     int result = CALL(Waitsome, (count, handles, done, places, told));
     if (!begun || result != MPI_SUCCESS || *done == MPI_UNDEFINED)
         return result;
-    put_list("=chose", *done, places);
+    if (put)
+        tell_chosen(*done, places);
     finish_all(*done, places, needed ? told : NULL);
     return result;
 }

@@ -16,6 +16,7 @@ static void one_sided(void) {
 static void file(void) {
     MPI_File file;
     MPI_File_open(MPI_COMM_WORLD, "/dev/null", MPI_MODE_WRONLY, MPI_INFO_NULL, &file);
+    MPI_File_set_atomicity(file, 0);
     MPI_File_write_at_all(file, rank * sizeof data, &data, 1, MPI_INT, MPI_STATUS_IGNORE);
     MPI_File_close(&file);
 }
