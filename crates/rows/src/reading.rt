@@ -132,9 +132,7 @@ impl Reading {
         }
         self.row.asked = Some(asked);
         for word in words.split_whitespace() {
-            self.row
-                .words
-                .push(Vec::from_slice(alloc, word.as_bytes())?)?;
+            self.add_word(alloc, word)?;
         }
         Ok(())
     }
@@ -231,10 +229,8 @@ impl Reading {
         if self.row.wanted.status.is_some() {
             return Err(LineFault::SaidTwice);
         }
-        match rest.parse::<u8>() {
-            Ok(status) => self.row.wanted.status = Some(status),
-            Err(_) => return Err(LineFault::NoNumber),
-        }
+        let status = rest.parse::<u8>().ok().ok_or(LineFault::NoNumber)?;
+        self.row.wanted.status = Some(status);
         Ok(())
     }
 
