@@ -60,7 +60,7 @@ pub fn split(answer: &mut String, text: &str) -> Result<(), LineFault> {
     }
     let mut separator = "";
     for group in split_groups(alloc, &choices)? {
-        answer.push_str(separator)?;
+        write!(answer, "{separator}")?;
         add_numbers(answer, &group)?;
         separator = " / ";
     }

@@ -185,7 +185,7 @@ fn records_text(
     let mut answer = String::new(alloc);
     let mut separator = "";
     for _ in 0..count {
-        answer.push_str(separator)?;
+        write!(answer, "{separator}")?;
         match source.next() {
             Ok(Some(record)) => add_line(&mut answer, &record)?,
             Ok(None) => answer.push_str("end")?,

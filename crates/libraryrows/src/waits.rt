@@ -123,7 +123,7 @@ pub fn findings_of(answer: &mut String, pairs: &Pairs) -> Result<(), LineFault> 
     let alloc = *answer.allocator();
     let mut separator = "";
     for finding in findings(alloc, pairs)? {
-        answer.push_str(separator)?;
+        write!(answer, "{separator}")?;
         add_finding(answer, finding)?;
         separator = ", ";
     }
