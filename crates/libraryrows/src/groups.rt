@@ -58,11 +58,9 @@ pub fn split(answer: &mut String, text: &str) -> Result<(), LineFault> {
     if choices.len() > 1000 {
         return Err(LineFault::Unread);
     }
-    let mut separator = "";
     for group in split_groups(alloc, &choices)? {
-        write!(answer, "{separator}")?;
+        answer.push_str(if answer.is_empty() { "" } else { " / " })?;
         add_numbers(answer, &group)?;
-        separator = " / ";
     }
     Ok(())
 }

@@ -121,11 +121,9 @@ fn add_finding(answer: &mut String, finding: Finding) -> Result<(), AllocError> 
 /// What else is wrong with the calls.
 pub fn findings_of(answer: &mut String, pairs: &Pairs) -> Result<(), LineFault> {
     let alloc = *answer.allocator();
-    let mut separator = "";
     for finding in findings(alloc, pairs)? {
-        write!(answer, "{separator}")?;
+        answer.push_str(if answer.is_empty() { "" } else { ", " })?;
         add_finding(answer, finding)?;
-        separator = ", ";
     }
     Ok(())
 }
