@@ -17,8 +17,8 @@ use Rattle.moves.specs.Analysed.{Analysed}
 use Rattle.moves.proofs.AnalyserLemmas.{closed_is_ended}
 use Rattle.rankfeed.specs.Items.{calls_among, last_item, item_ends_list, end_mark_of, are_ended, IsFeed}
 use Rattle.rankfeed.specs.Rings.{sent_whole, taker_ring}
-use Rattle.rankfeed.specs.declared.item.Ending.{Ending}
-use Rattle.rankfeed.specs.declared.item.Ending.TheVariants.{Sealed, Torn}
+use Rattle.mpicall.specs.declared.fault.Ending.{Ending}
+use Rattle.mpicall.specs.declared.fault.Ending.TheVariants.{Sealed, Torn}
 use Rattle.rankfeed.specs.declared.item.Item.{Item}
 use Rattle.rankfeed.specs.declared.item.Item.TheVariants.{Entry, Mark}
 use Rattle.rankfeed.specs.declared.ring.Receipt.{Receipt}

@@ -15,8 +15,8 @@ use Rattle.rankfeed.specs.Items.{calls_among, end_mark_of, mark_in}
 use Rattle.rankfeed.specs.Answers.{Receives, told_end}
 use Rattle.rankfeed.specs.Rings.{received_by, taker_ring}
 use Rattle.rankfeed.specs.declared.ring.Taker.{Taker}
-use Rattle.rankfeed.specs.declared.item.Ending.{Ending}
-use Rattle.rankfeed.specs.declared.item.Ending.TheVariants.{Sealed, Torn}
+use Rattle.mpicall.specs.declared.fault.Ending.{Ending}
+use Rattle.mpicall.specs.declared.fault.Ending.TheVariants.{Sealed, Torn}
 use Rattle.rankfeed.specs.declared.item.Item.{Item}
 use Rattle.rankfeed.specs.declared.item.Item.TheVariants.{Entry, Mark}
 use Rattle.rankfeed.specs.declared.answer.Took.{Took}

@@ -8,8 +8,8 @@ use Rattle.mpicall.specs.declared.call.Call.{Call}
 use Rattle.rankfeed.specs.Items.{last_behind, mark_in, end_mark_of, are_ended, IsFeed}
 use Rattle.rankfeed.specs.Answers.{Receives, told_end}
 use Rattle.rankfeed.specs.Rings.{taker_ring, receipt_ring, received_by, left_for, sent_whole}
-use Rattle.rankfeed.specs.declared.item.Ending.{Ending}
-use Rattle.rankfeed.specs.declared.item.Ending.TheVariants.{Sealed, Torn}
+use Rattle.mpicall.specs.declared.fault.Ending.{Ending}
+use Rattle.mpicall.specs.declared.fault.Ending.TheVariants.{Sealed, Torn}
 use Rattle.rankfeed.specs.declared.item.Item.{Item}
 use Rattle.rankfeed.specs.declared.item.Item.TheVariants.{Entry, Mark}
 use Rattle.rankfeed.specs.declared.answer.Took.{Took}

@@ -9,8 +9,8 @@ use Rattle.rankfeed.specs.Answers.{Receives, Looks, came_with, came_end, told_en
 use Rattle.rankfeed.specs.Rings.{taker_ring, received_by, left_for}
 use Rattle.rankfeed.specs.declared.answer.Came.{Came}
 use Rattle.rankfeed.specs.declared.answer.Took.{Took}
-use Rattle.rankfeed.specs.declared.item.Ending.{Ending}
-use Rattle.rankfeed.specs.declared.item.Ending.TheVariants.{Sealed, Torn}
+use Rattle.mpicall.specs.declared.fault.Ending.{Ending}
+use Rattle.mpicall.specs.declared.fault.Ending.TheVariants.{Sealed, Torn}
 use Rattle.rankfeed.specs.declared.item.Item.{Item}
 use Rattle.rankfeed.specs.declared.item.Item.TheVariants.{Entry}
 use Rattle.rankfeed.specs.declared.ring.Taker.{Taker}

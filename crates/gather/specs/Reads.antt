@@ -3,7 +3,7 @@ use Rattle.std.specs.Prelude.{◌≡◌, ℕ, Option, Some, None, List, [], ◌�
 use Rattle.mpicall.specs.Source.{coming, ended}
 use Rattle.mpicall.specs.declared.call.Call.{Call}
 use Rattle.mpicall.specs.declared.source.Source.{Source}
-use Rattle.rankfeed.specs.declared.item.Ending.{Ending}
+use Rattle.mpicall.specs.declared.fault.Ending.{Ending}
 use Rattle.rankfeed.specs.declared.item.Item.{Item}
 use Rattle.rankfeed.specs.declared.item.Item.TheVariants.{Entry, Mark}
 use Rattle.gather.specs.Fed.{IsFed, Continues, line_behind}

@@ -5,8 +5,8 @@ use Rattle.mpicall.specs.Trace as Trace
 use Rattle.mpicall.specs.declared.fault.SourceFault.TheVariants.{NoFinalize}
 use Rattle.rankfeed.specs.Items.{calls_among, end_mark_of, are_ended, IsFeed}
 use Rattle.rankfeed.specs.Rings.{FeedName, taker_ring, receipt_ring, sent_whole, received_by}
-use Rattle.rankfeed.specs.declared.item.Ending.{Ending}
-use Rattle.rankfeed.specs.declared.item.Ending.TheVariants.{Sealed, Torn}
+use Rattle.mpicall.specs.declared.fault.Ending.{Ending}
+use Rattle.mpicall.specs.declared.fault.Ending.TheVariants.{Sealed, Torn}
 use Rattle.rankfeed.specs.declared.item.Item.{Item}
 use Rattle.rankfeed.specs.declared.ring.Receipt.{Receipt}
 use Rattle.rankfeed.specs.declared.ring.Taker.{Taker}

@@ -5,7 +5,7 @@ ghost use Rattle.mpicall.specs.Device.{count_if};
 ghost use Rattle.mpicall.specs.Source.{coming, ended, input_of};
 ghost use Rattle.mpicall.specs.declared.source.Source.{Source as SourceValue};
 ghost use Rattle.rankfeed.specs.Items.{IsFeed, end_the_list};
-ghost use Rattle.rankfeed.specs.declared.item.Ending.TheVariants.{Sealed};
+ghost use Rattle.mpicall.specs.declared.fault.Ending.TheVariants.{Sealed};
 ghost use Rattle.rankfeed.specs.declared.item.Item.{Item};
 ghost use Rattle.rankfeed.specs.declared.item.Item.TheVariants.{Mark};
 ghost use Rattle.rankfeed.specs.Rings.{feed_ring, sent_by, receipt_ring, sent_whole};

@@ -9,7 +9,8 @@ use Rattle.mpicall.specs.Spelling.{line_feed}
 use Rattle.mpicall.specs.Lines.{most_bytes, has_line_feed}
 use Rattle.mpicall.specs.Reading.{record_of_line}
 use Rattle.mpicall.specs.Window.{NoFeedBelow, HasNoFeed, EndsLine}
-use Rattle.mpicall.specs.Trace.{Trace, Sealed, Torn, trace_of, trace_of_lines, trace_with, ends_here, put_first, end_with_behind}
+use Rattle.mpicall.specs.Trace.{Trace, trace_of, trace_of_lines, trace_with, ends_here, put_first, end_with_behind}
+use Rattle.mpicall.specs.declared.fault.Ending.TheVariants.{Sealed, Torn}
 use Rattle.mpicall.specs.Lines.{lines_of}
 use Rattle.mpicall.specs.Stage.{stage_behind, is_own}
 use Rattle.mpicall.specs.Source.{Gives, trace_at, IsOwnFault}

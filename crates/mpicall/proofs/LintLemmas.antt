@@ -5,7 +5,9 @@ use Rattle.mpicall.specs.Device.{count_if}
 use Rattle.mpicall.specs.Lint.{capped, EndsWith}
 use Rattle.mpicall.specs.Source.{Gives, CutsOff, answer_of, count_after, ended_at, trace_at}
 use Rattle.mpicall.specs.Spelling.{spelling}
-use Rattle.mpicall.specs.Trace.{Trace, End, Sealed, Torn, ends_here}
+use Rattle.mpicall.specs.Trace.{Trace, ends_here}
+use Rattle.mpicall.specs.declared.fault.Ending.{Ending}
+use Rattle.mpicall.specs.declared.fault.Ending.TheVariants.{Sealed, Torn}
 use Rattle.mpicall.proofs.CutLemmas.{given_first}
 use Rattle.mpicall.specs.declared.call.Call.{Call}
 use Rattle.mpicall.specs.declared.fault.SourceFault.{SourceFault}
@@ -55,7 +57,7 @@ faults old now next count GateStopped s g = ends_with old now count GateStopped 
 faults old now next count ThreadNotStarted s g = ends_with old now count ThreadNotStarted s g.0
 
 -- a source that gives a record had no end
-pub gives_none : {A : Type 0} (end : Option End) (call : Call) (x y : A) → IfSome end (λ e. (Ok (Some call) ≡ answer_of e) × (x ≡ y)) → end ≡ None
+pub gives_none : {A : Type 0} (end : Option Ending) (call : Call) (x y : A) → IfSome end (λ e. (Ok (Some call) ≡ answer_of e) × (x ≡ y)) → end ≡ None
 gives_none None call x y h = refl
 gives_none (Some Sealed) call x y h = let e = h.0 in cc
 gives_none (Some (Torn fault)) call x y h = let e = h.0 in cc
@@ -64,7 +66,7 @@ not_failed : (b : Bool) (count : ℕ) → count_if (b && false) count ≡ count
 not_failed true count = refl
 not_failed false count = refl
 
-pub counts_none : (end : Option End) (call : Call) (count : ℕ) → count_after end (Ok (Some call)) count ≡ count
+pub counts_none : (end : Option Ending) (call : Call) (count : ℕ) → count_after end (Ok (Some call)) count ≡ count
 counts_none end call count = not_failed (is_none end) count
 
 -- Records that came before a read failed.

@@ -9,7 +9,8 @@ use Rattle.mpicall.specs.Lines.{is_blank, most_bytes, has_line_feed, lines_of, b
 use Rattle.mpicall.specs.Reading.{record_of_line}
 use Rattle.mpicall.specs.Source.{breaks_off}
 use Rattle.mpicall.specs.Spelling.{line_feed}
-use Rattle.mpicall.specs.Trace.{Trace, Torn, trace_of, trace_of_lines, trace_with, ends_here, end_with_behind}
+use Rattle.mpicall.specs.Trace.{Trace, trace_of, trace_of_lines, trace_with, ends_here, end_with_behind}
+use Rattle.mpicall.specs.declared.fault.Ending.TheVariants.{Torn}
 use Rattle.mpicall.specs.Word.{word_of}
 use Rattle.mpicall.proofs.LineLemmas.{fault_told, read_has_feed}
 use Rattle.mpicall.specs.declared.call.Call.{Call}

@@ -1,8 +1,9 @@
 -- What is told of a source that is read to its end.
 use Rattle.std.specs.Prelude.{◌≡◌, ℕ, ◌-◌, ◌^◌, ◌≤◌, min, Option, Some, None, Result, Ok, Err, List, length, ⊤}
 use Rattle.mpicall.specs.Source.{IsCutOff}
-use Rattle.mpicall.specs.Trace.{Trace, Sealed, Torn}
+use Rattle.mpicall.specs.Trace.{Trace}
 use Rattle.mpicall.specs.declared.call.Call.{Call}
+use Rattle.mpicall.specs.declared.fault.Ending.TheVariants.{Sealed, Torn}
 use Rattle.mpicall.specs.declared.fault.SourceFault.{SourceFault}
 use Rattle.mpicall.specs.declared.fault.SourceFault.TheVariants.{ReadFailed}
 use Rattle.mpicall.specs.declared.lint.LintFault.{LintFault}

@@ -2,10 +2,12 @@
 use Rattle.std.specs.Prelude.{◌≡◌, ◌≢◌, ℕ, Bool, true, false, ◌&&◌, Option, Some, None, is_none, option_map, IfSome, Result, Ok, Err, List, ◌∷◌, ⊤}
 use Rattle.std.specs.Io.KnownBytes.{prepend_known, Consumes}
 use Rattle.mpicall.specs.Device.{count_if}
-use Rattle.mpicall.specs.Trace.{Trace, End, Sealed, Torn, trace_of, end_with_behind, ends_here, put_first}
+use Rattle.mpicall.specs.Trace.{Trace, trace_of, end_with_behind, ends_here, put_first}
 use Rattle.mpicall.specs.Lines.{lines_of}
 use Rattle.mpicall.specs.Spelling.{spelling}
 use Rattle.mpicall.specs.declared.call.Call.{Call}
+use Rattle.mpicall.specs.declared.fault.Ending.{Ending}
+use Rattle.mpicall.specs.declared.fault.Ending.TheVariants.{Sealed, Torn}
 use Rattle.mpicall.specs.declared.fault.LineFault.TheVariants.{NoLineFeed}
 use Rattle.mpicall.specs.declared.fault.SourceFault.{SourceFault}
 use Rattle.mpicall.specs.declared.fault.SourceFault.TheVariants.{Line, NoFinalize, ReadFailed, GateStopped, ThreadNotStarted}
@@ -33,13 +35,13 @@ abbrev pub trace_by : {I : Type 0} → Source I → List ℕ → Option Trace
 trace_by source bytes = trace_at source.stage (Some bytes)
 
 -- the end that a source has answered; None before
-abbrev pub ended_at : Stage → Option End
+abbrev pub ended_at : Stage → Option Ending
 ended_at Reading = None
 ended_at Ended = None
 ended_at Done = Some Sealed
 ended_at (Failed fault) = Some (Torn fault)
 
-abbrev pub ended : {I : Type 0} → Source I → Option End
+abbrev pub ended : {I : Type 0} → Source I → Option Ending
 ended source = ended_at source.stage
 
 -- the input of a source
@@ -56,7 +58,7 @@ Gives (Some old) new (Err fault) = (old ≡ ends_here (Torn fault)) × (new ≡ 
 
 -- nothing is wrong with a text whose trace ends so, but that no more of it came: it has its end record, or it breaks
 -- off between two lines, or within one that is no longer than a line may be
-abbrev pub breaks_off : End → Bool
+abbrev pub breaks_off : Ending → Bool
 breaks_off Sealed = true
 breaks_off (Torn NoFinalize) = true
 breaks_off (Torn (Line NoLineFeed)) = true
@@ -79,13 +81,13 @@ abbrev pub IsCutOff : {I : Type 0} → (I → Option (List ℕ)) → Source I �
 IsCutOff left old new calls = CutsOff old.stage (unread left old) (left (input_of new)) calls
 
 -- the end that an answer tells
-abbrev pub end_of_answer : Result (Option Call) SourceFault → Option End
+abbrev pub end_of_answer : Result (Option Call) SourceFault → Option Ending
 end_of_answer (Ok (Some call)) = None
 end_of_answer (Ok None) = Some Sealed
 end_of_answer (Err fault) = Some (Torn fault)
 
 -- an end is answered for good: the same answer each time, and nothing changes
-abbrev pub answer_of : End → Result (Option Call) SourceFault
+abbrev pub answer_of : Ending → Result (Option Call) SourceFault
 answer_of Sealed = Ok None
 answer_of (Torn fault) = Err fault
 
@@ -95,7 +97,7 @@ is_read_failed (Err ReadFailed) = true
 is_read_failed answer = false
 
 -- the count of the input's failures after an answer: one more just where a read failed in that call
-abbrev pub count_after : Option End → Result (Option Call) SourceFault → ℕ → ℕ
+abbrev pub count_after : Option Ending → Result (Option Call) SourceFault → ℕ → ℕ
 count_after old_end answer count = count_if (is_none old_end && is_read_failed answer) count
 
 -- a fault that a source itself may answer

@@ -7,22 +7,18 @@ use Rattle.mpicall.specs.Lines.{lines_of}
 use Rattle.mpicall.specs.Reading.{record_of_line}
 use Rattle.mpicall.specs.declared.call.Call.{Call}
 use Rattle.mpicall.specs.Ending.{ends_list}
+use Rattle.mpicall.specs.declared.fault.Ending.{Ending}
+use Rattle.mpicall.specs.declared.fault.Ending.TheVariants.{Sealed, Torn}
 use Rattle.mpicall.specs.declared.fault.LineFault.{LineFault}
-use Rattle.mpicall.specs.declared.fault.SourceFault.{SourceFault}
 use Rattle.mpicall.specs.declared.fault.SourceFault.TheVariants.{Line, TextAfterFinalize, NoFinalize}
-
--- how a source ends: with its end record and nothing behind it, or with a fault
-pub data End : Type 0 where
-  Sealed : End
-  Torn : SourceFault → End
 
 -- the records of a source in their order, and its end
 pub record Trace : Type 0 where
   pub records : List Call
-  pub end : End
+  pub end : Ending
 
 -- the end of a source whose end record has these lines behind it
-abbrev pub end_with_behind : List (List ℕ) → End
+abbrev pub end_with_behind : List (List ℕ) → Ending
 end_with_behind [] = Sealed
 end_with_behind (_ ∷ _) = Torn TextAfterFinalize
 
@@ -31,7 +27,7 @@ abbrev pub put_first : Call → Trace → Trace
 put_first call trace = record { records = call ∷ trace.records; end = trace.end }
 
 -- a trace that ends here
-abbrev pub ends_here : End → Trace
+abbrev pub ends_here : Ending → Trace
 ends_here end = record { records = []; end = end }
 
 -- the trace of some lines, by spelling and first fault: a line is the spelling of a record, behind which

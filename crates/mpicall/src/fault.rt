@@ -55,6 +55,15 @@ pub enum SourceFault {
     ThreadNotStarted,
 }
 
+/// How a source's records, or those of a feed, end.
+#[derive(Clone, Copy, PartialEq, Eq)]
+pub enum Ending {
+    /// With the end record, and nothing behind it.
+    Sealed,
+    /// They stop here, for the fault.
+    Torn(SourceFault),
+}
+
 impl LineFault {
     ghost use Rattle.mpicall.specs.Codes.{code_of_line};
 

@@ -1,7 +1,7 @@
 -- What the answers of a feed and of its taker mean.
 use Rattle.std.specs.Prelude.{◌≡◌, Option, Some, None, List, [], ◌∷◌, ◌++◌}
 use Rattle.mpicall.specs.declared.call.Call.{Call}
-use Rattle.rankfeed.specs.declared.item.Ending.{Ending}
+use Rattle.mpicall.specs.declared.fault.Ending.{Ending}
 use Rattle.rankfeed.specs.declared.item.Item.{Item}
 use Rattle.rankfeed.specs.declared.item.Item.TheVariants.{Entry, Mark}
 use Rattle.rankfeed.specs.declared.answer.PutFault.{PutFault}

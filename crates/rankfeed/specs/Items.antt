@@ -2,8 +2,8 @@
 use Rattle.std.specs.Prelude.{◌≡◌, Bool, true, false, not, ◌&&◌, Option, Some, None, is_some, List, [], ◌∷◌, ◌++◌}
 use Rattle.mpicall.specs.declared.call.Call.{Call}
 use Rattle.mpicall.specs.Ending.{ends_list}
-use Rattle.rankfeed.specs.declared.item.Ending.{Ending}
-use Rattle.rankfeed.specs.declared.item.Ending.TheVariants.{Sealed, Torn}
+use Rattle.mpicall.specs.declared.fault.Ending.{Ending}
+use Rattle.mpicall.specs.declared.fault.Ending.TheVariants.{Sealed, Torn}
 use Rattle.rankfeed.specs.declared.item.Item.{Item}
 use Rattle.rankfeed.specs.declared.item.Item.TheVariants.{Entry, Mark}
 

@@ -3,8 +3,7 @@
 ghost use Rattle.std.specs.Prelude.{◌≡◌};
 ghost use Rattle.rankfeed.specs.Answers.{told_end, came_end};
 
-use crate::item::Ending;
-use mpicall::fault::SourceFault;
+use mpicall::fault::{Ending, SourceFault};
 use mpicall::record::Record;
 use thiserror::Error;
 
@@ -58,22 +57,24 @@ pub struct Met {
     pub count: usize,
 }
 
-impl Ending {
+impl Took {
     /// The answer of a taker that comes to this end mark.
-    pub(crate) fn told(self) -> Took
-        ensures { result ≡ told_end self }
+    pub(crate) fn of(end: Ending) -> Took
+        ensures { result ≡ told_end end }
     {
-        match self {
+        match end {
             Ending::Sealed => Took::Sealed,
             Ending::Torn(fault) => Took::Torn(fault),
         }
     }
+}
 
+impl Came {
     /// The same, where it looks alone.
-    pub(crate) fn came(self) -> Came
-        ensures { result ≡ came_end self }
+    pub(crate) fn of(end: Ending) -> Came
+        ensures { result ≡ came_end end }
     {
-        match self {
+        match end {
             Ending::Sealed => Came::Sealed,
             Ending::Torn(fault) => Came::Torn(fault),
         }

@@ -8,9 +8,9 @@ ghost use Rattle.crossbeam_channel.specs.Ends.{sends_on, receives_on, ruled_capa
 ghost use Rattle.rankfeed.specs.Items.{may_follow, last_item, are_in_order, end_the_list, end_mark_of, are_ended};
 
 use crate::answer::{Met, Took, Unsealed};
-use crate::item::{Ending, Item};
+use crate::item::Item;
 use crossbeam_channel::{Pass, RuledReceiver, RuledSender, TrySendError, bounded_with};
-use mpicall::fault::SourceFault;
+use mpicall::fault::{Ending, SourceFault};
 use mpicall::record::Record;
 use rule::{Hand, Puts, Relay, Rights, Takes};
 use std::alloc::{AllocError, Global};
@@ -87,7 +87,7 @@ pub struct Receipt {
 
 impl Feed {
     ghost use Rattle.std.specs.Prelude.{◌↔◌, [], ◌∷◌, ◌++◌, ℕ, IsTrue, IsErr, IfOk, IfErr, OnOk, Ok, Err, MatchResult};
-    ghost use Rattle.rankfeed.specs.declared.item.Ending.TheVariants.{Sealed, Torn};
+    ghost use Rattle.mpicall.specs.declared.fault.Ending.TheVariants.{Sealed, Torn};
     ghost use Rattle.rankfeed.specs.declared.item.Item.TheVariants.{Entry, Mark};
     ghost use Rattle.rankfeed.specs.declared.channel.PutFault.TheVariants.{Full, Closed, Lost};
     ghost use Rattle.rankfeed.specs.Items.{IsFeed};
@@ -289,14 +289,14 @@ impl Taker {
         ensures never_empty { are_ended (received_by self.old ++ left_for self.old) ≡ true → ¬ (result ≡ Took.Empty) }
     {
         if let Some(end) = self.end {
-            return end.told();
+            return Took::of(end);
         }
         let Some(item) = self.pull(wait) else {
             return Took::Empty;
         };
         match item {
             Item::Entry(call) => Took::Record(call),
-            Item::Mark(end) => end.told(),
+            Item::Mark(end) => Took::of(end),
         }
     }
 

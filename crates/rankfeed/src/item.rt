@@ -3,17 +3,8 @@
 ghost use Rattle.std.specs.Prelude.{◌≡◌, Some};
 ghost use Rattle.rankfeed.specs.Items.{mark_in};
 
-use mpicall::fault::SourceFault;
+use mpicall::fault::Ending;
 use mpicall::record::Record;
-
-/// How a feed ends.
-#[derive(Clone, Copy, PartialEq, Eq)]
-pub enum Ending {
-    /// All records were put, the end record last.
-    Sealed,
-    /// The records stop here, for the fault.
-    Torn(SourceFault),
-}
 
 /// One item of a feed.
 #[derive(Clone, Copy)]

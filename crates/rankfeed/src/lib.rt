@@ -45,5 +45,6 @@ pub mod pause;
 pub mod ring;
 
 pub use answer::{Came, Met, PutFault, Took, Unsealed};
-pub use item::{Ending, Item};
+pub use item::Item;
+pub use mpicall::fault::Ending;
 pub use ring::{Feed, Receipt, Taker};

@@ -6,8 +6,8 @@ ghost use Rattle.rankfeed.specs.Items.{may_follow, last_item, are_in_order, end_
 
 use crate::answer::{Came, Met, PutFault, Took, Unsealed};
 use crate::bell::Bell;
-use crate::item::{Ending, Item};
-use mpicall::fault::SourceFault;
+use crate::item::Item;
+use mpicall::fault::{Ending, SourceFault};
 use mpicall::record::Record;
 use rtrb::{Consumer, Finished, Producer, Protocol, RingBuffer};
 use std::alloc::{AllocError, Global};
@@ -60,7 +60,7 @@ pub struct Receipt {
 
 impl Feed {
     ghost use Rattle.std.specs.Prelude.{◌↔◌, [], ◌∷◌, ◌++◌, ℕ, not, IsTrue, IsErr, IfOk, IfErr, OnOk, Ok, Err, MatchResult};
-    ghost use Rattle.rankfeed.specs.declared.item.Ending.TheVariants.{Sealed, Torn};
+    ghost use Rattle.mpicall.specs.declared.fault.Ending.TheVariants.{Sealed, Torn};
     ghost use Rattle.rankfeed.specs.declared.item.Item.TheVariants.{Entry, Mark};
     ghost use Rattle.rankfeed.specs.declared.answer.PutFault.TheVariants.{Full, Closed};
     ghost use Rattle.rankfeed.specs.Items.{IsFeed};
@@ -262,7 +262,7 @@ impl Taker {
         ensures never_empty { are_ended (received_by self.old ++ left_for self.old) ≡ true → ¬ (result ≡ Came.Empty) }
     {
         if let Some(end) = self.end {
-            return end.came();
+            return Came::of(end);
         }
         if self.ring.cached_slots() == 0 && self.ring.slots() == 0 {
             return Came::Empty;
@@ -272,7 +272,7 @@ impl Taker {
             Item::Mark(end) => {
                 self.ring.pop_known();
                 self.end = Some(end);
-                end.came()
+                Came::of(end)
             }
         }
     }

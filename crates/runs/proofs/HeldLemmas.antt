@@ -20,8 +20,8 @@ use Rattle.pairing.specs.declared.fault.CallFault.{CallFault}
 use Rattle.pairing.specs.Recordings.{Lists, calls_of, is_ended, IsClosed}
 use Rattle.rankfeed.specs.Items.{calls_among, end_mark_of, end_the_list, item_ends_list, last_behind}
 use Rattle.rankfeed.specs.Rings.{FeedName, feed_ring, receipt_ring, sent_by, sent_whole}
-use Rattle.rankfeed.specs.declared.item.Ending.{Ending}
-use Rattle.rankfeed.specs.declared.item.Ending.TheVariants.{Sealed, Torn}
+use Rattle.mpicall.specs.declared.fault.Ending.{Ending}
+use Rattle.mpicall.specs.declared.fault.Ending.TheVariants.{Sealed, Torn}
 use Rattle.rankfeed.specs.declared.item.Item.{Item}
 use Rattle.rankfeed.specs.declared.item.Item.TheVariants.{Entry}
 use Rattle.rankfeed.specs.declared.answer.Unsealed.{Unsealed}

@@ -6,7 +6,7 @@ use Rattle.mpicall.specs.declared.source.Source.{Source}
 use Rattle.mpicall.specs.declared.fault.SourceFault.TheVariants.{ThreadNotStarted}
 use Rattle.rankfeed.specs.Items.{IsFeed}
 use Rattle.rankfeed.specs.Rings.{feed_ring, receipt_ring, sent_whole}
-use Rattle.rankfeed.specs.declared.item.Ending.TheVariants.{Torn}
+use Rattle.mpicall.specs.declared.fault.Ending.TheVariants.{Torn}
 use Rattle.rankfeed.specs.declared.item.Item.{Item}
 use Rattle.rankfeed.specs.declared.ring.Feed.{Feed}
 use Rattle.runs.specs.Along.{Along}

@@ -5,7 +5,7 @@ use Rattle.mpicall.specs.Trace.{Trace}
 use Rattle.mpicall.specs.declared.source.Source.{Source}
 use Rattle.pairing.specs.Recordings.{is_ended}
 use Rattle.rankfeed.specs.Items.{calls_among, end_the_list, end_mark_of}
-use Rattle.rankfeed.specs.declared.item.Ending.TheVariants.{Sealed}
+use Rattle.mpicall.specs.declared.fault.Ending.TheVariants.{Sealed}
 use Rattle.rankfeed.specs.declared.item.Item.{Item}
 use Rattle.gather.specs.Collected.{Kept, IsKeptIn, LeavesOthers}
 use Rattle.gather.specs.Fed.{IsFed}
