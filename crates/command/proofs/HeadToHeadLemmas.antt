@@ -11,7 +11,8 @@ use Rattle.clap.specs.Walk.{Text, bundle_met, walked}
 use Rattle.mpicall.specs.Line.{fault_of_fields, fault_of_line}
 use Rattle.mpicall.specs.Number.{is_canonical, number_up_to}
 use Rattle.mpicall.specs.Reading.{call_of_fields, record_of_line}
-use Rattle.mpicall.specs.Trace.{Trace, Sealed, trace_of}
+use Rattle.mpicall.specs.Trace.{Trace, trace_of}
+use Rattle.mpicall.specs.declared.fault.Ending.TheVariants.{Sealed}
 use Rattle.mpicall.specs.Word.{collective_of, operation_of, word_of}
 use Rattle.mpicall.specs.declared.call.Call.{Call}
 use Rattle.mpicall.specs.declared.call.Call.TheVariants.{Send, Recv, Finalize}

@@ -5,7 +5,6 @@ use Rattle.std.proofs.lemmas.List.{length-map}
 use Rattle.std.proofs.lemmas.Option.{none-some}
 use Rattle.std.proofs.lemmas.Bool.{false≢true}
 use Rattle.mpicall.specs.Trace.{Trace}
-use Rattle.mpicall.specs.Trace as Trace
 use Rattle.mpicall.specs.declared.call.Call.{Call}
 use Rattle.mpicall.specs.declared.fault.SourceFault.{SourceFault}
 use Rattle.mpicall.specs.Ending.{ends_list}
@@ -23,15 +22,14 @@ use Rattle.rankfeed.specs.declared.item.Item.{Item}
 use Rattle.rankfeed.specs.declared.item.Item.TheVariants.{Entry, Mark}
 use Rattle.rankfeed.specs.declared.ring.Receipt.{Receipt}
 use Rattle.rankfeed.specs.declared.ring.Taker.{Taker}
-use Rattle.gather.specs.Answers.{fault_of_rank, fault_onward, or_behind, refusal_or, refusal_from, refusal_of, recording_of_traces}
+use Rattle.gather.specs.Answers.{PlacedFault, fault_of_end, fault_of_rank, fault_onward, or_behind, refusal_or, refusal_from, refusal_of, recording_of_traces}
 use Rattle.gather.specs.declared.fault.Refusal.{Refusal}
 use Rattle.gather.specs.declared.collector.Collector.{Collector}
 use Rattle.gather.specs.Collectors.{rings, kept, received_from}
-use Rattle.gather.specs.Closes.{IsOutcomeOver, Closes}
-use Rattle.gather.specs.Concluded.{Concludes, IsOutcomeOfKept}
+use Rattle.gather.specs.Closes.{IsOutcomeOf, IsOutcomeOver, Closes, Concludes}
 use Rattle.gather.specs.declared.outcome.CloseFault.{CloseFault}
 use Rattle.gather.specs.declared.outcome.CloseFault.TheVariants.{Memory, Unproved, Refused}
-use Rattle.gather.specs.Collected.{PlacedFault, fault_in, fault_of_items, records_before, IsKeptOf, Kept, fault_at, refusal_in, refusal_kept}
+use Rattle.gather.specs.Collected.{fault_of_mark, fault_of_items, records_before, IsKeptOf, Kept, fault_at, refusal_in, refusal_kept}
 use Rattle.gather.specs.Takers.{received_in, Collects}
 use Rattle.gather.specs.Receipts.{trace_of_items, missing_from, first_missing, traces_held, AreAllOf, AllReceived, AreReceiptsOf}
 use Rattle.gather.proofs.CollectedLemmas.{calls_among-append, torn_has_fault}
@@ -61,25 +59,22 @@ sealed_ends items feed sealed =
 
 -- the first fault over whole items is that of their trace
 
-pub same_torn : (groups : Groups) (rank : ℕ) (before calls : List Call) (fault : SourceFault) → fault_in groups rank before calls (Some (Torn fault)) ≡ fault_onward groups rank before calls (Trace.Torn fault)
-same_torn groups rank before [] fault = refl
-same_torn groups rank before (call ∷ calls) fault = ap (or_behind (length before) (fault_of groups rank before call)) (same_torn groups rank (before ++ call ∷ []) calls fault)
-
-pub same_sealed : (groups : Groups) (rank : ℕ) (before calls : List Call) → is_ended (before ++ calls) ≡ true → fault_in groups rank before calls (Some Sealed) ≡ fault_onward groups rank before calls Trace.Sealed
-same_sealed groups rank before [] ended =
-    let here : is_ended before ≡ true = ap is_ended (sym (append-nil before)) ∙ ended in
-    rw here refl
-same_sealed groups rank before (call ∷ calls) ended =
+-- ends with which the same calls have the same fault
+pub same_end : (groups : Groups) (rank : ℕ) (of_end of_other : List Call → Option PlacedFault) (before calls : List Call) → of_end (before ++ calls) ≡ of_other (before ++ calls) → fault_onward groups rank of_end before calls ≡ fault_onward groups rank of_other before calls
+same_end groups rank of_end of_other before [] same = subst (λ (xs : List Call). of_end xs ≡ of_other xs) (append-nil before) same
+same_end groups rank of_end of_other before (call ∷ calls) same =
     ap (or_behind (length before) (fault_of groups rank before call))
-    (same_sealed groups rank (before ++ call ∷ []) calls (ap is_ended (append_assoc before (call ∷ []) calls) ∙ ended))
+    (same_end groups rank of_end of_other (before ++ call ∷ []) calls (subst (λ (xs : List Call). of_end xs ≡ of_other xs) (sym (append_assoc before (call ∷ []) calls)) same))
 
-same_fault_by : (groups : Groups) (rank : ℕ) (items : List Item) (mark : Ending) → IsFeed items → end_mark_of items ≡ Some mark → fault_of_items groups rank items ≡ fault_of_rank groups rank (trace_of_items items)
+pub same_fault_by : (groups : Groups) (rank : ℕ) (items : List Item) (mark : Ending) → (end_mark_of items ≡ Some Sealed → is_ended (calls_among items) ≡ true) → end_mark_of items ≡ Some mark → fault_of_items groups rank items ≡ fault_of_rank groups rank (trace_of_items items)
 unfolding fault_of_rank
-same_fault_by groups rank items Sealed feed is = rw is (same_sealed groups rank [] (calls_among items) (sealed_ends items feed is))
-same_fault_by groups rank items (Torn fault) feed is = rw is (same_torn groups rank [] (calls_among items) fault)
+same_fault_by groups rank items Sealed sealed is =
+    let ended = sealed is in rw is (same_end groups rank (fault_of_mark (Some Sealed)) (fault_of_end Sealed) [] (calls_among items) (rw ended refl))
+same_fault_by groups rank items (Torn fault) sealed is =
+    rw is (same_end groups rank (fault_of_mark (Some (Torn fault))) (fault_of_end (Torn fault)) [] (calls_among items) refl)
 
 same_fault : (groups : Groups) (rank : ℕ) (items : List Item) → IsFeed items → are_ended items ≡ true → fault_of_items groups rank items ≡ fault_of_rank groups rank (trace_of_items items)
-same_fault groups rank items feed ended = let mark = some_mark (end_mark_of items) ended in same_fault_by groups rank items mark.0 feed mark.1
+same_fault groups rank items feed ended = let mark = some_mark (end_mark_of items) ended in same_fault_by groups rank items mark.0 (sealed_ends items feed) mark.1
 
 -- what is kept of a rank by its receipt
 pub record IsKeptBy (groups : Groups) (rank : ℕ) (receipt : Receipt) (calls : List Call) (fault : Option PlacedFault) : Type 0 where
@@ -87,17 +82,17 @@ pub record IsKeptBy (groups : Groups) (rank : ℕ) (receipt : Receipt) (calls : 
   pub before : calls ≡ records_before fault (calls_among (sent_whole receipt))
   pub sealed : fault ≡ None → is_ended (calls_among (sent_whole receipt)) ≡ true
 
-faultless_ends : (groups : Groups) (rank : ℕ) (items : List Item) (mark : Ending) → IsFeed items → end_mark_of items ≡ Some mark → fault_of_items groups rank items ≡ None → is_ended (calls_among items) ≡ true
-faultless_ends groups rank items Sealed feed is none = sealed_ends items feed is
-faultless_ends groups rank items (Torn fault) feed is none =
-    absurd (torn_has_fault groups rank [] (calls_among items) fault (ap (λ (m : Option Ending). fault_in groups rank [] (calls_among items) m) (sym is) ∙ none))
+pub faultless_ends : (groups : Groups) (rank : ℕ) (items : List Item) (mark : Ending) → (end_mark_of items ≡ Some Sealed → is_ended (calls_among items) ≡ true) → end_mark_of items ≡ Some mark → fault_of_items groups rank items ≡ None → is_ended (calls_among items) ≡ true
+faultless_ends groups rank items Sealed sealed is none = sealed is
+faultless_ends groups rank items (Torn fault) sealed is none =
+    absurd (torn_has_fault groups rank [] (calls_among items) fault (ap (λ (m : Option Ending). fault_onward groups rank (fault_of_mark m) [] (calls_among items)) (sym is) ∙ none))
 
 kept_by : (groups : Groups) (rank : ℕ) (receipt : Receipt) (items : List Item) (calls : List Call) (fault : Option PlacedFault) → AreAllOf receipt items → IsKeptOf groups rank items calls fault → IsKeptBy groups rank receipt calls fault
 kept_by groups rank receipt items calls fault all k = record {
   first = k.first ∙ same_fault groups rank items all.in_order all.ended ∙ ap (λ (xs : List Item). fault_of_rank groups rank (trace_of_items xs)) all.all;
   before = k.before ∙ ap (λ (xs : List Item). records_before fault (calls_among xs)) all.all;
   sealed = λ none. let mark = some_mark (end_mark_of items) all.ended in
-      ap (λ (xs : List Item). is_ended (calls_among xs)) (sym all.all) ∙ faultless_ends groups rank items mark.0 all.in_order mark.1 (sym k.first ∙ none);
+      ap (λ (xs : List Item). is_ended (calls_among xs)) (sym all.all) ∙ faultless_ends groups rank items mark.0 (sealed_ends items all.in_order) mark.1 (sym k.first ∙ none);
 }
 
 -- the ranks' feeds were all drained, by a receipt for each, and memory wasn't wanted
@@ -195,7 +190,7 @@ drained first now receipts missing are names calm lowest none all = record {
   all = all;
 }
 
-outcome_told : (reading : Reading) (groups : Groups) (takers : List Taker) (kept : Kept) (receipts : List (Option Receipt)) (outcome : Analysed) → AreDrained takers kept receipts → kept.reading ≡ reading → kept.groups ≡ groups → IsOutcomeOfKept kept outcome → IsOutcomeOver reading groups (traces_held receipts) outcome
+outcome_told : (reading : Reading) (groups : Groups) (takers : List Taker) (kept : Kept) (receipts : List (Option Receipt)) (outcome : Analysed) → AreDrained takers kept receipts → kept.reading ≡ reading → kept.groups ≡ groups → IsOutcomeOf (refusal_kept kept) kept.reading kept.groups kept.recording outcome → IsOutcomeOver reading groups (traces_held receipts) outcome
 outcome_told reading groups takers kept receipts outcome are alike same of_kept =
     let recording = recording_told takers kept receipts are of_kept.no_refusal in record {
       no_refusal = ap (λ (gs : Groups). refusal_of gs (traces_held receipts)) (sym same) ∙ sym (refusal_told takers kept receipts are) ∙ of_kept.no_refusal;

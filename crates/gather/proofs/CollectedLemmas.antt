@@ -21,7 +21,7 @@ use Rattle.rankfeed.specs.declared.item.Item.{Item}
 use Rattle.rankfeed.specs.declared.item.Item.TheVariants.{Entry, Mark}
 use Rattle.rankfeed.specs.declared.answer.Took.{Took}
 use Rattle.rankfeed.proofs.ItemLemmas.{last_item-push}
-use Rattle.gather.specs.Answers.{or_behind}
+use Rattle.gather.specs.Answers.{PlacedFault, fault_onward, or_behind}
 use Rattle.gather.specs.declared.fault.RankFault.{RankFault}
 use Rattle.gather.specs.declared.fault.RankFault.TheVariants.{OfCall, OfSource}
 use Rattle.gather.specs.declared.ledger.Stepped.{Stepped}
@@ -30,7 +30,7 @@ use Rattle.gather.specs.declared.collector.Collector.{Collector}
 use Rattle.gather.specs.Collectors.{KeepsWhatCame}
 use Rattle.gather.specs.Takers.{received_in, Takes, Collects}
 use Rattle.gather.proofs.TakerLemmas.{items_stay, takers_stay}
-use Rattle.gather.specs.Collected.{fault_in, fault_of_items, PlacedFault, IsKeptOf, Kept, fault_at, AreKeptOf, IsKeptIn, LeavesOthers, is_accepting, with_record, with_fault, wanting, torn, EntersRecord, Enters}
+use Rattle.gather.specs.Collected.{fault_of_mark, fault_of_items, IsKeptOf, Kept, fault_at, AreKeptOf, IsKeptIn, LeavesOthers, is_accepting, with_record, with_fault, wanting, torn, EntersRecord, Enters}
 
 -- the records and the end mark of items with one more
 
@@ -48,7 +48,7 @@ stays : (place : ℕ) (own : Option CallFault) (x y : Option PlacedFault) (fault
 stays place None x y fault on e = on e
 stays place (Some f) x y fault on e = e
 
-fault_stays : (groups : Groups) (rank : ℕ) (before calls more : List Call) (mark : Option Ending) (fault : PlacedFault) → fault_in groups rank before calls None ≡ Some fault → fault_in groups rank before (calls ++ more) mark ≡ Some fault
+fault_stays : (groups : Groups) (rank : ℕ) (before calls more : List Call) (mark : Option Ending) (fault : PlacedFault) → fault_onward groups rank (fault_of_mark None) before calls ≡ Some fault → fault_onward groups rank (fault_of_mark mark) before (calls ++ more) ≡ Some fault
 fault_stays groups rank before [] more mark fault e = absurd (none-some fault e)
 fault_stays groups rank before (call ∷ calls) more mark fault e =
     stays (length before) (fault_of groups rank before call) _ _ fault (fault_stays groups rank (before ++ call ∷ []) calls more mark fault) e
@@ -59,11 +59,11 @@ goes_on : (place : ℕ) (own : Option CallFault) (x y z : Option PlacedFault) �
 goes_on place None x y z on e = on e
 goes_on place (Some f) x y z on e = absurd (none-some _ (sym e))
 
-fault_goes_on : (groups : Groups) (rank : ℕ) (before calls more : List Call) (mark : Option Ending) → fault_in groups rank before calls None ≡ None → fault_in groups rank before (calls ++ more) mark ≡ fault_in groups rank (before ++ calls) more mark
-fault_goes_on groups rank before [] more mark e = ap (λ (b : List Call). fault_in groups rank b more mark) (sym (append-nil before))
+fault_goes_on : (groups : Groups) (rank : ℕ) (before calls more : List Call) (mark : Option Ending) → fault_onward groups rank (fault_of_mark None) before calls ≡ None → fault_onward groups rank (fault_of_mark mark) before (calls ++ more) ≡ fault_onward groups rank (fault_of_mark mark) (before ++ calls) more
+fault_goes_on groups rank before [] more mark e = ap (λ (b : List Call). fault_onward groups rank (fault_of_mark mark) b more) (sym (append-nil before))
 fault_goes_on groups rank before (call ∷ calls) more mark e =
     goes_on (length before) (fault_of groups rank before call) _ _ _
-    (λ none. fault_goes_on groups rank (before ++ call ∷ []) calls more mark none ∙ ap (λ (b : List Call). fault_in groups rank b more mark) (append_assoc before (call ∷ []) calls)) e
+    (λ none. fault_goes_on groups rank (before ++ call ∷ []) calls more mark none ∙ ap (λ (b : List Call). fault_onward groups rank (fault_of_mark mark) b more) (append_assoc before (call ∷ []) calls)) e
 
 -- the place of a first fault is none behind the records
 
@@ -71,7 +71,7 @@ placed_behind : (place most : ℕ) (fault : PlacedFault) (own : Option CallFault
 placed_behind place most fault None x within behind e = behind e
 placed_behind place most fault (Some f) x within behind e = let at : place ≡ fault.0 = cc in omega (arith, within, at)
 
-placed : (groups : Groups) (rank : ℕ) (before calls : List Call) (fault : PlacedFault) → fault_in groups rank before calls None ≡ Some fault → fault.0 ≤ length before + length calls
+placed : (groups : Groups) (rank : ℕ) (before calls : List Call) (fault : PlacedFault) → fault_onward groups rank (fault_of_mark None) before calls ≡ Some fault → fault.0 ≤ length before + length calls
 placed groups rank before [] fault e = absurd (none-some fault e)
 placed groups rank before (call ∷ calls) fault e =
     placed_behind (length before) (length before + length (call ∷ calls)) fault (fault_of groups rank before call) _ (omega arith)
@@ -79,19 +79,19 @@ placed groups rank before (call ∷ calls) fault e =
 
 -- where no end mark came, the first fault is that of a record
 
-fault_so_far : (groups : Groups) (rank : ℕ) (items : List Item) → end_mark_of items ≡ None → fault_of_items groups rank items ≡ fault_in groups rank [] (calls_among items) None
-fault_so_far groups rank items none = ap (λ (o : Option Ending). fault_in groups rank [] (calls_among items) o) none
+fault_so_far : (groups : Groups) (rank : ℕ) (items : List Item) → end_mark_of items ≡ None → fault_of_items groups rank items ≡ fault_onward groups rank (fault_of_mark None) [] (calls_among items)
+fault_so_far groups rank items none = ap (λ (o : Option Ending). fault_onward groups rank (fault_of_mark o) [] (calls_among items)) none
 
 -- the first fault of items with one more
-fault_with : (groups : Groups) (rank : ℕ) (items : List Item) (x : Item) → fault_of_items groups rank (items ++ x ∷ []) ≡ fault_in groups rank [] (calls_among items ++ calls_among (x ∷ [])) (mark_in (Some x))
+fault_with : (groups : Groups) (rank : ℕ) (items : List Item) (x : Item) → fault_of_items groups rank (items ++ x ∷ []) ≡ fault_onward groups rank (fault_of_mark (mark_in (Some x))) [] (calls_among items ++ calls_among (x ∷ []))
 fault_with groups rank items x =
-    ap (λ (o : Option Ending). fault_in groups rank [] (calls_among (items ++ x ∷ [])) o) (end_mark_of-push items x)
-    ∙ ap (λ (cs : List Call). fault_in groups rank [] cs (mark_in (Some x))) (calls_among-append items (x ∷ []))
+    ap (λ (o : Option Ending). fault_onward groups rank (fault_of_mark o) [] (calls_among (items ++ x ∷ []))) (end_mark_of-push items x)
+    ∙ ap (λ (cs : List Call). fault_onward groups rank (fault_of_mark (mark_in (Some x))) [] cs) (calls_among-append items (x ∷ []))
 
 -- a fault that is kept stays
 one_more_stays : (groups : Groups) (rank : ℕ) (items : List Item) (calls : List Call) (fault : PlacedFault) (x : Item) → IsKeptOf groups rank items calls (Some fault) → end_mark_of items ≡ None → IsKeptOf groups rank (items ++ x ∷ []) calls (Some fault)
 one_more_stays groups rank items calls fault x k none =
-    let is : fault_in groups rank [] (calls_among items) None ≡ Some fault = sym (k.first ∙ fault_so_far groups rank items none) in
+    let is : fault_onward groups rank (fault_of_mark None) [] (calls_among items) ≡ Some fault = sym (k.first ∙ fault_so_far groups rank items none) in
     let more = calls_among (x ∷ []) in record {
       first = sym (fault_with groups rank items x ∙ fault_stays groups rank [] (calls_among items) more _ fault is);
       before = k.before
@@ -100,11 +100,11 @@ one_more_stays groups rank items calls fault x k none =
     }
 
 -- where no fault is kept, the first fault with one more item is that behind the records
-first_with : (groups : Groups) (rank : ℕ) (items : List Item) (calls : List Call) (x : Item) → IsKeptOf groups rank items calls None → end_mark_of items ≡ None → fault_of_items groups rank (items ++ x ∷ []) ≡ fault_in groups rank calls (calls_among (x ∷ [])) (mark_in (Some x))
+first_with : (groups : Groups) (rank : ℕ) (items : List Item) (calls : List Call) (x : Item) → IsKeptOf groups rank items calls None → end_mark_of items ≡ None → fault_of_items groups rank (items ++ x ∷ []) ≡ fault_onward groups rank (fault_of_mark (mark_in (Some x))) calls (calls_among (x ∷ []))
 first_with groups rank items calls x k none =
-    let is : fault_in groups rank [] (calls_among items) None ≡ None = sym (k.first ∙ fault_so_far groups rank items none) in
+    let is : fault_onward groups rank (fault_of_mark None) [] (calls_among items) ≡ None = sym (k.first ∙ fault_so_far groups rank items none) in
     fault_with groups rank items x ∙ fault_goes_on groups rank [] (calls_among items) (calls_among (x ∷ [])) _ is
-    ∙ ap (λ (cs : List Call). fault_in groups rank cs (calls_among (x ∷ [])) (mark_in (Some x))) (sym k.before)
+    ∙ ap (λ (cs : List Call). fault_onward groups rank (fault_of_mark (mark_in (Some x))) cs (calls_among (x ∷ []))) (sym k.before)
 
 record_accepted : (groups : Groups) (rank : ℕ) (items : List Item) (calls : List Call) (call : Call) → IsKeptOf groups rank items calls None → end_mark_of items ≡ None → fault_of groups rank calls call ≡ None → IsKeptOf groups rank (items ++ Entry call ∷ []) (calls ++ call ∷ []) None
 record_accepted groups rank items calls call k none lawful = record {
@@ -133,18 +133,18 @@ mark_sealed groups rank items calls (Some fault) k none = one_more_stays groups 
 
 -- a torn trace has a fault
 
-pub torn_behind : (place : ℕ) (own : Option CallFault) (x : Option PlacedFault) → ¬ (x ≡ None) → ¬ (or_behind place own x ≡ None)
+torn_behind : (place : ℕ) (own : Option CallFault) (x : Option PlacedFault) → ¬ (x ≡ None) → ¬ (or_behind place own x ≡ None)
 torn_behind place None x some = some
 torn_behind place (Some f) x some = λ e. none-some _ (sym e)
 
-pub torn_has_fault : (groups : Groups) (rank : ℕ) (before calls : List Call) (fault : SourceFault) → ¬ (fault_in groups rank before calls (Some (Torn fault)) ≡ None)
+pub torn_has_fault : (groups : Groups) (rank : ℕ) (before calls : List Call) (fault : SourceFault) → ¬ (fault_onward groups rank (fault_of_mark (Some (Torn fault))) before calls ≡ None)
 torn_has_fault groups rank before [] fault = λ e. none-some _ (sym e)
 torn_has_fault groups rank before (call ∷ calls) fault = torn_behind (length before) (fault_of groups rank before call) _ (torn_has_fault groups rank (before ++ call ∷ []) calls fault)
 
 torn_is_kept : (groups : Groups) (rank : ℕ) (items : List Item) (calls : List Call) (fault : SourceFault) → IsKeptOf groups rank items calls None → ¬ (end_mark_of items ≡ Some (Torn fault))
 torn_is_kept groups rank items calls fault k = λ e.
     torn_has_fault groups rank [] (calls_among items) fault
-    (sym (k.first ∙ ap (λ (o : Option Ending). fault_in groups rank [] (calls_among items) o) e))
+    (sym (k.first ∙ ap (λ (o : Option Ending). fault_onward groups rank (fault_of_mark o) [] (calls_among items)) e))
 
 -- whether a rank is open
 

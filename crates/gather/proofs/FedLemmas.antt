@@ -7,8 +7,7 @@ use Rattle.mpicall.specs.Device.{count_if, one_more}
 use Rattle.mpicall.specs.Ending.{ends_list}
 use Rattle.mpicall.specs.Lines.{lines_of}
 use Rattle.mpicall.specs.Reading.{record_of_line}
-use Rattle.mpicall.specs.Trace.{Trace, End, put_first, ends_here, trace_of, trace_of_lines, trace_with, end_with_behind}
-use Rattle.mpicall.specs.Trace as Trace
+use Rattle.mpicall.specs.Trace.{Trace, put_first, ends_here, trace_of, trace_of_lines, trace_with, end_with_behind}
 use Rattle.mpicall.specs.Source.{Gives, coming, trace_at}
 use Rattle.mpicall.specs.declared.source.Source.{Source}
 use Rattle.mpicall.specs.declared.source.Stage.{Stage}
@@ -25,7 +24,7 @@ use Rattle.mpicall.specs.declared.fault.Ending.TheVariants.{Sealed, Torn}
 use Rattle.rankfeed.specs.declared.item.Item.{Item}
 use Rattle.rankfeed.specs.declared.item.Item.TheVariants.{Entry, Mark}
 use Rattle.rankfeed.proofs.ItemLemmas.{last_item-push}
-use Rattle.gather.specs.Fed.{marked, end_behind, mark_of, ending_of, CountsReads, EndsAs, StopsAs, line_behind, IsFed, is_failed_read, TraceGoesOn, Continues}
+use Rattle.gather.specs.Fed.{marked, end_behind, mark_of, CountsReads, EndsAs, StopsAs, line_behind, IsFed, is_failed_read, TraceGoesOn, Continues}
 
 -- No record stands behind the one that ends the list.
 
@@ -33,7 +32,7 @@ abbrev pub IsClosed : List Call → Type 0
 IsClosed [] = ⊤
 IsClosed (call ∷ calls) = (ends_list call ≡ true → calls ≡ []) × IsClosed calls
 
-closed_first : (ends : Bool) (call : Call) (last : End) (others : Trace) → ends_list call ≡ ends → IsClosed others.records → IsClosed (put_first call (cond ends (ends_here last) others)).records
+closed_first : (ends : Bool) (call : Call) (last : Ending) (others : Trace) → ends_list call ≡ ends → IsClosed others.records → IsClosed (put_first call (cond ends (ends_here last) others)).records
 closed_first true call last others is closed = (λ _. refl, tt)
 closed_first false call last others is closed = (λ ends. absurd (false≢true (sym is ∙ ends)), closed)
 
@@ -61,28 +60,28 @@ coming_closed left source = closed_at source.stage _
 
 -- The mark of a text's end.
 
-mark_behind : (call : Call) (records : List Call) (end : End) → mark_of records end ≡ ending_of end → mark_of (call ∷ records) end ≡ ending_of end
-mark_behind call records (Trace.Torn fault) is = refl
-mark_behind call [] Trace.Sealed is = cc
-mark_behind call (next ∷ records) Trace.Sealed is = is
+mark_behind : (call : Call) (records : List Call) (end : Ending) → mark_of records end ≡ end → mark_of (call ∷ records) end ≡ end
+mark_behind call records (Torn fault) is = refl
+mark_behind call [] Sealed is = cc
+mark_behind call (next ∷ records) Sealed is = is
 
-mark_last : (call : Call) (behind : List (List ℕ)) → ends_list call ≡ true → mark_of (call ∷ []) (end_with_behind behind) ≡ ending_of (end_with_behind behind)
+mark_last : (call : Call) (behind : List (List ℕ)) → ends_list call ≡ true → mark_of (call ∷ []) (end_with_behind behind) ≡ end_with_behind behind
 mark_last call [] ends = ap end_behind ends
 mark_last call (line ∷ behind) ends = refl
 
-mark_first : (ends : Bool) (call : Call) (behind : List (List ℕ)) (others : Trace) → ends_list call ≡ ends → mark_of others.records others.end ≡ ending_of others.end → let rest = cond ends (ends_here (end_with_behind behind)) others in mark_of (call ∷ rest.records) rest.end ≡ ending_of rest.end
+mark_first : (ends : Bool) (call : Call) (behind : List (List ℕ)) (others : Trace) → ends_list call ≡ ends → mark_of others.records others.end ≡ others.end → let rest = cond ends (ends_here (end_with_behind behind)) others in mark_of (call ∷ rest.records) rest.end ≡ rest.end
 mark_first true call behind others ends is = mark_last call behind ends
 mark_first false call behind others ends is = mark_behind call others.records others.end is
 
-mark_with : (reading : Result Call LineFault) (behind : List (List ℕ)) (others : Trace) → mark_of others.records others.end ≡ ending_of others.end → let trace = trace_with reading behind others in mark_of trace.records trace.end ≡ ending_of trace.end
+mark_with : (reading : Result Call LineFault) (behind : List (List ℕ)) (others : Trace) → mark_of others.records others.end ≡ others.end → let trace = trace_with reading behind others in mark_of trace.records trace.end ≡ trace.end
 mark_with (Ok call) behind others is = mark_first (ends_list call) call behind others refl is
 mark_with (Err fault) behind others is = refl
 
-mark_lines : (lines : List (List ℕ)) → mark_of (trace_of_lines lines).records (trace_of_lines lines).end ≡ ending_of (trace_of_lines lines).end
+mark_lines : (lines : List (List ℕ)) → mark_of (trace_of_lines lines).records (trace_of_lines lines).end ≡ (trace_of_lines lines).end
 mark_lines [] = refl
 mark_lines (line ∷ behind) = mark_with (record_of_line line) behind (trace_of_lines behind) (mark_lines behind)
 
-pub mark_text : (bytes : List ℕ) → mark_of (trace_of bytes).records (trace_of bytes).end ≡ ending_of (trace_of bytes).end
+pub mark_text : (bytes : List ℕ) → mark_of (trace_of bytes).records (trace_of bytes).end ≡ (trace_of bytes).end
 unfolding trace_of
 mark_text bytes = mark_lines (lines_of bytes)
 

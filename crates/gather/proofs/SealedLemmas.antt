@@ -2,8 +2,9 @@
 use Rattle.std.proofs.Common.{◌≡◌, ℕ, suc, ◌-◌, Bool, true, false, cond, List, [], ◌∷◌, length, Result, Ok, Err, refl, arith}
 use Rattle.mpicall.specs.Ending.{ends_list}
 use Rattle.mpicall.specs.Reading.{record_of_line}
-use Rattle.mpicall.specs.Trace.{Trace, Sealed, end_with_behind, ends_here, trace_of_lines, trace_with}
+use Rattle.mpicall.specs.Trace.{Trace, end_with_behind, ends_here, trace_of_lines, trace_with}
 use Rattle.mpicall.specs.declared.call.Call.{Call}
+use Rattle.mpicall.specs.declared.fault.Ending.TheVariants.{Sealed}
 use Rattle.mpicall.specs.declared.fault.LineFault.{LineFault}
 use Rattle.pairing.specs.Recordings.{is_ended}
 

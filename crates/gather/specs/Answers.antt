@@ -2,8 +2,10 @@
 -- the recording of all their records with its verdict.
 use Rattle.moves.specs.declared.reading.Reading.{Reading}
 use Rattle.std.specs.Prelude.{◌≡◌, ℕ, ◌+◌, ◌<◌, true, false, if◌then◌else◌, Option, Some, None, List, [], ◌∷◌, ◌++◌, length, map}
-use Rattle.mpicall.specs.Trace.{Trace, End, Sealed, Torn, trace_of}
+use Rattle.mpicall.specs.Trace.{Trace, trace_of}
 use Rattle.mpicall.specs.declared.call.Call.{Call}
+use Rattle.mpicall.specs.declared.fault.Ending.{Ending}
+use Rattle.mpicall.specs.declared.fault.Ending.TheVariants.{Sealed, Torn}
 use Rattle.mpicall.specs.declared.fault.SourceFault.TheVariants.{NoFinalize}
 use Rattle.mpigroup.specs.Groups.{Groups}
 use Rattle.pairing.specs.Recordings.{Lists, is_ended}
@@ -15,34 +17,38 @@ use Rattle.gather.specs.declared.fault.RankFault.{RankFault}
 use Rattle.gather.specs.declared.fault.RankFault.TheVariants.{OfCall, OfSource}
 use Rattle.gather.specs.declared.fault.Refusal.{Refusal}
 
+-- a fault of a rank, with its place: the number of the rank's records before it
+abbrev pub PlacedFault : Type 0
+PlacedFault = ℕ × RankFault
+
 -- the fault with which a rank ends behind its calls: that of its source's end, if that is one; or that none of
 -- its calls ends its list
-abbrev pub fault_of_end : List Call → End → Option (ℕ × RankFault)
-fault_of_end calls Sealed = if is_ended calls then None else Some (length calls, OfSource NoFinalize)
-fault_of_end calls (Torn fault) = Some (length calls, OfSource fault)
+abbrev pub fault_of_end : Ending → List Call → Option PlacedFault
+fault_of_end Sealed calls = if is_ended calls then None else Some (length calls, OfSource NoFinalize)
+fault_of_end (Torn fault) calls = Some (length calls, OfSource fault)
 
 -- Law: a text whose trace ends without a fault has its end record as its last.
 abbrev pub ASealedTextHasItsEndRecord : Type 0
 ASealedTextHasItsEndRecord = (text : List ℕ) → (trace_of text).end ≡ Sealed → is_ended (trace_of text).records ≡ true
 
 -- the fault of a call at a place, or else what comes behind it
-abbrev pub or_behind : ℕ → Option CallFault → Option (ℕ × RankFault) → Option (ℕ × RankFault)
+abbrev pub or_behind : ℕ → Option CallFault → Option PlacedFault → Option PlacedFault
 or_behind place None behind = behind
 or_behind place (Some fault) behind = Some (place, OfCall fault)
 
 -- the first fault of a rank behind the calls `before`, which have none: the first record that has a fault
--- after those before it, at its place; without one, the end of the source, at the number of records
-abbrev pub fault_onward : Groups → ℕ → List Call → List Call → End → Option (ℕ × RankFault)
-fault_onward groups rank before [] end = fault_of_end before end
-fault_onward groups rank before (call ∷ calls) end =
-    or_behind (length before) (fault_of groups rank before call) (fault_onward groups rank (before ++ call ∷ []) calls end)
+-- after those before it, at its place; without one, the fault of the end behind all of them
+abbrev pub fault_onward : Groups → ℕ → (List Call → Option PlacedFault) → List Call → List Call → Option PlacedFault
+fault_onward groups rank of_end before [] = of_end before
+fault_onward groups rank of_end before (call ∷ calls) =
+    or_behind (length before) (fault_of groups rank before call) (fault_onward groups rank of_end (before ++ call ∷ []) calls)
 
 -- the first fault of a rank over its source's trace, with its place
-unfoldable pub fault_of_rank : Groups → ℕ → Trace → Option (ℕ × RankFault)
-fault_of_rank groups rank trace = fault_onward groups rank [] trace.records trace.end
+unfoldable pub fault_of_rank : Groups → ℕ → Trace → Option PlacedFault
+fault_of_rank groups rank trace = fault_onward groups rank (fault_of_end trace.end) [] trace.records
 
 -- the refusal of a rank, or else that of the ranks behind it
-abbrev pub refusal_or : ℕ → Option (ℕ × RankFault) → Option Refusal → Option Refusal
+abbrev pub refusal_or : ℕ → Option PlacedFault → Option Refusal → Option Refusal
 refusal_or rank None behind = behind
 refusal_or rank (Some (place, fault)) behind = Some (record { rank = rank; call = place; fault = fault })
 

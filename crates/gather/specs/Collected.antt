@@ -12,33 +12,22 @@ use Rattle.mpicall.specs.declared.fault.Ending.{Ending}
 use Rattle.mpicall.specs.declared.fault.Ending.TheVariants.{Sealed, Torn}
 use Rattle.rankfeed.specs.declared.item.Item.{Item}
 use Rattle.rankfeed.specs.declared.answer.Took.{Took}
-use Rattle.gather.specs.Answers.{or_behind, refusal_or}
+use Rattle.gather.specs.Answers.{PlacedFault, fault_onward, refusal_or}
 use Rattle.gather.specs.declared.fault.RankFault.{RankFault}
 use Rattle.gather.specs.declared.fault.RankFault.TheVariants.{OfCall, OfSource}
 use Rattle.gather.specs.declared.fault.Refusal.{Refusal}
 use Rattle.gather.specs.declared.ledger.Stepped.{Stepped}
 use Rattle.gather.specs.declared.ledger.Stepped.TheVariants.{Refused, Discarded, Empty, Ended}
 
--- a fault of a rank, with its place: the number of the rank's records before it
-abbrev pub PlacedFault : Type 0
-PlacedFault = ℕ × RankFault
-
--- the fault with which a rank's items end behind so many records: that of an end mark, if one came and it has one
-abbrev pub fault_of_mark : ℕ → Option Ending → Option PlacedFault
-fault_of_mark count None = None
-fault_of_mark count (Some Sealed) = None
-fault_of_mark count (Some (Torn fault)) = Some (count, OfSource fault)
-
--- the first fault of a rank behind the calls `before`, which have none: the first record that has a fault
--- after those before it, at its place; without one, that of the end mark, at the number of records
-abbrev pub fault_in : Groups → ℕ → List Call → List Call → Option Ending → Option PlacedFault
-fault_in groups rank before [] mark = fault_of_mark (length before) mark
-fault_in groups rank before (call ∷ calls) mark =
-    or_behind (length before) (fault_of groups rank before call) (fault_in groups rank (before ++ call ∷ []) calls mark)
+-- the fault with which a rank's items end behind its calls: that of an end mark, if one came and it has one
+abbrev pub fault_of_mark : Option Ending → List Call → Option PlacedFault
+fault_of_mark None calls = None
+fault_of_mark (Some Sealed) calls = None
+fault_of_mark (Some (Torn fault)) calls = Some (length calls, OfSource fault)
 
 -- the first fault of a rank over the items of its feed, with its place
 abbrev pub fault_of_items : Groups → ℕ → List Item → Option PlacedFault
-fault_of_items groups rank items = fault_in groups rank [] (calls_among items) (end_mark_of items)
+fault_of_items groups rank items = fault_onward groups rank (fault_of_mark (end_mark_of items)) [] (calls_among items)
 
 -- the records before the fault; all of them where there is none
 abbrev pub records_before : Option PlacedFault → List Call → List Call

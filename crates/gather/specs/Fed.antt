@@ -1,8 +1,7 @@
 -- What is read of a rank's source, and put on its feed where it has one, by the source's trace.
 use Rattle.std.specs.Prelude.{◌≡◌, ◌⊎◌, ℕ, ◌-◌, ◌^◌, min, Bool, true, false, ⊤, Option, Some, None, IfSome, Result, Ok, Err, List, [], ◌∷◌, ◌++◌, length, map}
 use Rattle.mpicall.specs.Device.{count_if, one_more}
-use Rattle.mpicall.specs.Trace.{Trace, End}
-use Rattle.mpicall.specs.Trace as Trace
+use Rattle.mpicall.specs.Trace.{Trace}
 use Rattle.mpicall.specs.declared.call.Call.{Call}
 use Rattle.mpicall.specs.declared.fault.SourceFault.TheVariants.{ReadFailed, GateStopped, NoFinalize}
 use Rattle.rankfeed.specs.Items.{end_the_list, end_mark_of}
@@ -25,14 +24,9 @@ end_behind false = Torn NoFinalize
 
 -- the end mark behind all the records of a trace. For a text's it tells the text's end; what is left of a source
 -- that gave its end record before has none, and the mark NoFinalize
-abbrev pub mark_of : List Call → End → Ending
-mark_of records Trace.Sealed = end_behind (end_the_list (map Entry records))
-mark_of records (Trace.Torn fault) = Torn fault
-
--- the end mark that tells an end
-abbrev pub ending_of : End → Ending
-ending_of Trace.Sealed = Sealed
-ending_of (Trace.Torn fault) = Torn fault
+abbrev pub mark_of : List Call → Ending → Ending
+mark_of records Sealed = end_behind (end_the_list (map Entry records))
+mark_of records (Torn fault) = Torn fault
 
 -- the records are a beginning of these
 abbrev pub Begins : List Call → List Call → Type 0

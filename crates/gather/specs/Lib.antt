@@ -5,6 +5,5 @@ pub mod Takers
 pub mod Receipts
 pub mod Collectors
 pub mod Closes
-pub mod Concluded
 pub mod Fed
 pub mod Reads

@@ -1,26 +1,19 @@
 -- The receipts of the ranks' feeds, what they hold, and what is received of it.
-use Rattle.std.specs.Prelude.{◌≡◌, ⊤, ℕ, ◌+◌, true, Option, Some, None, IfSome, List, [], ◌∷◌, ◌++◌, map, slice_get}
-use Rattle.mpicall.specs.Trace.{Trace, End}
-use Rattle.mpicall.specs.Trace as Trace
+use Rattle.std.specs.Prelude.{◌≡◌, ⊤, ℕ, ◌+◌, true, Option, Some, None, IfSome, unwrap_or, List, [], ◌∷◌, ◌++◌, map, slice_get}
+use Rattle.mpicall.specs.Trace.{Trace}
 use Rattle.mpicall.specs.declared.fault.SourceFault.TheVariants.{NoFinalize}
 use Rattle.rankfeed.specs.Items.{calls_among, end_mark_of, are_ended, IsFeed}
 use Rattle.rankfeed.specs.Rings.{FeedName, taker_ring, receipt_ring, sent_whole, received_by}
-use Rattle.mpicall.specs.declared.fault.Ending.{Ending}
-use Rattle.mpicall.specs.declared.fault.Ending.TheVariants.{Sealed, Torn}
+use Rattle.mpicall.specs.declared.fault.Ending.TheVariants.{Torn}
 use Rattle.rankfeed.specs.declared.item.Item.{Item}
 use Rattle.rankfeed.specs.declared.ring.Receipt.{Receipt}
 use Rattle.rankfeed.specs.declared.ring.Taker.{Taker}
 use Rattle.gather.specs.Takers.{received_in, left_in}
 
--- the end of a trace by the end mark of its items; items without one stop before their end record
-abbrev pub end_by : Option Ending → End
-end_by (Some Sealed) = Trace.Sealed
-end_by (Some (Torn fault)) = Trace.Torn fault
-end_by None = Trace.Torn NoFinalize
-
--- the trace that the items of a feed make: their records, and the end by their end mark
+-- the trace that the items of a feed make: their records, and the end that their end mark tells; items without one
+-- stop before their end record
 abbrev pub trace_of_items : List Item → Trace
-trace_of_items items = record { records = calls_among items; end = end_by (end_mark_of items) }
+trace_of_items items = record { records = calls_among items; end = unwrap_or (end_mark_of items) (Torn NoFinalize) }
 
 -- the receipts are those of the feeds: one for each feed, in their order, where there is one
 abbrev pub AreReceiptsOf : List FeedName → List (Option Receipt) → Type 0

@@ -11,7 +11,7 @@ ghost use Rattle.rankfeed.specs.declared.item.Item.TheVariants.{Mark};
 ghost use Rattle.rankfeed.specs.Rings.{feed_ring, sent_by, receipt_ring, sent_whole};
 ghost use Rattle.mpicall.specs.Trace.{trace_of};
 ghost use Rattle.gather.specs.Answers.{ASealedTextHasItsEndRecord};
-ghost use Rattle.gather.specs.Fed.{IsFed, CountsReads, end_behind, is_failed_read, mark_of, ending_of};
+ghost use Rattle.gather.specs.Fed.{IsFed, CountsReads, end_behind, is_failed_read, mark_of};
 ghost use Rattle.gather.specs.Reads.{IsReading, IsNextRead};
 
 use crate::gate::Gate;
@@ -111,7 +111,7 @@ pub fn feed<I: Input, G: Gate>(
 /// The end mark behind all the records of a text is that of the text's end.
 #[tactic(auto, using(crate::proofs::FedLemmas::mark_text))]
 pub fn each_text_has_its_own_mark()
-    ensures { (bytes : List ℕ) → mark_of (trace_of bytes).records (trace_of bytes).end ≡ ending_of (trace_of bytes).end }
+    ensures { (bytes : List ℕ) → mark_of (trace_of bytes).records (trace_of bytes).end ≡ (trace_of bytes).end }
 {}
 
 /// A text whose trace ends without a fault has its end record, `finalize` or `open`, as its last. So a source that

@@ -5,7 +5,7 @@ ghost use Rattle.gather.specs.declared.fault.RankFault.TheVariants.{OfSource};
 ghost use Rattle.pairing.specs.Faults.{IsLawful};
 ghost use Rattle.pairing.specs.Recordings.{IsClosed};
 ghost use Rattle.gather.specs.Collected.{nothing_kept, refusal_kept, EntersRecord, torn, is_accepting, with_fault};
-ghost use Rattle.gather.specs.Concluded.{Concludes};
+ghost use Rattle.gather.specs.Closes.{Concludes};
 
 use crate::fault::{RankFault, Refusal};
 use crate::outcome::{CloseFault, Outcome};

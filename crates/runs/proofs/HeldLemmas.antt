@@ -1,14 +1,13 @@
 -- What the items of the ranks' feeds say of the traces that the sources tell.
 use Rattle.moves.specs.declared.reading.Reading.{Reading}
-use Rattle.std.proofs.Common.{◌≡◌, ⊎_elim, ℕ, zero, suc, ◌+◌, ◌<◌, ◌-◌, Bool, true, false, Option, Some, None, Ok, Err, IfOk, IfErr, IfSome, option_and_then, Result, All, List, [], ◌∷◌, ◌++◌, length, map, slice_get, refl, sym, ap, subst, ◌∙◌, arith, append_assoc, append-nil, get_or, inl, inr}
+use Rattle.std.proofs.Common.{◌≡◌, ⊎_elim, ℕ, zero, suc, ◌+◌, ◌<◌, ◌-◌, Bool, true, false, Option, Some, None, Ok, Err, IfOk, IfErr, IfSome, unwrap_or, option_and_then, Result, All, List, [], ◌∷◌, ◌++◌, length, map, slice_get, refl, sym, ap, subst, ◌∙◌, arith, append_assoc, append-nil, get_or, inl, inr}
 use Rattle.std.specs.List.{range_with_len}
 use Rattle.std.proofs.lemmas.List.FromFn.{length-range_with_len}
 use Rattle.std.proofs.lemmas.Option.{none-some, slice_get-map, slice_get-get_or, slice_get_within}
 use Rattle.std.proofs.lemmas.Bool.{false≢true}
 use Rattle.std.proofs.lemmas.List.{length-map}
 use Rattle.std.specs.Option.{option_map}
-use Rattle.mpicall.specs.Trace.{Trace, End}
-use Rattle.mpicall.specs.Trace as Trace
+use Rattle.mpicall.specs.Trace.{Trace}
 use Rattle.mpicall.specs.Source.{coming}
 use Rattle.mpicall.specs.declared.call.Call.{Call}
 use Rattle.mpicall.specs.declared.fault.SourceFault.{SourceFault}
@@ -27,11 +26,11 @@ use Rattle.rankfeed.specs.declared.item.Item.TheVariants.{Entry}
 use Rattle.rankfeed.specs.declared.answer.Unsealed.{Unsealed}
 use Rattle.rankfeed.specs.declared.ring.Feed.{Feed}
 use Rattle.rankfeed.specs.declared.ring.Receipt.{Receipt}
-use Rattle.gather.specs.Answers.{fault_of_rank, fault_onward, fault_of_end, or_behind, refusal_or, refusal_from, refusal_of, recording_of_traces}
+use Rattle.gather.specs.Answers.{PlacedFault, fault_of_rank, fault_onward, fault_of_end, or_behind, refusal_or, refusal_from, refusal_of, recording_of_traces}
 use Rattle.gather.specs.Closes.{Closes, IsOutcomeOver}
 use Rattle.gather.specs.Fed.{marked, end_behind, mark_of, Begins, EndsAs, StopsAs, IsFed, line_behind}
 use Rattle.runs.specs.Ranks.{told_by, AcceptsAll, AcceptsRank, HasNoFault, IsLowestRefusal, IsRefusalOf}
-use Rattle.gather.specs.Receipts.{trace_of_items, end_by, AreReceiptsOf, missing_from, first_missing, traces_held}
+use Rattle.gather.specs.Receipts.{trace_of_items, AreReceiptsOf, missing_from, first_missing, traces_held}
 use Rattle.gather.specs.Collected.{Kept, nothing_kept}
 use Rattle.gather.specs.Collectors.{rings, kept}
 use Rattle.runs.specs.Runs.{receipt_of, receipt_in, AreFedBy, IsOutcomeOfFeeds, IsRefusalOfFeeds, IsSameSession, RefusesFeeds, StopsWhereAllowed, of_close}
@@ -46,33 +45,26 @@ use Rattle.gather.specs.declared.fault.RankFault.TheVariants.{OfCall, OfSource}
 use Rattle.gather.specs.declared.fault.Refusal.{Refusal}
 use Rattle.moves.specs.Analysed.{Analysed}
 use Rattle.runs.specs.declared.threads.Fed.{Fed}
-use Rattle.gather.proofs.CloseLemmas.{own_none, behind_none}
+use Rattle.gather.proofs.CloseLemmas.{own_none, behind_none, same_end}
 use Rattle.gather.proofs.FedLemmas.{marked_calls, marked_end}
-use Rattle.gather.proofs.CollectedLemmas.{torn_behind}
+use Rattle.gather.proofs.CollectedLemmas.{torn_has_fault}
 
 -- One rank's first fault: over its items, and over the trace that its source tells.
 
 -- a fault that is told at a place, if any is, comes from outside
-abbrev pub outside_at : Option (ℕ × RankFault) → Bool
+abbrev pub outside_at : Option PlacedFault → Bool
 outside_at None = false
 outside_at (Some fault) = is_from_outside fault.1
 
-or_own : (place : ℕ) (own : Option CallFault) (x y : Option (ℕ × RankFault)) → outside_at (or_behind place own x) ≡ false → (outside_at x ≡ false → x ≡ y) → or_behind place own x ≡ or_behind place own y
+or_own : (place : ℕ) (own : Option CallFault) (x y : Option PlacedFault) → outside_at (or_behind place own x) ≡ false → (outside_at x ≡ false → x ≡ y) → or_behind place own x ≡ or_behind place own y
 or_own place None x y inside same = same inside
 or_own place (Some fault) x y inside same = refl
 
 -- behind a stop from outside: the fault lies before it, so it is that of whatever goes on there
-before_stop : (groups : Groups) (rank : ℕ) (before calls rest : List Call) (fault : SourceFault) (end : End) → is_from_outside (OfSource fault) ≡ true → outside_at (fault_onward groups rank before calls (Trace.Torn fault)) ≡ false → fault_onward groups rank before calls (Trace.Torn fault) ≡ fault_onward groups rank before (calls ++ rest) end
+before_stop : (groups : Groups) (rank : ℕ) (before calls rest : List Call) (fault : SourceFault) (end : Ending) → is_from_outside (OfSource fault) ≡ true → outside_at (fault_onward groups rank (fault_of_end (Torn fault)) before calls) ≡ false → fault_onward groups rank (fault_of_end (Torn fault)) before calls ≡ fault_onward groups rank (fault_of_end end) before (calls ++ rest)
 before_stop groups rank before [] rest fault end stop inside = absurd (false≢true (sym inside ∙ stop))
 before_stop groups rank before (call ∷ calls) rest fault end stop inside =
     or_own (length before) (fault_of groups rank before call) _ _ inside (before_stop groups rank (before ++ call ∷ []) calls rest fault end stop)
-
--- ends with which the same calls have the same fault
-same_end : (groups : Groups) (rank : ℕ) (before calls : List Call) (a b : End) → fault_of_end (before ++ calls) a ≡ fault_of_end (before ++ calls) b → fault_onward groups rank before calls a ≡ fault_onward groups rank before calls b
-same_end groups rank before [] a b same = subst (λ (xs : List Call). fault_of_end xs a ≡ fault_of_end xs b) (append-nil before) same
-same_end groups rank before (call ∷ calls) a b same =
-    ap (or_behind (length before) (fault_of groups rank before call))
-    (same_end groups rank (before ++ call ∷ []) calls a b (subst (λ (xs : List Call). fault_of_end xs a ≡ fault_of_end xs b) (sym (append_assoc before (call ∷ []) calls)) same))
 
 -- a list is ended by calls as by items
 ended_alike : (call : Call) (calls : List Call) → item_ends_list (last_behind (Some (Entry call)) (map Entry calls)) ≡ is_ended (call ∷ calls)
@@ -86,29 +78,29 @@ same_ended [] = refl
 same_ended (call ∷ calls) = ended_alike call calls
 
 -- the mark behind all the records of a trace tells its end
-by_ends : (ends : Bool) (records : List Call) → is_ended records ≡ ends → fault_of_end records (end_by (Some (end_behind ends))) ≡ fault_of_end records Trace.Sealed
+by_ends : (ends : Bool) (records : List Call) → is_ended records ≡ ends → fault_of_end (end_behind ends) records ≡ fault_of_end Sealed records
 by_ends true records is = refl
 by_ends false records is = rw is refl
 
-end_told : (records : List Call) (end : End) → fault_of_end records (end_by (Some (mark_of records end))) ≡ fault_of_end records end
-end_told records (Trace.Torn fault) = refl
-end_told records Trace.Sealed = by_ends (end_the_list (map Entry records)) records (sym (same_ended records))
+end_told : (records : List Call) (end : Ending) → fault_of_end (mark_of records end) records ≡ fault_of_end end records
+end_told records (Torn fault) = refl
+end_told records Sealed = by_ends (end_the_list (map Entry records)) records (sym (same_ended records))
 
 -- the first fault over calls with their mark
-abbrev pub held_fault : Groups → ℕ → List Call → Ending → Option (ℕ × RankFault)
-held_fault groups rank calls end = fault_onward groups rank [] calls (end_by (Some end))
+abbrev pub held_fault : Groups → ℕ → List Call → Ending → Option PlacedFault
+held_fault groups rank calls end = fault_onward groups rank (fault_of_end end) [] calls
 
-whole_agrees : (groups : Groups) (rank : ℕ) (trace : Trace) (calls : List Call) (end : Ending) → (trace.records ≡ calls) × (end ≡ mark_of trace.records trace.end) → held_fault groups rank calls end ≡ fault_onward groups rank [] trace.records trace.end
+whole_agrees : (groups : Groups) (rank : ℕ) (trace : Trace) (calls : List Call) (end : Ending) → (trace.records ≡ calls) × (end ≡ mark_of trace.records trace.end) → held_fault groups rank calls end ≡ fault_onward groups rank (fault_of_end trace.end) [] trace.records
 whole_agrees groups rank trace calls end whole =
     ap (λ (xs : List Call). held_fault groups rank xs end) (sym whole.0)
     ∙ ap (held_fault groups rank trace.records) whole.1
-    ∙ same_end groups rank [] trace.records (end_by (Some (mark_of trace.records trace.end))) trace.end (end_told trace.records trace.end)
+    ∙ same_end groups rank (fault_of_end (mark_of trace.records trace.end)) (fault_of_end trace.end) [] trace.records (end_told trace.records trace.end)
 
-stop_agrees : (groups : Groups) (rank : ℕ) (trace : Trace) (calls : List Call) (fault : SourceFault) → Begins calls trace.records → is_from_outside (OfSource fault) ≡ true → outside_at (held_fault groups rank calls (Torn fault)) ≡ false → held_fault groups rank calls (Torn fault) ≡ fault_onward groups rank [] trace.records trace.end
+stop_agrees : (groups : Groups) (rank : ℕ) (trace : Trace) (calls : List Call) (fault : SourceFault) → Begins calls trace.records → is_from_outside (OfSource fault) ≡ true → outside_at (held_fault groups rank calls (Torn fault)) ≡ false → held_fault groups rank calls (Torn fault) ≡ fault_onward groups rank (fault_of_end trace.end) [] trace.records
 stop_agrees groups rank trace calls fault begins stop inside =
-    before_stop groups rank [] calls begins.0 fault trace.end stop inside ∙ ap (λ (xs : List Call). fault_onward groups rank [] xs trace.end) (sym begins.1)
+    before_stop groups rank [] calls begins.0 fault trace.end stop inside ∙ ap (λ (xs : List Call). fault_onward groups rank (fault_of_end trace.end) [] xs) (sym begins.1)
 
-agrees_as : (groups : Groups) (rank : ℕ) (trace : Trace) (calls : List Call) (end : Ending) → EndsAs trace calls end → outside_at (held_fault groups rank calls end) ≡ false → held_fault groups rank calls end ≡ fault_onward groups rank [] trace.records trace.end
+agrees_as : (groups : Groups) (rank : ℕ) (trace : Trace) (calls : List Call) (end : Ending) → EndsAs trace calls end → outside_at (held_fault groups rank calls end) ≡ false → held_fault groups rank calls end ≡ fault_onward groups rank (fault_of_end trace.end) [] trace.records
 agrees_as groups rank trace calls Sealed ends inside = whole_agrees groups rank trace calls Sealed ends
 agrees_as groups rank trace calls (Torn (Line fault)) ends inside = whole_agrees groups rank trace calls (Torn (Line fault)) ends
 agrees_as groups rank trace calls (Torn TextAfterFinalize) ends inside = whole_agrees groups rank trace calls (Torn TextAfterFinalize) ends
@@ -117,14 +109,14 @@ agrees_as groups rank trace calls (Torn ThreadNotStarted) ends inside = whole_ag
 agrees_as groups rank trace calls (Torn ReadFailed) ends inside = stop_agrees groups rank trace calls ReadFailed ends refl inside
 agrees_as groups rank trace calls (Torn GateStopped) ends inside = stop_agrees groups rank trace calls GateStopped ends refl inside
 
-abbrev pub trace_by : List Call → End → Trace
+abbrev pub trace_by : List Call → Ending → Trace
 trace_by calls end = record { records = calls; end = end }
 
-held_trace : (calls : List Call) (end : Ending) (items : List Item) → items ≡ marked calls end → trace_of_items items ≡ trace_by calls (end_by (Some end))
+held_trace : (calls : List Call) (end : Ending) (items : List Item) → items ≡ marked calls end → trace_of_items items ≡ trace_by calls end
 held_trace calls end items is =
     ap trace_of_items is
-    ∙ ap (λ (xs : List Call). trace_by xs (end_by (end_mark_of (marked calls end)))) (marked_calls calls end)
-    ∙ ap (λ (mark : Option Ending). trace_by calls (end_by mark)) (marked_end calls end)
+    ∙ ap (λ (xs : List Call). trace_by xs (unwrap_or (end_mark_of (marked calls end)) (Torn NoFinalize))) (marked_calls calls end)
+    ∙ ap (λ (mark : Option Ending). trace_by calls (unwrap_or mark (Torn NoFinalize))) (marked_end calls end)
 
 fault_held : (groups : Groups) (rank : ℕ) (calls : List Call) (end : Ending) (items : List Item) → items ≡ marked calls end → fault_of_rank groups rank (trace_of_items items) ≡ held_fault groups rank calls end
 unfolding fault_of_rank
@@ -140,13 +132,9 @@ agrees groups rank trace may_stop items (inr none) inside = absurd (false≢true
 
 -- without a fault the records are the trace's
 
-torn_never_none : (groups : Groups) (rank : ℕ) (before calls : List Call) (fault : SourceFault) → ¬ (fault_onward groups rank before calls (Trace.Torn fault) ≡ None)
-torn_never_none groups rank before [] fault = λ e. none-some _ (sym e)
-torn_never_none groups rank before (call ∷ calls) fault = torn_behind (length before) (fault_of groups rank before call) _ (torn_never_none groups rank (before ++ call ∷ []) calls fault)
-
 records_as : (groups : Groups) (rank : ℕ) (trace : Trace) (calls : List Call) (end : Ending) → EndsAs trace calls end → held_fault groups rank calls end ≡ None → calls ≡ trace.records
 records_as groups rank trace calls Sealed ends none = sym ends.0
-records_as groups rank trace calls (Torn fault) ends none = absurd (torn_never_none groups rank [] calls fault none)
+records_as groups rank trace calls (Torn fault) ends none = absurd (torn_has_fault groups rank [] calls fault none)
 
 accepts_told : (groups : Groups) (rank : ℕ) (told : Option Trace) (may_stop : ℕ → Type 0) (items : List Item) (calls : List Call) → IsFedOrNotStarted told may_stop items → calls ≡ calls_among items → fault_of_rank groups rank (trace_of_items items) ≡ None → AcceptsRank groups rank told calls
 accepts_told groups rank None may_stop items calls fed are none = tt
@@ -156,7 +144,7 @@ accepts_told groups rank (Some trace) may_stop items calls fed are none =
           (λ (own : IsFed (Some trace) may_stop items).
           are ∙ ap calls_among own.are ∙ marked_calls own.calls own.end ∙ records_as groups rank trace own.calls own.end own.whole (sym (fault_held groups rank own.calls own.end items own.are) ∙ none))
           (λ (not_started : items ≡ marked [] (Torn ThreadNotStarted)).
-          absurd (torn_never_none groups rank [] [] ThreadNotStarted (sym (fault_held groups rank [] (Torn ThreadNotStarted) items not_started) ∙ none)))
+          absurd (torn_has_fault groups rank [] [] ThreadNotStarted (sym (fault_held groups rank [] (Torn ThreadNotStarted) items not_started) ∙ none)))
           fed,
       sym same ∙ none,
     )
@@ -173,36 +161,36 @@ own_told groups (Some trace) may_stop items refusal fed is = λ inside. sym (agr
 
 -- what is told apart by kind and by place
 
-source_at : Option (ℕ × RankFault) → Bool
+source_at : Option PlacedFault → Bool
 source_at (Some (place, OfSource fault)) = true
 source_at (Some (place, OfCall fault)) = false
 source_at None = false
 
-gate_at : Option (ℕ × RankFault) → Bool
+gate_at : Option PlacedFault → Bool
 gate_at (Some (place, OfSource GateStopped)) = true
 gate_at fault = false
 
-place_at : Option (ℕ × RankFault) → ℕ
+place_at : Option PlacedFault → ℕ
 place_at None = 0
 place_at (Some fault) = fault.0
 
-or_source : (place : ℕ) (own : Option CallFault) (x : Option (ℕ × RankFault)) (at : ℕ) (fault : SourceFault) → or_behind place own x ≡ Some (at, OfSource fault) → x ≡ Some (at, OfSource fault)
+or_source : (place : ℕ) (own : Option CallFault) (x : Option PlacedFault) (at : ℕ) (fault : SourceFault) → or_behind place own x ≡ Some (at, OfSource fault) → x ≡ Some (at, OfSource fault)
 unfolding source_at
 or_source place None x at fault e = e
 or_source place (Some own) x at fault e = absurd (false≢true (ap source_at e))
 
-source_fault : (groups : Groups) (rank : ℕ) (before calls : List Call) (end : End) (at : ℕ) (fault : SourceFault) → fault_onward groups rank before calls end ≡ Some (at, OfSource fault) → fault_of_end (before ++ calls) end ≡ Some (at, OfSource fault)
-source_fault groups rank before [] end at fault e = ap (λ (xs : List Call). fault_of_end xs end) (append-nil before) ∙ e
+source_fault : (groups : Groups) (rank : ℕ) (before calls : List Call) (end : Ending) (at : ℕ) (fault : SourceFault) → fault_onward groups rank (fault_of_end end) before calls ≡ Some (at, OfSource fault) → fault_of_end end (before ++ calls) ≡ Some (at, OfSource fault)
+source_fault groups rank before [] end at fault e = ap (λ (xs : List Call). fault_of_end end xs) (append-nil before) ∙ e
 source_fault groups rank before (call ∷ calls) end at fault e =
-    ap (λ (xs : List Call). fault_of_end xs end) (sym (append_assoc before (call ∷ []) calls))
+    ap (λ (xs : List Call). fault_of_end end xs) (sym (append_assoc before (call ∷ []) calls))
     ∙ source_fault groups rank (before ++ call ∷ []) calls end at fault (or_source (length before) (fault_of groups rank before call) _ at fault e)
 
-sealed_stops_none : (ends : Bool) (calls : List Call) (at : ℕ) → is_ended calls ≡ ends → ¬ (fault_of_end calls Trace.Sealed ≡ Some (at, OfSource GateStopped))
+sealed_stops_none : (ends : Bool) (calls : List Call) (at : ℕ) → is_ended calls ≡ ends → ¬ (fault_of_end Sealed calls ≡ Some (at, OfSource GateStopped))
 unfolding gate_at
 sealed_stops_none true calls at is e = let h : None ≡ Some (at, OfSource GateStopped) = rw is at e in false≢true (ap gate_at h)
 sealed_stops_none false calls at is e = let h : Some (length calls, OfSource NoFinalize) ≡ Some (at, OfSource GateStopped) = rw is at e in false≢true (ap gate_at h)
 
-stops_as : (may_stop : ℕ → Type 0) (calls : List Call) (end : Ending) (at : ℕ) → StopsAs may_stop calls end → fault_of_end calls (end_by (Some end)) ≡ Some (at, OfSource GateStopped) → may_stop (line_behind at)
+stops_as : (may_stop : ℕ → Type 0) (calls : List Call) (end : Ending) (at : ℕ) → StopsAs may_stop calls end → fault_of_end end calls ≡ Some (at, OfSource GateStopped) → may_stop (line_behind at)
 unfolding gate_at place_at
 stops_as may_stop calls Sealed at stops e = absurd (sealed_stops_none (is_ended calls) calls at refl e)
 stops_as may_stop calls (Torn GateStopped) at stops e = let here : length calls ≡ at = ap place_at e in subst (λ (n : ℕ). may_stop (line_behind n)) here stops
@@ -212,7 +200,7 @@ stopped_there : (groups : Groups) (rank : ℕ) (told : Option Trace) (may_stop :
 unfolding gate_at
 stopped_there groups rank told may_stop items at (inl own) is =
     stops_as may_stop own.calls own.end at own.stopped
-    (source_fault groups rank [] own.calls (end_by (Some own.end)) at GateStopped (sym (fault_held groups rank own.calls own.end items own.are) ∙ is))
+    (source_fault groups rank [] own.calls own.end at GateStopped (sym (fault_held groups rank own.calls own.end items own.are) ∙ is))
 stopped_there groups rank told may_stop items at (inr none) is =
     let e : Some (0, OfSource ThreadNotStarted) ≡ Some (at, OfSource GateStopped) = sym (fault_held groups rank [] (Torn ThreadNotStarted) items none) ∙ is in
     absurd (false≢true (ap gate_at e))
@@ -287,7 +275,7 @@ lower_here groups first trace traces (suc k) t place none lower below at =
     let e : first + 1 + k ≡ first + suc k = omega arith in
     subst (λ (n : ℕ). fault_of_rank groups n t ≡ None) e (lower k t (omega (arith, below)) at)
 
-first_or_behind : (groups : Groups) (first : ℕ) (trace : Trace) (traces : List Trace) (refusal : Refusal) (own : Option (ℕ × RankFault)) → fault_of_rank groups first trace ≡ own → refusal_or first own (refusal_from groups (first + 1) traces) ≡ Some refusal → (refusal_from groups (first + 1) traces ≡ Some refusal → IsRefusalAt groups (first + 1) traces refusal) → IsRefusalAt groups first (trace ∷ traces) refusal
+first_or_behind : (groups : Groups) (first : ℕ) (trace : Trace) (traces : List Trace) (refusal : Refusal) (own : Option PlacedFault) → fault_of_rank groups first trace ≡ own → refusal_or first own (refusal_from groups (first + 1) traces) ≡ Some refusal → (refusal_from groups (first + 1) traces ≡ Some refusal → IsRefusalAt groups (first + 1) traces refusal) → IsRefusalAt groups first (trace ∷ traces) refusal
 first_or_behind groups first trace traces refusal (Some (place, fault)) is e behind =
     let same : refusal_with first place fault ≡ refusal = cc in
     let rank : first ≡ refusal.rank = ap (λ (r : Refusal). r.rank) same in

@@ -9,13 +9,10 @@ use Rattle.pairing.specs.Recordings.{Lists, calls_of, is_ended, IsClosed}
 use Rattle.pairing.specs.Faults.{IsLawful}
 use Rattle.pairing.proofs.FaultLemmas.{an_ended_lawful_list_is_closed}
 use Rattle.rankfeed.specs.Items.{calls_among, end_mark_of}
-use Rattle.mpicall.specs.declared.fault.Ending.{Ending}
-use Rattle.mpicall.specs.declared.fault.Ending.TheVariants.{Sealed, Torn}
 use Rattle.rankfeed.specs.declared.item.Item.{Item}
-use Rattle.gather.specs.Answers.{fault_of_rank, refusal_or, refusal_from, refusal_of, recording_of_traces}
-use Rattle.gather.specs.Closes.{IsOutcomeOver}
-use Rattle.gather.specs.Collected.{PlacedFault, fault_in, fault_of_items, records_before, Kept, fault_at, refusal_in, refusal_kept}
-use Rattle.gather.specs.Concluded.{Concludes, IsOutcomeOfKept}
+use Rattle.gather.specs.Answers.{PlacedFault, fault_of_rank, refusal_or, refusal_from, refusal_of, recording_of_traces}
+use Rattle.gather.specs.Closes.{IsOutcomeOf, IsOutcomeOver, Concludes}
+use Rattle.gather.specs.Collected.{records_before, Kept, fault_at, refusal_in, refusal_kept}
 use Rattle.gather.specs.Fed.{IsFed}
 use Rattle.gather.specs.Receipts.{trace_of_items}
 use Rattle.runs.specs.Runs.{AreFedBy, IsOutcomeOfFeeds, IsRefusalOfFeeds, RefusesFeeds, of_close}
@@ -24,21 +21,8 @@ use Rattle.gather.specs.declared.fault.Refusal.{Refusal}
 use Rattle.gather.specs.declared.outcome.CloseFault.{CloseFault}
 use Rattle.gather.specs.declared.outcome.CloseFault.TheVariants.{Memory, Unproved, Refused}
 use Rattle.moves.specs.Analysed.{Analysed}
-use Rattle.gather.proofs.CloseLemmas.{own_none, behind_none, same_sealed, same_torn}
+use Rattle.gather.proofs.CloseLemmas.{own_none, behind_none, same_fault_by, faultless_ends}
 use Rattle.gather.proofs.FedLemmas.{marked_end}
-use Rattle.gather.proofs.CollectedLemmas.{torn_has_fault}
-
--- The first fault over whole items is that of their trace.
-
-same_by : (groups : Groups) (rank : ℕ) (items : List Item) (mark : Ending) → (end_mark_of items ≡ Some Sealed → is_ended (calls_among items) ≡ true) → end_mark_of items ≡ Some mark → fault_of_items groups rank items ≡ fault_of_rank groups rank (trace_of_items items)
-unfolding fault_of_rank
-same_by groups rank items Sealed sealed is = rw is (same_sealed groups rank [] (calls_among items) (sealed is))
-same_by groups rank items (Torn fault) sealed is = rw is (same_torn groups rank [] (calls_among items) fault)
-
-ended_by : (groups : Groups) (rank : ℕ) (items : List Item) (mark : Ending) → (end_mark_of items ≡ Some Sealed → is_ended (calls_among items) ≡ true) → end_mark_of items ≡ Some mark → fault_of_items groups rank items ≡ None → is_ended (calls_among items) ≡ true
-ended_by groups rank items Sealed sealed is none = sealed is
-ended_by groups rank items (Torn fault) sealed is none =
-    absurd (torn_has_fault groups rank [] (calls_among items) fault (ap (λ (m : Option Ending). fault_in groups rank [] (calls_among items) m) (sym is) ∙ none))
 
 -- what is kept of a rank whose source was read
 record IsKeptWhole {I : Type 0} (left : I → Option (List ℕ)) (may_stop : ℕ → ℕ → Type 0) (groups : Groups) (rank : ℕ) (source : Source I) (calls : List Call) (fault : Option PlacedFault) : Type 0 where
@@ -57,9 +41,9 @@ kept_whole left may_stop rank source kept read calm =
     λ none. k.before ∙ ap (λ (f : Option PlacedFault). records_before f (calls_among read.items)) none in record {
       items = read.items;
       fed = fed;
-      first = k.first ∙ same_by kept.groups rank read.items fed.end read.whole.sealed is;
+      first = k.first ∙ same_fault_by kept.groups rank read.items fed.end read.whole.sealed is;
       all = every;
-      ended = λ none. ap (λ (calls : List Call). is_ended calls) (every none) ∙ ended_by kept.groups rank read.items fed.end read.whole.sealed is (sym k.first ∙ none);
+      ended = λ none. ap (λ (calls : List Call). is_ended calls) (every none) ∙ faultless_ends kept.groups rank read.items fed.end read.whole.sealed is (sym k.first ∙ none);
     }
 
 -- All ranks.
@@ -105,7 +89,7 @@ module _ {I : Type 0} (left : I → Option (List ℕ)) (may_stop : ℕ → ℕ �
       λ rank is_rank. an_ended_lawful_list_is_closed kept.groups rank (calls_of kept.recording rank) (lawful rank is_rank) (all.ended none rank is_rank)
 
   module _ (reading : Reading) (groups : Groups) where
-    outcome_read : (outcome : Analysed) → AreReadOf left may_stop sources kept → kept.reading ≡ reading → kept.groups ≡ groups → kept.wanted ≡ false → IsOutcomeOfKept kept outcome → IsOutcomeOfFeeds left may_stop sources reading groups outcome
+    outcome_read : (outcome : Analysed) → AreReadOf left may_stop sources kept → kept.reading ≡ reading → kept.groups ≡ groups → kept.wanted ≡ false → IsOutcomeOf (refusal_kept kept) kept.reading kept.groups kept.recording outcome → IsOutcomeOfFeeds left may_stop sources reading groups outcome
     outcome_read outcome read alike same calm is =
         let all = read_whole read calm in
         let recording = all.recording is.no_refusal in
