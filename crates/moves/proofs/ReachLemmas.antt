@@ -206,8 +206,8 @@ partner_waits_on reading groups recording longer s t N rank start only same h =
     (λ (woken : IsWoken groups longer N rank start). inr woken)
     (still_unmet reading groups recording longer s t N rank start only (awaited_call recording rank (get_or s rank 0) start h.is_awaited) h.is_unmet)
 
-pub wave_waits_on : (groups : Groups) (recording longer : Lists) (s t : State) (waves : Progress) (rank comm : ℕ) → GoesOn recording longer → get_or t rank 0 ≡ get_or s rank 0 → NeedsWave groups recording s waves rank comm → NeedsWave groups longer t waves rank comm
-wave_waits_on groups recording longer s t waves rank comm goes_on same h =
+pub wave_waits_on : (groups : Groups) (recording longer : Lists) (s t : State) (progress : Progress) (rank comm : ℕ) → GoesOn recording longer → get_or t rank 0 ≡ get_or s rank 0 → NeedsWave groups recording s progress rank comm → NeedsWave groups longer t progress rank comm
+wave_waits_on groups recording longer s t progress rank comm goes_on same h =
     let within = awaited_call recording rank (get_or s rank 0) h.start h.is_awaited in
     record {
       start = h.start;
@@ -220,24 +220,24 @@ joined_on : (recording longer : Lists) (s t : State) (comm wave member : ℕ) �
 joined_on recording longer s t comm wave member goes_on no_lower h =
     (h.0, waves_stay recording longer comm wave member h.0 goes_on h.1, omega (arith, h.2, no_lower.stands member))
 
-pub waves_on : (groups : Groups) (recording longer : Lists) (s t : State) (waves : Progress) (N : ℕ → ℕ → Type 0) → OnlyReaches recording longer s t N → AreWaves groups recording s waves IsNoException → AreWaves groups longer t waves (λ comm member. (place : ℕ) × (N member place) × (wave_of longer member place ≡ Some (comm, complete_of waves comm)))
-waves_on groups recording longer s t waves N only h = record {
+pub waves_on : (groups : Groups) (recording longer : Lists) (s t : State) (progress : Progress) (N : ℕ → ℕ → Type 0) → OnlyReaches recording longer s t N → AreWaves groups recording s progress IsNoException → AreWaves groups longer t progress (λ comm member. (place : ℕ) × (N member place) × (wave_of longer member place ≡ Some (comm, complete_of progress comm)))
+waves_on groups recording longer s t progress N only h = record {
   completes = h.completes;
   meets = h.meets;
   done = λ comm wave g member less is. joined_on recording longer s t comm wave member only.goes_on only.no_lower (h.done comm wave g member less is);
-  met = λ comm g member less is. joined_on recording longer s t comm (complete_of waves comm) member only.goes_on only.no_lower (h.met comm g member less is);
+  met = λ comm g member less is. joined_on recording longer s t comm (complete_of progress comm) member only.goes_on only.no_lower (h.met comm g member less is);
   next = λ comm some.
       let next = h.next comm some in
       (next.0, next.1, λ joined. reached comm next.0 next.2 joined);
 }
   where
-    reached : (comm member : ℕ) → (HasJoined recording s comm (complete_of waves comm) member → ⊥) → HasJoined longer t comm (complete_of waves comm) member → (place : ℕ) × (N member place) × (wave_of longer member place ≡ Some (comm, complete_of waves comm))
+    reached : (comm member : ℕ) → (HasJoined recording s comm (complete_of progress comm) member → ⊥) → HasJoined longer t comm (complete_of progress comm) member → (place : ℕ) × (N member place) × (wave_of longer member place ≡ Some (comm, complete_of progress comm))
     reached comm member none joined =
         ⊎_elim
         (λ (old : (joined.0 < length (calls_of recording member)) × (joined.0 ≤ get_or s member 0)).
-        absurd (none (joined.0, place_before (does_join comm) (calls_of recording member) (only.goes_on.more member) (complete_of waves comm) joined.0 (rw (only.goes_on.goes_on member) at joined.1) old.0, old.1)))
-        (λ (new : N member joined.0). (joined.0, new, no_other_call_is_in_a_wave longer member joined.0 comm (complete_of waves comm) joined.1))
-        (only.only member joined.0 (place_within (does_join comm) (calls_of longer member) (complete_of waves comm) joined.0 joined.1) joined.2)
+        absurd (none (joined.0, place_before (does_join comm) (calls_of recording member) (only.goes_on.more member) (complete_of progress comm) joined.0 (rw (only.goes_on.goes_on member) at joined.1) old.0, old.1)))
+        (λ (new : N member joined.0). (joined.0, new, no_other_call_is_in_a_wave longer member joined.0 comm (complete_of progress comm) joined.1))
+        (only.only member joined.0 (place_within (does_join comm) (calls_of longer member) (complete_of progress comm) joined.0 joined.1) joined.2)
 
 -- a rank that rests goes on to, unless its next call has come
 pub rests_on : (recording longer : Lists) (s t : State) (rank : ℕ) → get_or t rank 0 ≡ get_or s rank 0 → slice_get (calls_of longer rank) (get_or s rank 0) ≡ slice_get (calls_of recording rank) (get_or s rank 0) → Rests recording s rank → Rests longer t rank

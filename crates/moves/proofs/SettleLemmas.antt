@@ -50,9 +50,9 @@ own_short ranks ls W R rank list h later only =
     none other differs (suc n) e = absurd (differs (only other (h.waits other list later (omega (arith, e)))))
 
 -- a wave that was open is so while no further one of its communicator is complete
-still_open : (groups : Groups) (recording : Lists) (s : State) (waves new : Progress) (rank comm : ℕ) → complete_of new comm ≡ complete_of waves comm → NeedsWave groups recording s waves rank comm → NeedsWave groups recording s new rank comm
-still_open groups recording s waves new rank comm same h =
-    let is_in = open_parts groups recording waves rank h.start comm h.is_joined in
+still_open : (groups : Groups) (recording : Lists) (s : State) (progress new : Progress) (rank comm : ℕ) → complete_of new comm ≡ complete_of progress comm → NeedsWave groups recording s progress rank comm → NeedsWave groups recording s new rank comm
+still_open groups recording s progress new rank comm same h =
+    let is_in = open_parts groups recording progress rank h.start comm h.is_joined in
     record {
       start = h.start;
       is_awaited = h.is_awaited;
@@ -61,30 +61,30 @@ still_open groups recording s waves new rank comm same h =
 
 -- what waiting means while those are still to be woken that wait for a call
 abbrev WaitsOrWoken : Reading → Groups → Lists → State → Progress → List ℕ → ℕ → ℕ → ℕ → ℕ → Type 0
-WaitsOrWoken reading groups recording s waves awaited rank place other list =
-    WaitsIn reading groups recording s waves awaited other list
+WaitsOrWoken reading groups recording s progress awaited rank place other list =
+    WaitsIn reading groups recording s progress awaited other list
     ⊎ ((list ≡ own_list other) × (other < length recording) × (WaitsFor groups recording rank place other (get_or awaited other 0)))
 
-waits_own : (reading : Reading) (groups : Groups) (recording : Lists) (s : State) (waves : Progress) (awaited : List ℕ) (rank place other owner : ℕ) → owner < length recording → WaitsOrWoken reading groups recording s waves awaited rank place other (own_list owner) → other ≡ owner
-waits_own reading groups recording s waves awaited rank place other owner is_rank (inl (inl own)) = omega (arith, own.0)
-waits_own reading groups recording s waves awaited rank place other owner is_rank (inl (inr wave)) = absurd (omega (arith, wave.1, is_rank))
-waits_own reading groups recording s waves awaited rank place other owner is_rank (inr new) = omega (arith, new.0)
+waits_own : (reading : Reading) (groups : Groups) (recording : Lists) (s : State) (progress : Progress) (awaited : List ℕ) (rank place other owner : ℕ) → owner < length recording → WaitsOrWoken reading groups recording s progress awaited rank place other (own_list owner) → other ≡ owner
+waits_own reading groups recording s progress awaited rank place other owner is_rank (inl (inl own)) = omega (arith, own.0)
+waits_own reading groups recording s progress awaited rank place other owner is_rank (inl (inr wave)) = absurd (omega (arith, wave.1, is_rank))
+waits_own reading groups recording s progress awaited rank place other owner is_rank (inr new) = omega (arith, new.0)
 
-waits_comm : (reading : Reading) (groups : Groups) (recording : Lists) (s : State) (waves : Progress) (awaited : List ℕ) (rank place other comm : ℕ) → WaitsOrWoken reading groups recording s waves awaited rank place other (comm_list (length recording) comm) → NeedsWave groups recording s waves other comm
-waits_comm reading groups recording s waves awaited rank place other comm (inl (inl own)) = absurd (omega (arith, own.0, own.1))
-waits_comm reading groups recording s waves awaited rank place other comm (inl (inr wave)) =
+waits_comm : (reading : Reading) (groups : Groups) (recording : Lists) (s : State) (progress : Progress) (awaited : List ℕ) (rank place other comm : ℕ) → WaitsOrWoken reading groups recording s progress awaited rank place other (comm_list (length recording) comm) → NeedsWave groups recording s progress other comm
+waits_comm reading groups recording s progress awaited rank place other comm (inl (inl own)) = absurd (omega (arith, own.0, own.1))
+waits_comm reading groups recording s progress awaited rank place other comm (inl (inr wave)) =
     let same : wave.0 ≡ comm = omega (arith, wave.1) in
-    subst (λ (c : ℕ). NeedsWave groups recording s waves other c) same wave.2
-waits_comm reading groups recording s waves awaited rank place other comm (inr new) = absurd (omega (arith, new.0, new.1))
+    subst (λ (c : ℕ). NeedsWave groups recording s progress other c) same wave.2
+waits_comm reading groups recording s progress awaited rank place other comm (inr new) = absurd (omega (arith, new.0, new.1))
 
 -- what the reaching of a place costs beside the wakes of a wave: four for each half, four for a probe, and one for a
 -- change of how far its wave is
-both_cost : (reading : Reading) (groups : Groups) (recording : Lists) (s : State) (waves new : Progress) (rank place : ℕ) (w : WaitLists) → IsReaching reading groups recording s waves w rank place → new.changes ≤ waves.changes + 1 → (wave_of recording rank place ≡ None → new.changes ≡ waves.changes) → load (all_woken groups recording rank place w None) + new.changes + 3 ≤ load w + waves.changes + cost_of (slice_get (calls_of recording rank) place)
-both_cost reading groups recording s waves new rank place w h changes no_change =
+both_cost : (reading : Reading) (groups : Groups) (recording : Lists) (s : State) (progress new : Progress) (rank place : ℕ) (w : WaitLists) → IsReaching reading groups recording s progress w rank place → new.changes ≤ progress.changes + 1 → (wave_of recording rank place ≡ None → new.changes ≡ progress.changes) → load (all_woken groups recording rank place w None) + new.changes + 3 ≤ load w + progress.changes + cost_of (slice_get (calls_of recording rank) place)
+both_cost reading groups recording s progress new rank place w h changes no_change =
     let three = three_cost groups recording rank place w (omega (arith, h.has_lists.lists, h.has_lists.awaited))
     (λ x wakens owner is_rank.
     own_short (length recording) x.lists _ _ owner (own_list owner) (linked_woken (length recording) w.lists x.lists _ _ h.linked wakens.wakes) (omega arith)
-    (λ other waits. waits_own reading groups recording s waves w.awaited rank place other owner (omega (arith, is_rank, h.has_lists.awaited, ap (length {A = ℕ}) wakens.same_awaited)) waits)) in
+    (λ other waits. waits_own reading groups recording s progress w.awaited rank place other owner (omega (arith, is_rank, h.has_lists.awaited, ap (length {A = ℕ}) wakens.same_awaited)) waits)) in
     ⊎_elim
     (λ (none : (cost_of (slice_get (calls_of recording rank) place) ≡ 3) × (slice_get (calls_of recording rank) place ≡ None)).
     let none_joined : wave_of recording rank place ≡ None = rw none.1 refl in
@@ -94,18 +94,18 @@ both_cost reading groups recording s waves new rank place w h changes no_change 
     (cost_cases (calls_of recording rank) place)
 
 -- how far each communicator's waves are never falls
-grows : (waves new : Progress) (done : Option ℕ) → ((comm : ℕ) → done ≢ Some comm → complete_of new comm ≡ complete_of waves comm) → ((comm : ℕ) → done ≡ Some comm → complete_of new comm ≡ complete_of waves comm + 1) → (comm : ℕ) → complete_of waves comm ≤ complete_of new comm
-grows waves new None others one comm = omega (arith, others comm (λ e. none-some comm e))
-grows waves new (Some c) others one comm =
+grows : (progress new : Progress) (done : Option ℕ) → ((comm : ℕ) → done ≢ Some comm → complete_of new comm ≡ complete_of progress comm) → ((comm : ℕ) → done ≡ Some comm → complete_of new comm ≡ complete_of progress comm + 1) → (comm : ℕ) → complete_of progress comm ≤ complete_of new comm
+grows progress new None others one comm = omega (arith, others comm (λ e. none-some comm e))
+grows progress new (Some c) others one comm =
     ⊎_elim
     (λ (same : c ≡ comm). omega (arith, one comm (ap (λ (k : ℕ). Some k) same)))
     (λ (differs : c ≢ comm). omega (arith, others comm (λ e. differs (same_Some c comm e))))
     (cases_eq c comm)
 
 -- the wakes of a wave are paid by the calls of it
-all_cost : (reading : Reading) (groups : Groups) (recording : Lists) (s : State) (waves new : Progress) (rank place : ℕ) (w : WaitLists) (done : Option ℕ) → IsReaching reading groups recording s waves w rank place → ((comm : ℕ) → done ≢ Some comm → complete_of new comm ≡ complete_of waves comm) → ((comm : ℕ) → done ≡ Some comm → complete_of new comm ≡ complete_of waves comm + 1) → ((comm : ℕ) → done ≡ Some comm → comm < length groups) → load (all_woken groups recording rank place w done) + paid recording s waves ≤ load (all_woken groups recording rank place w None) + paid recording s new
-all_cost reading groups recording s waves new rank place w None h others one known = omega (arith, paid_waves recording s waves new (grows waves new None others one))
-all_cost reading groups recording s waves new rank place w (Some comm) h others one known =
+all_cost : (reading : Reading) (groups : Groups) (recording : Lists) (s : State) (progress new : Progress) (rank place : ℕ) (w : WaitLists) (done : Option ℕ) → IsReaching reading groups recording s progress w rank place → ((comm : ℕ) → done ≢ Some comm → complete_of new comm ≡ complete_of progress comm) → ((comm : ℕ) → done ≡ Some comm → complete_of new comm ≡ complete_of progress comm + 1) → ((comm : ℕ) → done ≡ Some comm → comm < length groups) → load (all_woken groups recording rank place w done) + paid recording s progress ≤ load (all_woken groups recording rank place w None) + paid recording s new
+all_cost reading groups recording s progress new rank place w None h others one known = omega (arith, paid_waves recording s progress new (grows progress new None others one))
+all_cost reading groups recording s progress new rank place w (Some comm) h others one known =
     let both : WaitLists = all_woken groups recording rank place w None in
     let wakens : Wakens w both = all_wakens groups recording rank place w None h.has_lists (λ c e. absurd (none-some c e)) in
     let ranks : length both.awaited ≡ length recording = ap (length {A = ℕ}) wakens.same_awaited ∙ h.has_lists.awaited in
@@ -117,10 +117,10 @@ all_cost reading groups recording s waves new rank place w (Some comm) h others 
       arith,
       list_cost both (comm_list (length both.awaited) comm) (omega arith) within,
       same,
-      paid_waiters groups recording s waves new comm entries (grows waves new (Some comm) others one) (one comm refl)
+      paid_waiters groups recording s progress new comm entries (grows progress new (Some comm) others one) (one comm refl)
           (λ other. omega (arith, count_in_all other both.lists (comm_list (length recording) comm), now.once other))
           (λ other on. now.ranks_only other (omega (arith, on, count_in_all other both.lists (comm_list (length recording) comm))))
-          (λ other on. waits_comm reading groups recording s waves w.awaited rank place other comm (now.waits other (comm_list (length recording) comm) (omega arith) on)),
+          (λ other on. waits_comm reading groups recording s progress w.awaited rank place other comm (now.waits other (comm_list (length recording) comm) (omega arith) on)),
     )
 
 -- the lists stay as many once the partners are woken
@@ -130,8 +130,8 @@ partners_room groups recording rank place w h =
     (wakens.wakes.lists, ap (length {A = ℕ}) wakens.same_awaited)
 
 -- the rank that has reached its call is in hand, once all that waited for it are to be looked at
-pub reach_hand : (reading : Reading) (groups : Groups) (recording : Lists) (s : State) (waves new : Progress) (w : WaitLists) (rank place : ℕ) (done : Option ℕ) → IsReaching reading groups recording s waves w rank place → AreWaves groups recording s new IsNoException → ((comm : ℕ) → done ≢ Some comm → complete_of new comm ≡ complete_of waves comm) → ((comm : ℕ) → done ≡ Some comm → complete_of new comm ≡ complete_of waves comm + 1) → ((comm : ℕ) → done ≡ Some comm → comm < length groups) → new.changes ≤ waves.changes + 1 → (wave_of recording rank place ≡ None → new.changes ≡ waves.changes) → IsInHand reading groups recording s new (all_woken groups recording rank place w done) rank
-reach_hand reading groups recording s waves new w rank place done h are others one known changes no_change =
+pub reach_hand : (reading : Reading) (groups : Groups) (recording : Lists) (s : State) (progress new : Progress) (w : WaitLists) (rank place : ℕ) (done : Option ℕ) → IsReaching reading groups recording s progress w rank place → AreWaves groups recording s new IsNoException → ((comm : ℕ) → done ≢ Some comm → complete_of new comm ≡ complete_of progress comm) → ((comm : ℕ) → done ≡ Some comm → complete_of new comm ≡ complete_of progress comm + 1) → ((comm : ℕ) → done ≡ Some comm → comm < length groups) → new.changes ≤ progress.changes + 1 → (wave_of recording rank place ≡ None → new.changes ≡ progress.changes) → IsInHand reading groups recording s new (all_woken groups recording rank place w done) rank
+reach_hand reading groups recording s progress new w rank place done h are others one known changes no_change =
     let all : WaitLists = all_woken groups recording rank place w done in
     let wakens : Wakens w all = all_wakens groups recording rank place w done h.has_lists known in
     let awaited : all.awaited ≡ w.awaited = wakens.same_awaited in
@@ -148,11 +148,11 @@ reach_hand reading groups recording s waves new w rank place done h are others o
             changed (length recording) all.lists _ (WaitsIn reading groups recording s new all.awaited) _ (λ other. Rests recording s other ⊎ (other ≡ rank)) now
             (λ other list is_rank later on waits.
             ⊎_elim
-            (λ (old : WaitsIn reading groups recording s waves w.awaited other list).
+            (λ (old : WaitsIn reading groups recording s progress w.awaited other list).
             ⊎_elim
             (λ (own : (list ≡ own_list other) × (other < length recording) × NeedsPartner reading groups recording s other (get_or w.awaited other 0)).
             inl (own.0, own.1, subst (λ (xs : List ℕ). NeedsPartner reading groups recording s other (get_or xs other 0)) (sym awaited) own.2))
-            (λ (wave : (comm : ℕ) × (list ≡ comm_list (length recording) comm) × NeedsWave groups recording s waves other comm).
+            (λ (wave : (comm : ℕ) × (list ≡ comm_list (length recording) comm) × NeedsWave groups recording s progress other comm).
             inr (wave.0, wave.1, by_done other wave.0 list on wave.1 wave.2 done refl))
             old)
             (λ (new_call : (list ≡ own_list other) × (other < length recording) × (WaitsFor groups recording rank place other (get_or w.awaited other 0))).
@@ -162,40 +162,40 @@ reach_hand reading groups recording s waves new w rank place done h are others o
             (λ other is_rank none rests. rests);
         are_waves = are;
         is_reached = h.is_reached;
-        is_paid = omega (arith, all_cost reading groups recording s waves new rank place w done h others one known, both_cost reading groups recording s waves new rank place w h changes no_change, h.is_paid);
+        is_paid = omega (arith, all_cost reading groups recording s progress new rank place w done h others one known, both_cost reading groups recording s progress new rank place w h changes no_change, h.is_paid);
       };
       is_rank = h.is_rank;
       in_none = omega (arith, wakens.wakes.all rank, h.in_none);
     }
   where
-    by_done : (other comm list : ℕ) → 0 < count other (list_at (all_woken groups recording rank place w done).lists list) → list ≡ comm_list (length recording) comm → NeedsWave groups recording s waves other comm → (d : Option ℕ) → done ≡ d → NeedsWave groups recording s new other comm
-    by_done other comm list on there needs None e = still_open groups recording s waves new other comm (others comm (λ f. none-some comm (sym e ∙ f))) needs
+    by_done : (other comm list : ℕ) → 0 < count other (list_at (all_woken groups recording rank place w done).lists list) → list ≡ comm_list (length recording) comm → NeedsWave groups recording s progress other comm → (d : Option ℕ) → done ≡ d → NeedsWave groups recording s new other comm
+    by_done other comm list on there needs None e = still_open groups recording s progress new other comm (others comm (λ f. none-some comm (sym e ∙ f))) needs
     by_done other comm list on there needs (Some c) e =
         ⊎_elim
         (λ (same : c ≡ comm).
-        let is_done : done ≡ Some comm = e ∙ ap (λ (k : ℕ). Some k) same in
-        let none = wave_emptied groups recording rank place w comm other h.has_lists (known comm is_done) in
-        absurd (omega (arith, on, none, ap (λ (d : Option ℕ). count other (list_at (all_woken groups recording rank place w d).lists (comm_list (length recording) comm))) is_done, ap (λ (l : ℕ). count other (list_at (all_woken groups recording rank place w done).lists l)) there)))
-        (λ (differs : c ≢ comm). still_open groups recording s waves new other comm (others comm (λ f. differs (same_Some c comm (sym e ∙ f)))) needs)
+        let done_in : done ≡ Some comm = e ∙ ap (λ (k : ℕ). Some k) same in
+        let none = wave_emptied groups recording rank place w comm other h.has_lists (known comm done_in) in
+        absurd (omega (arith, on, none, ap (λ (d : Option ℕ). count other (list_at (all_woken groups recording rank place w d).lists (comm_list (length recording) comm))) done_in, ap (λ (l : ℕ). count other (list_at (all_woken groups recording rank place w done).lists l)) there)))
+        (λ (differs : c ≢ comm). still_open groups recording s progress new other comm (others comm (λ f. differs (same_Some c comm (sym e ∙ f)))) needs)
         (cases_eq c comm)
 
 -- touches are never fewer
-pub fewer_never : (waves new : Progress) (w last : WaitLists) → waves.changes ≤ new.changes → min w.work most_work ≤ min last.work most_work → touches_of waves w ≤ touches_of new last
-fewer_never waves new w last changes work = omega (arith, changes, work)
+pub fewer_never : (progress new : Progress) (w last : WaitLists) → progress.changes ≤ new.changes → min w.work most_work ≤ min last.work most_work → touches_of progress w ≤ touches_of new last
+fewer_never progress new w last changes work = omega (arith, changes, work)
 
-pub reach_counts : (reading : Reading) (groups : Groups) (recording : Lists) (s : State) (waves new : Progress) (w : WaitLists) (rank place : ℕ) (done : Option ℕ) → IsReaching reading groups recording s waves w rank place → ((comm : ℕ) → done ≡ Some comm → comm < length groups) → waves.changes ≤ new.changes → touches_of waves w ≤ touches_of new (all_woken groups recording rank place w done)
-reach_counts reading groups recording s waves new w rank place done h known changes =
+pub reach_counts : (reading : Reading) (groups : Groups) (recording : Lists) (s : State) (progress new : Progress) (w : WaitLists) (rank place : ℕ) (done : Option ℕ) → IsReaching reading groups recording s progress w rank place → ((comm : ℕ) → done ≡ Some comm → comm < length groups) → progress.changes ≤ new.changes → touches_of progress w ≤ touches_of new (all_woken groups recording rank place w done)
+reach_counts reading groups recording s progress new w rank place done h known changes =
     let all : WaitLists = all_woken groups recording rank place w done in
     let wakens : Wakens w all = all_wakens groups recording rank place w done h.has_lists known in
-    fewer_never waves new w all changes wakens.no_less
+    fewer_never progress new w all changes wakens.no_less
 
 -- there is a spare node for the rank in hand
-pub hand_room : (reading : Reading) (groups : Groups) (recording : Lists) (s : State) (waves : Progress) (w : WaitLists) (rank : ℕ) → IsInHand reading groups recording s waves w rank → 0 < w.spare
-hand_room reading groups recording s waves w rank h =
+pub hand_room : (reading : Reading) (groups : Groups) (recording : Lists) (s : State) (progress : Progress) (w : WaitLists) (rank : ℕ) → IsInHand reading groups recording s progress w rank → 0 < w.spare
+hand_room reading groups recording s progress w rank h =
     omega (arith, linked_less (length recording) rank w.lists _ _ h.kept.linked h.is_rank h.in_none, h.kept.has_lists.nodes)
 
 -- The rank in hand is linked where it waits.
-pub record Links (reading : Reading) (groups : Groups) (recording : Lists) (s : State) (waves : Progress) (w last : WaitLists) (rank list : ℕ) : Type 0 where
+pub record Links (reading : Reading) (groups : Groups) (recording : Lists) (s : State) (progress : Progress) (w last : WaitLists) (rank list : ℕ) : Type 0 where
   pub later : 0 < list
   pub within : list < length w.lists
   pub room : 0 < w.spare
@@ -204,12 +204,12 @@ pub record Links (reading : Reading) (groups : Groups) (recording : Lists) (s : 
   pub work : last.work ≡ min (w.work + 1) most_work
   pub long : length last.awaited ≡ length w.awaited
   pub awaited : (other : ℕ) → other ≢ rank → get_or last.awaited other 0 ≡ get_or w.awaited other 0
-  pub waits : WaitsIn reading groups recording s waves last.awaited rank list
+  pub waits : WaitsIn reading groups recording s progress last.awaited rank list
 
-pub hand_links : (reading : Reading) (groups : Groups) (recording : Lists) (s : State) (waves : Progress) (w last : WaitLists) (rank list : ℕ) → IsInHand reading groups recording s waves w rank → Links reading groups recording s waves w last rank list → HoldsBetweenLooks reading groups recording s waves last IsNobody 0
-hand_links reading groups recording s waves w last rank list h links =
+pub hand_links : (reading : Reading) (groups : Groups) (recording : Lists) (s : State) (progress : Progress) (w last : WaitLists) (rank list : ℕ) → IsInHand reading groups recording s progress w rank → Links reading groups recording s progress w last rank list → HoldsBetweenLooks reading groups recording s progress last IsNobody 0
+hand_links reading groups recording s progress w last rank list h links =
     let nodes = linked_nodes w.lists last.lists list rank links.within links.lists in
-    let right = changed (length recording) w.lists _ (WaitsIn reading groups recording s waves last.awaited) _ (λ other. (Rests recording s other ⊎ IsNobody other) ⊎ (other ≡ rank)) h.kept.linked
+    let right = changed (length recording) w.lists _ (WaitsIn reading groups recording s progress last.awaited) _ (λ other. (Rests recording s other ⊎ IsNobody other) ⊎ (other ≡ rank)) h.kept.linked
     (λ other list' is_rank later on waits.
     ⊎_elim
     (λ (own : (list' ≡ own_list other) × (other < length recording) × NeedsPartner reading groups recording s other (get_or w.awaited other 0)).
@@ -219,7 +219,7 @@ hand_links reading groups recording s waves w last rank list h links =
     absurd (omega (arith, on', count_in_all rank w.lists list', h.in_none)))
     (λ (differs : other ≢ rank). inl (own.0, own.1, rw (links.awaited other differs) own.2))
     (cases_eq other rank))
-    (λ (wave : (comm : ℕ) × (list' ≡ comm_list (length recording) comm) × NeedsWave groups recording s waves other comm). inr wave)
+    (λ (wave : (comm : ℕ) × (list' ≡ comm_list (length recording) comm) × NeedsWave groups recording s progress other comm). inr wave)
     waits)
     (λ other is_rank none rests.
     ⊎_elim
@@ -234,15 +234,15 @@ hand_links reading groups recording s waves w last rank list h links =
         counts = omega (arith, nodes.1, links.work, h.kept.has_lists.counts);
       };
       linked =
-          linked_at (length recording) w.lists last.lists list rank (WaitsIn reading groups recording s waves last.awaited) (λ other. Rests recording s other ⊎ IsNobody other) right h.is_rank h.in_none links.within (λ later. links.waits) links.lists;
+          linked_at (length recording) w.lists last.lists list rank (WaitsIn reading groups recording s progress last.awaited) (λ other. Rests recording s other ⊎ IsNobody other) right h.is_rank h.in_none links.within (λ later. links.waits) links.lists;
       are_waves = h.kept.are_waves;
       is_reached = h.kept.is_reached;
       is_paid =
           omega (arith, h.kept.is_paid, links.work, min-le_left (w.work + 1) most_work, ap (length {A = ℕ}) (linked_behind w.lists last.lists list rank links.later links.lists));
     }
 
-pub links_partner : (reading : Reading) (groups : Groups) (recording : Lists) (s : State) (waves : Progress) (w last : WaitLists) (rank place : ℕ) → IsInHand reading groups recording s waves w rank → NeedsPartner reading groups recording s rank place → 0 < w.spare → last ≡ with_rank (with_awaited w rank place) (own_list rank) rank → Links reading groups recording s waves w last rank (own_list rank)
-links_partner reading groups recording s waves w last rank place h needs room is =
+pub links_partner : (reading : Reading) (groups : Groups) (recording : Lists) (s : State) (progress : Progress) (w last : WaitLists) (rank place : ℕ) → IsInHand reading groups recording s progress w rank → NeedsPartner reading groups recording s rank place → 0 < w.spare → last ≡ with_rank (with_awaited w rank place) (own_list rank) rank → Links reading groups recording s progress w last rank (own_list rank)
+links_partner reading groups recording s progress w last rank place h needs room is =
     let awaited : last.awaited ≡ set w.awaited rank place = ap (λ (x : WaitLists). x.awaited) is in
     let here : get_or last.awaited rank 0 ≡ place = ap (λ (xs : List ℕ). get_or xs rank 0) awaited ∙ get_or-set_same w.awaited rank place 0 (omega (arith, h.is_rank, h.kept.has_lists.awaited)) in
     record {
@@ -262,13 +262,13 @@ comm_known [] comm h = absurd (omega (arith, h))
 comm_known (group ∷ groups) zero h = omega arith
 comm_known (group ∷ groups) (suc comm) h = omega (arith, comm_known groups comm h)
 
-pub wave_known : (groups : Groups) (recording : Lists) (s : State) (waves : Progress) (rank comm : ℕ) → NeedsWave groups recording s waves rank comm → comm < length groups
-wave_known groups recording s waves rank comm h = comm_known groups comm (open_parts groups recording waves rank h.start comm h.is_joined).some_member
+pub wave_known : (groups : Groups) (recording : Lists) (s : State) (progress : Progress) (rank comm : ℕ) → NeedsWave groups recording s progress rank comm → comm < length groups
+wave_known groups recording s progress rank comm h = comm_known groups comm (open_parts groups recording progress rank h.start comm h.is_joined).some_member
 
-pub links_wave : (reading : Reading) (groups : Groups) (recording : Lists) (s : State) (waves : Progress) (w last : WaitLists) (rank comm : ℕ) → IsInHand reading groups recording s waves w rank → NeedsWave groups recording s waves rank comm → 0 < w.spare → last ≡ with_rank w (comm_list (length w.awaited) comm) rank → Links reading groups recording s waves w last rank (comm_list (length w.awaited) comm)
-links_wave reading groups recording s waves w last rank comm h needs room is = record {
+pub links_wave : (reading : Reading) (groups : Groups) (recording : Lists) (s : State) (progress : Progress) (w last : WaitLists) (rank comm : ℕ) → IsInHand reading groups recording s progress w rank → NeedsWave groups recording s progress rank comm → 0 < w.spare → last ≡ with_rank w (comm_list (length w.awaited) comm) rank → Links reading groups recording s progress w last rank (comm_list (length w.awaited) comm)
+links_wave reading groups recording s progress w last rank comm h needs room is = record {
   later = omega arith;
-  within = omega (arith, wave_known groups recording s waves rank comm needs, h.kept.has_lists.lists, h.kept.has_lists.awaited);
+  within = omega (arith, wave_known groups recording s progress rank comm needs, h.kept.has_lists.lists, h.kept.has_lists.awaited);
   room = room;
   lists = ap (λ (x : WaitLists). x.lists) is;
   spare = ap (λ (x : WaitLists). x.spare) is;
@@ -279,30 +279,30 @@ links_wave reading groups recording s waves w last rank comm h needs room is = r
 }
 
 -- what goes on where calls come to be reached: who waited waits on, or for one of these
-waits_on : (reading : Reading) (groups : Groups) (recording longer : Lists) (s t : State) (waves : Progress) (awaited : List ℕ) (N : ℕ → ℕ → Type 0) (other list : ℕ) → OnlyReaches recording longer s t N → get_or t other 0 ≡ get_or s other 0 → WaitsIn reading groups recording s waves awaited other list → WaitsIn reading groups longer t waves awaited other list ⊎ ((list ≡ own_list other) × (other < length longer) × IsWoken groups longer N other (get_or awaited other 0))
-waits_on reading groups recording longer s t waves awaited N other list only same (inl own) =
+waits_on : (reading : Reading) (groups : Groups) (recording longer : Lists) (s t : State) (progress : Progress) (awaited : List ℕ) (N : ℕ → ℕ → Type 0) (other list : ℕ) → OnlyReaches recording longer s t N → get_or t other 0 ≡ get_or s other 0 → WaitsIn reading groups recording s progress awaited other list → WaitsIn reading groups longer t progress awaited other list ⊎ ((list ≡ own_list other) × (other < length longer) × IsWoken groups longer N other (get_or awaited other 0))
+waits_on reading groups recording longer s t progress awaited N other list only same (inl own) =
     let is_rank : other < length longer = omega (arith, own.1, only.goes_on.same_ranks) in
     ⊎_elim
     (λ (still : NeedsPartner reading groups longer t other (get_or awaited other 0)). inl (inl (own.0, is_rank, still)))
     (λ (new : IsWoken groups longer N other (get_or awaited other 0)). inr (own.0, is_rank, new))
     (partner_waits_on reading groups recording longer s t N other (get_or awaited other 0) only same own.2)
-waits_on reading groups recording longer s t waves awaited N other list only same (inr wave) =
-    inl (inr (wave.0, wave.1 ∙ ap (λ (n : ℕ). comm_list n wave.0) only.goes_on.same_ranks, wave_waits_on groups recording longer s t waves other wave.0 only.goes_on same wave.2))
+waits_on reading groups recording longer s t progress awaited N other list only same (inr wave) =
+    inl (inr (wave.0, wave.1 ∙ ap (λ (n : ℕ). comm_list n wave.0) only.goes_on.same_ranks, wave_waits_on groups recording longer s t progress other wave.0 only.goes_on same wave.2))
 
 -- and where it is one call, each wave is as it was but for that call
-waits_on_or_woken : (reading : Reading) (groups : Groups) (recording longer : Lists) (s t : State) (waves : Progress) (awaited : List ℕ) (rank place other list : ℕ) → OnlyReaches recording longer s t (λ someone there. (someone ≡ rank) × (there ≡ place)) → get_or t other 0 ≡ get_or s other 0 → WaitsIn reading groups recording s waves awaited other list → WaitsOrWoken reading groups longer t waves awaited rank place other list
-waits_on_or_woken reading groups recording longer s t waves awaited rank place other list only same waits =
+waits_on_or_woken : (reading : Reading) (groups : Groups) (recording longer : Lists) (s t : State) (progress : Progress) (awaited : List ℕ) (rank place other list : ℕ) → OnlyReaches recording longer s t (λ someone there. (someone ≡ rank) × (there ≡ place)) → get_or t other 0 ≡ get_or s other 0 → WaitsIn reading groups recording s progress awaited other list → WaitsOrWoken reading groups longer t progress awaited rank place other list
+waits_on_or_woken reading groups recording longer s t progress awaited rank place other list only same waits =
     ⊎_elim
-    (λ (still : WaitsIn reading groups longer t waves awaited other list). inl still)
+    (λ (still : WaitsIn reading groups longer t progress awaited other list). inl still)
     (λ (new : (list ≡ own_list other) × (other < length longer) × IsWoken groups longer (λ someone there. (someone ≡ rank) × (there ≡ place)) other (get_or awaited other 0)).
     inr (new.0, new.1, subst (λ (p : ℕ). WaitsFor groups longer rank p other (get_or awaited other 0)) new.2.is_new.1 (subst (λ (k : ℕ). WaitsFor groups longer k new.2.place other (get_or awaited other 0)) new.2.is_new.0 new.2.waits)))
-    (waits_on reading groups recording longer s t waves awaited _ other list only same waits)
+    (waits_on reading groups recording longer s t progress awaited _ other list only same waits)
 
-waves_but_one : (groups : Groups) (recording longer : Lists) (s t : State) (waves : Progress) (rank place : ℕ) → OnlyReaches recording longer s t (λ someone there. (someone ≡ rank) × (there ≡ place)) → AreWaves groups recording s waves IsNoException → AreWaves groups longer t waves (λ comm member. (member ≡ rank) × (wave_of longer rank place ≡ Some (comm, complete_of waves comm)))
-waves_but_one groups recording longer s t waves rank place only h =
-    fewer_excepted groups longer t waves _ _ (waves_on groups recording longer s t waves _ only h)
+waves_but_one : (groups : Groups) (recording longer : Lists) (s t : State) (progress : Progress) (rank place : ℕ) → OnlyReaches recording longer s t (λ someone there. (someone ≡ rank) × (there ≡ place)) → AreWaves groups recording s progress IsNoException → AreWaves groups longer t progress (λ comm member. (member ≡ rank) × (wave_of longer rank place ≡ Some (comm, complete_of progress comm)))
+waves_but_one groups recording longer s t progress rank place only h =
+    fewer_excepted groups longer t progress _ _ (waves_on groups recording longer s t progress _ only h)
     (λ comm member is_member e.
-    (e.1.0, subst (λ (p : ℕ). wave_of longer rank p ≡ Some (comm, complete_of waves comm)) e.1.1 (subst (λ (k : ℕ). wave_of longer k e.0 ≡ Some (comm, complete_of waves comm)) e.1.0 e.2)))
+    (e.1.0, subst (λ (p : ℕ). wave_of longer rank p ≡ Some (comm, complete_of progress comm)) e.1.1 (subst (λ (k : ℕ). wave_of longer k e.0 ≡ Some (comm, complete_of progress comm)) e.1.0 e.2)))
 
 lists_on : (groups : Groups) (recording longer : Lists) (w : WaitLists) → HasLists groups recording w → length recording ≡ length longer → HasLists groups longer w
 lists_on groups recording longer w h same_ranks = record {
@@ -313,8 +313,8 @@ lists_on groups recording longer w h same_ranks = record {
 }
 
 -- the rank in hand moves on
-pub hand_moves : (reading : Reading) (groups : Groups) (recording : Lists) (s t : State) (waves : Progress) (w : WaitLists) (rank place : ℕ) → IsInHand reading groups recording s waves w rank → can_move reading groups recording s rank ≡ true → get_or s rank 0 < most_calls → t ≡ moved s rank → place ≡ get_or t rank 0 → IsReaching reading groups recording t waves w rank place
-hand_moves reading groups recording s t waves w rank place h able few is there =
+pub hand_moves : (reading : Reading) (groups : Groups) (recording : Lists) (s t : State) (progress : Progress) (w : WaitLists) (rank place : ℕ) → IsInHand reading groups recording s progress w rank → can_move reading groups recording s rank ≡ true → get_or s rank 0 < most_calls → t ≡ moved s rank → place ≡ get_or t rank 0 → IsReaching reading groups recording t progress w rank place
+hand_moves reading groups recording s t progress w rank place h able few is there =
     let in_s : rank < length s = omega (arith, reached_ranks (can_move reading groups recording) (length recording) s h.kept.is_reached, h.is_rank) in
     let next : get_or t rank 0 ≡ get_or s rank 0 + 1 = ap (λ (x : State). get_or x rank 0) is ∙ moved_own s rank in_s in
     let at_place : get_or s rank 0 + 1 ≡ place = sym next ∙ sym there in
@@ -329,7 +329,7 @@ hand_moves reading groups recording s t waves w rank place h able few is there =
           (λ other list is_rank later on waits.
           let differs : other ≢ rank = λ e.
           omega (arith, subst (λ (k : ℕ). 0 < count k (list_at w.lists list)) e on, count_in_all rank w.lists list, h.in_none) in
-          waits_on_or_woken reading groups recording recording s t waves w.awaited rank place other list only (same other differs) waits)
+          waits_on_or_woken reading groups recording recording s t progress w.awaited rank place other list only (same other differs) waits)
           (λ other is_rank none rests.
           ⊎_elim
           (λ (own : other ≡ rank). inr own)
@@ -339,15 +339,15 @@ hand_moves reading groups recording s t waves w rank place h able few is there =
           (λ (own : other ≡ rank). absurd (differs own))
           rests)
           (cases_eq other rank));
-      are_waves = waves_but_one groups recording recording s t waves rank place only h.kept.are_waves;
+      are_waves = waves_but_one groups recording recording s t progress rank place only h.kept.are_waves;
       is_reached = reached_step (can_move reading groups recording) (length recording) s t h.kept.is_reached (record { rank = rank; is_rank = in_s; can_move = able; moves_on = is });
       is_rank = h.is_rank;
       in_none = h.in_none;
       is_there = there;
       few = omega (arith, there, next, few);
       is_paid =
-          let more = paid_moved recording s waves rank h.is_rank in_s in
-          let after : paid recording (moved s rank) waves ≡ paid recording t waves = ap (λ (x : State). paid recording x waves) (sym is) in
+          let more = paid_moved recording s progress rank h.is_rank in_s in
+          let after : paid recording (moved s rank) progress ≡ paid recording t progress = ap (λ (x : State). paid recording x progress) (sym is) in
           let cost : cost_of (slice_get (calls_of recording rank) (get_or s rank 0 + 1)) ≡ cost_of (slice_get (calls_of recording rank) place) = ap (λ (p : ℕ). cost_of (slice_get (calls_of recording rank) p)) at_place in
           omega (arith, more, after, cost, h.kept.is_paid);
     }
@@ -357,12 +357,12 @@ cost_most None = omega arith
 cost_most (Some call) = omega arith
 
 -- the call arrives at which its rank stands
-stands_at_end : (reading : Reading) (groups : Groups) (recording : Lists) (s : State) (waves : Progress) (awaited : List ℕ) (rank list : ℕ) → get_or s rank 0 ≡ length (calls_of recording rank) → WaitsIn reading groups recording s waves awaited rank list → ⊥
-stands_at_end reading groups recording s waves awaited rank list at_end (inl own) = omega (arith, awaited_place recording rank (get_or s rank 0) (get_or awaited rank 0) own.2.is_awaited, at_end)
-stands_at_end reading groups recording s waves awaited rank list at_end (inr wave) = omega (arith, awaited_place recording rank (get_or s rank 0) wave.2.start wave.2.is_awaited, at_end)
+stands_at_end : (reading : Reading) (groups : Groups) (recording : Lists) (s : State) (progress : Progress) (awaited : List ℕ) (rank list : ℕ) → get_or s rank 0 ≡ length (calls_of recording rank) → WaitsIn reading groups recording s progress awaited rank list → ⊥
+stands_at_end reading groups recording s progress awaited rank list at_end (inl own) = omega (arith, awaited_place recording rank (get_or s rank 0) (get_or awaited rank 0) own.2.is_awaited, at_end)
+stands_at_end reading groups recording s progress awaited rank list at_end (inr wave) = omega (arith, awaited_place recording rank (get_or s rank 0) wave.2.start wave.2.is_awaited, at_end)
 
-pub at_end_in_none : (reading : Reading) (groups : Groups) (recording : Lists) (s : State) (waves : Progress) (w : WaitLists) (rank : ℕ) → IsSettled reading groups recording s waves w → get_or s rank 0 ≡ length (calls_of recording rank) → in_all rank w.lists ≡ 0
-at_end_in_none reading groups recording s waves w rank h at_end = none (in_all rank w.lists) refl
+pub at_end_in_none : (reading : Reading) (groups : Groups) (recording : Lists) (s : State) (progress : Progress) (w : WaitLists) (rank : ℕ) → IsSettled reading groups recording s progress w → get_or s rank 0 ≡ length (calls_of recording rank) → in_all rank w.lists ≡ 0
+at_end_in_none reading groups recording s progress w rank h at_end = none (in_all rank w.lists) refl
   where
     none : (n : ℕ) → in_all rank w.lists ≡ n → in_all rank w.lists ≡ 0
     none zero e = e
@@ -370,22 +370,22 @@ at_end_in_none reading groups recording s waves w rank h at_end = none (in_all r
         let found = found_in rank w.lists (omega (arith, e)) in
         ⊎_elim
         (λ (first : found.0 ≡ 0). absurd (omega (arith, found.2, ap (λ (l : ℕ). count rank (list_at w.lists l)) first, ap (count rank) h.is_empty)))
-        (λ (later : found.0 ≢ 0). absurd (stands_at_end reading groups recording s waves w.awaited rank found.0 at_end (h.kept.linked.waits rank found.0 (omega arith) found.2)))
+        (λ (later : found.0 ≢ 0). absurd (stands_at_end reading groups recording s progress w.awaited rank found.0 at_end (h.kept.linked.waits rank found.0 (omega arith) found.2)))
         (cases_eq found.0 0)
 
-pub arrival_reaches : (reading : Reading) (groups : Groups) (recording : Lists) (s : State) (waves : Progress) (w : WaitLists) (rank place : ℕ) (call : Call) → IsSettled reading groups recording s waves w → rank < length recording → get_or s rank 0 ≡ length (calls_of recording rank) → place ≡ get_or s rank 0 → place ≤ most_calls → IsTheEnd (can_move reading groups recording) (length recording) s → IsReaching reading groups (appended recording rank call) s waves w rank place
-arrival_reaches reading groups recording s waves w rank place call h is_rank at_end there few end =
+pub arrival_reaches : (reading : Reading) (groups : Groups) (recording : Lists) (s : State) (progress : Progress) (w : WaitLists) (rank place : ℕ) (call : Call) → IsSettled reading groups recording s progress w → rank < length recording → get_or s rank 0 ≡ length (calls_of recording rank) → place ≡ get_or s rank 0 → place ≤ most_calls → IsTheEnd (can_move reading groups recording) (length recording) s → IsReaching reading groups (appended recording rank call) s progress w rank place
+arrival_reaches reading groups recording s progress w rank place call h is_rank at_end there few end =
     let longer : Lists = appended recording rank call in
     let only =
     subst (λ (p : ℕ). OnlyReaches recording longer s s (λ other there. (other ≡ rank) × (there ≡ p))) (sym (there ∙ at_end)) (arrived_there recording s rank call is_rank) in
     let same_ranks : length recording ≡ length longer = only.goes_on.same_ranks in
-    let in_none = at_end_in_none reading groups recording s waves w rank h at_end in
+    let in_none = at_end_in_none reading groups recording s progress w rank h at_end in
     record {
       has_lists = lists_on groups recording longer w h.kept.has_lists same_ranks;
       linked =
-          subst (λ (n : ℕ). AreListed n w.lists (WaitsOrWoken reading groups longer s waves w.awaited rank place) (λ other. Rests longer s other ⊎ (other ≡ rank))) same_ranks
-          (changed (length recording) w.lists _ (WaitsOrWoken reading groups longer s waves w.awaited rank place) _ (λ other. Rests longer s other ⊎ (other ≡ rank)) h.kept.linked
-          (λ other list is_rank' later on waits. waits_on_or_woken reading groups recording longer s s waves w.awaited rank place other list only refl waits)
+          subst (λ (n : ℕ). AreListed n w.lists (WaitsOrWoken reading groups longer s progress w.awaited rank place) (λ other. Rests longer s other ⊎ (other ≡ rank))) same_ranks
+          (changed (length recording) w.lists _ (WaitsOrWoken reading groups longer s progress w.awaited rank place) _ (λ other. Rests longer s other ⊎ (other ≡ rank)) h.kept.linked
+          (λ other list is_rank' later on waits. waits_on_or_woken reading groups recording longer s s progress w.awaited rank place other list only refl waits)
           (λ other is_rank' none rests.
           ⊎_elim
           (λ (own : other ≡ rank). inr own)
@@ -395,7 +395,7 @@ arrival_reaches reading groups recording s waves w rank place call h is_rank at_
           (λ (nobody : IsNobody other). absurd nobody)
           rests)
           (cases_eq other rank)));
-      are_waves = waves_but_one groups recording longer s s waves rank place only h.kept.are_waves;
+      are_waves = waves_but_one groups recording longer s s progress rank place only h.kept.are_waves;
       is_reached = still_reached reading groups recording rank call s is_rank end;
       is_rank = omega (arith, is_rank, same_ranks);
       in_none = in_none;
@@ -403,12 +403,12 @@ arrival_reaches reading groups recording s waves w rank place call h is_rank at_
       few = few;
       is_paid =
           let cost : cost_of (slice_get (calls_of longer rank) place) ≤ 16 = cost_most (slice_get (calls_of longer rank) place) in
-          omega (arith, cost, h.kept.is_paid, paid_there recording s waves rank call is_rank at_end);
+          omega (arith, cost, h.kept.is_paid, paid_there recording s progress rank call is_rank at_end);
     }
 
 -- a call arrives that its rank has not come to
-pub arrival_waits : (reading : Reading) (groups : Groups) (recording : Lists) (s : State) (waves : Progress) (w : WaitLists) (rank : ℕ) (call : Call) → IsSettled reading groups recording s waves w → rank < length recording → get_or s rank 0 < length (calls_of recording rank) → IsTheEnd (can_move reading groups recording) (length recording) s → IsSettled reading groups (appended recording rank call) s waves w
-arrival_waits reading groups recording s waves w rank call h is_rank behind end =
+pub arrival_waits : (reading : Reading) (groups : Groups) (recording : Lists) (s : State) (progress : Progress) (w : WaitLists) (rank : ℕ) (call : Call) → IsSettled reading groups recording s progress w → rank < length recording → get_or s rank 0 < length (calls_of recording rank) → IsTheEnd (can_move reading groups recording) (length recording) s → IsSettled reading groups (appended recording rank call) s progress w
+arrival_waits reading groups recording s progress w rank call h is_rank behind end =
     let longer : Lists = appended recording rank call in
     let only = arrived_ahead recording s rank call is_rank behind in
     let same_ranks : length recording ≡ length longer = only.goes_on.same_ranks in
@@ -417,23 +417,23 @@ arrival_waits reading groups recording s waves w rank call h is_rank behind end 
       kept = record {
         has_lists = lists_on groups recording longer w h.kept.has_lists same_ranks;
         linked =
-            subst (λ (n : ℕ). AreListed n w.lists (WaitsIn reading groups longer s waves w.awaited) (λ other. Rests longer s other ⊎ IsNobody other)) same_ranks
-            (changed (length recording) w.lists _ (WaitsIn reading groups longer s waves w.awaited) _ (λ other. Rests longer s other ⊎ IsNobody other) h.kept.linked
+            subst (λ (n : ℕ). AreListed n w.lists (WaitsIn reading groups longer s progress w.awaited) (λ other. Rests longer s other ⊎ IsNobody other)) same_ranks
+            (changed (length recording) w.lists _ (WaitsIn reading groups longer s progress w.awaited) _ (λ other. Rests longer s other ⊎ IsNobody other) h.kept.linked
             (λ other list is_rank' later on waits.
             ⊎_elim
-            (λ (still : WaitsIn reading groups longer s waves w.awaited other list). still)
+            (λ (still : WaitsIn reading groups longer s progress w.awaited other list). still)
             (λ (new : (list ≡ own_list other) × (other < length longer) × IsWoken groups longer (λ someone there. ⊥) other (get_or w.awaited other 0)). absurd new.2.is_new)
-            (waits_on reading groups recording longer s s waves w.awaited _ other list only refl waits))
+            (waits_on reading groups recording longer s s progress w.awaited _ other list only refl waits))
             (λ other is_rank' none rests.
             ⊎_elim
             (λ (rest : Rests recording s other). inl (rests_on recording longer s s other refl (still_there recording rank other call s is_rank behind) rest))
             (λ (nobody : IsNobody other). absurd nobody)
             rests));
         are_waves =
-            fewer_excepted groups longer s waves _ _ (waves_on groups recording longer s s waves _ only h.kept.are_waves)
+            fewer_excepted groups longer s progress _ _ (waves_on groups recording longer s s progress _ only h.kept.are_waves)
             (λ comm member is_member e. e.1);
         is_reached = still_reached reading groups recording rank call s is_rank end;
-        is_paid = omega (arith, h.kept.is_paid, paid_ahead recording s waves rank call is_rank);
+        is_paid = omega (arith, h.kept.is_paid, paid_ahead recording s progress rank call is_rank);
       };
     }
   where
@@ -445,8 +445,8 @@ arrival_waits reading groups recording s waves w rank call h is_rank behind end 
         (cases_eq other rank)
 
 -- the first of the worklist is taken
-pub kept_taken : (reading : Reading) (groups : Groups) (recording : Lists) (s : State) (waves : Progress) (w new : WaitLists) (rank : ℕ) → HoldsBetweenLooks reading groups recording s waves w IsNobody 0 → slice_get (list_at w.lists 0) 0 ≡ Some rank → new.lists ≡ set w.lists 0 (drop 1 (list_at w.lists 0)) → new.spare ≡ w.spare + 1 → new.work ≡ min (w.work + 1) most_work → new.awaited ≡ w.awaited → IsInHand reading groups recording s waves new rank
-kept_taken reading groups recording s waves w new rank h first lists spare work awaited =
+pub kept_taken : (reading : Reading) (groups : Groups) (recording : Lists) (s : State) (progress : Progress) (w new : WaitLists) (rank : ℕ) → HoldsBetweenLooks reading groups recording s progress w IsNobody 0 → slice_get (list_at w.lists 0) 0 ≡ Some rank → new.lists ≡ set w.lists 0 (drop 1 (list_at w.lists 0)) → new.spare ≡ w.spare + 1 → new.work ≡ min (w.work + 1) most_work → new.awaited ≡ w.awaited → IsInHand reading groups recording s progress new rank
+kept_taken reading groups recording s progress w new rank h first lists spare work awaited =
     let it = taken (length recording) w.lists new.lists rank _ _ h.linked (omega (arith, h.has_lists.lists)) first lists in
     record {
       kept = record {
@@ -458,7 +458,7 @@ kept_taken reading groups recording s waves w new rank h first lists spare work 
         };
         linked =
             changed (length recording) new.lists _ _ _ _ it.linked
-            (λ other list is_rank later on waits. subst (λ (xs : List ℕ). WaitsIn reading groups recording s waves xs other list) (sym awaited) waits)
+            (λ other list is_rank later on waits. subst (λ (xs : List ℕ). WaitsIn reading groups recording s progress xs other list) (sym awaited) waits)
             (λ other is_rank none rests.
             ⊎_elim
             (λ (old : Rests recording s other ⊎ IsNobody other).
@@ -489,8 +489,8 @@ moved_falls reading groups recording s t new w last rank h is_rank is =
     rw total_t (less_to_do (total s) (call_count recording) (length recording) (length (list_at last.lists 0)) (omega (arith, most, total_t)) (omega (arith, most_linked last.lists 0, h.kept.has_lists.nodes)) (length (list_at w.lists 0)))
 
 -- no rank can move once none is to be looked at
-pub settled_end : (reading : Reading) (groups : Groups) (recording : Lists) (s : State) (waves : Progress) (w : WaitLists) → IsSettled reading groups recording s waves w → IsTheEnd (can_move reading groups recording) (length recording) s
-settled_end reading groups recording s waves w h =
+pub settled_end : (reading : Reading) (groups : Groups) (recording : Lists) (s : State) (progress : Progress) (w : WaitLists) → IsSettled reading groups recording s progress w → IsTheEnd (can_move reading groups recording) (length recording) s
+settled_end reading groups recording s progress w h =
     stuck_end reading groups recording s h.kept.is_reached
     (λ rank is_rank. by_all rank (omega (arith, is_rank, reached_ranks (can_move reading groups recording) (length recording) s h.kept.is_reached)) (in_all rank w.lists) refl)
   where
@@ -507,7 +507,7 @@ settled_end reading groups recording s waves w h =
         (λ (later : found.0 ≢ 0).
         ⊎_elim
         (λ (own : (found.0 ≡ own_list rank) × (rank < length recording) × NeedsPartner reading groups recording s rank (get_or w.awaited rank 0)). partner_stuck reading groups recording s rank (get_or w.awaited rank 0) own.2)
-        (λ (wave : (comm : ℕ) × (found.0 ≡ comm_list (length recording) comm) × NeedsWave groups recording s waves rank comm). wave_stuck reading groups recording s waves rank wave.0 h.kept.are_waves wave.2)
+        (λ (wave : (comm : ℕ) × (found.0 ≡ comm_list (length recording) comm) × NeedsWave groups recording s progress rank comm). wave_stuck reading groups recording s progress rank wave.0 h.kept.are_waves wave.2)
         (h.kept.linked.waits rank found.0 (omega arith) found.2))
         (cases_eq found.0 0)
 
@@ -516,22 +516,22 @@ pub stand_within : (reading : Reading) (groups : Groups) (recording : Lists) (s 
 stand_within reading groups recording s rank reached = omega (arith, (reached_within reading groups recording s reached).stands rank, length_of_calls recording rank)
 
 -- what arrived at its rank's stand is reached
-pub arrived_reaching : (reading : Reading) (groups : Groups) (recording : Lists) (s : State) (waves : Progress) (w : WaitLists) (rank place : ℕ) → HasArrived reading groups recording s waves w rank place → get_or s rank 0 ≡ place → IsReaching reading groups recording s waves w rank place
-arrived_reaching reading groups recording s waves w rank place h there =
-    rw h.is (arrival_reaches reading groups h.before s waves w rank place h.call h.settled h.is_rank (there ∙ h.is_next) (sym there) h.few (settled_end reading groups h.before s waves w h.settled))
+pub arrived_reaching : (reading : Reading) (groups : Groups) (recording : Lists) (s : State) (progress : Progress) (w : WaitLists) (rank place : ℕ) → HasArrived reading groups recording s progress w rank place → get_or s rank 0 ≡ place → IsReaching reading groups recording s progress w rank place
+arrived_reaching reading groups recording s progress w rank place h there =
+    rw h.is (arrival_reaches reading groups h.before s progress w rank place h.call h.settled h.is_rank (there ∙ h.is_next) (sym there) h.few (settled_end reading groups h.before s progress w h.settled))
 
 -- what arrived before its rank has come to it wakes none
-pub arrived_settled : (reading : Reading) (groups : Groups) (recording : Lists) (s : State) (waves : Progress) (w : WaitLists) (rank place : ℕ) → HasArrived reading groups recording s waves w rank place → get_or s rank 0 ≢ place → IsSettled reading groups recording s waves w
-arrived_settled reading groups recording s waves w rank place h not_there =
-    rw h.is (arrival_waits reading groups h.before s waves w rank h.call h.settled h.is_rank
-    (omega (arith, stand_within reading groups h.before s rank h.settled.kept.is_reached, h.is_next, not_there)) (settled_end reading groups h.before s waves w h.settled))
+pub arrived_settled : (reading : Reading) (groups : Groups) (recording : Lists) (s : State) (progress : Progress) (w : WaitLists) (rank place : ℕ) → HasArrived reading groups recording s progress w rank place → get_or s rank 0 ≢ place → IsSettled reading groups recording s progress w
+arrived_settled reading groups recording s progress w rank place h not_there =
+    rw h.is (arrival_waits reading groups h.before s progress w rank h.call h.settled h.is_rank
+    (omega (arith, stand_within reading groups h.before s rank h.settled.kept.is_reached, h.is_next, not_there)) (settled_end reading groups h.before s progress w h.settled))
 
 -- at the start no rank has a call
 no_call_joined : (ranks comm wave member : ℕ) (s : State) → HasJoined (replicate ranks []) s comm wave member → ⊥
 no_call_joined ranks comm wave member s h = none-some h.0 (rw (no_calls ranks member) at h.1)
 
-pub new_settled : (reading : Reading) (groups : Groups) (recording : Lists) (s : State) (waves : Progress) (w : WaitLists) (ranks : ℕ) → recording ≡ replicate ranks [] → s ≡ start ranks → waves.complete.items ≡ replicate (length groups) 0 → waves.met.items ≡ replicate (length groups) 0 → w.lists ≡ replicate (1 + ranks + length groups) [] → w.spare ≡ ranks → w.work ≡ 0 → waves.changes ≡ 0 → w.awaited ≡ replicate ranks 0 → IsSettled reading groups recording s waves w
-new_settled reading groups recording s waves w ranks is_empty zeros complete met lists spare work changes awaited =
+pub new_settled : (reading : Reading) (groups : Groups) (recording : Lists) (s : State) (progress : Progress) (w : WaitLists) (ranks : ℕ) → recording ≡ replicate ranks [] → s ≡ start ranks → progress.complete.items ≡ replicate (length groups) 0 → progress.met.items ≡ replicate (length groups) 0 → w.lists ≡ replicate (1 + ranks + length groups) [] → w.spare ≡ ranks → w.work ≡ 0 → progress.changes ≡ 0 → w.awaited ≡ replicate ranks 0 → IsSettled reading groups recording s progress w
+new_settled reading groups recording s progress w ranks is_empty zeros complete met lists spare work changes awaited =
     let long : length recording ≡ ranks = ap (length {A = List Call}) is_empty ∙ length-replicate ranks [] in
     let none = none_there (1 + ranks + length groups) in
     let end = start_end reading groups ranks in
@@ -551,8 +551,8 @@ new_settled reading groups recording s waves w ranks is_empty zeros complete met
           done = λ comm wave g member less is. absurd (omega (arith, less, ap (λ (xs : List ℕ). get_or xs comm 0) complete, get_start (length groups) comm));
           met = λ comm g member less is. absurd (omega (arith, less, ap (λ (xs : List ℕ). get_or xs comm 0) met, get_start (length groups) comm));
           next = λ comm some.
-              let first : met_of waves comm ≡ 0 = ap (λ (xs : List ℕ). get_or xs comm 0) met ∙ get_start (length groups) comm in
-              (get_or (group_of groups comm) 0 0, rw first (slice_get-get_or (group_of groups comm) 0 0 some), λ joined. no_call_joined ranks comm (complete_of waves comm) (get_or (group_of groups comm) 0 0) s (rw is_empty at joined));
+              let first : met_of progress comm ≡ 0 = ap (λ (xs : List ℕ). get_or xs comm 0) met ∙ get_start (length groups) comm in
+              (get_or (group_of groups comm) 0 0, rw first (slice_get-get_or (group_of groups comm) 0 0 some), λ joined. no_call_joined ranks comm (complete_of progress comm) (get_or (group_of groups comm) 0 0) s (rw is_empty at joined));
         };
         is_reached = rw (long, is_empty, zeros) end.is_reached;
         is_paid = omega (arith, work, changes, ap (λ (ls : List (List ℕ)). length (list_at ls 0)) lists, ap (length {A = ℕ}) none.1);
@@ -560,9 +560,9 @@ new_settled reading groups recording s waves w ranks is_empty zeros complete met
     }
 
 -- the touches are no more than 22 for each call
-pub touches_within : (reading : Reading) (groups : Groups) (recording : Lists) (s : State) (waves : Progress) (w : WaitLists) → IsSettled reading groups recording s waves w → touches_of waves w ≤ most_touches recording
-touches_within reading groups recording s waves w h =
-    omega (arith, min-le_left (w.work + waves.changes) most_work, h.kept.is_paid, paid_most recording s waves (λ rank. stand_within reading groups recording s rank h.kept.is_reached))
+pub touches_within : (reading : Reading) (groups : Groups) (recording : Lists) (s : State) (progress : Progress) (w : WaitLists) → IsSettled reading groups recording s progress w → touches_of progress w ≤ most_touches recording
+touches_within reading groups recording s progress w h =
+    omega (arith, min-le_left (w.work + progress.changes) most_work, h.kept.is_paid, paid_most recording s progress (λ rank. stand_within reading groups recording s rank h.kept.is_reached))
 
 -- a rank that waits counts once
 one_at_most : (waits : Bool) → (if waits then 1 else 0) ≤ 1
@@ -570,8 +570,8 @@ one_at_most true = omega arith
 one_at_most false = omega arith
 
 -- each rank that waits was linked
-pub waiting_linked : (reading : Reading) (groups : Groups) (recording : Lists) (s : State) (waves : Progress) (w : WaitLists) → IsSettled reading groups recording s waves w → length s ≤ most_work → ranks_waiting recording s ≤ w.work
-waiting_linked reading groups recording s waves w h few =
+pub waiting_linked : (reading : Reading) (groups : Groups) (recording : Lists) (s : State) (progress : Progress) (w : WaitLists) → IsSettled reading groups recording s progress w → length s ≤ most_work → ranks_waiting recording s ≤ w.work
+waiting_linked reading groups recording s progress w h few =
     let all : ranks_waiting recording s ≤ sum_to (length recording) (λ rank. in_all rank w.lists) =
     sum_least (length recording) _ (λ rank. in_all rank w.lists) (λ rank is_rank. stands_in rank is_rank (in_all rank w.lists) refl) in
     omega (arith, all, sum_all (length recording) w.lists h.kept.linked.ranks_only, h.kept.has_lists.counts, h.kept.has_lists.nodes, few, reached_ranks (can_move reading groups recording) (length recording) s h.kept.is_reached)

@@ -32,76 +32,76 @@ all_members recording s comm wave (member ∷ group) h =
     (all_members recording s comm wave group (λ g. h (suc g)))
 
 -- a wave that isn't open has what it needs
-not_open_met : (groups : Groups) (recording : Lists) (s : State) (waves : Progress) (comm wave : ℕ) → AreWaves groups recording s waves IsNoException → is_open groups waves comm wave ≡ false → list_all (is_met s) (map (member_need recording comm wave) (group_of groups comm)) ≡ true
-not_open_met groups recording s waves comm wave h closed =
+not_open_met : (groups : Groups) (recording : Lists) (s : State) (progress : Progress) (comm wave : ℕ) → AreWaves groups recording s progress IsNoException → is_open groups progress comm wave ≡ false → list_all (is_met s) (map (member_need recording comm wave) (group_of groups comm)) ≡ true
+not_open_met groups recording s progress comm wave h closed =
     ⊎_elim
-    (λ (less : wave < complete_of waves comm). all_members recording s comm wave (group_of groups comm) (λ g member. h.done comm wave g member less))
-    (λ (least : complete_of waves comm ≤ wave). by_group (group_of groups comm) (rw (le-leb (complete_of waves comm) wave least) at closed))
-    (cases_lt wave (complete_of waves comm))
+    (λ (less : wave < complete_of progress comm). all_members recording s comm wave (group_of groups comm) (λ g member. h.done comm wave g member less))
+    (λ (least : complete_of progress comm ≤ wave). by_group (group_of groups comm) (rw (le-leb (complete_of progress comm) wave least) at closed))
+    (cases_lt wave (complete_of progress comm))
   where
     by_group : (group : List ℕ) → nat_lt 0 (length group) ≡ false → list_all (is_met s) (map (member_need recording comm wave) group) ≡ true
     by_group [] e = refl
     by_group (member ∷ group) e = absurd (false≢true (sym e ∙ le-leb 1 (length (member ∷ group)) (omega arith)))
 
-wave_met : (groups : Groups) (recording : Lists) (s : State) (waves : Progress) (wave : Option (ℕ × ℕ)) → AreWaves groups recording s waves IsNoException → option_and_then (λ wave. if is_open groups waves wave.0 wave.1 then Some wave.0 else None) wave ≡ None → list_all (is_met s) (option_map_or (λ wave. map (member_need recording wave.0 wave.1) (group_of groups wave.0)) wave []) ≡ true
-wave_met groups recording s waves None h none = refl
-wave_met groups recording s waves (Some (comm, wave)) h none =
+wave_met : (groups : Groups) (recording : Lists) (s : State) (progress : Progress) (wave : Option (ℕ × ℕ)) → AreWaves groups recording s progress IsNoException → option_and_then (λ wave. if is_open groups progress wave.0 wave.1 then Some wave.0 else None) wave ≡ None → list_all (is_met s) (option_map_or (λ wave. map (member_need recording wave.0 wave.1) (group_of groups wave.0)) wave []) ≡ true
+wave_met groups recording s progress None h none = refl
+wave_met groups recording s progress (Some (comm, wave)) h none =
     ⊎_elim
-    (λ (yes : is_open groups waves comm wave ≡ true). absurd (none-some comm (sym none ∙ (rw yes refl))))
-    (λ (no : is_open groups waves comm wave ≡ false). not_open_met groups recording s waves comm wave h no)
-    (cases_Bool (is_open groups waves comm wave))
+    (λ (yes : is_open groups progress comm wave ≡ true). absurd (none-some comm (sym none ∙ (rw yes refl))))
+    (λ (no : is_open groups progress comm wave ≡ false). not_open_met groups recording s progress comm wave h no)
+    (cases_Bool (is_open groups progress comm wave))
 
-pub operation_passes : (reading : Reading) (groups : Groups) (recording : Lists) (s : State) (waves : Progress) (rank place : ℕ) (call : Call) → AreWaves groups recording s waves IsNoException → slice_get (calls_of recording rank) place ≡ Some call → list_all (is_met s) (message_needs reading groups recording rank place call) ≡ true → open_wave groups recording waves rank place ≡ None → list_all (is_met s) (operation_needs_at reading groups recording rank place) ≡ true
-operation_passes reading groups recording s waves rank place call h there messages none =
+pub operation_passes : (reading : Reading) (groups : Groups) (recording : Lists) (s : State) (progress : Progress) (rank place : ℕ) (call : Call) → AreWaves groups recording s progress IsNoException → slice_get (calls_of recording rank) place ≡ Some call → list_all (is_met s) (message_needs reading groups recording rank place call) ≡ true → open_wave groups recording progress rank place ≡ None → list_all (is_met s) (operation_needs_at reading groups recording rank place) ≡ true
+operation_passes reading groups recording s progress rank place call h there messages none =
     rw there
     (list_all-append (is_met s) (message_needs reading groups recording rank place call) (wave_needs groups recording rank place)
-    ∙ and_from (list_all (is_met s) (message_needs reading groups recording rank place call)) (list_all (is_met s) (wave_needs groups recording rank place)) messages (wave_met groups recording s waves (wave_of recording rank place) h none))
+    ∙ and_from (list_all (is_met s) (message_needs reading groups recording rank place call)) (list_all (is_met s) (wave_needs groups recording rank place)) messages (wave_met groups recording s progress (wave_of recording rank place) h none))
 
 -- an open wave that a call joins
-pub record IsIn (groups : Groups) (recording : Lists) (waves : Progress) (rank place comm : ℕ) : Type 0 where
+pub record IsIn (groups : Groups) (recording : Lists) (progress : Progress) (rank place comm : ℕ) : Type 0 where
   pub wave : ℕ
   pub there : wave_of recording rank place ≡ Some (comm, wave)
-  pub least : complete_of waves comm ≤ wave
+  pub least : complete_of progress comm ≤ wave
   pub some_member : 0 < length (group_of groups comm)
 
-pub open_parts : (groups : Groups) (recording : Lists) (waves : Progress) (rank place comm : ℕ) → open_wave groups recording waves rank place ≡ Some comm → IsIn groups recording waves rank place comm
-open_parts groups recording waves rank place comm h =
-    let parts = and_then_parts (λ wave. if is_open groups waves wave.0 wave.1 then Some wave.0 else None) (wave_of recording rank place) comm h in
-    by_test parts.0 parts.1 (is_open groups waves parts.0.0 parts.0.1) refl parts.2
+pub open_parts : (groups : Groups) (recording : Lists) (progress : Progress) (rank place comm : ℕ) → open_wave groups recording progress rank place ≡ Some comm → IsIn groups recording progress rank place comm
+open_parts groups recording progress rank place comm h =
+    let parts = and_then_parts (λ wave. if is_open groups progress wave.0 wave.1 then Some wave.0 else None) (wave_of recording rank place) comm h in
+    by_test parts.0 parts.1 (is_open groups progress parts.0.0 parts.0.1) refl parts.2
   where
     length_some : (group : List ℕ) → nat_lt 0 (length group) ≡ true → 0 < length group
     length_some group e = omega (arith, leb-true 1 (length group) e)
 
-    by_test : (w : ℕ × ℕ) → wave_of recording rank place ≡ Some w → (b : Bool) → is_open groups waves w.0 w.1 ≡ b → (if b then Some w.0 else None) ≡ Some comm → IsIn groups recording waves rank place comm
+    by_test : (w : ℕ × ℕ) → wave_of recording rank place ≡ Some w → (b : Bool) → is_open groups progress w.0 w.1 ≡ b → (if b then Some w.0 else None) ≡ Some comm → IsIn groups recording progress rank place comm
     by_test w there false is e = absurd (none-some comm e)
     by_test w there true is e =
         let same : w.0 ≡ comm = same_Some w.0 comm e in
-        let both = and_parts (nat_le (complete_of waves w.0) w.1) (nat_lt 0 (length (group_of groups w.0))) is in
+        let both = and_parts (nat_le (complete_of progress w.0) w.1) (nat_lt 0 (length (group_of groups w.0))) is in
         record {
           wave = w.1;
           there = there ∙ ap (λ (c : ℕ). Some (c, w.1)) same;
-          least = subst (λ (c : ℕ). complete_of waves c ≤ w.1) same (leb-true (complete_of waves w.0) w.1 both.0);
+          least = subst (λ (c : ℕ). complete_of progress c ≤ w.1) same (leb-true (complete_of progress w.0) w.1 both.0);
           some_member = subst (λ (c : ℕ). 0 < length (group_of groups c)) same (length_some (group_of groups w.0) both.1);
         }
 
-pub open_from : (groups : Groups) (recording : Lists) (waves : Progress) (rank place comm : ℕ) → IsIn groups recording waves rank place comm → open_wave groups recording waves rank place ≡ Some comm
-open_from groups recording waves rank place comm h =
-    let is : is_open groups waves comm h.wave ≡ true =
-    and_from (nat_le (complete_of waves comm) h.wave) (nat_lt 0 (length (group_of groups comm))) (le-leb (complete_of waves comm) h.wave h.least) (le-leb 1 (length (group_of groups comm)) (omega (arith, h.some_member))) in
+pub open_from : (groups : Groups) (recording : Lists) (progress : Progress) (rank place comm : ℕ) → IsIn groups recording progress rank place comm → open_wave groups recording progress rank place ≡ Some comm
+open_from groups recording progress rank place comm h =
+    let is : is_open groups progress comm h.wave ≡ true =
+    and_from (nat_le (complete_of progress comm) h.wave) (nat_lt 0 (length (group_of groups comm))) (le-leb (complete_of progress comm) h.wave h.least) (le-leb 1 (length (group_of groups comm)) (omega (arith, h.some_member))) in
     rw (h.there, is) refl
 
 -- what an open wave needs is not met
-open_unmet : (groups : Groups) (recording : Lists) (s : State) (waves : Progress) (rank place comm : ℕ) → AreWaves groups recording s waves IsNoException → IsIn groups recording waves rank place comm → list_all (is_met s) (wave_needs groups recording rank place) ≡ true → ⊥
-open_unmet groups recording s waves rank place comm h wave all =
+open_unmet : (groups : Groups) (recording : Lists) (s : State) (progress : Progress) (rank place comm : ℕ) → AreWaves groups recording s progress IsNoException → IsIn groups recording progress rank place comm → list_all (is_met s) (wave_needs groups recording rank place) ≡ true → ⊥
+open_unmet groups recording s progress rank place comm h wave all =
     let next = h.next comm wave.some_member in
     let met : list_all (is_met s) (map (member_need recording comm wave.wave) (group_of groups comm)) ≡ true = rw wave.there at all in
     ⊎_elim
     (λ (yes : is_met s (member_need recording comm wave.wave next.0) ≡ true).
-    next.2 (joined_before recording s comm (complete_of waves comm) wave.wave next.0 wave.least (met_joined recording s comm wave.wave next.0 yes)))
+    next.2 (joined_before recording s comm (complete_of progress comm) wave.wave next.0 wave.least (met_joined recording s comm wave.wave next.0 yes)))
     (λ (no : is_met s (member_need recording comm wave.wave next.0) ≡ false).
     false≢true (
     sym (list_all-map (is_met s) (member_need recording comm wave.wave) (group_of groups comm)
-    ∙ fails_at (λ member. is_met s (member_need recording comm wave.wave member)) (group_of groups comm) (met_of waves comm) next.0 next.1 no)
+    ∙ fails_at (λ member. is_met s (member_need recording comm wave.wave member)) (group_of groups comm) (met_of progress comm) next.0 next.1 no)
     ∙ met))
     (cases_Bool (is_met s (member_need recording comm wave.wave next.0)))
 
@@ -151,12 +151,12 @@ partner_stuck reading groups recording s rank start h =
     let parts = operation_parts reading groups recording s rank start (slice_get (calls_of recording rank) start) refl (awaited_met reading groups recording s rank start able h.is_awaited) in
     false≢true (sym h.is_unmet ∙ parts.0))
 
-pub wave_stuck : (reading : Reading) (groups : Groups) (recording : Lists) (s : State) (waves : Progress) (rank comm : ℕ) → AreWaves groups recording s waves IsNoException → NeedsWave groups recording s waves rank comm → can_move reading groups recording s rank ≡ false
-wave_stuck reading groups recording s waves rank comm are h =
+pub wave_stuck : (reading : Reading) (groups : Groups) (recording : Lists) (s : State) (progress : Progress) (rank comm : ℕ) → AreWaves groups recording s progress IsNoException → NeedsWave groups recording s progress rank comm → can_move reading groups recording s rank ≡ false
+wave_stuck reading groups recording s progress rank comm are h =
     false_from_ne_true (can_move reading groups recording s rank)
     (λ able.
     let parts = operation_parts reading groups recording s rank h.start (slice_get (calls_of recording rank) h.start) refl (awaited_met reading groups recording s rank h.start able h.is_awaited) in
-    open_unmet groups recording s waves rank h.start comm are (open_parts groups recording waves rank h.start comm h.is_joined) parts.1)
+    open_unmet groups recording s progress rank h.start comm are (open_parts groups recording progress rank h.start comm h.is_joined) parts.1)
 
 pub resting_stuck : (reading : Reading) (groups : Groups) (recording : Lists) (s : State) (rank : ℕ) → Rests recording s rank → can_move reading groups recording s rank ≡ false
 resting_stuck reading groups recording s rank h = rw h refl

@@ -61,10 +61,10 @@ comm_is groups comm g rank h = (comm_there groups comm g rank h, slice_get_withi
 
 -- whom the waves except: the rank's call that was just reached
 abbrev pub IsNew : Lists → Progress → ℕ → ℕ → ℕ → ℕ → Type 0
-IsNew recording waves rank place comm member = (member ≡ rank) × (wave_of recording rank place ≡ Some (comm, complete_of waves comm))
+IsNew recording progress rank place comm member = (member ≡ rank) × (wave_of recording rank place ≡ Some (comm, complete_of progress comm))
 
-pub fewer_excepted : (groups : Groups) (recording : Lists) (s : State) (waves : Progress) (E F : ℕ → ℕ → Type 0) → AreWaves groups recording s waves E → ((comm member : ℕ) → world_rank_of groups comm (met_of waves comm) ≡ Some member → E comm member → F comm member) → AreWaves groups recording s waves F
-fewer_excepted groups recording s waves E F h on = record {
+pub fewer_excepted : (groups : Groups) (recording : Lists) (s : State) (progress : Progress) (E F : ℕ → ℕ → Type 0) → AreWaves groups recording s progress E → ((comm member : ℕ) → world_rank_of groups comm (met_of progress comm) ≡ Some member → E comm member → F comm member) → AreWaves groups recording s progress F
+fewer_excepted groups recording s progress E F h on = record {
   completes = h.completes;
   meets = h.meets;
   done = h.done;
@@ -75,38 +75,38 @@ fewer_excepted groups recording s waves E F h on = record {
 }
 
 -- The rank whose call was wanting has reached it. Then so have the members from it on up to some one.
-pub record Passes (groups : Groups) (recording : Lists) (s : State) (waves : Progress) (rank place comm wave missing : ℕ) : Type 0 where
-  pub before : AreWaves groups recording s waves (IsNew recording waves rank place)
+pub record ReachesWanting (groups : Groups) (recording : Lists) (s : State) (progress : Progress) (rank place comm wave missing : ℕ) : Type 0 where
+  pub before : AreWaves groups recording s progress (IsNew recording progress rank place)
   pub there : wave_of recording rank place ≡ Some (comm, wave)
-  pub is_next : complete_of waves comm ≡ wave
-  pub wanting : world_rank_of groups comm (met_of waves comm) ≡ Some rank
+  pub is_next : complete_of progress comm ≡ wave
+  pub wanting : world_rank_of groups comm (met_of progress comm) ≡ Some rank
   pub stands_there : place ≡ get_or s rank 0
-  pub least : met_of waves comm + 1 ≤ missing
-  pub met : (g member : ℕ) → met_of waves comm + 1 ≤ g → g < missing → world_rank_of groups comm g ≡ Some member → is_met s (member_need recording comm wave member) ≡ true
+  pub least : met_of progress comm + 1 ≤ missing
+  pub met : (g member : ℕ) → met_of progress comm + 1 ≤ g → g < missing → world_rank_of groups comm g ≡ Some member → is_met s (member_need recording comm wave member) ≡ true
 
-passer_joined : (groups : Groups) (recording : Lists) (s : State) (waves : Progress) (rank place comm wave missing : ℕ) → Passes groups recording s waves rank place comm wave missing → HasJoined recording s comm wave rank
-passer_joined groups recording s waves rank place comm wave missing p =
+passer_joined : (groups : Groups) (recording : Lists) (s : State) (progress : Progress) (rank place comm wave missing : ℕ) → ReachesWanting groups recording s progress rank place comm wave missing → HasJoined recording s comm wave rank
+passer_joined groups recording s progress rank place comm wave missing p =
     (place, the_call_in_a_wave_joins_it recording rank place comm wave p.there, omega (arith, p.stands_there))
 
-passed : (groups : Groups) (recording : Lists) (s : State) (waves : Progress) (rank place comm wave missing g member : ℕ) → Passes groups recording s waves rank place comm wave missing → g < missing → world_rank_of groups comm g ≡ Some member → HasJoined recording s comm wave member
-passed groups recording s waves rank place comm wave missing g member p less is =
+passed : (groups : Groups) (recording : Lists) (s : State) (progress : Progress) (rank place comm wave missing g member : ℕ) → ReachesWanting groups recording s progress rank place comm wave missing → g < missing → world_rank_of groups comm g ≡ Some member → HasJoined recording s comm wave member
+passed groups recording s progress rank place comm wave missing g member p less is =
     ⊎_elim
-    (λ (before : g < met_of waves comm). subst (λ (w : ℕ). HasJoined recording s comm w member) p.is_next (p.before.met comm g member before is))
-    (λ (from : met_of waves comm ≤ g).
+    (λ (before : g < met_of progress comm). subst (λ (w : ℕ). HasJoined recording s comm w member) p.is_next (p.before.met comm g member before is))
+    (λ (from : met_of progress comm ≤ g).
     ⊎_elim
-    (λ (same : g ≡ met_of waves comm).
+    (λ (same : g ≡ met_of progress comm).
     let rank_is : rank ≡ member = same_Some rank member (sym p.wanting ∙ ap (world_rank_of groups comm) (sym same) ∙ is) in
-    subst (λ (m : ℕ). HasJoined recording s comm wave m) rank_is (passer_joined groups recording s waves rank place comm wave missing p))
-    (λ (other : g ≢ met_of waves comm). met_joined recording s comm wave member (p.met g member (omega arith) less is))
-    (cases_eq g (met_of waves comm)))
-    (cases_lt g (met_of waves comm))
+    subst (λ (m : ℕ). HasJoined recording s comm wave m) rank_is (passer_joined groups recording s progress rank place comm wave missing p))
+    (λ (other : g ≢ met_of progress comm). met_joined recording s comm wave member (p.met g member (omega arith) less is))
+    (cases_eq g (met_of progress comm)))
+    (cases_lt g (met_of progress comm))
 
 -- another communicator's next member is not the one
-other_comm : (groups : Groups) (recording : Lists) (s : State) (waves : Progress) (rank place comm wave missing other member : ℕ) → Passes groups recording s waves rank place comm wave missing → other ≢ comm → IsNew recording waves rank place other member → ⊥
-other_comm groups recording s waves rank place comm wave missing other member p differs e =
-    differs (sym (some_pair_parts comm other wave (complete_of waves other) (sym p.there ∙ e.1)).0)
+other_comm : (groups : Groups) (recording : Lists) (s : State) (progress : Progress) (rank place comm wave missing other member : ℕ) → ReachesWanting groups recording s progress rank place comm wave missing → other ≢ comm → IsNew recording progress rank place other member → ⊥
+other_comm groups recording s progress rank place comm wave missing other member p differs e =
+    differs (sym (some_pair_parts comm other wave (complete_of progress other) (sym p.there ∙ e.1)).0)
 
-pub passes_on : (groups : Groups) (recording : Lists) (s : State) (old new : Progress) (rank place comm wave missing : ℕ) → Passes groups recording s old rank place comm wave missing → missing < length (group_of groups comm) → ((member : ℕ) → world_rank_of groups comm missing ≡ Some member → is_met s (member_need recording comm wave member) ≡ false) → new.complete.items ≡ old.complete.items → new.met.items ≡ set old.met.items comm missing → AreWaves groups recording s new IsNoException
+pub passes_on : (groups : Groups) (recording : Lists) (s : State) (old new : Progress) (rank place comm wave missing : ℕ) → ReachesWanting groups recording s old rank place comm wave missing → missing < length (group_of groups comm) → ((member : ℕ) → world_rank_of groups comm missing ≡ Some member → is_met s (member_need recording comm wave member) ≡ false) → new.complete.items ≡ old.complete.items → new.met.items ≡ set old.met.items comm missing → AreWaves groups recording s new IsNoException
 passes_on groups recording s old new rank place comm wave missing p some unmet complete met =
     let known = comm_is groups comm (met_of old comm) rank p.wanting in
     let same : (c : ℕ) → complete_of new c ≡ complete_of old c = λ c. ap (λ (xs : List ℕ). get_or xs c 0) complete in
@@ -136,7 +136,7 @@ passes_on groups recording s old new rank place comm wave missing p some unmet c
           (cases_eq c comm);
     }
 
-pub passes_wave : (groups : Groups) (recording : Lists) (s : State) (old new : Progress) (rank place comm wave missing next : ℕ) → Passes groups recording s old rank place comm wave missing → length (group_of groups comm) ≤ missing → next ≤ length (group_of groups comm) → ((g member : ℕ) → 0 ≤ g → g < next → world_rank_of groups comm g ≡ Some member → is_met s (member_need recording comm (wave + 1) member) ≡ true) → ((member : ℕ) → world_rank_of groups comm next ≡ Some member → is_met s (member_need recording comm (wave + 1) member) ≡ false) → new.complete.items ≡ set old.complete.items comm (wave + 1) → new.met.items ≡ set old.met.items comm next → AreWaves groups recording s new IsNoException
+pub passes_wave : (groups : Groups) (recording : Lists) (s : State) (old new : Progress) (rank place comm wave missing next : ℕ) → ReachesWanting groups recording s old rank place comm wave missing → length (group_of groups comm) ≤ missing → next ≤ length (group_of groups comm) → ((g member : ℕ) → 0 ≤ g → g < next → world_rank_of groups comm g ≡ Some member → is_met s (member_need recording comm (wave + 1) member) ≡ true) → ((member : ℕ) → world_rank_of groups comm next ≡ Some member → is_met s (member_need recording comm (wave + 1) member) ≡ false) → new.complete.items ≡ set old.complete.items comm (wave + 1) → new.met.items ≡ set old.met.items comm next → AreWaves groups recording s new IsNoException
 passes_wave groups recording s old new rank place comm wave missing next p whole most met_next unmet complete met =
     let known = comm_is groups comm (met_of old comm) rank p.wanting in
     let here : met_of new comm ≡ next = ap (λ (xs : List ℕ). get_or xs comm 0) met ∙ get_or-set_same old.met.items comm next 0 (omega (arith, known.0, p.before.meets)) in

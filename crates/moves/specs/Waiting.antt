@@ -17,7 +17,7 @@ use Rattle.pairing.specs.Pairs.{completed_of}
 use Rattle.pairing.specs.Requests.{starts, completes}
 use Rattle.pairing.specs.Waves.{place_in_wave, wave_of}
 use Rattle.moves.specs.declared.look.Look.{Look}
-use Rattle.moves.specs.declared.look.Look.TheVariants.{Over, Passes, Partner, Wave}
+use Rattle.moves.specs.declared.look.Look.TheVariants.{Over, Moves, Partner, Wave}
 use Rattle.moves.specs.declared.need.Need.{Need}
 use Rattle.moves.specs.declared.progress.Progress.{Progress}
 use Rattle.moves.specs.Links.{linked_ranks, AreListed}
@@ -52,52 +52,52 @@ HasJoined recording stands comm wave rank = (place : ℕ) × (place_in_wave reco
 -- how many waves of the communicator are complete, and how many members, from the first on, have reached
 -- their calls of the next one
 abbrev pub complete_of : Progress → ℕ → ℕ
-complete_of waves comm = slice_index waves.complete.items comm
+complete_of progress comm = slice_index progress.complete.items comm
 
 abbrev pub met_of : Progress → ℕ → ℕ
-met_of waves comm = slice_index waves.met.items comm
+met_of progress comm = slice_index progress.met.items comm
 
 -- Each member has reached its calls of the complete waves, and so many members theirs of the next wave. The
 -- member behind those has not, unless it is excepted.
-pub record AreWaves (groups : Groups) (recording : Lists) (stands : State) (waves : Progress) (IsExcepted : ℕ → ℕ → Type 0) : Type 0 where
-  pub completes : length waves.complete.items ≡ length groups
-  pub meets : length waves.met.items ≡ length groups
-  pub done : (comm wave g member : ℕ) → wave < complete_of waves comm → world_rank_of groups comm g ≡ Some member → HasJoined recording stands comm wave member
-  pub met : (comm g member : ℕ) → g < met_of waves comm → world_rank_of groups comm g ≡ Some member → HasJoined recording stands comm (complete_of waves comm) member
+pub record AreWaves (groups : Groups) (recording : Lists) (stands : State) (progress : Progress) (IsExcepted : ℕ → ℕ → Type 0) : Type 0 where
+  pub completes : length progress.complete.items ≡ length groups
+  pub meets : length progress.met.items ≡ length groups
+  pub done : (comm wave g member : ℕ) → wave < complete_of progress comm → world_rank_of groups comm g ≡ Some member → HasJoined recording stands comm wave member
+  pub met : (comm g member : ℕ) → g < met_of progress comm → world_rank_of groups comm g ≡ Some member → HasJoined recording stands comm (complete_of progress comm) member
   pub next : (comm : ℕ) → 0 < length (group_of groups comm) →
-      (member : ℕ) × (world_rank_of groups comm (met_of waves comm) ≡ Some member)
-      × (HasJoined recording stands comm (complete_of waves comm) member → IsExcepted comm member)
+      (member : ℕ) × (world_rank_of groups comm (met_of progress comm) ≡ Some member)
+      × (HasJoined recording stands comm (complete_of progress comm) member → IsExcepted comm member)
 
 abbrev pub IsNoException : ℕ → ℕ → Type 0
 IsNoException comm member = ⊥
 
 -- the wave isn't complete
 abbrev pub is_open : Groups → Progress → ℕ → ℕ → Bool
-is_open groups waves comm wave = nat_le (complete_of waves comm) wave && nat_lt 0 (length (group_of groups comm))
+is_open groups progress comm wave = nat_le (complete_of progress comm) wave && nat_lt 0 (length (group_of groups comm))
 
 -- the communicator of the wave that the call at the place joins, where that wave isn't complete
 abbrev pub open_wave : Groups → Lists → Progress → ℕ → ℕ → Option ℕ
-open_wave groups recording waves rank place =
-    option_and_then (λ wave. if is_open groups waves wave.0 wave.1 then Some wave.0 else None) (wave_of recording rank place)
+open_wave groups recording progress rank place =
+    option_and_then (λ wave. if is_open groups progress wave.0 wave.1 then Some wave.0 else None) (wave_of recording rank place)
 
 -- Touches, and what pays for them. A call that is accepted pays 3, one that is reached 13, one that is passed 2,
 -- and one whose wave is complete 4.
-abbrev pub is_done : Progress → Option (ℕ × ℕ) → ℕ
-is_done waves None = 0
-is_done waves (Some wave) = if nat_lt wave.1 (complete_of waves wave.0) then 1 else 0
+abbrev pub done_in : Progress → Option (ℕ × ℕ) → ℕ
+done_in progress None = 0
+done_in progress (Some wave) = if nat_lt wave.1 (complete_of progress wave.0) then 1 else 0
 
 abbrev pub done_of : Lists → Progress → ℕ → ℕ
-done_of recording waves rank = sum_to (length (calls_of recording rank)) (λ place. is_done waves (wave_of recording rank place))
+done_of recording progress rank = sum_to (length (calls_of recording rank)) (λ place. done_in progress (wave_of recording rank place))
 
 abbrev pub reached_of : Lists → State → ℕ → ℕ
 reached_of recording stands rank = min (length (calls_of recording rank)) (slice_index stands rank + 1)
 
 abbrev pub paid_by : Lists → State → Progress → ℕ → ℕ
-paid_by recording stands waves rank =
-    3 * length (calls_of recording rank) + 13 * reached_of recording stands rank + 2 * slice_index stands rank + 4 * done_of recording waves rank
+paid_by recording stands progress rank =
+    3 * length (calls_of recording rank) + 13 * reached_of recording stands rank + 2 * slice_index stands rank + 4 * done_of recording progress rank
 
 abbrev pub paid : Lists → State → Progress → ℕ
-paid recording stands waves = sum_to (length recording) (paid_by recording stands waves)
+paid recording stands progress = sum_to (length recording) (paid_by recording stands progress)
 
 -- what the reaching of a place spends: less where no call is there
 abbrev pub cost_of : Option Call → ℕ
@@ -106,38 +106,38 @@ cost_of (Some call) = 16
 
 -- what is told of the operation of the call at a place: that its needs are met, or what it waits for
 abbrev pub TellsOperation : Reading → Groups → Lists → State → Progress → ℕ → ℕ → Look → Type 0
-TellsOperation reading groups recording stands waves rank place Over = ⊥
-TellsOperation reading groups recording stands waves rank place Passes = list_all (is_met stands) (operation_needs_at reading groups recording rank place) ≡ true
-TellsOperation reading groups recording stands waves rank place (Partner start) = (start ≡ place) × (list_all (is_met stands) (message_needs_at reading groups recording rank place) ≡ false)
-TellsOperation reading groups recording stands waves rank place (Wave comm) = open_wave groups recording waves rank place ≡ Some comm
+TellsOperation reading groups recording stands progress rank place Over = ⊥
+TellsOperation reading groups recording stands progress rank place Moves = list_all (is_met stands) (operation_needs_at reading groups recording rank place) ≡ true
+TellsOperation reading groups recording stands progress rank place (Partner start) = (start ≡ place) × (list_all (is_met stands) (message_needs_at reading groups recording rank place) ≡ false)
+TellsOperation reading groups recording stands progress rank place (Wave comm) = open_wave groups recording progress rank place ≡ Some comm
 
 -- the same of the operation that the call at a place completes with that index
 abbrev pub TellsRequest : Reading → Groups → Lists → State → Progress → ℕ → ℕ → ℕ → Look → Type 0
-TellsRequest reading groups recording stands waves rank place index Over = ⊥
-TellsRequest reading groups recording stands waves rank place index Passes =
+TellsRequest reading groups recording stands progress rank place index Over = ⊥
+TellsRequest reading groups recording stands progress rank place index Moves =
     list_all (is_met stands) (option_map_or (operation_needs_at reading groups recording rank) (completed_of recording rank place index) []) ≡ true
-TellsRequest reading groups recording stands waves rank place index (Partner start) =
+TellsRequest reading groups recording stands progress rank place index (Partner start) =
     (completed_of recording rank place index ≡ Some start) × (list_all (is_met stands) (message_needs_at reading groups recording rank start) ≡ false)
-TellsRequest reading groups recording stands waves rank place index (Wave comm) =
-    (start : ℕ) × (completed_of recording rank place index ≡ Some start) × (open_wave groups recording waves rank start ≡ Some comm)
+TellsRequest reading groups recording stands progress rank place index (Wave comm) =
+    (start : ℕ) × (completed_of recording rank place index ≡ Some start) × (open_wave groups recording progress rank start ≡ Some comm)
 
 -- the same of the operations that the call at a place completes
 abbrev pub TellsCompleted : Reading → Groups → Lists → State → Progress → ℕ → ℕ → Call → Look → Type 0
-TellsCompleted reading groups recording stands waves rank place call Over = ⊥
-TellsCompleted reading groups recording stands waves rank place call Passes = list_all (is_met stands) (flat_map (request_needs reading groups recording rank place) (completes call)) ≡ true
-TellsCompleted reading groups recording stands waves rank place call (Partner start) =
+TellsCompleted reading groups recording stands progress rank place call Over = ⊥
+TellsCompleted reading groups recording stands progress rank place call Moves = list_all (is_met stands) (flat_map (request_needs reading groups recording rank place) (completes call)) ≡ true
+TellsCompleted reading groups recording stands progress rank place call (Partner start) =
     (index : ℕ) × (completed_of recording rank place index ≡ Some start) × (list_all (is_met stands) (message_needs_at reading groups recording rank start) ≡ false)
-TellsCompleted reading groups recording stands waves rank place call (Wave comm) =
-    (index start : ℕ) × (completed_of recording rank place index ≡ Some start) × (open_wave groups recording waves rank start ≡ Some comm)
+TellsCompleted reading groups recording stands progress rank place call (Wave comm) =
+    (index start : ℕ) × (completed_of recording rank place index ≡ Some start) × (open_wave groups recording progress rank start ≡ Some comm)
 
 -- the same of the call at a place
 abbrev pub TellsCall : Reading → Groups → Lists → State → Progress → ℕ → ℕ → Call → Look → Type 0
-TellsCall reading groups recording stands waves rank place call Over = ⊥
-TellsCall reading groups recording stands waves rank place call Passes = list_all (is_met stands) (needs_of_call reading groups recording rank place call) ≡ true
-TellsCall reading groups recording stands waves rank place call (Partner start) =
+TellsCall reading groups recording stands progress rank place call Over = ⊥
+TellsCall reading groups recording stands progress rank place call Moves = list_all (is_met stands) (needs_of_call reading groups recording rank place call) ≡ true
+TellsCall reading groups recording stands progress rank place call (Partner start) =
     IsAwaited recording rank place start × (list_all (is_met stands) (message_needs_at reading groups recording rank start) ≡ false)
-TellsCall reading groups recording stands waves rank place call (Wave comm) =
-    (start : ℕ) × (IsAwaited recording rank place start) × (open_wave groups recording waves rank start ≡ Some comm)
+TellsCall reading groups recording stands progress rank place call (Wave comm) =
+    (start : ℕ) × (IsAwaited recording rank place start) × (open_wave groups recording progress rank start ≡ Some comm)
 
 -- a message of an operation that the rank's present call waits for has no partner that is reached, or a probe sees
 -- no send that is reached
@@ -146,10 +146,10 @@ pub record NeedsPartner (reading : Reading) (groups : Groups) (recording : Lists
   pub is_unmet : list_all (is_met stands) (message_needs_at reading groups recording rank start) ≡ false
 
 -- such an operation joins a wave of the communicator that isn't complete
-pub record NeedsWave (groups : Groups) (recording : Lists) (stands : State) (waves : Progress) (rank comm : ℕ) : Type 0 where
+pub record NeedsWave (groups : Groups) (recording : Lists) (stands : State) (progress : Progress) (rank comm : ℕ) : Type 0 where
   pub start : ℕ
   pub is_awaited : IsAwaited recording rank (slice_index stands rank) start
-  pub is_joined : open_wave groups recording waves rank start ≡ Some comm
+  pub is_joined : open_wave groups recording progress rank start ≡ Some comm
 
 -- what is told of a rank where it stands: that it can move on, what it waits for, or that it rests, as it
 -- has no call there or the one that ends its list
@@ -157,10 +157,10 @@ abbrev pub Rests : Lists → State → ℕ → Type 0
 Rests recording stands rank = may_pass (slice_get (calls_of recording rank) (slice_index stands rank)) ≡ false
 
 abbrev pub TellsRank : Reading → Groups → Lists → State → Progress → ℕ → Look → Type 0
-TellsRank reading groups recording stands waves rank Over = Rests recording stands rank
-TellsRank reading groups recording stands waves rank Passes = can_move reading groups recording stands rank ≡ true
-TellsRank reading groups recording stands waves rank (Partner start) = NeedsPartner reading groups recording stands rank start
-TellsRank reading groups recording stands waves rank (Wave comm) = NeedsWave groups recording stands waves rank comm
+TellsRank reading groups recording stands progress rank Over = Rests recording stands rank
+TellsRank reading groups recording stands progress rank Moves = can_move reading groups recording stands rank ≡ true
+TellsRank reading groups recording stands progress rank (Partner start) = NeedsPartner reading groups recording stands rank start
+TellsRank reading groups recording stands progress rank (Wave comm) = NeedsWave groups recording stands progress rank comm
 
 -- What the waiting ranks are seen as: the lists, how many more ranks have room in them, how much was done in the
 -- lists, and for each rank the place of the operation for whose partner it waits, or waited last; at a probe its own.
@@ -245,9 +245,9 @@ WaitsFor groups recording rank place other start =
 
 -- the rank waits in that list, for a partner or for a wave
 abbrev pub WaitsIn : Reading → Groups → Lists → State → Progress → List ℕ → ℕ → ℕ → Type 0
-WaitsIn reading groups recording stands waves awaited rank list =
+WaitsIn reading groups recording stands progress awaited rank list =
     ((list ≡ own_list rank) × (rank < length recording) × NeedsPartner reading groups recording stands rank (slice_index awaited rank))
-    ⊎ ((comm : ℕ) × (list ≡ comm_list (length recording) comm) × NeedsWave groups recording stands waves rank comm)
+    ⊎ ((comm : ℕ) × (list ≡ comm_list (length recording) comm) × NeedsWave groups recording stands progress rank comm)
 
 -- there is a list for each rank and for each communicator, and room for each rank; what stands in a list was
 -- counted when it was put there
@@ -259,56 +259,56 @@ pub record HasLists (groups : Groups) (recording : Lists) (waiting : WaitLists) 
 
 -- the touches: what was done in the lists, and each change of how far a wave is
 abbrev pub touches_of : Progress → WaitLists → ℕ
-touches_of waves waiting = counted waiting.work waves.changes
+touches_of progress waiting = counted waiting.work progress.changes
 
 -- what is spent: the touches, and two for each rank that is to be looked at
 abbrev pub spent : Progress → WaitLists → ℕ
-spent waves waiting = waiting.work + waves.changes + 2 * length (list_at waiting.lists 0)
+spent progress waiting = waiting.work + progress.changes + 2 * length (list_at waiting.lists 0)
 
 -- What holds between looks: each rank is to be looked at, or waits rightly, or rests. Some may be excepted
 -- from resting. What is spent is paid, and so much more is left.
-pub record HoldsBetweenLooks (reading : Reading) (groups : Groups) (recording : Lists) (stands : State) (waves : Progress) (waiting : WaitLists) (IsExcepted : ℕ → Type 0) (left : ℕ) : Type 0 where
+pub record HoldsBetweenLooks (reading : Reading) (groups : Groups) (recording : Lists) (stands : State) (progress : Progress) (waiting : WaitLists) (IsExcepted : ℕ → Type 0) (left : ℕ) : Type 0 where
   pub has_lists : HasLists groups recording waiting
-  pub linked : AreListed (length recording) waiting.lists (WaitsIn reading groups recording stands waves waiting.awaited) (λ rank. Rests recording stands rank ⊎ IsExcepted rank)
-  pub are_waves : AreWaves groups recording stands waves IsNoException
+  pub linked : AreListed (length recording) waiting.lists (WaitsIn reading groups recording stands progress waiting.awaited) (λ rank. Rests recording stands rank ⊎ IsExcepted rank)
+  pub are_waves : AreWaves groups recording stands progress IsNoException
   pub is_reached : IsReached (can_move reading groups recording) (length recording) stands
-  pub is_paid : spent waves waiting + left ≤ paid recording stands waves
+  pub is_paid : spent progress waiting + left ≤ paid recording stands progress
 
 abbrev pub IsNobody : ℕ → Type 0
 IsNobody rank = ⊥
 
 -- the rank was taken off the worklist to be looked at
-pub record IsInHand (reading : Reading) (groups : Groups) (recording : Lists) (stands : State) (waves : Progress) (waiting : WaitLists) (rank : ℕ) : Type 0 where
-  pub kept : HoldsBetweenLooks reading groups recording stands waves waiting (λ other. other ≡ rank) 1
+pub record IsInHand (reading : Reading) (groups : Groups) (recording : Lists) (stands : State) (progress : Progress) (waiting : WaitLists) (rank : ℕ) : Type 0 where
+  pub kept : HoldsBetweenLooks reading groups recording stands progress waiting (λ other. other ≡ rank) 1
   pub is_rank : rank < length recording
   pub in_none : in_all rank waiting.lists ≡ 0
 
 -- no rank is to be looked at
-pub record IsSettled (reading : Reading) (groups : Groups) (recording : Lists) (stands : State) (waves : Progress) (waiting : WaitLists) : Type 0 where
-  pub kept : HoldsBetweenLooks reading groups recording stands waves waiting IsNobody 0
+pub record IsSettled (reading : Reading) (groups : Groups) (recording : Lists) (stands : State) (progress : Progress) (waiting : WaitLists) : Type 0 where
+  pub kept : HoldsBetweenLooks reading groups recording stands progress waiting IsNobody 0
   pub is_empty : list_at waiting.lists 0 ≡ []
 
 -- The rank has just reached its call at the place: the ranks that wait for it are still to be woken.
-pub record IsReaching (reading : Reading) (groups : Groups) (recording : Lists) (stands : State) (waves : Progress) (waiting : WaitLists) (rank place : ℕ) : Type 0 where
+pub record IsReaching (reading : Reading) (groups : Groups) (recording : Lists) (stands : State) (progress : Progress) (waiting : WaitLists) (rank place : ℕ) : Type 0 where
   pub has_lists : HasLists groups recording waiting
   pub linked : AreListed (length recording) waiting.lists
-      (λ other list. WaitsIn reading groups recording stands waves waiting.awaited other list
+      (λ other list. WaitsIn reading groups recording stands progress waiting.awaited other list
       ⊎ ((list ≡ own_list other) × (other < length recording) × (WaitsFor groups recording rank place other (slice_index waiting.awaited other))))
       (λ other. Rests recording stands other ⊎ (other ≡ rank))
-  pub are_waves : AreWaves groups recording stands waves (λ comm member. (member ≡ rank) × (wave_of recording rank place ≡ Some (comm, complete_of waves comm)))
+  pub are_waves : AreWaves groups recording stands progress (λ comm member. (member ≡ rank) × (wave_of recording rank place ≡ Some (comm, complete_of progress comm)))
   pub is_reached : IsReached (can_move reading groups recording) (length recording) stands
   pub is_rank : rank < length recording
   pub in_none : in_all rank waiting.lists ≡ 0
   pub is_there : place ≡ slice_index stands rank
   pub few : place ≤ most_calls
-  pub is_paid : spent waves waiting + cost_of (slice_get (calls_of recording rank) place) ≤ paid recording stands waves
+  pub is_paid : spent progress waiting + cost_of (slice_get (calls_of recording rank) place) ≤ paid recording stands progress
 
 -- The rank's call has arrived at the place, and no rank was to be looked at before.
-pub record HasArrived (reading : Reading) (groups : Groups) (recording : Lists) (stands : State) (waves : Progress) (waiting : WaitLists) (rank place : ℕ) : Type 0 where
+pub record HasArrived (reading : Reading) (groups : Groups) (recording : Lists) (stands : State) (progress : Progress) (waiting : WaitLists) (rank place : ℕ) : Type 0 where
   pub before : Lists
   pub call : Call
   pub is : recording ≡ appended before rank call
-  pub settled : IsSettled reading groups before stands waves waiting
+  pub settled : IsSettled reading groups before stands progress waiting
   pub is_rank : rank < length before
   pub is_next : place ≡ length (calls_of before rank)
   pub few : place ≤ most_calls

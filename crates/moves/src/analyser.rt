@@ -35,7 +35,7 @@ pub struct Analyser {
     reading: Reading,
     pairs: Pairs,
     stands: Vec<u32>,
-    waves: Progress,
+    progress: Progress,
     waiters: Waiters,
 }
 
@@ -45,7 +45,7 @@ impl Drop for Analyser {
             reading: _,
             pairs: _,
             stands: _,
-            waves: _,
+            progress: _,
             waiters: _,
         } = self;
     }
@@ -57,9 +57,9 @@ impl Model for Analyser {
 
     ghost Value = { Analysed };
 
-    ghost view = { λ a. record { reading = a.reading; groups = a.pairs.groups; recording = a.pairs.recording; stands = a.stands.items; work = a.waiters.work; touches = touches_of a.waves a.waiters } };
+    ghost view = { λ a. record { reading = a.reading; groups = a.pairs.groups; recording = a.pairs.recording; stands = a.stands.items; work = a.waiters.work; touches = touches_of a.progress a.waiters } };
 
-    ghost invariant = { λ a. IsSettled a.reading a.pairs.groups a.pairs.recording a.stands.items a.waves a.waiters };
+    ghost invariant = { λ a. IsSettled a.reading a.pairs.groups a.pairs.recording a.stands.items a.progress a.waiters };
 }
 
 /// The place of the next call of a rank.
@@ -98,14 +98,14 @@ impl Analyser {
     {
         let (ranks, comms) = (head.ranks(), head.comms());
         let stands = vec![in alloc; 0u32; usize::from(ranks)]?;
-        let waves = Progress::new(alloc, comms)?;
+        let progress = Progress::new(alloc, comms)?;
         let waiters = Waiters::new(alloc, ranks, comms)?;
         let pairs = Pairs::new(alloc, head)?;
         Ok(Analyser {
             reading,
             pairs,
             stands,
-            waves,
+            progress,
             waiters,
         })
     }
@@ -135,7 +135,7 @@ impl Analyser {
                     self.reading,
                     &self.pairs,
                     &mut self.stands,
-                    &mut self.waves,
+                    &mut self.progress,
                     &mut self.waiters,
                     rank,
                     place,
@@ -157,7 +157,7 @@ impl Analyser {
         ensures most { result ≤ most_touches self.now.recording }
     {
         let work = self.waiters.work();
-        work.saturating_add(self.waves.changes)
+        work.saturating_add(self.progress.changes)
     }
 
     /// By which reading the sends are read.

@@ -21,7 +21,7 @@ pub(crate) enum Look {
     /// The rank has no call where it stands, or the one that ends its list.
     Over,
     /// Each need of its call is met.
-    Passes,
+    Moves,
     /// A message of the operation at the place has no partner that is reached, or a probe there sees no send that
     /// is reached.
     Partner { place: u32 },
@@ -79,21 +79,21 @@ fn look_at_operation(
     reading: Reading,
     pairs: &Pairs,
     stands: &[u32],
-    waves: &Progress,
+    progress: &Progress,
     rank: u16,
     place: u32,
     call: &StoredCall<'_>,
 ) -> Look
-    requires waves { AreWaves pairs.now.groups pairs.now.recording stands.now waves.now IsNoException }
+    requires waves { AreWaves pairs.now.groups pairs.now.recording stands.now progress.now IsNoException }
     requires call { slice_get (calls_of pairs.now.recording rank) place ≡ Some call.now }
-    ensures { TellsOperation reading pairs.now.groups pairs.now.recording stands.now waves.now rank place result }
+    ensures { TellsOperation reading pairs.now.groups pairs.now.recording stands.now progress.now rank place result }
 {
     if !are_messages_met(reading, pairs, stands, rank, place, call) {
         return Look::Partner { place };
     }
-    match waves.open_wave(pairs, rank, place) {
+    match progress.open_wave(pairs, rank, place) {
         Some(comm) => Look::Wave { comm },
-        None => Look::Passes,
+        None => Look::Moves,
     }
 }
 
@@ -102,16 +102,16 @@ fn look_at_start(
     reading: Reading,
     pairs: &Pairs,
     stands: &[u32],
-    waves: &Progress,
+    progress: &Progress,
     rank: u16,
     start: u32,
 ) -> Look
-    requires { AreWaves pairs.now.groups pairs.now.recording stands.now waves.now IsNoException }
-    ensures { TellsOperation reading pairs.now.groups pairs.now.recording stands.now waves.now rank start result }
+    requires { AreWaves pairs.now.groups pairs.now.recording stands.now progress.now IsNoException }
+    ensures { TellsOperation reading pairs.now.groups pairs.now.recording stands.now progress.now rank start result }
 {
     match pairs.call(rank, start) {
-        Some(call) => look_at_operation(reading, pairs, stands, waves, rank, start, &call),
-        None => Look::Passes,
+        Some(call) => look_at_operation(reading, pairs, stands, progress, rank, start, &call),
+        None => Look::Moves,
     }
 }
 
@@ -120,17 +120,17 @@ fn look_at_request(
     reading: Reading,
     pairs: &Pairs,
     stands: &[u32],
-    waves: &Progress,
+    progress: &Progress,
     rank: u16,
     place: u32,
     index: usize,
 ) -> Look
-    requires { AreWaves pairs.now.groups pairs.now.recording stands.now waves.now IsNoException }
-    ensures { TellsRequest reading pairs.now.groups pairs.now.recording stands.now waves.now rank place index result }
+    requires { AreWaves pairs.now.groups pairs.now.recording stands.now progress.now IsNoException }
+    ensures { TellsRequest reading pairs.now.groups pairs.now.recording stands.now progress.now rank place index result }
 {
     match pairs.completed(rank, place, index) {
-        Some(start) => look_at_start(reading, pairs, stands, waves, rank, start),
-        None => Look::Passes,
+        Some(start) => look_at_start(reading, pairs, stands, progress, rank, start),
+        None => Look::Moves,
     }
 }
 
@@ -139,22 +139,22 @@ fn look_at_requests(
     reading: Reading,
     pairs: &Pairs,
     stands: &[u32],
-    waves: &Progress,
+    progress: &Progress,
     rank: u16,
     place: u32,
     call: &StoredCall<'_>,
 ) -> Look
-    requires waves { AreWaves pairs.now.groups pairs.now.recording stands.now waves.now IsNoException }
+    requires waves { AreWaves pairs.now.groups pairs.now.recording stands.now progress.now IsNoException }
     requires call { slice_get (calls_of pairs.now.recording rank) place ≡ Some call.now }
-    ensures { TellsCompleted reading pairs.now.groups pairs.now.recording stands.now waves.now rank place call.now result }
+    ensures { TellsCompleted reading pairs.now.groups pairs.now.recording stands.now progress.now rank place call.now result }
 {
     for index in 0..call.completed_count() {
-        match look_at_request(reading, pairs, stands, waves, rank, place, index) {
-            Look::Passes => {}
+        match look_at_request(reading, pairs, stands, progress, rank, place, index) {
+            Look::Moves => {}
             look => return look,
         }
     }
-    Look::Passes
+    Look::Moves
 }
 
 /// What is told of the call at the place: a call that starts a request needs nothing.
@@ -162,20 +162,20 @@ fn look_at_call(
     reading: Reading,
     pairs: &Pairs,
     stands: &[u32],
-    waves: &Progress,
+    progress: &Progress,
     rank: u16,
     place: u32,
     call: &StoredCall<'_>,
 ) -> Look
-    requires waves { AreWaves pairs.now.groups pairs.now.recording stands.now waves.now IsNoException }
+    requires waves { AreWaves pairs.now.groups pairs.now.recording stands.now progress.now IsNoException }
     requires call { slice_get (calls_of pairs.now.recording rank) place ≡ Some call.now }
-    ensures { TellsCall reading pairs.now.groups pairs.now.recording stands.now waves.now rank place call.now result }
+    ensures { TellsCall reading pairs.now.groups pairs.now.recording stands.now progress.now rank place call.now result }
 {
     if call.starts().is_some() {
-        return Look::Passes;
+        return Look::Moves;
     }
-    match look_at_operation(reading, pairs, stands, waves, rank, place, call) {
-        Look::Passes => look_at_requests(reading, pairs, stands, waves, rank, place, call),
+    match look_at_operation(reading, pairs, stands, progress, rank, place, call) {
+        Look::Moves => look_at_requests(reading, pairs, stands, progress, rank, place, call),
         look => look,
     }
 }
@@ -195,12 +195,12 @@ pub(crate) fn look_at(
     reading: Reading,
     pairs: &Pairs,
     stands: &[u32],
-    waves: &Progress,
+    progress: &Progress,
     rank: u16,
 ) -> Look
-    requires waves { AreWaves pairs.now.groups pairs.now.recording stands.now waves.now IsNoException }
-    ensures tells { TellsRank reading pairs.now.groups pairs.now.recording stands.now waves.now rank result }
-    ensures room { result ≡ Look.Passes → slice_index stands.now rank < most_calls }
+    requires waves { AreWaves pairs.now.groups pairs.now.recording stands.now progress.now IsNoException }
+    ensures tells { TellsRank reading pairs.now.groups pairs.now.recording stands.now progress.now rank result }
+    ensures room { result ≡ Look.Moves → slice_index stands.now rank < most_calls }
 {
     let stand = stand_of(stands, rank);
     if !has_call(pairs, rank, stand) {
@@ -208,7 +208,7 @@ pub(crate) fn look_at(
     }
     match pairs.call(rank, stand) {
         Some(call) if !call.ends_list() => look_at_call(
-            reading, pairs, stands, waves, rank, stand, &call,
+            reading, pairs, stands, progress, rank, stand, &call,
         ),
         _ => Look::Over,
     }

@@ -74,9 +74,9 @@ fn next_missing(pairs: &Pairs, stands: &[u32], comm: u16, wave: u32, from: u16) 
 impl Progress {
     /// No wave of so many communicators is complete.
     pub(crate) fn new(alloc: Global, comms: u16) -> Result<Progress, AllocError>
-        ensures complete { IfOk result (λ waves. waves.complete.items ≡ replicate comms 0) }
-        ensures met { IfOk result (λ waves. waves.met.items ≡ replicate comms 0) }
-        ensures changes { IfOk result (λ waves. waves.changes ≡ 0) }
+        ensures complete { IfOk result (λ progress. progress.complete.items ≡ replicate comms 0) }
+        ensures met { IfOk result (λ progress. progress.met.items ≡ replicate comms 0) }
+        ensures changes { IfOk result (λ progress. progress.changes ≡ 0) }
     {
         Ok(Progress {
             complete: vec![in alloc; 0u32; usize::from(comms)]?,

@@ -92,19 +92,19 @@ fn reach(
     reading: Reading,
     pairs: &Pairs,
     stands: &[u32],
-    waves: &mut Progress,
+    progress: &mut Progress,
     waiters: &mut Waiters,
     rank: u16,
     place: u32,
 )
-    requires { IsReaching reading pairs.now.groups pairs.now.recording stands.now waves.old waiters.old rank place }
-    ensures in_hand { IsInHand reading pairs.now.groups pairs.now.recording stands.now waves.new waiters.new rank }
-    ensures counts { touches_of waves.old waiters.old ≤ touches_of waves.new waiters.new }
+    requires { IsReaching reading pairs.now.groups pairs.now.recording stands.now progress.old waiters.old rank place }
+    ensures in_hand { IsInHand reading pairs.now.groups pairs.now.recording stands.now progress.new waiters.new rank }
+    ensures counts { touches_of progress.old waiters.old ≤ touches_of progress.new waiters.new }
 {
     wake_partner(pairs, waiters, rank, place, Half::Send);
     wake_partner(pairs, waiters, rank, place, Half::Recv);
     wake_prober(pairs, waiters, rank, place);
-    let complete = waves.reach(pairs, stands, rank, place);
+    let complete = progress.reach(pairs, stands, rank, place);
     wake_members(waiters, complete);
 }
 
@@ -114,19 +114,19 @@ fn settle_one(
     reading: Reading,
     pairs: &Pairs,
     stands: &mut Vec<u32>,
-    waves: &mut Progress,
+    progress: &mut Progress,
     waiters: &mut Waiters,
     rank: u16,
 ) -> bool
-    requires { IsInHand reading pairs.now.groups pairs.now.recording stands.old.items waves.old waiters.old rank }
-    ensures in_hand { result ≡ true → IsInHand reading pairs.now.groups pairs.now.recording stands.new.items waves.new waiters.new rank }
-    ensures kept { result ≡ false → HoldsBetweenLooks reading pairs.now.groups pairs.now.recording stands.new.items waves.new waiters.new IsNobody 0 }
+    requires { IsInHand reading pairs.now.groups pairs.now.recording stands.old.items progress.old waiters.old rank }
+    ensures in_hand { result ≡ true → IsInHand reading pairs.now.groups pairs.now.recording stands.new.items progress.new waiters.new rank }
+    ensures kept { result ≡ false → HoldsBetweenLooks reading pairs.now.groups pairs.now.recording stands.new.items progress.new waiters.new IsNobody 0 }
     ensures no_lower { StandsNoLater stands.old.items stands.new.items }
-    ensures counts { touches_of waves.old waiters.old ≤ touches_of waves.new waiters.new }
+    ensures counts { touches_of progress.old waiters.old ≤ touches_of progress.new waiters.new }
     ensures no_more { to_do pairs.now.recording stands.new.items waiters.new ≤ to_do pairs.now.recording stands.old.items waiters.old }
     ensures falls { result ≡ true → to_do pairs.now.recording stands.new.items waiters.new < to_do pairs.now.recording stands.old.items waiters.old }
 {
-    match look_at(reading, pairs, stands, waves, rank) {
+    match look_at(reading, pairs, stands, progress, rank) {
         Look::Over => false,
         Look::Partner { place } => {
             waiters.wait_for_partner(rank, place);
@@ -136,10 +136,10 @@ fn settle_one(
             waiters.wait_for_wave(rank, comm);
             false
         }
-        Look::Passes => {
+        Look::Moves => {
             move_on(stands, rank);
             let place = stand_of(stands, rank);
-            reach(reading, pairs, stands, waves, waiters, rank, place);
+            reach(reading, pairs, stands, progress, waiters, rank, place);
             true
         }
     }
@@ -150,17 +150,17 @@ fn settle_rank(
     reading: Reading,
     pairs: &Pairs,
     stands: &mut Vec<u32>,
-    waves: &mut Progress,
+    progress: &mut Progress,
     waiters: &mut Waiters,
     rank: u16,
 )
-    requires { IsInHand reading pairs.now.groups pairs.now.recording stands.old.items waves.old waiters.old rank }
-    ensures kept { HoldsBetweenLooks reading pairs.now.groups pairs.now.recording stands.new.items waves.new waiters.new IsNobody 0 }
+    requires { IsInHand reading pairs.now.groups pairs.now.recording stands.old.items progress.old waiters.old rank }
+    ensures kept { HoldsBetweenLooks reading pairs.now.groups pairs.now.recording stands.new.items progress.new waiters.new IsNobody 0 }
     ensures no_lower { StandsNoLater stands.old.items stands.new.items }
-    ensures counts { touches_of waves.old waiters.old ≤ touches_of waves.new waiters.new }
+    ensures counts { touches_of progress.old waiters.old ≤ touches_of progress.new waiters.new }
     ensures no_more { to_do pairs.now.recording stands.new.items waiters.new ≤ to_do pairs.now.recording stands.old.items waiters.old }
 {
-    while settle_one(reading, pairs, stands, waves, waiters, rank) {}
+    while settle_one(reading, pairs, stands, progress, waiters, rank) {}
 }
 
 /// Looks at ranks until none is to be looked at. It takes no memory.
@@ -168,16 +168,16 @@ fn settle(
     reading: Reading,
     pairs: &Pairs,
     stands: &mut Vec<u32>,
-    waves: &mut Progress,
+    progress: &mut Progress,
     waiters: &mut Waiters,
 )
-    requires { HoldsBetweenLooks reading pairs.now.groups pairs.now.recording stands.old.items waves.old waiters.old IsNobody 0 }
-    ensures settled { IsSettled reading pairs.now.groups pairs.now.recording stands.new.items waves.new waiters.new }
+    requires { HoldsBetweenLooks reading pairs.now.groups pairs.now.recording stands.old.items progress.old waiters.old IsNobody 0 }
+    ensures settled { IsSettled reading pairs.now.groups pairs.now.recording stands.new.items progress.new waiters.new }
     ensures no_lower { StandsNoLater stands.old.items stands.new.items }
-    ensures counts { touches_of waves.old waiters.old ≤ touches_of waves.new waiters.new }
+    ensures counts { touches_of progress.old waiters.old ≤ touches_of progress.new waiters.new }
 {
     while let Some(rank) = waiters.next() {
-        settle_rank(reading, pairs, stands, waves, waiters, rank);
+        settle_rank(reading, pairs, stands, progress, waiters, rank);
     }
 }
 
@@ -187,19 +187,19 @@ pub(crate) fn arrive(
     reading: Reading,
     pairs: &Pairs,
     stands: &mut Vec<u32>,
-    waves: &mut Progress,
+    progress: &mut Progress,
     waiters: &mut Waiters,
     rank: u16,
     place: u32,
 )
-    requires { HasArrived reading pairs.now.groups pairs.now.recording stands.old.items waves.old waiters.old rank place }
-    ensures settled { IsSettled reading pairs.now.groups pairs.now.recording stands.new.items waves.new waiters.new }
+    requires { HasArrived reading pairs.now.groups pairs.now.recording stands.old.items progress.old waiters.old rank place }
+    ensures settled { IsSettled reading pairs.now.groups pairs.now.recording stands.new.items progress.new waiters.new }
     ensures no_lower { StandsNoLater stands.old.items stands.new.items }
-    ensures counts { touches_of waves.old waiters.old ≤ touches_of waves.new waiters.new }
+    ensures counts { touches_of progress.old waiters.old ≤ touches_of progress.new waiters.new }
 {
     if stand_of(stands, rank) == place {
-        reach(reading, pairs, stands, waves, waiters, rank, place);
-        settle_rank(reading, pairs, stands, waves, waiters, rank);
-        settle(reading, pairs, stands, waves, waiters);
+        reach(reading, pairs, stands, progress, waiters, rank, place);
+        settle_rank(reading, pairs, stands, progress, waiters, rank);
+        settle(reading, pairs, stands, progress, waiters);
     }
 }

@@ -7,7 +7,7 @@ use Rattle.std.proofs.lemmas.List.{length-map}
 use Rattle.mpicall.specs.Argument.{Argument, Number, spell, is_in_range, form_of, request_form, request_argument, index_argument, comm_form, is_in_form}
 use Rattle.mpicall.specs.Limits.{in_ranges, names_enough, few_enough}
 use Rattle.mpicall.specs.Line.{Fixed, shape_of, root_forms, all_requests, fits}
-use Rattle.mpicall.specs.Reading.{taken, arguments_in, call_of, kind_of, number_in, request_in}
+use Rattle.mpicall.specs.Reading.{taken, arguments_in, call_of, kind_named, numeral_in, request_in}
 use Rattle.mpicall.specs.Spelling.{word_of_call, arguments_of, name_of, root_of, root_arguments}
 use Rattle.mpicall.proofs.ArgumentLemmas.{is_small, reads_back, argument_field, IsField, le_to, le_from}
 use Rattle.mpicall.proofs.DecimalLemmas.{value_decimal}
@@ -30,7 +30,7 @@ pub record KnownCall (x : Call) : Type 0 where
 
 record KindRow (kind : Kind) : Type 0 where
   forms : root_forms (name_of kind) ≡ map form_of (root_arguments (root_of kind))
-  kind_is : kind_of (name_of kind) (get_or (root_arguments (root_of kind)) 0 (Number 0 0)) ≡ kind
+  kind_is : kind_named (name_of kind) (get_or (root_arguments (root_of kind)) 0 (Number 0 0)) ≡ kind
   small : list_all is_small (root_arguments (root_of kind)) ≡ true
   few : nat_le (length (root_arguments (root_of kind))) 1 ≡ true
 
@@ -68,7 +68,7 @@ requests_in_form (req ∷ reqs) h =
     let parts = and_parts (is_in_range (request_argument req)) (list_all is_in_range (map request_argument reqs)) h in
     rw (reads_back (request_argument req) refl parts.0) (requests_in_form reqs parts.1)
 
-requests_back : (reqs : List ℕ) → list_all is_in_range (map request_argument reqs) ≡ true → map number_in (map request_in (map spell (map request_argument reqs))) ≡ reqs
+requests_back : (reqs : List ℕ) → list_all is_in_range (map request_argument reqs) ≡ true → map numeral_in (map request_in (map spell (map request_argument reqs))) ≡ reqs
 requests_back [] h = refl
 requests_back (req ∷ reqs) h =
     let parts = and_parts (is_in_range (request_argument req)) (list_all is_in_range (map request_argument reqs)) h in

@@ -21,7 +21,7 @@ use Rattle.mpicall.proofs.LineLemmas.{body_spells}
 use Rattle.mpicall.specs.declared.fault.LineFault.{LineFault}
 use Rattle.mpicall.specs.declared.fault.LineFault.TheVariants.{EmptyField, FieldCount, FieldForm, Wildcard, TooLong, NoLineFeed}
 use Rattle.mpicall.specs.Number.{number_up_to, signed_of, value_of}
-use Rattle.mpicall.specs.Reading.{at, number_in, number_at, peer_in, colour_in, key_in, new_in, kind_of, call_of, arguments_in, request_in, take_arguments, taken, put_before, take_behind, with_behind, call_by_word, call_of_fields, Spells}
+use Rattle.mpicall.specs.Reading.{at, numeral_in, number_at, peer_in, colour_in, key_in, new_in, kind_named, call_of, arguments_in, request_in, take_arguments, taken, put_before, take_behind, with_behind, call_by_word, call_of_fields, Spells}
 use Rattle.mpicall.specs.Spelling.{word_of_call, arguments_of, name_of, root_of, root_arguments, fields_of, line_feed}
 use Rattle.mpicall.proofs.ArgumentLemmas.{map_some, le_to, le_from}
 use Rattle.mpicall.proofs.DecimalLemmas.{number-decimal, value_decimal}
@@ -37,7 +37,7 @@ use Rattle.mpicall.specs.declared.word.Name.TheVariants as name
 -- Arguments, each put into its form again.
 
 abbrev as_form : Form → Argument → Argument
-as_form (NumberUpTo greatest) a = Number greatest (number_in a)
+as_form (NumberUpTo greatest) a = Number greatest (numeral_in a)
 as_form PeerForm a = PeerOf (peer_in a)
 as_form ColourForm a = Colour (colour_in a)
 as_form KeyForm a = Key (key_in a)
@@ -70,11 +70,11 @@ rebuilt args = rebuilt_from [] args args 0 refl refl
 
 -- The call of a word has that word, and the arguments that it was made of.
 
-root_rebuilt : (c : Collective) (k : ℕ) (args : List Argument) → root_arguments (root_of (kind_of c (at args k))) ≡ rebuild (root_forms c) k args
+root_rebuilt : (c : Collective) (k : ℕ) (args : List Argument) → root_arguments (root_of (kind_named c (at args k))) ≡ rebuild (root_forms c) k args
 root_rebuilt Barrier k args = refl
 root_rebuilt _ k args = refl
 
-name_kept : (c : Collective) (root : Argument) → name_of (kind_of c root) ≡ c
+name_kept : (c : Collective) (root : Argument) → name_of (kind_named c root) ≡ c
 name_kept Barrier root = refl
 name_kept _ root = refl
 
@@ -92,23 +92,23 @@ no_bytes place args count = let none : slice_get args place ≡ None = slice_get
 
 blocking_rebuilt : (o : Operation) (args : List Argument) → length args ≡ length (operation_forms o (length args)) → arguments_of (call_of (Blocking o) args) ≡ rebuild (operation_forms o (length args)) 0 args
 blocking_rebuilt (Send Standard) args count =
-    ap (λ others. Number GREATEST_COMM (number_in (at args 0)) ∷ PeerOf (peer_in (at args 1)) ∷ Number 2147483647 (number_in (at args 2)) ∷ others) (bytes_rebuilt (length args == 3 + 1) 3 args (omega (arith, count)))
+    ap (λ others. Number GREATEST_COMM (numeral_in (at args 0)) ∷ PeerOf (peer_in (at args 1)) ∷ Number 2147483647 (numeral_in (at args 2)) ∷ others) (bytes_rebuilt (length args == 3 + 1) 3 args (omega (arith, count)))
 blocking_rebuilt (Send Synchronous) args count = rw (no_bytes 3 args count) refl
 blocking_rebuilt (Send Buffered) args count = rw (no_bytes 3 args count) refl
 blocking_rebuilt Recv args count = refl
-blocking_rebuilt (Coll c) args count = ap (λ others. Number GREATEST_COMM (number_in (at args 0)) ∷ others) (root_rebuilt c 1 args)
+blocking_rebuilt (Coll c) args count = ap (λ others. Number GREATEST_COMM (numeral_in (at args 0)) ∷ others) (root_rebuilt c 1 args)
 
 started_rebuilt : (o : Operation) (args : List Argument) → length args ≡ length (request_form ∷ operation_forms o (length args - 1)) → arguments_of (call_of (Started o) args) ≡ rebuild (request_form ∷ operation_forms o (length args - 1)) 0 args
 started_rebuilt (Send Standard) args count =
-    ap (λ others. Number 2147483647 (number_in (at args 0)) ∷ Number GREATEST_COMM (number_in (at args 1)) ∷ PeerOf (peer_in (at args 2)) ∷ Number 2147483647 (number_in (at args 3)) ∷ others) (bytes_rebuilt (length args - 1 == 3 + 1) 4 args (omega (arith, count)))
+    ap (λ others. Number 2147483647 (numeral_in (at args 0)) ∷ Number GREATEST_COMM (numeral_in (at args 1)) ∷ PeerOf (peer_in (at args 2)) ∷ Number 2147483647 (numeral_in (at args 3)) ∷ others) (bytes_rebuilt (length args - 1 == 3 + 1) 4 args (omega (arith, count)))
 started_rebuilt (Send Synchronous) args count = rw (no_bytes 4 args count) refl
 started_rebuilt (Send Buffered) args count = rw (no_bytes 4 args count) refl
 started_rebuilt Recv args count = refl
-started_rebuilt (Coll c) args count = ap (λ others. Number 2147483647 (number_in (at args 0)) ∷ Number GREATEST_COMM (number_in (at args 1)) ∷ others) (root_rebuilt c 2 args)
+started_rebuilt (Coll c) args count = ap (λ others. Number 2147483647 (numeral_in (at args 0)) ∷ Number GREATEST_COMM (numeral_in (at args 1)) ∷ others) (root_rebuilt c 2 args)
 
 sendrecv_rebuilt : (args : List Argument) → length args ≡ length (comm_form ∷ PeerForm ∷ tag_form ∷ PeerForm ∷ tag_form ∷ bytes_forms 5 (length args)) → arguments_of (call_of (Named name.Sendrecv) args) ≡ rebuild (comm_form ∷ PeerForm ∷ tag_form ∷ PeerForm ∷ tag_form ∷ bytes_forms 5 (length args)) 0 args
 sendrecv_rebuilt args count =
-    ap (λ others. Number GREATEST_COMM (number_in (at args 0)) ∷ PeerOf (peer_in (at args 1)) ∷ Number 2147483647 (number_in (at args 2)) ∷ PeerOf (peer_in (at args 3)) ∷ Number 2147483647 (number_in (at args 4)) ∷ others) (bytes_rebuilt (length args == 5 + 1) 5 args (omega (arith, count)))
+    ap (λ others. Number GREATEST_COMM (numeral_in (at args 0)) ∷ PeerOf (peer_in (at args 1)) ∷ Number 2147483647 (numeral_in (at args 2)) ∷ PeerOf (peer_in (at args 3)) ∷ Number 2147483647 (numeral_in (at args 4)) ∷ others) (bytes_rebuilt (length args == 5 + 1) 5 args (omega (arith, count)))
 
 same_arguments : (forms wanted : List Form) (args made : List Argument) → made ≡ rebuild forms 0 args → Fixed forms ≡ Fixed wanted → map form_of args ≡ wanted → made ≡ args
 same_arguments forms wanted args made e same is =
@@ -171,7 +171,7 @@ row_read (form ∷ forms) (field ∷ fields) n e =
 -- Lists of requests.
 
 abbrev read_requests : List (List ℕ) → List ℕ
-read_requests fields = map number_in (map request_in fields)
+read_requests fields = map numeral_in (map request_in fields)
 
 number_some : (o : Option ℕ) → is_some (option_map (Number 2147483647) o) ≡ true → is_some o ≡ true
 number_some (Some n) e = refl
@@ -185,7 +185,7 @@ request_field field e =
     (rw value read.0, rw value (le_to some.0 2147483647 read.1))
 
 as_many : (fields : List (List ℕ)) → length (read_requests fields) ≡ length fields
-as_many fields = length-map (map request_in fields) number_in ∙ length-map fields request_in
+as_many fields = length-map (map request_in fields) numeral_in ∙ length-map fields request_in
 
 cons_same : (a b : List ℕ) (as' bs : List (List ℕ)) → a ≡ b → as' ≡ bs → a ∷ as' ≡ b ∷ bs
 cons_same a b as' bs p q = cc

@@ -6,7 +6,7 @@ use Rattle.std.proofs.lemmas.Slice.Eq.{bytes_eq-Decides}
 use Rattle.std.proofs.lemmas.Bool.Decides.{nat_tests}
 use Rattle.std.proofs.lemmas.Bool.{and_parts}
 use Rattle.mpicall.proofs.ArgumentLemmas.{above_space, map_some, le_from}
-use Rattle.mpicall.specs.Word.{collective_text, operation_text, text_of, start_letter, with_text, or_else, collectives, messages, name_text, name_in, named_of, collective_of, operation_of, started_of, word_of}
+use Rattle.mpicall.specs.Word.{collective_text, operation_text, text_of, start_letter, with_text, or_else, collectives, messages, name_text, name_in, named_of, collective_of, operation_of, started_word, word_of}
 use Rattle.mpicall.specs.declared.call.Mode.TheVariants.{Standard}
 use Rattle.mpicall.specs.declared.word.Collective.{Collective}
 use Rattle.mpicall.specs.declared.word.Collective.TheVariants.{Barrier}
@@ -61,7 +61,7 @@ start_cases true letter text w is e =
     has ∙ ap text_of (sym found.2)
 start_cases false letter text w is e = cc
 
-started_has : (text : List ℕ) (w : Word) → started_of text ≡ Some w → text ≡ text_of w
+started_has : (text : List ℕ) (w : Word) → started_word text ≡ Some w → text ≡ text_of w
 started_has [] w e = cc
 started_has (letter ∷ text) w e = start_cases (letter == start_letter) letter text w (letter_is letter) e
 
@@ -84,8 +84,8 @@ named_has text w e =
 pub word_has : (text : List ℕ) (w : Word) → word_of text ≡ Some w → text ≡ text_of w
 unfolding word_of
 word_has text w e =
-    else_cases (text ≡ text_of w) (option_map Blocking (operation_of text)) (or_else (started_of text) (named_of text)) w (blocking_has text w)
-    (else_cases (text ≡ text_of w) (started_of text) (named_of text) w (started_has text w) (named_has text w)) e
+    else_cases (text ≡ text_of w) (option_map Blocking (operation_of text)) (or_else (started_word text) (named_of text)) w (blocking_has text w)
+    (else_cases (text ≡ text_of w) (started_word text) (named_of text) w (started_has text w) (named_has text w)) e
 
 -- Each text is found.
 

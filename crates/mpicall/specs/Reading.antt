@@ -74,9 +74,9 @@ ReadsWhole word forms fields answer old new =
     (λ _. (all_taken (take_arguments forms fields) ≡ Some (arguments_of new)) × (word_of_call new ≡ word) × (names_enough new ≡ true))
 
 -- the number, the peer and so on of an argument that is one
-abbrev pub number_in : Argument → ℕ
-number_in (Number greatest n) = n
-number_in _ = 0
+abbrev pub numeral_in : Argument → ℕ
+numeral_in (Number greatest n) = n
+numeral_in _ = 0
 
 abbrev pub peer_in : Argument → Peer
 peer_in (PeerOf peer) = peer
@@ -100,39 +100,39 @@ at arguments place = get_or arguments place (Number 0 0)
 
 -- the number of one of some arguments, where there is one
 abbrev pub number_at : List Argument → ℕ → Option ℕ
-number_at arguments place = option_map number_in (slice_get arguments place)
+number_at arguments place = option_map numeral_in (slice_get arguments place)
 
-abbrev pub kind_of : Collective → Argument → Kind
-kind_of BarrierName root = Barrier
-kind_of BcastName root = Bcast (number_in root)
-kind_of GatherName root = Gather (number_in root)
-kind_of ScatterName root = Scatter (number_in root)
-kind_of ReduceName root = Reduce (number_in root)
-kind_of AllgatherName root = Allgather
-kind_of AlltoallName root = Alltoall
-kind_of AllreduceName root = Allreduce
-kind_of ScanName root = Scan
-kind_of ExscanName root = Exscan
+abbrev pub kind_named : Collective → Argument → Kind
+kind_named BarrierName root = Barrier
+kind_named BcastName root = Bcast (numeral_in root)
+kind_named GatherName root = Gather (numeral_in root)
+kind_named ScatterName root = Scatter (numeral_in root)
+kind_named ReduceName root = Reduce (numeral_in root)
+kind_named AllgatherName root = Allgather
+kind_named AlltoallName root = Alltoall
+kind_named AllreduceName root = Allreduce
+kind_named ScanName root = Scan
+kind_named ExscanName root = Exscan
 
 -- what stands behind a name of a layout, of its arguments
 abbrev pub laid_by : Layout → List Argument → Laid
-laid_by layout.Message a = Message (number_in (at a 0)) (peer_in (at a 1)) (number_in (at a 2))
-laid_by layout.Exchange a = Exchange (number_in (at a 0)) (peer_in (at a 1)) (number_in (at a 2)) (peer_in (at a 3)) (number_in (at a 4)) (number_at a 5)
-laid_by layout.Copy a = Copy (number_in (at a 0)) (number_in (at a 1))
-laid_by layout.Split a = Split (number_in (at a 0)) (colour_in (at a 1)) (key_in (at a 2)) (new_in (at a 3))
+laid_by layout.Message a = Message (numeral_in (at a 0)) (peer_in (at a 1)) (numeral_in (at a 2))
+laid_by layout.Exchange a = Exchange (numeral_in (at a 0)) (peer_in (at a 1)) (numeral_in (at a 2)) (peer_in (at a 3)) (numeral_in (at a 4)) (number_at a 5)
+laid_by layout.Copy a = Copy (numeral_in (at a 0)) (numeral_in (at a 1))
+laid_by layout.Split a = Split (numeral_in (at a 0)) (colour_in (at a 1)) (key_in (at a 2)) (new_in (at a 3))
 laid_by _ a = Nothing
 
 -- the call of a word and its arguments
 abbrev pub call_of : Word → List Argument → Call
-call_of (Blocking (SendOperation mode)) a = Send mode (number_in (at a 0)) (peer_in (at a 1)) (number_in (at a 2)) (number_at a 3)
-call_of (Blocking RecvOperation) a = Recv (number_in (at a 0)) (peer_in (at a 1)) (number_in (at a 2))
-call_of (Blocking (CollOperation name)) a = Coll (number_in (at a 0)) (kind_of name (at a 1))
-call_of (Started (SendOperation mode)) a = Isend (number_in (at a 0)) mode (number_in (at a 1)) (peer_in (at a 2)) (number_in (at a 3)) (number_at a 4)
-call_of (Started RecvOperation) a = Irecv (number_in (at a 0)) (number_in (at a 1)) (peer_in (at a 2)) (number_in (at a 3))
-call_of (Started (CollOperation name)) a = Icoll (number_in (at a 0)) (number_in (at a 1)) (kind_of name (at a 2))
-call_of (Named name.Wait) a = Wait (number_in (at a 0))
-call_of (Named name.Waitall) a = Waitall (map number_in a)
-call_of (Named name.Waitany) a = Waitany (number_in (at a 0)) (map number_in (drop 1 a))
+call_of (Blocking (SendOperation mode)) a = Send mode (numeral_in (at a 0)) (peer_in (at a 1)) (numeral_in (at a 2)) (number_at a 3)
+call_of (Blocking RecvOperation) a = Recv (numeral_in (at a 0)) (peer_in (at a 1)) (numeral_in (at a 2))
+call_of (Blocking (CollOperation name)) a = Coll (numeral_in (at a 0)) (kind_named name (at a 1))
+call_of (Started (SendOperation mode)) a = Isend (numeral_in (at a 0)) mode (numeral_in (at a 1)) (peer_in (at a 2)) (numeral_in (at a 3)) (number_at a 4)
+call_of (Started RecvOperation) a = Irecv (numeral_in (at a 0)) (numeral_in (at a 1)) (peer_in (at a 2)) (numeral_in (at a 3))
+call_of (Started (CollOperation name)) a = Icoll (numeral_in (at a 0)) (numeral_in (at a 1)) (kind_named name (at a 2))
+call_of (Named name.Wait) a = Wait (numeral_in (at a 0))
+call_of (Named name.Waitall) a = Waitall (map numeral_in a)
+call_of (Named name.Waitany) a = Waitany (numeral_in (at a 0)) (map numeral_in (drop 1 a))
 call_of (Named other) a = call_by other (laid_by (layout_of other) a)
 
 -- the arguments that fields of a shape spell

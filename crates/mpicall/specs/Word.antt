@@ -83,9 +83,9 @@ collective_of text = with_text collective_text text collectives
 unfoldable pub operation_of : List ℕ → Option Operation
 operation_of text = or_else (with_text operation_text text messages) (option_map Coll (collective_of text))
 
-abbrev pub started_of : List ℕ → Option Word
-started_of [] = None
-started_of (letter ∷ text) = if letter == start_letter then option_map Started (operation_of text) else None
+abbrev pub started_word : List ℕ → Option Word
+started_word [] = None
+started_word (letter ∷ text) = if letter == start_letter then option_map Started (operation_of text) else None
 
 -- the name with a text, by the rows of a table
 abbrev pub name_in : List (List ℕ × Name) → List ℕ → Option Name
@@ -96,4 +96,4 @@ abbrev pub named_of : List ℕ → Option Word
 named_of text = option_map Named (name_in (map (λ row. (row.0.now, row.1)) NAMES) text)
 
 unfoldable pub word_of : List ℕ → Option Word
-word_of text = or_else (option_map Blocking (operation_of text)) (or_else (started_of text) (named_of text))
+word_of text = or_else (option_map Blocking (operation_of text)) (or_else (started_word text) (named_of text))

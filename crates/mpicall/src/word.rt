@@ -1,7 +1,7 @@
 //! The words of the format. A call that starts an operation has an `i` before the operation's word.
 
 ghost use Rattle.std.specs.Prelude.{◌≡◌, ◌≤◌, length, map};
-ghost use Rattle.mpicall.specs.Word.{collective_of, operation_of, started_of, name_in, named_of, word_of, layout_of, letter_of, stem_of, collective_text, operation_text};
+ghost use Rattle.mpicall.specs.Word.{collective_of, operation_of, started_word, name_in, named_of, word_of, layout_of, letter_of, stem_of, collective_text, operation_text};
 ghost use Rattle.mpicall.specs.Spelling.{name_of, root_of, word_of_call};
 
 use crate::call::{Call, Kind, Mode};
@@ -200,8 +200,8 @@ fn operation_of(field: &[u8]) -> Option<Operation>
 }
 
 /// The word that starts the operation that a field spells behind its `i`.
-fn started_of(field: &[u8]) -> Option<Word>
-    ensures { result ≡ started_of field.now }
+fn started_word(field: &[u8]) -> Option<Word>
+    ensures { result ≡ started_word field.now }
 {
     let (letter, text) = field.split_first()?;
     if *letter != b'i' {
@@ -251,7 +251,7 @@ pub(crate) fn word_of(field: &[u8]) -> Option<Word>
     if let Some(operation) = operation_of(field) {
         return Some(Word::Blocking(operation));
     }
-    if let Some(word) = started_of(field) {
+    if let Some(word) = started_word(field) {
         return Some(word);
     }
     named_of(field)

@@ -11,7 +11,7 @@ use Rattle.mpigroup.specs.declared.fault.HeadFault.{HeadFault}
 use Rattle.mpigroup.specs.declared.fault.ReadFault.{ReadFault}
 use Rattle.mpigroup.specs.declared.fault.ReadFault.TheVariants.{Text, Memory}
 use Rattle.mpigroup.specs.Codes.{IsHeadFaultOf}
-use Rattle.mpigroup.specs.HeadText.{is_group, is_head_line, is_comm, checked_group, group_of_fields, group_of_line, at_line, put_front, put_line, groups_of_lines}
+use Rattle.mpigroup.specs.HeadText.{is_group, is_head_line, is_comm_line, checked_group, group_of_fields, group_of_line, at_line, put_front, put_line, groups_of_lines}
 
 -- the groups behind others, or the first fault there
 abbrev pub behind_groups : Groups → Result Groups HeadFault → Result Groups HeadFault
@@ -37,7 +37,7 @@ is_group-from_checked ranks members group is = elim (cases_Bool (is_group ranks 
 ]
 
 is_group-from_fields : (ranks : ℕ) (fields : List (List ℕ)) (group : List ℕ) → group_of_fields ranks fields ≡ Ok group → is_group ranks group ≡ true
-is_group-from_fields ranks fields group is = elim (cases_Bool (is_comm fields)) [
+is_group-from_fields ranks fields group is = elim (cases_Bool (is_comm_line fields)) [
   | inl comm ↦ is_group-from_checked ranks (map value_of (drop 1 fields)) group (rw comm at is)
   | inr other ↦ absurd (let e = rw other at is in cc)
 ]

@@ -45,14 +45,14 @@ abbrev pub checked_group : ℕ → List ℕ → Result (List ℕ) HeadFaultKind
 checked_group ranks members = if is_group ranks members then Ok members else Err Group
 
 -- the fields are `comm` and canonical numbers, which may be none
-abbrev pub is_comm : List (List ℕ) → Bool
-is_comm [] = false
-is_comm (word ∷ numbers) = bytes_eq word (codes "comm") && list_all is_canonical numbers
+abbrev pub is_comm_line : List (List ℕ) → Bool
+is_comm_line [] = false
+is_comm_line (word ∷ numbers) = bytes_eq word (codes "comm") && list_all is_canonical numbers
 
 -- the group that the fields of a further line give
 abbrev pub group_of_fields : ℕ → List (List ℕ) → Result (List ℕ) HeadFaultKind
 group_of_fields ranks fields =
-    if is_comm fields then checked_group ranks (map value_of (drop 1 fields)) else Err CommLine
+    if is_comm_line fields then checked_group ranks (map value_of (drop 1 fields)) else Err CommLine
 
 -- the group that a further line gives, by the number of the line
 abbrev pub group_of_line : ℕ → ℕ → List ℕ → Result (List ℕ) HeadFaultKind

@@ -7,7 +7,7 @@ use Rattle.std.proofs.lemmas.Grind.{common_steps}
 use Rattle.mpicall.specs.declared.call.Call.{Call}
 use Rattle.pairing.specs.Recordings.{Lists, calls_of, appended}
 use Rattle.pairing.specs.Communicators.{makes, does_make}
-use Rattle.pairing.specs.Holdings.{has_holding, IsHeld}
+use Rattle.pairing.specs.Holdings.{has_holding, IsHolding}
 use Rattle.pairing.specs.declared.held.Held.{Held}
 use Rattle.pairing.proofs.RecordingLemmas.{calls_of-appended, calls_of-appended_other}
 
@@ -26,7 +26,7 @@ made_by_other recording rank other comm call differs =
     ap (λ (calls : List Call). list_any (does_make comm) calls) (calls_of-appended_other recording rank other call differs)
 
 -- a table that got what the call makes
-pub held_more : (recording : Lists) (held more : Held) (rank made : ℕ) (call : Call) → makes call ≡ Some made → ((r comm : ℕ) → has_holding more r comm ≡ cond (rank == r && made == comm) true (has_holding held r comm)) → rank < length recording → IsHeld recording held → IsHeld (appended recording rank call) more
+pub held_more : (recording : Lists) (held more : Held) (rank made : ℕ) (call : Call) → makes call ≡ Some made → ((r comm : ℕ) → has_holding more r comm ≡ cond (rank == r && made == comm) true (has_holding held r comm)) → rank < length recording → IsHolding recording held → IsHolding (appended recording rank call) more
 held_more recording held more rank made call makes_it updates is_rank is_held r comm =
     ⊎_elim
     (λ (same : r ≡ rank).
@@ -42,7 +42,7 @@ held_more recording held more rank made call makes_it updates is_rank is_held r 
     (cases_eq r rank)
 
 -- a call that makes nothing leaves the table as it should be
-pub held_same : (recording : Lists) (held : Held) (rank : ℕ) (call : Call) → makes call ≡ None → rank < length recording → IsHeld recording held → IsHeld (appended recording rank call) held
+pub held_same : (recording : Lists) (held : Held) (rank : ℕ) (call : Call) → makes call ≡ None → rank < length recording → IsHolding recording held → IsHolding (appended recording rank call) held
 held_same recording held rank call makes_none is_rank is_held r comm =
     ⊎_elim
     (λ (same : r ≡ rank).

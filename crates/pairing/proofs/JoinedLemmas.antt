@@ -9,7 +9,7 @@ use Rattle.std.proofs.lemmas.Option.{none-some, same_Some}
 use Rattle.indexmap.specs.IndexSet.{insert_key}
 use Rattle.mpicall.specs.declared.call.Call.{Call}
 use Rattle.pairing.specs.declared.held.Holding.{Holding}
-use Rattle.pairing.specs.Joined.{Joinings, is_key, number_of, list_of, IsJoined, IsListFor}
+use Rattle.pairing.specs.Joined.{Joinings, is_key, list_number, list_of, IsJoined, IsListFor}
 use Rattle.pairing.specs.Places.{places}
 use Rattle.pairing.specs.Recordings.{Lists, calls_of, appended}
 use Rattle.pairing.specs.Seats.{Seats, list_in, with_place_in}
@@ -34,7 +34,7 @@ at_world rank comm ranks h =
 abbrev IsOf : Joinings → ℕ → ℕ → ℕ → Type 0
 IsOf waves rank comm number = ((comm ≡ 0) × (rank ≡ number) × (number < waves.ranks)) ⊎ ((place : ℕ) × (position (is_key rank comm) waves.keys ≡ Some place) × (waves.ranks + place ≡ number))
 
-is_of : (waves : Joinings) (rank comm number : ℕ) → number_of waves rank comm ≡ Some number → IsOf waves rank comm number
+is_of : (waves : Joinings) (rank comm number : ℕ) → list_number waves rank comm ≡ Some number → IsOf waves rank comm number
 is_of waves rank comm number h =
     ⊎_elim
     (λ (of_world : (comm == 0 && nat_lt rank waves.ranks) ≡ true).
@@ -46,7 +46,7 @@ is_of waves rank comm number h =
     (cases_Bool (comm == 0 && nat_lt rank waves.ranks))
 
 -- there is a list of that number
-within_lists : (waves : Joinings) (rank comm number : ℕ) → length waves.lists.places ≡ waves.ranks + length waves.keys → number_of waves rank comm ≡ Some number → number < length waves.lists.places
+within_lists : (waves : Joinings) (rank comm number : ℕ) → length waves.lists.places ≡ waves.ranks + length waves.keys → list_number waves rank comm ≡ Some number → number < length waves.lists.places
 within_lists waves rank comm number many is =
     ⊎_elim
     (λ world. omega (arith, many, world.2))
@@ -54,7 +54,7 @@ within_lists waves rank comm number many is =
     (is_of waves rank comm number is)
 
 -- no two ranks and communicators have one list
-one_list : (waves : Joinings) (rank comm rank' comm' number : ℕ) → number_of waves rank comm ≡ Some number → number_of waves rank' comm' ≡ Some number → (rank ≡ rank') × (comm ≡ comm')
+one_list : (waves : Joinings) (rank comm rank' comm' number : ℕ) → list_number waves rank comm ≡ Some number → list_number waves rank' comm' ≡ Some number → (rank ≡ rank') × (comm ≡ comm')
 one_list waves rank comm rank' comm' number is is' =
     ⊎_elim
     (λ world. ⊎_elim
@@ -77,7 +77,7 @@ one_list waves rank comm rank' comm' number is is' =
         )
 
 -- what has no number is not among the keys
-no_place : (waves : Joinings) (rank comm : ℕ) → number_of waves rank comm ≡ None → position (is_key rank comm) waves.keys ≡ None
+no_place : (waves : Joinings) (rank comm : ℕ) → list_number waves rank comm ≡ None → position (is_key rank comm) waves.keys ≡ None
 no_place waves rank comm none =
     ⊎_elim
     (λ (of_world : (comm == 0 && nat_lt rank waves.ranks) ≡ true). absurd (none-some rank (sym none ∙ rw of_world refl)))
@@ -104,7 +104,7 @@ no_key p (key ∷ keys) h =
     (cases_Bool (p key))
 
 -- what the keys are once one comes that has no number
-pub key_more : (waves : Joinings) (keys : List Holding) (rank comm : ℕ) → number_of waves rank comm ≡ None → keys ≡ insert_key same_fields waves.keys (record { rank = rank; comm = comm }) → keys ≡ waves.keys ++ record { rank = rank; comm = comm } ∷ []
+pub key_more : (waves : Joinings) (keys : List Holding) (rank comm : ℕ) → list_number waves rank comm ≡ None → keys ≡ insert_key same_fields waves.keys (record { rank = rank; comm = comm }) → keys ≡ waves.keys ++ record { rank = rank; comm = comm } ∷ []
 key_more waves keys rank comm none inserted =
     let absent = no_key (is_key rank comm) waves.keys (key_absent (is_key rank comm) waves.keys (no_place waves rank comm none)) in
     inserted ∙ ap (λ b. if b then waves.keys else waves.keys ++ record { rank = rank; comm = comm } ∷ []) absent
@@ -131,7 +131,7 @@ grown_places waves keys lists rank comm many one more r c =
         behind (position (is_key r c) (waves.keys ++ record { rank = rank; comm = comm } ∷ [])) (λ place is. number_past (is_key r c) waves.keys (record { rank = rank; comm = comm }) absent.1 place is)
         ∙ sym (ap (λ (o : Option ℕ). option_map_or (list_in waves.lists.places) (option_map (λ place. waves.ranks + place) o) []) absent.0)
 
-pub grown_number : (waves : Joinings) (keys : List Holding) (lists : Seats) (rank comm : ℕ) → number_of waves rank comm ≡ None → keys ≡ waves.keys ++ record { rank = rank; comm = comm } ∷ [] → number_of (record { ranks = waves.ranks; keys = keys; lists = lists }) rank comm ≡ Some (waves.ranks + length waves.keys)
+pub grown_number : (waves : Joinings) (keys : List Holding) (lists : Seats) (rank comm : ℕ) → list_number waves rank comm ≡ None → keys ≡ waves.keys ++ record { rank = rank; comm = comm } ∷ [] → list_number (record { ranks = waves.ranks; keys = keys; lists = lists }) rank comm ≡ Some (waves.ranks + length waves.keys)
 grown_number waves keys lists rank comm none one =
     ⊎_elim
     (λ (of_world : (comm == 0 && nat_lt rank waves.ranks) ≡ true). absurd (none-some rank (sym none ∙ rw of_world refl)))
@@ -142,20 +142,20 @@ grown_number waves keys lists rank comm none one =
     (cases_Bool (comm == 0 && nat_lt rank waves.ranks))
 
 -- what it means that a list is the one for a call's wave
-pub its_wave : (waves : Joinings) (rank : ℕ) (call : Call) (list : ℕ) → IsListFor rank call waves (Some list) → (comm : ℕ) × (joins call ≡ Some comm) × (number_of waves rank comm ≡ Some list)
-its_wave waves rank call list is_list = map_parts (number_of waves rank) (joins call) (Some list) (sym is_list)
+pub its_wave : (waves : Joinings) (rank : ℕ) (call : Call) (list : ℕ) → IsListFor rank call waves (Some list) → (comm : ℕ) × (joins call ≡ Some comm) × (list_number waves rank comm ≡ Some list)
+its_wave waves rank call list is_list = map_parts (list_number waves rank) (joins call) (Some list) (sym is_list)
 
 pub no_wave : (waves : Joinings) (rank : ℕ) (call : Call) → IsListFor rank call waves None → joins call ≡ None
 no_wave waves rank call is_list = none (joins call) is_list
   where
-    none : (o : Option ℕ) → None ≡ option_map (number_of waves rank) o → o ≡ None
+    none : (o : Option ℕ) → None ≡ option_map (list_number waves rank) o → o ≡ None
     none None h = refl
-    none (Some comm) h = absurd (none-some (number_of waves rank comm) h)
+    none (Some comm) h = absurd (none-some (list_number waves rank comm) h)
 
 -- the recording goes on by a call, whose place is put in the list of its wave
-pub put_in : (waves : Joinings) (lists : Seats) (recording : Lists) (rank place comm number : ℕ) (call : Call) → joins call ≡ Some comm → number_of waves rank comm ≡ Some number → length waves.lists.places ≡ waves.ranks + length waves.keys → lists.places ≡ with_place_in waves.lists.places number place → IsJoined recording waves → rank < length recording → place ≡ length (calls_of recording rank) → IsJoined (appended recording rank call) (record { ranks = waves.ranks; keys = waves.keys; lists = lists })
+pub put_in : (waves : Joinings) (lists : Seats) (recording : Lists) (rank place comm number : ℕ) (call : Call) → joins call ≡ Some comm → list_number waves rank comm ≡ Some number → length waves.lists.places ≡ waves.ranks + length waves.keys → lists.places ≡ with_place_in waves.lists.places number place → IsJoined recording waves → rank < length recording → place ≡ length (calls_of recording rank) → IsJoined (appended recording rank call) (record { ranks = waves.ranks; keys = waves.keys; lists = lists })
 put_in waves lists recording rank place comm number call is_joined numbered many put joined is_rank next r c =
-    ap (λ (ps : List (List ℕ)). option_map_or (list_in ps) (number_of waves r c) []) put ∙ of_rank
+    ap (λ (ps : List (List ℕ)). option_map_or (list_in ps) (list_number waves r c) []) put ∙ of_rank
   where
     there : (o : Option ℕ) → o ≡ Some number → option_map_or (list_in (with_place_in waves.lists.places number place)) o [] ≡ option_map_or (list_in waves.lists.places) o [] ++ place ∷ []
     there o is = rw is (list_same waves.lists.places number place (within_lists waves rank comm number many numbered))
@@ -167,18 +167,18 @@ put_in waves lists recording rank place comm number call is_joined numbered many
     does : (m : ℕ) → does_join m call ≡ eqb comm m
     does m = ap (λ (o : Option ℕ). option_map_or (λ other. eqb other m) o false) is_joined
 
-    list_put : (m : ℕ) → option_map_or (list_in (with_place_in waves.lists.places number place)) (number_of waves rank m) [] ≡ with_place (eqb comm m) (list_of waves rank m) place
+    list_put : (m : ℕ) → option_map_or (list_in (with_place_in waves.lists.places number place)) (list_number waves rank m) [] ≡ with_place (eqb comm m) (list_of waves rank m) place
     list_put m =
         ⊎_elim
         (λ (is : m ≡ comm).
-        there (number_of waves rank m) (ap (λ (n : ℕ). number_of waves rank n) is ∙ numbered)
+        there (list_number waves rank m) (ap (λ (n : ℕ). list_number waves rank n) is ∙ numbered)
         ∙ sym (ap (λ b. with_place b (list_of waves rank m) place) (eq-eqb comm m (sym is))))
         (λ (differs : m ≢ comm).
-        elsewhere (number_of waves rank m) (λ is. differs (one_list waves rank m rank comm number is numbered).1)
+        elsewhere (list_number waves rank m) (λ is. differs (one_list waves rank m rank comm number is numbered).1)
         ∙ sym (ap (λ b. with_place b (list_of waves rank m) place) (ne_eqb comm m (λ e. differs (sym e)))))
         (cases_eq m comm)
 
-    own : (m : ℕ) → option_map_or (list_in (with_place_in waves.lists.places number place)) (number_of waves rank m) [] ≡ places (does_join m) (calls_of (appended recording rank call) rank)
+    own : (m : ℕ) → option_map_or (list_in (with_place_in waves.lists.places number place)) (list_number waves rank m) [] ≡ places (does_join m) (calls_of (appended recording rank call) rank)
     own m =
         list_put m
         ∙ ap (λ b. with_place b (list_of waves rank m) place) (sym (does m))
@@ -187,13 +187,13 @@ put_in waves lists recording rank place comm number call is_joined numbered many
         ∙ sym (ap (λ calls. places (does_join m) calls) (calls_of-appended recording rank call is_rank)
         ∙ places_on (does_join m) (calls_of recording rank) call)
 
-    of_rank : option_map_or (list_in (with_place_in waves.lists.places number place)) (number_of waves r c) [] ≡ places (does_join c) (calls_of (appended recording rank call) r)
+    of_rank : option_map_or (list_in (with_place_in waves.lists.places number place)) (list_number waves r c) [] ≡ places (does_join c) (calls_of (appended recording rank call) r)
     of_rank =
         ⊎_elim
         (λ (same : r ≡ rank).
-        subst (λ (other : ℕ). option_map_or (list_in (with_place_in waves.lists.places number place)) (number_of waves other c) [] ≡ places (does_join c) (calls_of (appended recording rank call) other)) (sym same) (own c))
+        subst (λ (other : ℕ). option_map_or (list_in (with_place_in waves.lists.places number place)) (list_number waves other c) [] ≡ places (does_join c) (calls_of (appended recording rank call) other)) (sym same) (own c))
         (λ (differs : r ≢ rank).
-        elsewhere (number_of waves r c) (λ is. differs (one_list waves r c rank comm number is numbered).0)
+        elsewhere (list_number waves r c) (λ is. differs (one_list waves r c rank comm number is numbered).0)
         ∙ joined r c
         ∙ sym (ap (λ calls. places (does_join c) calls) (calls_of-appended_other recording rank r call differs)))
         (cases_eq r rank)

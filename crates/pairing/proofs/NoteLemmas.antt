@@ -5,13 +5,13 @@ use Rattle.std.specs.Option.{unwrap_or}
 use Rattle.std.proofs.lemmas.List.{map-set, get_or-map, length-map}
 use Rattle.std.proofs.lemmas.Option.{unwrap_or-slice_get}
 use Rattle.pairing.specs.declared.envelope.Half.{Half}
-use Rattle.pairing.specs.Notes.{Noted, Room, NotedList, no_room, notes_of, with_note, partnered_in, partnered}
+use Rattle.pairing.specs.Notes.{Noted, NoteRoom, NotedList, no_room, notes_of, with_note, partnered_in, partnered}
 
 -- the rank's room is that of its list
 pub room_set : (lists : List NotedList) (rank : ℕ) (list : NotedList) → rank < length lists → unwrap_or (slice_get (map (λ (it : NotedList). it.room) (set lists rank list)) rank) no_room ≡ list.room
 room_set lists rank list is_rank =
     unwrap_or-slice_get (map (λ (it : NotedList). it.room) (set lists rank list)) rank no_room
-    ∙ ap (λ (rooms : List Room). get_or rooms rank no_room) (map-set (λ (it : NotedList). it.room) lists rank list)
+    ∙ ap (λ (rooms : List NoteRoom). get_or rooms rank no_room) (map-set (λ (it : NotedList). it.room) lists rank list)
     ∙ get_or-set_same (map (λ (it : NotedList). it.room) lists) rank list.room no_room (omega (arith, length-map lists (λ (it : NotedList). it.room)))
 
 -- the rank's list has one more note

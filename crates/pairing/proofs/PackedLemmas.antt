@@ -27,7 +27,7 @@ use Rattle.pairing.specs.declared.envelope.Half.{Half}
 use Rattle.pairing.specs.Beside.{with_partner}
 use Rattle.pairing.specs.Limits.{most_calls}
 use Rattle.pairing.specs.Requests.{starts as starts_of, waits_for, completes as completes_of}
-use Rattle.pairing.specs.Notes.{Noted, listed, calls_in, note_with, partnered_in, request_at as request_among, AreStarts, completed_among}
+use Rattle.pairing.specs.Notes.{Noted, listed, calls_in, note_with, partnered_in, request_among, AreStarts, completed_among}
 use Rattle.pairing.specs.Packed.{request_of, request_at, req_at, reqs_at, part, unpack, unpack_starts, end_of, noted, noted_of, StartRequests, IsStored, AreStored, listed_starts}
 use Rattle.pairing.proofs.FrontLemmas.{same_map}
 

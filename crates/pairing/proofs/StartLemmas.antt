@@ -11,7 +11,7 @@ use Rattle.pairing.specs.declared.packed.Packed.TheVariants.{Wait, Waitany, Noth
 use Rattle.mpicall.specs.declared.laid.Laid.TheVariants as laid
 use Rattle.pairing.specs.declared.packed.Entry.{Entry}
 use Rattle.pairing.specs.Requests.{starts, waits_for, completes, started_in}
-use Rattle.pairing.specs.Notes.{Noted, request_at, completed_among, completed_starts, start_of}
+use Rattle.pairing.specs.Notes.{Noted, request_among, completed_among, completed_starts, start_of}
 use Rattle.pairing.specs.Packed.{req_at, reqs_at, part, unpack, unpack_starts, noted_of}
 use Rattle.pairing.proofs.PackedLemmas.{IsApart, laid_apart}
 use Rattle.pairing.proofs.RequestLaws.{started, is_it}
@@ -84,7 +84,7 @@ written f [] places i found room here is before = absurd (omega (arith, room))
 written f (x ∷ into) [] i found room here is before = absurd (omega (arith, here))
 
 -- where the places are those that started the requests as they stand, the calls there start them
-pub are_starts : (calls : List Call) (places reqs : List ℕ) → map (λ place. Some place) places ≡ map (started_in calls) reqs → map (request_at calls) places ≡ map (λ req. Some req) reqs
+pub are_starts : (calls : List Call) (places reqs : List ℕ) → map (λ place. Some place) places ≡ map (started_in calls) reqs → map (request_among calls) places ≡ map (λ req. Some req) reqs
 are_starts calls [] [] h = refl
 are_starts calls [] (req ∷ reqs) h = absurd cc
 are_starts calls (place ∷ places) [] h = absurd cc
@@ -92,7 +92,7 @@ are_starts calls (place ∷ places) (req ∷ reqs) h =
     let first : started_in calls req ≡ Some place = cc in
     let rest = are_starts calls places reqs cc in
     let start = started calls req place first in
-    let here : request_at calls place ≡ Some req = rw start.stands_there (is_it req (starts start.starter) start.starts_it) in
+    let here : request_among calls place ≡ Some req = rw start.stands_there (is_it req (starts start.starter) start.starts_it) in
     rw here (ap (λ (os : List (Option ℕ)). Some req ∷ os) rest)
 
 -- one more place whose call starts the request beside it

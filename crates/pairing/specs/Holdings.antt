@@ -18,8 +18,8 @@ abbrev pub has_holding : Held → ℕ → ℕ → Bool
 has_holding held rank comm = contains is_same_holding held.pairs (record { rank = rank; comm = comm })
 
 -- the table has just what the calls of each rank have made
-abbrev pub IsHeld : Lists → Held → Type 0
-IsHeld recording held =
+abbrev pub IsHolding : Lists → Held → Type 0
+IsHolding recording held =
     (rank comm : ℕ) → has_holding held rank comm ≡ list_any (does_make comm) (calls_of recording rank)
 
 -- what the call makes can be put into the table without memory

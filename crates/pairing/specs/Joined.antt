@@ -20,14 +20,14 @@ abbrev pub is_key : ℕ → ℕ → Holding → Bool
 is_key rank comm key = rank == key.rank && comm == key.comm
 
 -- the number of the list that the rank has for the communicator
-abbrev pub number_of : Joinings → ℕ → ℕ → Option ℕ
-number_of waves rank comm =
+abbrev pub list_number : Joinings → ℕ → ℕ → Option ℕ
+list_number waves rank comm =
     if comm == 0 && nat_lt rank waves.ranks then Some rank
     else option_map (λ number. waves.ranks + number) (position (is_key rank comm) waves.keys)
 
 -- the places in that list; none where there is no list
 abbrev pub list_of : Joinings → ℕ → ℕ → List ℕ
-list_of waves rank comm = option_map_or (list_in waves.lists.places) (number_of waves rank comm) []
+list_of waves rank comm = option_map_or (list_in waves.lists.places) (list_number waves rank comm) []
 
 -- the table has the places of the recording's collectives
 abbrev pub IsJoined : Lists → Joinings → Type 0
@@ -36,7 +36,7 @@ IsJoined recording waves =
 
 -- the number is that of the list for the wave that the rank's call joins; there is none where it joins none
 abbrev pub IsListFor : ℕ → Call → Joinings → Option ℕ → Type 0
-IsListFor rank call waves list = option_map (λ number. Some number) list ≡ option_map (number_of waves rank) (joins call)
+IsListFor rank call waves list = option_map (λ number. Some number) list ≡ option_map (list_number waves rank) (joins call)
 
 -- and that list has room for the place of the call
 pub record HasRoomToJoin (rank : ℕ) (call : Call) (list : Option ℕ) (waves : Joinings) : Type 0 where

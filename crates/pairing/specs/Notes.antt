@@ -20,19 +20,19 @@ pub record Noted : Type 0 where
 
 -- how many more calls of a rank can be noted without memory, and how many more starts of waits for several
 -- requests
-pub record Room : Type 0 where
+pub record NoteRoom : Type 0 where
   pub calls : ℕ
   pub starts : ℕ
 
 -- the noted calls of one rank
 pub record NotedList : Type 0 where
   pub calls : List Noted
-  pub room : Room
+  pub room : NoteRoom
 
 -- the noted calls of each rank
 pub record Notebook : Type 0 where
   pub lists : List (List Noted)
-  pub rooms : List Room
+  pub rooms : List NoteRoom
 
 -- the noted calls of a rank; none where there is no such rank
 abbrev pub notes_of : List (List Noted) → ℕ → List Noted
@@ -72,11 +72,11 @@ listed (Waitany chosen reqs) = reqs
 listed _ = []
 
 -- the call can be noted without memory
-pub record Holds (room : Room) (call : Call) : Type 0 where
+pub record Holds (room : NoteRoom) (call : Call) : Type 0 where
   pub calls : 1 ≤ room.calls
   pub starts : length (listed call) ≤ room.starts
 
-abbrev pub no_room : Room
+abbrev pub no_room : NoteRoom
 no_room = record { calls = 0; starts = 0 }
 
 -- and so can the rank's call
@@ -84,13 +84,13 @@ abbrev pub HasRoom : Notebook → ℕ → Call → Type 0
 HasRoom notes rank call = Holds (unwrap_or (slice_get notes.rooms rank) no_room) call
 
 -- the request that the call at the place starts
-abbrev pub request_at : List Call → ℕ → Option ℕ
-request_at calls place = option_and_then starts (slice_get calls place)
+abbrev pub request_among : List Call → ℕ → Option ℕ
+request_among calls place = option_and_then starts (slice_get calls place)
 
 -- the places are starts of the wait after the calls: at each stands the call that starts the request which
 -- the wait names there
 abbrev pub AreStarts : List Call → Call → List ℕ → Type 0
-AreStarts calls wait places = map (request_at calls) places ≡ map (λ req. Some req) (waits_for wait)
+AreStarts calls wait places = map (request_among calls) places ≡ map (λ req. Some req) (waits_for wait)
 
 -- what stands beside the requests that a wait completes, of what stands beside those that it names
 abbrev pub completed_among : Call → List ℕ → List ℕ

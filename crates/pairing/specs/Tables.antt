@@ -15,13 +15,13 @@ use Rattle.pairing.specs.Waves.{joins, does_join}
 use Rattle.pairing.specs.Faults.{IsLawful}
 use Rattle.pairing.specs.Matched.{IsMatched, HasRoomFor}
 use Rattle.pairing.specs.Joined.{IsJoined, HasRoomToJoin}
-use Rattle.pairing.specs.Holdings.{IsHeld, HasRoomToHold}
+use Rattle.pairing.specs.Holdings.{IsHolding, HasRoomToHold}
 use Rattle.pairing.specs.Starts.{IsActive, HasRoomToStart}
 
 -- the tables of waves, communicators and requests have what the recording gives them
 pub record AreOthers (recording : Lists) (tables : Tables) : Type 0 where
   pub joined : IsJoined recording tables.waves
-  pub held : IsHeld recording tables.held
+  pub held : IsHolding recording tables.held
   pub active : IsActive recording tables.active
 
 -- and so do the pending halves

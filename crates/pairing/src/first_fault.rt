@@ -5,7 +5,7 @@ ghost use Rattle.std.specs.List.{list_all};
 ghost use Rattle.pairing.specs.Limits.{most_calls};
 ghost use Rattle.pairing.specs.Recordings.{Lists, calls_of, has_end};
 ghost use Rattle.pairing.specs.Faults.{holds_comm, starts_afresh, waits_for_active, is_fresh_comm, makes_afresh, fault_of};
-ghost use Rattle.pairing.specs.Holdings.{IsHeld};
+ghost use Rattle.pairing.specs.Holdings.{IsHolding};
 ghost use Rattle.pairing.specs.Starts.{has_place, IsActive};
 
 use crate::active::Active;
@@ -18,7 +18,7 @@ use mpigroup::head::Head;
 
 /// Whether the rank is in the group of the communicator that the call names, and holds it.
 fn holds_comm(head: &Head, held: &Held, rank: u16, call: &Call) -> bool
-    ensures { (recording : Lists) → IsHeld recording held.now → result ≡ holds_comm head.now rank (calls_of recording rank) call.now }
+    ensures { (recording : Lists) → IsHolding recording held.now → result ≡ holds_comm head.now rank (calls_of recording rank) call.now }
 {
     match comm_of(call) {
         Some(comm) => is_member(head, rank, comm) && held.holds(rank, comm),
@@ -53,14 +53,14 @@ fn waits_for_active(active: &Active, rank: u16, call: &Call) -> bool
 /// Whether the rank may come to hold the communicator: not the world, with the rank in its group, and not
 /// held before.
 fn is_fresh_comm(head: &Head, held: &Held, rank: u16, comm: u16) -> bool
-    ensures { (recording : Lists) → IsHeld recording held.now → result ≡ is_fresh_comm head.now rank (calls_of recording rank) comm }
+    ensures { (recording : Lists) → IsHolding recording held.now → result ≡ is_fresh_comm head.now rank (calls_of recording rank) comm }
 {
     comm != 0 && is_member(head, rank, comm) && !held.holds(rank, comm)
 }
 
 /// Whether what the call makes is such a communicator; a split makes one just where it has a colour.
 fn makes_afresh(head: &Head, held: &Held, rank: u16, call: &Call) -> bool
-    ensures { (recording : Lists) → IsHeld recording held.now → result ≡ makes_afresh head.now rank (calls_of recording rank) call.now }
+    ensures { (recording : Lists) → IsHolding recording held.now → result ≡ makes_afresh head.now rank (calls_of recording rank) call.now }
 {
     match *call {
         Call::Dup { new, .. } => is_fresh_comm(head, held, rank, new),
@@ -87,7 +87,7 @@ pub(crate) fn first_fault(
     is_over: bool,
     call: &Call,
 ) -> Option<CallFault>
-    ensures value { (recording : Lists) → IsHeld recording held.now → IsActive recording active.now →
+    ensures value { (recording : Lists) → IsHolding recording held.now → IsActive recording active.now →
         count ≡ length (calls_of recording rank) → is_over ≡ has_end (calls_of recording rank) →
         result ≡ fault_of head.now rank (calls_of recording rank) call.now }
     ensures room { IfNone result (count < most_calls) }

@@ -6,7 +6,7 @@ ghost use Rattle.std.specs.Cmp.Rules.{hashing};
 ghost use Rattle.std.proofs.Common.{rules};
 ghost use Rattle.pairing.specs.Recordings.{Lists, calls_of, appended};
 ghost use Rattle.pairing.specs.Communicators.{holds, makes};
-ghost use Rattle.pairing.specs.Holdings.{has_holding, IsHeld, HasRoomToHold};
+ghost use Rattle.pairing.specs.Holdings.{has_holding, IsHolding, HasRoomToHold};
 
 use crate::comm::makes;
 use indexmap::IndexSet;
@@ -42,7 +42,7 @@ pub(crate) struct Held {
 impl Held {
     /// Nothing made yet: the table of each recording without calls.
     pub(crate) fn new(alloc: Global) -> Held
-        ensures { (ranks : ℕ) → IsHeld (replicate ranks []) result }
+        ensures { (ranks : ℕ) → IsHolding (replicate ranks []) result }
     {
         Held {
             pairs: IndexSet::new(alloc),
@@ -51,7 +51,7 @@ impl Held {
 
     /// Makes room for what the call makes, if it makes something. The table says the same after it.
     pub(crate) fn reserve(&mut self, call: &Record) -> Result<(), AllocError>
-        ensures kept { (recording : Lists) → IsHeld recording self.old → IsHeld recording self.new }
+        ensures kept { (recording : Lists) → IsHolding recording self.old → IsHolding recording self.new }
         ensures ok { OnOk result (HasRoomToHold self.new call.now) }
     {
         match makes(call.as_call()) {
@@ -63,8 +63,8 @@ impl Held {
     /// Puts in what the rank's next call makes, if it makes something. It takes no memory.
     pub(crate) fn put(&mut self, rank: u16, call: &Record)
         requires { HasRoomToHold self.old call.now }
-        ensures { (recording : Lists) → IsHeld recording self.old → rank < length recording →
-            IsHeld (appended recording rank call.now) self.new }
+        ensures { (recording : Lists) → IsHolding recording self.old → rank < length recording →
+            IsHolding (appended recording rank call.now) self.new }
     {
         if let Some(comm) = makes(call.as_call()) {
             self.pairs.insert(Holding { rank, comm }).unwrap();
@@ -73,7 +73,7 @@ impl Held {
 
     /// Whether the rank holds the communicator: each holds the world.
     pub(crate) fn holds(&self, rank: u16, comm: u16) -> bool
-        ensures { (recording : Lists) → IsHeld recording self.now → result ≡ holds (calls_of recording rank) comm }
+        ensures { (recording : Lists) → IsHolding recording self.now → result ≡ holds (calls_of recording rank) comm }
     {
         comm == 0 || self.pairs.contains(&Holding { rank, comm })
     }

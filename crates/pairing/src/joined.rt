@@ -3,7 +3,7 @@
 ghost use Rattle.std.specs.Prelude.{◌≡◌, ◌<◌, ◌≤◌, ℕ, Option, None, Some, [], true, length, replicate, IfOk, IfSome, OnOk};
 ghost use Rattle.mpicall.specs.declared.call.Call.{Call};
 ghost use Rattle.mpigroup.specs.Groups.{Groups};
-ghost use Rattle.pairing.specs.Joined.{number_of, list_of, IsJoined, IsListFor, HasRoomToJoin};
+ghost use Rattle.pairing.specs.Joined.{list_number, list_of, IsJoined, IsListFor, HasRoomToJoin};
 ghost use Rattle.pairing.specs.Limits.{most_calls};
 ghost use Rattle.pairing.specs.Places.{places};
 ghost use Rattle.pairing.specs.Recordings.{Lists, calls_of, appended};
@@ -73,7 +73,7 @@ impl Waves {
     /// The number of the list that the rank has for the communicator.
     #[inline(always)]
     fn list(&self, rank: u16, comm: u16) -> Option<usize>
-        ensures value { result ≡ number_of self.now rank comm }
+        ensures value { result ≡ list_number self.now rank comm }
         ensures within { IfSome result (λ list. list < length self.now.lists.places) }
     {
         if comm == 0 && rank < self.ranks {
@@ -87,9 +87,9 @@ impl Waves {
 
     /// Makes the list of the rank for the communicator, which has none yet. All lists stay.
     fn add_list(&mut self, rank: u16, comm: u16) -> Result<usize, AllocError>
-        requires { number_of self.old rank comm ≡ None }
+        requires { list_number self.old rank comm ≡ None }
         ensures lists { (r c : ℕ) → list_of self.new r c ≡ list_of self.old r c }
-        ensures number { IfOk result (λ list. number_of self.new rank comm ≡ Some list) }
+        ensures number { IfOk result (λ list. list_number self.new rank comm ≡ Some list) }
         ensures within { IfOk result (λ list. list < length self.new.lists.places) }
     {
         let list = self.lists.len();
@@ -102,7 +102,7 @@ impl Waves {
     /// Makes room for one more place of the rank under the communicator, and answers the number of their list.
     fn reserve_at(&mut self, rank: u16, comm: u16) -> Result<usize, AllocError>
         ensures lists { (r c : ℕ) → list_of self.new r c ≡ list_of self.old r c }
-        ensures number { IfOk result (λ list. number_of self.new rank comm ≡ Some list) }
+        ensures number { IfOk result (λ list. list_number self.new rank comm ≡ Some list) }
         ensures room { IfOk result (λ list. HasRoomIn self.new.lists list) }
     {
         let list = match self.list(rank, comm) {
@@ -138,7 +138,7 @@ impl Waves {
 
     /// How many waves the list has.
     pub(crate) fn number(&self, list: usize) -> u32
-        ensures { (recording : Lists) (rank comm : ℕ) → IsJoined recording self.now → number_of self.now rank comm ≡ Some list →
+        ensures { (recording : Lists) (rank comm : ℕ) → IsJoined recording self.now → list_number self.now rank comm ≡ Some list →
             length (calls_of recording rank) ≤ most_calls → result ≡ length (places (does_join comm) (calls_of recording rank)) }
     {
         // A rank has at most so many calls.

@@ -12,7 +12,7 @@ use Rattle.waitgraph.specs.declared.finding.Finding.{Finding}
 
 -- the stuck ranks, the held ones, whether some list was left open, the unmet needs of each rank, the causes and the
 -- findings
-pub record Waiting : Type 0 where
+pub record GraphView : Type 0 where
   pub stuck : List ℕ
   pub held : List ℕ
   pub left_open : Bool
@@ -21,7 +21,7 @@ pub record Waiting : Type 0 where
   pub findings : List Finding
 
 -- the graph is that of the recording
-pub record IsGraphOf (reading : Reading) (groups : Groups) (recording : Lists) (graph : Waiting) : Type 0 where
+pub record IsGraphOf (reading : Reading) (groups : Groups) (recording : Lists) (graph : GraphView) : Type 0 where
   pub stuck : graph.stuck ≡ stuck_of reading groups recording
   pub held : graph.held ≡ held_of reading groups recording
   pub left_open : graph.left_open ≡ is_some_left_open recording

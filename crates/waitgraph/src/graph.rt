@@ -56,9 +56,9 @@ impl Drop for Graph {
 impl Model for Graph {
     ghost use Rattle.std.specs.Prelude.{map};
     ghost use Rattle.waitgraph.specs.Causes.{view_of};
-    ghost use Rattle.waitgraph.specs.Graphs.{Waiting};
+    ghost use Rattle.waitgraph.specs.Graphs.{GraphView};
 
-    ghost Value = { Waiting };
+    ghost Value = { GraphView };
 
     ghost view = { λ g. record { stuck = g.stuck.items; held = g.held.items; left_open = g.left_open; waits = g.waits; causes = map view_of g.causes.items; findings = g.findings.items } };
 }

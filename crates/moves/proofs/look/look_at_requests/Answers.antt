@@ -5,7 +5,7 @@ use Rattle.moves.proofs.look.look_at_requests.Goals as goal
 pub loop-index-preserved : goal.loop-index-preserved
 loop-index-preserved c =
     let p = c.args.pairs.now in
-    request_passes c.args.reading p.groups p.recording c.args.stands.now c.args.rank c.args.place c.loop-index.index c.args.call.now c.requires.call (omega (arith, c.completed_count-index-end.ensures, c.loop-index-test.true)) c.loop-index.invariant c.in-Passes.ensures
+    request_passes c.args.reading p.groups p.recording c.args.stands.now c.args.rank c.args.place c.loop-index.index c.args.call.now c.requires.call (omega (arith, c.completed_count-index-end.ensures, c.loop-index-test.true)) c.loop-index.invariant c.in-Moves.ensures
 
 pub returns : goal.returns
 returns c =

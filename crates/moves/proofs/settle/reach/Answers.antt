@@ -34,7 +34,7 @@ returns c =
     let is_known = known (length p.groups) c.reach-complete.result c.reach-complete.ensures.comm in
     record {
       in_hand =
-          rw all (reach_hand c.args.reading p.groups p.recording c.args.stands.now c.args.waves.now c.reach-complete.new.self w c.args.rank c.args.place c.reach-complete.result c.requires c.reach-complete.ensures.waves c.reach-complete.ensures.others c.reach-complete.ensures.one is_known c.reach-complete.ensures.changes c.reach-complete.ensures.none);
+          rw all (reach_hand c.args.reading p.groups p.recording c.args.stands.now c.args.progress.now c.reach-complete.new.self w c.args.rank c.args.place c.reach-complete.result c.requires c.reach-complete.ensures.waves c.reach-complete.ensures.others c.reach-complete.ensures.one is_known c.reach-complete.ensures.changes c.reach-complete.ensures.none);
       counts =
-          rw all (reach_counts c.args.reading p.groups p.recording c.args.stands.now c.args.waves.now c.reach-complete.new.self w c.args.rank c.args.place c.reach-complete.result c.requires is_known c.reach-complete.ensures.counts);
+          rw all (reach_counts c.args.reading p.groups p.recording c.args.stands.now c.args.progress.now c.reach-complete.new.self w c.args.rank c.args.place c.reach-complete.result c.requires is_known c.reach-complete.ensures.counts);
     }

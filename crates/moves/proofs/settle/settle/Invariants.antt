@@ -5,9 +5,9 @@ use Rattle.moves.proofs.settle.settle.Given as goal
 
 abbrev pub invariant-loop-rank : goal.invariant-loop-rank
 invariant-loop-rank l = record {
-  kept : HoldsBetweenLooks l.reading l.pairs.groups l.pairs.recording l.stands.items l.waves l.waiters IsNobody 0;
+  kept : HoldsBetweenLooks l.reading l.pairs.groups l.pairs.recording l.stands.items l.progress l.waiters IsNobody 0;
   no_lower : StandsNoLater l.fn.stands.items l.stands.items;
-  counts : touches_of l.fn.waves l.fn.waiters ≤ touches_of l.waves l.waiters;
+  counts : touches_of l.fn.progress l.fn.waiters ≤ touches_of l.progress l.waiters;
 }
 
 abbrev pub decreases-loop-rank : goal.decreases-loop-rank

@@ -20,7 +20,7 @@ arrive-requires c =
       before = a.pairs.recording;
       call = c.args.call.now;
       is = ap (λ (p : Paired). p.recording) c.in-Ok.ensures.ok;
-      settled = subst (λ (g : Groups). IsSettled a.reading g a.pairs.recording a.stands.items a.waves a.waiters) (sym (ap (λ (p : Paired). p.groups) c.in-Ok.ensures.ok)) c.self.invariant;
+      settled = subst (λ (g : Groups). IsSettled a.reading g a.pairs.recording a.stands.items a.progress a.waiters) (sym (ap (λ (p : Paired). p.groups) c.in-Ok.ensures.ok)) c.self.invariant;
       is_rank = is_rank;
       is_next = c.next_place-place.ensures.value;
       few = c.next_place-place.ensures.most;
@@ -34,12 +34,12 @@ returns-in-Ok-clause-kept c other =
 
 pub returns-in-Ok-clause-end : goal.returns-in-Ok-clause-end
 returns-in-Ok-clause-end c =
-    settled_end c.self.inside.reading c.admit.new.self.groups c.admit.new.self.recording c.arrive.new.stands.items c.arrive.new.waves c.arrive.new.waiters c.arrive.ensures.settled
+    settled_end c.self.inside.reading c.admit.new.self.groups c.admit.new.self.recording c.arrive.new.stands.items c.arrive.new.progress c.arrive.new.waiters c.arrive.ensures.settled
 
 pub returns-in-Ok-clause-stands : goal.returns-in-Ok-clause-stands
 returns-in-Ok-clause-stands c =
     end_stands c.self.inside.reading c.admit.new.self.groups c.admit.new.self.recording c.arrive.new.stands.items
-    (settled_end c.self.inside.reading c.admit.new.self.groups c.admit.new.self.recording c.arrive.new.stands.items c.arrive.new.waves c.arrive.new.waiters c.arrive.ensures.settled)
+    (settled_end c.self.inside.reading c.admit.new.self.groups c.admit.new.self.recording c.arrive.new.stands.items c.arrive.new.progress c.arrive.new.waiters c.arrive.ensures.settled)
 
 pub returns-in-Err-clause-kept : goal.returns-in-Err-clause-kept
 returns-in-Err-clause-kept c other =
@@ -51,20 +51,20 @@ pub returns-in-Err-clause-end : goal.returns-in-Err-clause-end
 returns-in-Err-clause-end c =
     let a = c.self.inside in
     subst (λ (p : Paired). IsTheEnd (can_move a.reading p.groups p.recording) (length p.recording) a.stands.items) (sym c.in-Err.ensures.err)
-    (settled_end a.reading a.pairs.groups a.pairs.recording a.stands.items a.waves a.waiters c.self.invariant)
+    (settled_end a.reading a.pairs.groups a.pairs.recording a.stands.items a.progress a.waiters c.self.invariant)
 
 pub returns-in-Err-clause-stands : goal.returns-in-Err-clause-stands
 returns-in-Err-clause-stands c =
     let a = c.self.inside in
     subst (λ (p : Paired). a.stands.items ≡ stands_of a.reading p.groups p.recording) (sym c.in-Err.ensures.err)
-    (end_stands a.reading a.pairs.groups a.pairs.recording a.stands.items (settled_end a.reading a.pairs.groups a.pairs.recording a.stands.items a.waves a.waiters c.self.invariant))
+    (end_stands a.reading a.pairs.groups a.pairs.recording a.stands.items (settled_end a.reading a.pairs.groups a.pairs.recording a.stands.items a.progress a.waiters c.self.invariant))
 
 pub returns-in-Ok-clause-touches : goal.returns-in-Ok-clause-touches
 returns-in-Ok-clause-touches c =
-    touches_within c.self.inside.reading c.admit.new.self.groups c.admit.new.self.recording c.arrive.new.stands.items c.arrive.new.waves c.arrive.new.waiters c.arrive.ensures.settled
+    touches_within c.self.inside.reading c.admit.new.self.groups c.admit.new.self.recording c.arrive.new.stands.items c.arrive.new.progress c.arrive.new.waiters c.arrive.ensures.settled
 
 pub returns-in-Err-clause-touches : goal.returns-in-Err-clause-touches
 returns-in-Err-clause-touches c =
     let a = c.self.inside in
-    subst (λ (p : Paired). touches_of a.waves a.waiters ≤ most_touches p.recording) (sym c.in-Err.ensures.err)
-    (touches_within a.reading a.pairs.groups a.pairs.recording a.stands.items a.waves a.waiters c.self.invariant)
+    subst (λ (p : Paired). touches_of a.progress a.waiters ≤ most_touches p.recording) (sym c.in-Err.ensures.err)
+    (touches_within a.reading a.pairs.groups a.pairs.recording a.stands.items a.progress a.waiters c.self.invariant)

@@ -1,13 +1,13 @@
 use Rattle.std.proofs.Common.{◌+◌, ℕ, set, refl, sym, ap, ◌∙◌, arith}
 use Rattle.moves.specs.Waiting.{met_of}
-use Rattle.moves.proofs.WaveLemmas.{comm_is, wave_few, Passes, passes_on, passes_wave}
+use Rattle.moves.proofs.WaveLemmas.{comm_is, wave_few, ReachesWanting, passes_on, passes_wave}
 use Rattle.moves.proofs.progress.Progress.reach.Goals as goal
 
 pub returns-then-missing-members-clause-waves : goal.returns-then-missing-members-clause-waves
 returns-then-missing-members-clause-waves c =
     let p = c.args.pairs.now in
     let wanting = rw c.head.ensures.value at (c.is_wanting.ensures.0 c.if-not-is_wanting.false) in
-    let passes : Passes p.groups p.recording c.args.stands.now c.args.self.now c.args.rank c.args.place c.in_ok-comm.comm c.in_ok-comm.wave c.next_missing-missing.result = record {
+    let passes : ReachesWanting p.groups p.recording c.args.stands.now c.args.self.now c.args.rank c.args.place c.in_ok-comm.comm c.in_ok-comm.wave c.next_missing-missing.result = record {
       before = c.requires.waves;
       there = sym c.wave_of.ensures ∙ c.in_ok-comm.was;
       is_next = wanting.0;
@@ -42,7 +42,7 @@ pub returns-clause-waves : goal.returns-clause-waves
 returns-clause-waves c =
     let p = c.args.pairs.now in
     let wanting = rw c.head.ensures.value at (c.is_wanting.ensures.0 c.if-not-is_wanting.false) in
-    let passes : Passes p.groups p.recording c.args.stands.now c.args.self.now c.args.rank c.args.place c.in_ok-comm.comm c.in_ok-comm.wave c.next_missing-missing.result = record {
+    let passes : ReachesWanting p.groups p.recording c.args.stands.now c.args.self.now c.args.rank c.args.place c.in_ok-comm.comm c.in_ok-comm.wave c.next_missing-missing.result = record {
       before = c.requires.waves;
       there = sym c.wave_of.ensures ∙ c.in_ok-comm.was;
       is_next = wanting.0;

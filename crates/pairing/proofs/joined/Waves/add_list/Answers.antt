@@ -1,14 +1,14 @@
 use Rattle.std.proofs.Common.{◌≡◌, ◌∙◌, ◌++◌, ◌∷◌, ℕ, Some, None, List, [], length, ap, sym, length-append, arith}
 use Rattle.indexmap.specs.IndexSet.{insert_key}
 use Rattle.pairing.specs.declared.held.Holding.{Holding}
-use Rattle.pairing.specs.Joined.{Joinings, number_of, list_of}
+use Rattle.pairing.specs.Joined.{Joinings, list_number, list_of}
 use Rattle.pairing.proofs.JoinedLemmas.{same_fields, key_more, grown_places, grown_number}
 use Rattle.pairing.proofs.joined.Waves.add_list.Goals as goal
 
 one_key : (c : goal.After-unwrap) → c.insert.new.self.keys ≡ c.self.inside.joined.keys ++ record { rank = c.args.rank; comm = c.args.comm } ∷ []
 one_key c =
     let inserted = rw c.unwrap.ensures at c.insert.ensures.keys in
-    let none : number_of (record { ranks = c.self.inside.ranks; keys = c.self.inside.joined.keys; lists = c.self.inside.lists }) c.args.rank c.args.comm ≡ None = rw (← c.self.view_is) at c.requires in
+    let none : list_number (record { ranks = c.self.inside.ranks; keys = c.self.inside.joined.keys; lists = c.self.inside.lists }) c.args.rank c.args.comm ≡ None = rw (← c.self.view_is) at c.requires in
     key_more (record { ranks = c.self.inside.ranks; keys = c.self.inside.joined.keys; lists = c.self.inside.lists }) c.insert.new.self.keys c.args.rank c.args.comm none
     (inserted ∙ ap (λ (keys : List Holding). insert_key same_fields keys (record { rank = c.args.rank; comm = c.args.comm })) c.reserve.ensures.keys)
 
@@ -32,6 +32,6 @@ returns-clause-lists c r comm =
 
 pub returns-clause-number : goal.returns-clause-number
 returns-clause-number c =
-    let none : number_of (record { ranks = c.self.inside.ranks; keys = c.self.inside.joined.keys; lists = c.self.inside.lists }) c.args.rank c.args.comm ≡ None = rw (← c.self.view_is) at c.requires in
+    let none : list_number (record { ranks = c.self.inside.ranks; keys = c.self.inside.joined.keys; lists = c.self.inside.lists }) c.args.rank c.args.comm ≡ None = rw (← c.self.view_is) at c.requires in
     grown_number (record { ranks = c.self.inside.ranks; keys = c.self.inside.joined.keys; lists = c.self.inside.lists }) c.insert.new.self.keys c.add.new.self c.args.rank c.args.comm none (one_key c)
     ∙ ap (λ (m : ℕ). Some m) (sym c.self.invariant ∙ sym c.len-list.ensures)

@@ -4,7 +4,7 @@ use Rattle.std.specs.Option.{unwrap_or}
 use Rattle.std.specs.List.{slice_get}
 use Rattle.std.proofs.Math.Seq.{map-set_same}
 use Rattle.std.proofs.lemmas.List.{length-map}
-use Rattle.pairing.specs.Notes.{NotedList, Notebook, Room, Holds, no_room}
+use Rattle.pairing.specs.Notes.{NotedList, Notebook, NoteRoom, Holds, no_room}
 use Rattle.pairing.proofs.NoteLemmas.{room_set}
 use Rattle.pairing.proofs.notes.Notes.reserve.Goals as goal
 
@@ -22,4 +22,4 @@ returns-clause-ok c =
     let is_rank : c.args.rank < length c.self.inside.lists.items = omega (arith, c.requires) in
     let is : unwrap_or (slice_get (map (λ (list : NotedList). list.room) (set c.self.inside.lists.items c.from.result c.reserve.new.self)) c.args.rank) no_room ≡ c.reserve.new.self.room =
     rw c.from.ensures (room_set c.self.inside.lists.items c.args.rank c.reserve.new.self is_rank) in
-    subst (λ (room : Room). OnOk c.reserve.result (Holds room c.args.call.now)) (sym is) c.reserve.ensures.ok
+    subst (λ (room : NoteRoom). OnOk c.reserve.result (Holds room c.args.call.now)) (sym is) c.reserve.ensures.ok
