@@ -1,8 +1,8 @@
 -- A list is spliced node by node.
-use Rattle.std.proofs.Common.{◌≡◌, ℕ, ◌+◌, ◌*◌, ◌<◌, ◌++◌, ◌≢◌, None, List, [], ◌∷◌, length, drop, set, refl, sym, ap, ◌∙◌, arith, append-nil, get_or-set_same, get_or-set_other}
-use Rattle.std.proofs.lemmas.List.{append_assoc, length-set, set-set, set_comm, set-get_or}
+use Rattle.std.proofs.Common.{◌≡◌, ℕ, ◌+◌, ◌*◌, ◌<◌, ◌++◌, ◌≢◌, List, [], ◌∷◌, length, drop, set, sym, ap, ◌∙◌, arith, get_or-set_same, get_or-set_other}
+use Rattle.std.proofs.lemmas.List.{append_assoc, length-set, set-set, set_comm}
 use Rattle.arenalist.specs.Numbers.{list_at}
-use Rattle.arenalist.specs.Arena.{first_node, linked, unlinked, spliced, IsFirst, counted}
+use Rattle.arenalist.specs.Arena.{linked, unlinked, spliced, IsFirst, counted}
 
 moved_step : {X : Type 0} → (cur mid new : List (List X)) (to from : ℕ) (x : X) → to ≢ from → to < length cur → mid ≡ set cur from (drop 1 (list_at cur from)) → list_at cur from ≡ x ∷ drop 1 (list_at cur from) → new ≡ set mid to (list_at mid to ++ x ∷ []) → from < length cur → set (set new to (list_at new to ++ list_at new from)) from [] ≡ set (set cur to (list_at cur to ++ list_at cur from)) from []
 moved_step {X} cur mid new to from x differs to_in mid_is value new_is from_in =
@@ -46,19 +46,4 @@ module _ {T : Type 0} where
           fits = omega (arith, work_is);
         },
         shorter,
-      )
-
-  none_left : (list : List (ℕ × T)) → None ≡ first_node list → list ≡ []
-  none_left [] is = refl
-  none_left (entry ∷ list) is = cc
-
-  pub moved_all : (lists : List (List (ℕ × T))) (to from : ℕ) → None ≡ first_node (list_at lists from) → (lists ≡ spliced lists to from) × (length (list_at lists from) ≡ 0)
-  moved_all lists to from none =
-      let empty : list_at lists from ≡ [] = none_left (list_at lists from) none in (
-        sym (ap (λ (xs : List (ℕ × T)). set (set lists to (list_at lists to ++ xs)) from []) empty
-            ∙ ap (λ (xs : List (ℕ × T)). set (set lists to xs) from []) (append-nil (list_at lists to))
-            ∙ ap (λ (ls : List (List (ℕ × T))). set ls from []) (set-get_or lists to [])
-            ∙ ap (set lists from) (sym empty)
-            ∙ set-get_or lists from []),
-        ap (length {A = ℕ × T}) empty,
       )

@@ -219,16 +219,3 @@ module _ {T : Type 0} where
         free_fit = omega (arith, f.free_fit);
         same_work = f.same_work;
       }
-
-  pub rewritten : (heads : List ℕ) (lists : List (List ℕ)) (cells : ℕ) (values : List (Option T)) (free : List ℕ) (room n : ℕ) (w : T) → IsArena heads lists cells values free room → n < cells → IsArena heads lists cells (set values n (Some w)) free room
-  rewritten heads lists cells values free room n w k n_in = record {
-    once = k.once;
-    within = k.within;
-    as_many = length-set values n (Some w) ∙ k.as_many;
-    valued = λ x on.
-        ⊎_elim
-        (λ (same : x ≡ n). ap (λ (y : ℕ). is_some (get_or (set values n (Some w)) y None)) same ∙ ap is_some (get_or-set_same values n (Some w) None (omega (arith, k.as_many))))
-        (λ (other : x ≡ n → ⊥). ap is_some (get_or-set_other values n x (Some w) None other) ∙ k.valued x on)
-        (cases_eq x n);
-    room_enough = k.room_enough;
-  }

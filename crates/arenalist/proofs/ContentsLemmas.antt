@@ -10,9 +10,6 @@ module _ {T : Type 0} where
   abbrev pub values : List (ℕ × T) → List T
   values list = map (λ entry. entry.1) list
 
-  pub contents_length : (lists : List (List (ℕ × T))) → length (contents lists) ≡ length lists
-  contents_length lists = length-map lists values
-
   pub contents_at : (lists : List (List (ℕ × T))) (l : ℕ) → list_at (contents lists) l ≡ values (list_at lists l)
   contents_at [] l = refl
   contents_at (list ∷ lists) zero = refl

@@ -3,7 +3,7 @@
 use Rattle.moves.specs.declared.reading.Reading.{Reading}
 use Rattle.std.specs.Prelude.{◌≡◌, ◌≢◌, ◌⊎◌, ℕ, ◌+◌, Bool, true, false, not, ◌&&◌, is_none, unwrap_or, if◌then◌else◌, Option, Some, None, List, [], ◌∷◌, ◌++◌, length, take, replicate, slice_get, slice_set}
 use Rattle.mpicall.specs.declared.call.Call.{Call}
-use Rattle.mpigroup.specs.Groups.{Groups, ranks_of}
+use Rattle.mpigroup.specs.Groups.{Groups, ranks_of, or_empty}
 use Rattle.pairing.specs.Recordings.{Lists, calls_of, appended}
 use Rattle.pairing.specs.Faults.{fault_of}
 use Rattle.pairing.specs.declared.fault.CallFault.{CallFault}
@@ -55,9 +55,9 @@ nothing_kept reading groups = record { reading = reading; groups = groups; recor
 abbrev pub fault_at : List (Option PlacedFault) → ℕ → Option PlacedFault
 fault_at faults rank = unwrap_or (slice_get faults rank) None
 
--- the items received from a rank; none where there is no such rank
+-- the items received from a rank
 abbrev pub items_of : List (List Item) → ℕ → List Item
-items_of received rank = unwrap_or (slice_get received rank) []
+items_of received rank = or_empty received rank
 
 -- unless memory was wanted, what is kept of each rank is what its items give, however they came
 abbrev pub AreKeptOf : List (List Item) → Kept → Type 0

@@ -105,14 +105,6 @@ pub record SoFar (all : List (List ℕ)) (reqs : List ℕ) (left : List (List �
   pub least : 1 ≤ length reqs
   pub most : length reqs ≤ 64
 
-no_request : (field : List ℕ) → number_up_to 2147483647 field ≡ None → is_in_form request_form field ≡ false
-no_request field e = rw e refl
-
-not_all : (a b c : Bool) → c ≡ false → (a && b && c) ≡ false
-not_all true true c h = h
-not_all true false c h = refl
-not_all false b c h = refl
-
 abbrev read_of : Option (Argument × List (List ℕ)) → Option Argument
 read_of None = None
 read_of (Some first) = Some first.0

@@ -1,5 +1,5 @@
 -- The table of places, as members are added one by one.
-use Rattle.std.proofs.Common.{◌≡◌, ◌≢◌, ℕ, ◌+◌, ◌<◌, ◌≤◌, zero, suc, Bool, true, false, List, [], ◌∷◌, ◌++◌, length, set, replicate, eqb, sym, ap, ◌∙◌, refl, arith, Some, None, inl, inr, ◌⊎◌, Option}
+use Rattle.std.proofs.Common.{◌≡◌, ◌≢◌, ℕ, ◌+◌, ◌<◌, ◌≤◌, zero, suc, Bool, true, false, List, [], ◌∷◌, ◌++◌, length, set, eqb, sym, ap, ◌∙◌, refl, arith, Some, None, inl, inr, ◌⊎◌, Option}
 use Rattle.std.specs.List.{position, position_from, list_any, slice_get}
 use Rattle.std.proofs.lemmas.Iterator.Adapters.{position_from-zero}
 use Rattle.std.proofs.lemmas.Option.{slice_get_within}
@@ -44,12 +44,6 @@ from-none p (x ∷ xs) i is = elim (cases_Bool (p x)) [
   | inl holds ↦ absurd (let e = rw holds at is in cc)
   | inr fails ↦ rw fails (from-none p xs (i + 1) (rw fails at is))
 ]
-
--- a table without a place, before there is a member
-no_place : (n rank : ℕ) → told_place (slice_get (replicate n NO_PLACE) rank) ≡ None
-no_place zero rank = refl
-no_place (suc n) zero = refl
-no_place (suc n) (suc rank) = no_place n rank
 
 -- what makes a field name a new member
 pub record IsNew (places : List ℕ) (field : List ℕ) (m : ℕ) : Type 0 where

@@ -8,9 +8,6 @@ use Rattle.mpicall.specs.Number.{value_of}
 use Rattle.mpigroup.specs.Groups.{Groups}
 use Rattle.mpigroup.specs.declared.limits.TheConstants.{MOST_COMMS}
 use Rattle.mpigroup.specs.declared.fault.HeadFault.{HeadFault}
-use Rattle.mpigroup.specs.declared.fault.ReadFault.{ReadFault}
-use Rattle.mpigroup.specs.declared.fault.ReadFault.TheVariants.{Text, Memory}
-use Rattle.mpigroup.specs.Codes.{IsHeadFaultOf}
 use Rattle.mpigroup.specs.HeadText.{is_group, is_head_line, is_comm_line, checked_group, group_of_fields, group_of_line, at_line, put_front, put_line, groups_of_lines}
 
 -- the groups behind others, or the first fault there
@@ -66,8 +63,3 @@ AreRead-push ranks number all groups line left group so_far is =
       few = omega (arith, good.0);
       sound = list_all-append (is_group ranks) groups (group ∷ []) ∙ and_from _ _ so_far.sound (and_from _ _ good.1 refl);
     }
-
--- the fault of a line is that of all lines
-fault_of_line : (groups : Groups) (reading : Result (List ℕ) HeadFault) (more all : Result Groups HeadFault) (fault : ReadFault) → behind_groups groups (put_line reading more) ≡ all → IsHeadFaultOf reading fault → IsHeadFaultOf all fault
-fault_of_line groups reading more all (Text fault) same is = sym same ∙ ap (λ r. behind_groups groups (put_line r more)) is
-fault_of_line groups reading more all Memory same is = tt

@@ -6,7 +6,7 @@ use Rattle.std.specs.Ordering.{nat_cmp, ordering_then}
 use Rattle.std.specs.declared.cmp.Ordering.{Ordering}
 use Rattle.std.specs.declared.cmp.Ordering.TheVariants.{Less, Equal, Greater}
 use Rattle.std.proofs.lemmas.Cmp.{ranked}
-use Rattle.std.proofs.lemmas.List.{map-append, length-drop}
+use Rattle.std.proofs.lemmas.List.{map-append}
 use Rattle.std.proofs.lemmas.List.Sums.{prefix_len-le-length}
 use Rattle.std.proofs.lemmas.Bool.{cases_Bool, eqb-true, eqb-false, ne_eqb, eq-eqb, ltb-false}
 use Rattle.mpigroup.specs.Splits.{ranks_with, colours_of, member_cmp}
@@ -172,13 +172,6 @@ run_within colour members n is =
 pub AreCut-more : {V : Type 0} (items : V → List ℕ) (all : List (List ℕ)) (kept new : List V) (rest group others : List Member) (x : Member) (n : ℕ) (g : V) → AreCut all (map items kept) rest → slice_get rest 0 ≡ Some x → n ≡ run x.colour rest → group ≡ take n rest → others ≡ drop n rest → items g ≡ map (λ m. m.rank) group → new ≡ kept ++ g ∷ [] → AreCut all (map items new) others
 AreCut-more items all kept new rest group others x n g so_far is count front behind ranks pushed =
     rw (pushed, map-append, behind, ranks, front, count) (cut_first all (map items kept) rest x is so_far)
-
-pub shorter : (rest others : List Member) (x : Member) (n : ℕ) → slice_get rest 0 ≡ Some x → n ≡ run x.colour rest → others ≡ drop n rest → length others < length rest
-shorter [] others x n is count behind = absurd cc
-shorter (y ∷ ys) others x n is count behind =
-    let first : y ≡ x = cc in
-    let some : n ≡ suc (run y.colour ys) = count ∙ ap (λ z. run z.colour (y ∷ ys)) (sym first) ∙ run_first y ys in
-    omega (arith, ap length behind, length-drop n (y ∷ ys), some)
 
 pub unwrap_or-position : (p : Member → Bool) (xs : List Member) → unwrap_or (position p xs) (length xs) ≡ position_or_len p xs
 unwrap_or-position p xs = elim (cases_Bool (ltb (position_or_len p xs) (length xs))) [

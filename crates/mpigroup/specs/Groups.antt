@@ -7,9 +7,13 @@ use Rattle.std.specs.Prelude.{ℕ, ◌==◌, Option, option_map, unwrap_or, List
 abbrev pub Groups : Type 0
 Groups = List (List ℕ)
 
--- the group of a communicator; the empty one where there is no such communicator
+-- the list with a number; the empty one where there is no such list
+abbrev pub or_empty : {A : Type 0} → List (List A) → ℕ → List A
+or_empty lists number = unwrap_or (slice_get lists number) []
+
+-- the group of a communicator
 abbrev pub group_of : Groups → ℕ → List ℕ
-group_of groups comm = unwrap_or (slice_get groups comm) []
+group_of groups comm = or_empty groups comm
 
 -- how many ranks the run has: as many as the world's group
 abbrev pub ranks_of : Groups → ℕ

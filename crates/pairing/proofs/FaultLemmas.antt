@@ -1,5 +1,5 @@
 -- Lists in which no call has a fault after those before it.
-use Rattle.std.proofs.Common.{inl, inr, ◌≡◌, ℕ, zero, suc, ◌-◌, ◌<◌, ◌⊎◌, Bool, true, false, ltb, Option, Some, None, List, [], ◌∷◌, ◌++◌, length, take, refl, sym, ap, ◌∙◌, ⊎_elim, arith}
+use Rattle.std.proofs.Common.{inl, inr, ◌≡◌, ℕ, zero, suc, ◌-◌, ◌<◌, ◌⊎◌, Bool, true, false, ltb, Some, None, List, [], ◌∷◌, ◌++◌, length, take, refl, sym, ap, ◌∙◌, ⊎_elim, arith}
 use Rattle.std.specs.List.{slice_get, list_any}
 use Rattle.std.specs.Option.{option_map_or}
 use Rattle.std.proofs.lemmas.List.{take-append-le}
@@ -8,8 +8,7 @@ use Rattle.std.proofs.lemmas.Bool.{false≢true, cases_Bool, ltb-true}
 use Rattle.mpicall.specs.declared.call.Call.{Call}
 use Rattle.mpicall.specs.Ending.{ends_list}
 use Rattle.mpigroup.specs.Groups.{Groups}
-use Rattle.std.specs.Prelude.{IfNone, not}
-use Rattle.pairing.specs.declared.fault.CallFault.{CallFault}
+use Rattle.std.specs.Prelude.{not}
 use Rattle.pairing.specs.Limits.{most_calls}
 use Rattle.pairing.specs.Recordings.{IsClosedList, has_end, is_ended}
 use Rattle.pairing.specs.Faults.{AnEndedLawfulListIsClosed, first_failed, comm_exists, holds_comm, peers_exist, starts_afresh, are_distinct, waits_for_active, makes_afresh, fault_of, IsLawfulList}
@@ -99,10 +98,6 @@ last_tells test (x ∷ y ∷ ys) alone =
 pub lawful_end : (groups : Groups) (rank : ℕ) (calls : List Call) → IsLawfulList groups rank calls → is_ended calls ≡ has_end calls
 lawful_end groups rank calls lawful =
     sym (last_tells ends_list calls (λ place call h. (fault_none groups rank (take place calls) call (lawful place call h)).is_open))
-
-pub no_fault : (groups : Groups) (rank : ℕ) (calls : List Call) (call : Call) (result : Option CallFault) → IsLawfulList groups rank calls → result ≡ fault_of groups rank calls call → IfNone result (IsLawfulList groups rank (calls ++ call ∷ []))
-no_fault groups rank calls call None lawful h = lawful_push groups rank calls call lawful (sym h)
-no_fault groups rank calls call (Some fault) lawful h = tt
 
 closed_more : (x : Call) (calls : List Call) → ends_list x ≡ false → IsClosedList calls → IsClosedList (x ∷ calls)
 closed_more x calls fails closed = record {

@@ -109,9 +109,6 @@ wave_noted notes rank place comm noted are_noted h at_comm =
     let number : wave_in noted.beside ≡ count_before (does_join comm) (calls_of (recording_of notes) rank) place = (its_note notes rank place noted are_noted h).wave comm at_comm in
     rw (its_call notes rank place noted h, at_comm) (ap (λ (wave : ℕ). Some (comm, wave)) (sym number))
 
-pub no_wave : (notes : List (List Noted)) (rank place : ℕ) (noted : Noted) → slice_get (notes_of notes rank) place ≡ Some noted → joins noted.call ≡ None → wave_of (recording_of notes) rank place ≡ None
-no_wave notes rank place noted h at_comm = rw (its_call notes rank place noted h, at_comm) refl
-
 -- what is picked of a list by the requests that a wait completes
 abbrev picked_among : {A : Type 0} → Call → List A → List A
 picked_among (Waitany chosen reqs) xs = take 1 (drop chosen xs)

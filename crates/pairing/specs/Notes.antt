@@ -5,6 +5,7 @@ use Rattle.std.specs.List.{position}
 use Rattle.mpicall.specs.declared.call.Call.{Call}
 use Rattle.mpicall.specs.declared.call.Call.TheVariants.{Waitall, Waitany}
 use Rattle.std.specs.Option.{option_map_or}
+use Rattle.mpigroup.specs.Groups.{or_empty}
 use Rattle.pairing.specs.declared.beside.Beside.{Beside}
 use Rattle.pairing.specs.declared.envelope.Half.{Half}
 use Rattle.pairing.specs.Beside.{partner_in, with_partner}
@@ -34,9 +35,9 @@ pub record Notebook : Type 0 where
   pub lists : List (List Noted)
   pub rooms : List NoteRoom
 
--- the noted calls of a rank; none where there is no such rank
+-- the noted calls of a rank
 abbrev pub notes_of : List (List Noted) → ℕ → List Noted
-notes_of lists rank = unwrap_or (slice_get lists rank) []
+notes_of lists rank = or_empty lists rank
 
 -- the notes with one more noted call at the end of the rank's list
 abbrev pub with_note : List (List Noted) → ℕ → Noted → List (List Noted)

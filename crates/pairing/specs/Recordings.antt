@@ -1,18 +1,19 @@
 -- Recordings. A recording gives each rank of the world its trace: the list of its recorded calls. A call's
 -- place is its index in its rank's list, from 0.
-use Rattle.std.specs.Prelude.{◌≡◌, ℕ, ◌<◌, ◌-◌, Bool, true, false, unwrap_or, List, [], ◌∷◌, ◌++◌, length, slice_get, slice_set}
+use Rattle.std.specs.Prelude.{◌≡◌, ℕ, ◌<◌, ◌-◌, Bool, true, false, List, [], ◌∷◌, ◌++◌, length, slice_get, slice_set}
 use Rattle.std.specs.List.{list_any}
 use Rattle.std.specs.Option.{option_map_or}
 use Rattle.mpicall.specs.Ending.{ends_list}
 use Rattle.mpicall.specs.declared.call.Call.{Call}
+use Rattle.mpigroup.specs.Groups.{or_empty}
 
 -- each rank's list of calls
 abbrev pub Lists : Type 0
 Lists = List (List Call)
 
--- the calls of a rank; none where there is no such rank
+-- the calls of a rank
 abbrev pub calls_of : Lists → ℕ → List Call
-calls_of recording rank = unwrap_or (slice_get recording rank) []
+calls_of recording rank = or_empty recording rank
 
 -- the recording with one more call at the end of the rank's list
 abbrev pub appended : Lists → ℕ → Call → Lists

@@ -1,5 +1,6 @@
 -- Lists of places by numbers.
 use Rattle.std.specs.Prelude.{ℕ, ◌<◌, unwrap_or, List, [], ◌∷◌, ◌++◌, length, slice_get, slice_set}
+use Rattle.mpigroup.specs.Groups.{or_empty}
 
 -- places in the order in which they came, and how many there is room for
 pub record Listed : Type 0 where
@@ -11,9 +12,9 @@ pub record Seats : Type 0 where
   pub places : List (List ℕ)
   pub rooms : List ℕ
 
--- the list of that number; none where there is no such list
+-- the places in the list of that number
 abbrev pub list_in : List (List ℕ) → ℕ → List ℕ
-list_in lists index = unwrap_or (slice_get lists index) []
+list_in lists index = or_empty lists index
 
 -- the lists once a place is put at the end of one, if there is such a list
 abbrev pub with_place_in : List (List ℕ) → ℕ → ℕ → List (List ℕ)

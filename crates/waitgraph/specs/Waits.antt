@@ -1,8 +1,8 @@
 -- What each rank waits for where it stands: the needs of its present call that aren't met there.
 use Rattle.moves.specs.declared.reading.Reading.{Reading}
-use Rattle.std.specs.Prelude.{ℕ, unwrap_or, List, [], length, map, slice_get}
+use Rattle.std.specs.Prelude.{ℕ, List, length, map}
 use Rattle.std.specs.List.{range_with_len}
-use Rattle.mpigroup.specs.Groups.{Groups}
+use Rattle.mpigroup.specs.Groups.{Groups, or_empty}
 use Rattle.pairing.specs.Recordings.{Lists}
 use Rattle.moves.specs.Runs.{State}
 use Rattle.moves.specs.Stands.{stands_of}
@@ -21,6 +21,6 @@ waits_at reading groups recording stands = map (unmet_at reading groups recordin
 abbrev pub waits_of : Reading → Groups → Lists → Waits
 waits_of reading groups recording = waits_at reading groups recording (stands_of reading groups recording)
 
--- the unmet needs of a rank; none where there is no such rank
+-- the unmet needs of a rank
 abbrev pub needs_in : Waits → ℕ → List Need
-needs_in waits rank = unwrap_or (slice_get waits rank) []
+needs_in waits rank = or_empty waits rank
