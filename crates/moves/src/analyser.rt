@@ -195,9 +195,7 @@ impl Analyser {
 
     /// Where a rank stands: how many of its calls it has completed. None where there is no such rank.
     pub fn stand(&self, rank: u16) -> Option<u32>
-        ensures value { result ≡ slice_get self.now.stands rank }
-        ensures end { IsTheEnd (can_move self.now.reading self.now.groups self.now.recording) (length self.now.recording) self.now.stands }
-        ensures stands { self.now.stands ≡ stands_of self.now.reading self.now.groups self.now.recording }
+        ensures { result ≡ slice_get self.now.stands rank }
     {
         self.stands.get(usize::from(rank)).copied()
     }

@@ -9,5 +9,6 @@ use moves::analyser::Analyser;
 pub(crate) fn stand_of(analyser: &Analyser, rank: u16) -> u32
     ensures { result ≡ slice_index (stands_of analyser.now.reading analyser.now.groups analyser.now.recording) rank }
 {
+    analyser.stands_are_the_end();
     analyser.stand(rank).unwrap_or(0)
 }

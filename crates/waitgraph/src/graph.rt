@@ -168,6 +168,7 @@ fn graph_at(
 fn stands_of(alloc: Global, analyser: &Analyser) -> Result<Vec<u32>, AllocError>
     ensures { IfOk result (λ stands. stands.items ≡ stands_of analyser.now.reading analyser.now.groups analyser.now.recording) }
 {
+    analyser.stands_are_the_end();
     let mut stands = Vec::new(alloc);
     for rank in 0..analyser.head().ranks() {
         if let Some(stand) = analyser.stand(rank) {

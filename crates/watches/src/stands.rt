@@ -35,6 +35,7 @@ impl Stands {
     pub fn set(&mut self, analyser: &Analyser)
         ensures { self.new.places ≡ shown_places (stands_of analyser.now.reading analyser.now.groups analyser.now.recording) }
     {
+        analyser.stands_are_the_end();
         for rank in 0..MOST_RANKS {
             self.places[usize::from(rank)] = analyser.stand(rank).unwrap_or(0);
         }

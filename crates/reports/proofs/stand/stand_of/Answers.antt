@@ -6,6 +6,6 @@ use Rattle.reports.proofs.stand.stand_of.Goals as goal
 pub returns : goal.returns
 returns c =
     c.unwrap_or.ensures
-    ∙ ap (λ (stand : Option ℕ). unwrap_or stand 0) c.stand.ensures.value
+    ∙ ap (λ (stand : Option ℕ). unwrap_or stand 0) c.stand.ensures
     ∙ unwrap_or-slice_get c.args.analyser.now.stands c.args.rank 0
-    ∙ ap (λ (stands : List ℕ). slice_index stands c.args.rank) c.stand.ensures.stands
+    ∙ ap (λ (stands : List ℕ). slice_index stands c.args.rank) c.stands_are_the_end.ensures.stands

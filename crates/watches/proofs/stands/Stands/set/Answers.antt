@@ -18,9 +18,9 @@ pub loop-rank-preserved : goal.loop-rank-preserved
 loop-rank-preserved c =
     let stands = stands_of c.args.analyser.now.reading c.args.analyser.now.groups c.args.analyser.now.recording in
     let stand : c.unwrap_or.result ≡ get_or stands c.loop-rank.rank 0 =
-    c.unwrap_or.ensures ∙ ap (λ found. unwrap_or found 0) c.stand.ensures.value
+    c.unwrap_or.ensures ∙ ap (λ found. unwrap_or found 0) c.stand.ensures
     ∙ unwrap_or-slice_get c.args.analyser.now.stands c.loop-rank.rank 0
-    ∙ ap (λ (s : State). get_or s c.loop-rank.rank 0) c.stand.ensures.stands in record {
+    ∙ ap (λ (s : State). get_or s c.loop-rank.rank 0) c.stands_are_the_end.ensures.stands in record {
       len = length-set c.loop-rank.self.places c.from.result c.unwrap_or.result ∙ c.loop-rank.invariant.len;
       stands = one_more stands c.loop-rank.self.places c.loop-rank.rank c.from.result c.unwrap_or.result c.from.ensures stand c.loop-rank-test.true c.loop-rank.invariant.len c.loop-rank.invariant.stands;
     }
