@@ -52,7 +52,7 @@ mod row;
 mod shelf;
 
 use outcome::answer_of;
-use reading::{Reading, Step};
+use reading::{RowReading, Step};
 use row::Row;
 use std::alloc::{AllocError, Global};
 use std::io;
@@ -82,7 +82,7 @@ fn run_row<R: AllocGlobal + Print + Eprint + Threads + Wait + Sync>(
 }
 
 fn main(rt: HostRuntime) -> io::Result<()> {
-    let mut reading = Reading::new(rt.alloc());
+    let mut reading = RowReading::new(rt.alloc());
     let mut place = 0u64;
     let mut rows = 0u64;
     for line in rt.lines(rt.alloc()) {

@@ -24,7 +24,7 @@ enum Place {
 
 /// The row that is being read.
 #[derive(Drop)]
-pub struct Reading {
+pub struct RowReading {
     row: Row,
     is_open: bool,
     place: Place,
@@ -61,10 +61,10 @@ fn push(to: &mut String, text: &str, end: &str) -> Result<(), LineFault> {
     Ok(())
 }
 
-impl Reading {
+impl RowReading {
     /// Nothing was read.
-    pub fn new(alloc: Global) -> Reading {
-        Reading {
+    pub fn new(alloc: Global) -> RowReading {
+        RowReading {
             row: Row::new(alloc),
             is_open: false,
             place: Place::Nowhere,
