@@ -1,7 +1,6 @@
 -- How the answers over a check's sources follow for the texts of its files.
 use Rattle.moves.specs.declared.reading.Reading.{Reading}
 use Rattle.std.proofs.Common.{◌≡◌, ◌<◌, ℕ, length, Option, Some, None, List, [], ◌∷◌, map, option_map, ap, ◌∙◌, sym, refl, subst, arith, Result, Ok, Err, IfSome, take, Bool, true, false, if◌then◌else◌, Bor}
-use Rattle.std.proofs.lemmas.List.{length-map}
 use Rattle.mpicall.specs.Trace.{Trace, trace_of}
 use Rattle.mpicall.specs.declared.source.Source.{Source}
 use Rattle.waitgraph.specs.declared.verdict.Verdict.{Verdict}
@@ -38,10 +37,6 @@ of_some (text ∷ texts) = ap (λ traces. Some (trace_of text) ∷ traces) (of_s
 pub tells_texts : {F : Type 0} (sources : List (Option Trace)) (told : F → Option Text) (files : List F) (texts : List Text) →
     sources ≡ map (λ file. option_map trace_of (told file)) files → map told files ≡ map Some texts → sources ≡ map Some (map trace_of texts)
 tells_texts sources told files texts of_files are = of_files ∙ of_told told files ∙ ap (map (option_map trace_of)) are ∙ of_some texts
-
--- there are as many texts as files
-pub as_many : {F : Type 0} (told : F → Option Text) (files : List F) (texts : List Text) → map told files ≡ map Some texts → length files ≡ length texts
-as_many told files texts are = sym (length-map files told) ∙ ap length are ∙ length-map texts Some
 
 -- the head of a told text
 pub head_of_told : (told : Option Text) (text : Text) (groups : Groups) → IsHeadOf told groups → told ≡ Some text → read_head text ≡ Ok groups

@@ -22,7 +22,7 @@ use Rattle.pairing.proofs.PartnerLemmas.{map_parts, partner_parts}
 use Rattle.pairing.specs.Recordings.{Lists, calls_of, appended, has_end, is_ended}
 use Rattle.pairing.specs.Places.{count_before}
 use Rattle.pairing.specs.Envelopes.{message_of, envelope_by, envelope_of, other_half, rank_of_half}
-use Rattle.pairing.specs.Partners.{number_of, numbered, partner_of}
+use Rattle.pairing.specs.Partners.{partner_of}
 use Rattle.pairing.specs.Requests.{waits_for, completes, started_in, started_of}
 use Rattle.pairing.specs.Waves.{joins, does_join, wave_of}
 use Rattle.pairing.specs.Pairs.{completed_of}
@@ -92,14 +92,6 @@ no_partner_kept groups notes rank place half noted partnered h none =
     no_pair : (o : Option (ℕ × ℕ)) → option_map (λ partner. partner.1) o ≡ None → o ≡ None
     no_pair None h' = refl
     no_pair (Some partner) h' = absurd (none-some partner.1 (sym h'))
-
-pub no_peer : (groups : Groups) (notes : List (List Noted)) (rank place : ℕ) (half : Half) (noted : Noted) (m : Message) → slice_get (notes_of notes rank) place ≡ Some noted → message_of half noted.call ≡ Some m → world_rank_of groups m.comm m.peer ≡ None → partner_of groups (recording_of notes) rank place half ≡ None
-no_peer groups notes rank place half noted m h message none =
-    rw (its_call notes rank place noted h, message) (by_rank (group_rank_of groups m.comm rank))
-  where
-    by_rank : (o : Option ℕ) → option_and_then (λ e. numbered groups (recording_of notes) (other_half half) e (number_of groups (recording_of notes) rank half e place)) (option_map (envelope_by half m) o) ≡ None
-    by_rank None = refl
-    by_rank (Some own) = rw (peer_rank groups half m own, none) refl
 
 pub no_partner_past : (groups : Groups) (notes : List (List Noted)) (rank place : ℕ) (half : Half) → slice_get (notes_of notes rank) place ≡ None → partner_of groups (recording_of notes) rank place half ≡ None
 no_partner_past groups notes rank place half h = rw (no_call notes rank place h) refl

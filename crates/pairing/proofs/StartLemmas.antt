@@ -2,7 +2,7 @@
 use Rattle.std.proofs.Common.{◌≡◌, ℕ, zero, suc, ◌+◌, ◌<◌, ◌≤◌, ◌==◌, not, Bool, Option, Some, List, [], ◌∷◌, length, map, take, drop, refl, sym, ap, subst, ◌∙◌, cond, get_or, set, ⊎_elim, arith}
 use Rattle.std.specs.Prelude.{option_map, option_and_then}
 use Rattle.std.specs.List.{slice_get, find, position, position_or_len, prefix_len}
-use Rattle.std.proofs.lemmas.List.{take-map, drop-map, length-map, take_more, map_push}
+use Rattle.std.proofs.lemmas.List.{take-map, drop-map, length-map}
 use Rattle.std.proofs.lemmas.Option.{slice_get-map, slice_get_past}
 use Rattle.std.proofs.lemmas.List.Folds.{find_at}
 use Rattle.std.proofs.lemmas.Bool.{cases_lt, lt-ltb, le-ltb}
@@ -94,8 +94,3 @@ are_starts calls (place ∷ places) (req ∷ reqs) h =
     let start = started calls req place first in
     let here : request_among calls place ≡ Some req = rw start.stands_there (is_it req (starts start.starter) start.starts_it) in
     rw here (ap (λ (os : List (Option ℕ)). Some req ∷ os) rest)
-
--- one more place whose call starts the request beside it
-pub one_more : (f g : ℕ → Option ℕ) (xs ys : List ℕ) (i : ℕ) → i < length xs → i < length ys → f (get_or xs i 0) ≡ g (get_or ys i 0) → map f (take i xs) ≡ map g (take i ys) → map f (take (i + 1) xs) ≡ map g (take (i + 1) ys)
-one_more f g xs ys i in_xs in_ys here before =
-    rw (take_more xs i 0 in_xs, take_more ys i 0 in_ys, map_push f (take i xs) (get_or xs i 0), map_push g (take i ys) (get_or ys i 0), before, here) refl

@@ -158,15 +158,6 @@ took_left v w x t open_still ended =
     (λ (may : v.may_put ≡ false). absurd (not_ended v (left_unknown v may) open_still ended))
     (cases_Bool v.may_put)
 
--- where the end is known and didn't come, the channel isn't found empty
-pub never_empty : (v : Hand) (items : List Item) → length items ≡ 0 → Leaves v items → end_mark_of v.taken_items ≡ None → are_ended (v.taken_items ++ left_in_relay v) ≡ true → ⊥
-never_empty v (x ∷ items) none leaves open_still ended = absurd (omega arith)
-never_empty v [] none leaves open_still ended =
-    ⊎_elim
-    (λ (may : v.may_put ≡ true). not_ended v (left_known v [] may leaves) open_still ended)
-    (λ (may : v.may_put ≡ false). not_ended v (left_unknown v may) open_still ended)
-    (cases_Bool v.may_put)
-
 -- what a hand has that put one more item
 pub record HasPut (v : Hand) (x : Item) (w : Hand) : Type 0 where
   pub puts : w.may_put ≡ true

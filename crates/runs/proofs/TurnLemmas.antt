@@ -117,9 +117,6 @@ module _ {I : Type 0} (left : I → Option (List ℕ)) (may_stop : ℕ → ℕ �
 
 -- Later times follow one another.
 
-pub later_first : {I : Type 0} (left : I → Option (List ℕ)) (may_stop : ℕ → ℕ → Type 0) (rank : ℕ) (turn : Turn I) (kept : Kept) → IsLater left may_stop rank turn kept turn kept
-later_first left may_stop rank turn kept = record { leaves = nothing_new rank kept kept refl; turn = λ source of. of }
-
 pub are_later_still : {I : Type 0} (left : I → Option (List ℕ)) (may_stop : ℕ → ℕ → Type 0) (old now new : List (Turn I)) (before then after : Kept) → AreLater left may_stop old before now then → AreLater left may_stop now then new after → AreLater left may_stop old before new after
 are_later_still left may_stop old now new before then after first next = record {
   count = next.count ∙ first.count;
