@@ -39,7 +39,7 @@ ClosesOver misses all refusal reading groups recording (Ok outcome) = all × IsO
 abbrev pub Closes : Reading → Groups → List (Option Receipt) → Result Analysed CloseFault → Type 0
 Closes reading groups receipts answer =
     ClosesOver (λ rank. first_missing receipts ≡ Some rank) (first_missing receipts ≡ None) (refusal_of groups (traces_held receipts))
-        reading groups (recording_of_traces (traces_held receipts)) answer
+    reading groups (recording_of_traces (traces_held receipts)) answer
 
 -- A ledger keeps all where no memory was wanted, and needs no receipts.
 abbrev pub Concludes : Kept → Result Analysed CloseFault → Type 0

@@ -10,9 +10,9 @@ use Rattle.moves.specs.Needs.{may_pass}
 use Rattle.moves.specs.Runs.{State, total}
 use Rattle.moves.specs.Stands.{call_count}
 
--- the groups of a run's communicators, the calls of each rank that were accepted, the ranks' stands, how much was
--- done in the arena in which waiting ranks are linked (1 for each link and each unlink, as the arena counts it), and
--- how often waiting ranks and waves were touched
+-- the reading of the sends, the groups of a run's communicators, the calls of each rank that were accepted, the ranks'
+-- stands, how much was done in the arena in which waiting ranks are linked (1 for each link and each unlink, as the
+-- arena counts it), and the touches: that, and how often it was noted how far a communicator's waves are
 pub record Analysed : Type 0 where
   pub reading : Reading
   pub groups : Groups
