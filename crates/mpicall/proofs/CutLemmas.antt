@@ -1,5 +1,5 @@
 -- What came of a text before a read failed.
-use Rattle.std.proofs.Common.{◌≡◌, ℕ, ◌≤◌, Bool, true, false, ◌==◌, not, cond, List, [], ◌∷◌, ◌++◌, length, sym, ap, ◌∙◌, refl, arith, append_assoc, append-nil, subst, Option, Some, None, IfSome, Result, Ok, Err, inl, inr}
+use Rattle.std.proofs.Common.{◌≡◌, ℕ, ◌≤◌, Bool, true, false, ◌==◌, not, cond, List, [], ◌∷◌, ◌++◌, length, sym, ap, ◌∙◌, refl, arith, append_assoc, append-nil, subst, Option, Some, None, IfSome, Result, Ok, Err, inl, inr, drop, option_map, take-append-drop}
 use Rattle.std.proofs.KnownBytes.{Consumes-trans}
 use Rattle.std.specs.Io.KnownBytes.{Keeps, prepend_known, Consumes}
 use Rattle.std.specs.List.{join_with_byte}
@@ -8,9 +8,10 @@ use Rattle.std.proofs.lemmas.Bool.{and_parts}
 use Rattle.mpicall.specs.Ending.{ends_list}
 use Rattle.mpicall.specs.Limits.{in_ranges}
 use Rattle.mpicall.specs.Lines.{most_bytes, has_line_feed, lines_of}
-use Rattle.mpicall.specs.Reading.{record_of_line}
+use Rattle.mpicall.specs.Reading.{record_of_line, BeginsWith}
 use Rattle.mpicall.specs.Source.{Gives, CutsOff, BreaksOffBehind, breaks_off, ended_at, trace_at}
 use Rattle.mpicall.specs.Spelling.{space, line_feed, fields_of, spelling}
+use Rattle.mpicall.specs.Stage.{stage_behind}
 use Rattle.mpicall.specs.Trace.{Trace, IsTraceOf, trace_of, trace_of_lines, trace_with, ends_here, put_first, end_with_behind}
 use Rattle.mpicall.specs.declared.fault.Ending.TheVariants.{Torn}
 use Rattle.mpicall.specs.Window.{NoFeedBelow}
@@ -87,6 +88,28 @@ first_in_ranges (line ∷ behind) call rest (inl (x, others, h, is, first, follo
     let is_call : x ≡ call = cc in
     ap in_ranges (sym is_call) ∙ h
 first_in_ranges (line ∷ behind) call rest (inr (fault, told, e)) = let no = ap (λ (t : Trace). t.records) e in cc
+
+-- bytes that are held begin with the spelling of a call: its record comes next
+begins_with : (held left : List ℕ) (call : Call) (n : ℕ) → BeginsWith held call n → held ++ left ≡ spelling call ++ (drop n held ++ left)
+begins_with held left call n begins =
+    ap (λ bytes. bytes ++ left) (sym (take-append-drop n held) ∙ ap (λ line. line ++ drop n held) begins.spells.line_is)
+    ∙ append_assoc (spelling call) (drop n held) left
+
+pub held_spelling : (held : List ℕ) (left : Option (List ℕ)) (call : Call) (n : ℕ) → BeginsWith held call n → Consumes (prepend_known held left) (prepend_known (drop n held) left) (spelling call)
+held_spelling held None call n begins = tt
+held_spelling held (Some left) call n begins = begins_with held left call n begins
+
+goes_behind : (ends : Bool) (rest : List ℕ) → Some (goes_on ends rest) ≡ trace_at (cond ends Ended Reading) (Some rest)
+unfolding trace_of
+goes_behind true rest = refl
+goes_behind false rest = refl
+
+pub gives_spelled : (held : List ℕ) (left : Option (List ℕ)) (call : Call) (n : ℕ) → BeginsWith held call n → Gives (option_map trace_of (prepend_known held left)) (trace_at (stage_behind call) (prepend_known (drop n held) left)) (Ok (Some call))
+gives_spelled held None call n begins = tt
+gives_spelled held (Some left) call n begins =
+    let rest = drop n held ++ left in
+    let first = ap trace_of (begins_with held left call n begins) ∙ trace_spelled call rest begins.spells.in_ranges_is in
+    (goes_on (ends_list call) rest, first, sym (goes_behind (ends_list call) rest))
 
 -- the trace of some lines is no end that stands behind a record
 first_no_end : (reading : Result Call LineFault) (line : List ℕ) (behind : List (List ℕ)) (others : Trace) → trace_with reading behind others ≡ ends_here (end_with_behind (line ∷ behind)) → ⊥

@@ -1,7 +1,7 @@
 -- How the fields of a line are read, and the record that a line without a fault spells. Nobody has to
 -- believe this: `read_line` promises that `record_of_line` gives a record exactly where the line is its
 -- spelling, and else the line's first fault.
-use Rattle.std.specs.Prelude.{◌≡◌, ◌<◌, ◌++◌, ℕ, ℤ, pos, Bool, true, false, ◌&&◌, nat_le, MatchBool, Option, Some, None, Result, Ok, Err, MatchResult, MatchOption, option_map, List, [], ◌∷◌, length, map, get_or, slice_get, drop}
+use Rattle.std.specs.Prelude.{◌≡◌, ◌<◌, ◌≤◌, ◌++◌, ℕ, ℤ, pos, Bool, true, false, ◌&&◌, nat_le, MatchBool, Option, Some, None, Result, Ok, Err, MatchResult, MatchOption, option_map, List, [], ◌∷◌, length, map, get_or, slice_get, drop, take}
 use Rattle.std.specs.List.{list_all}
 use Rattle.mpicall.specs.declared.limits.TheConstants.{MOST_REQUESTS}
 use Rattle.mpicall.specs.Limits.{in_ranges, names_enough, few_enough}
@@ -197,6 +197,11 @@ pub record SpellsRequests (fields : List (List ℕ)) (reqs : List ℕ) : Type 0 
 pub record Spells (line : List ℕ) (call : Call) : Type 0 where
   pub line_is : line ≡ spelling call
   pub in_ranges_is : in_ranges call ≡ true
+
+-- some bytes begin with the `n` bytes of a call's spelling, and the call's fields are in their ranges
+pub record BeginsWith (bytes : List ℕ) (call : Call) (n : ℕ) : Type 0 where
+  pub within : n ≤ length bytes
+  pub spells : Spells (take n bytes) call
 
 -- the line isn't too long and has its line feed; this is its body
 pub record IsBody (line body : List ℕ) : Type 0 where

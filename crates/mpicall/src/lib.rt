@@ -59,6 +59,7 @@ pub mod memory;
 pub mod number;
 mod reading;
 pub mod record;
+mod remembered;
 pub mod reqs;
 pub mod source;
 pub mod spelling;

@@ -8,8 +8,8 @@ ghost use Rattle.std.specs.Prelude.{◌≡◌, ◌↔◌, List, [], ◌≢◌, �
 use crate::device::Input;
 use crate::fault::SourceFault;
 use crate::limits::MOST_LINE_BYTES;
-use crate::line::read_into;
 use crate::record::Record;
+use crate::remembered::Remembered;
 use crate::window::{Window, has_more, line_end};
 
 /// How far a source is.
@@ -32,6 +32,7 @@ pub struct Source<I> {
     input: I,
     window: Window,
     stage: Stage,
+    remembered: Remembered,
     ghost own: { is_own stage ≡ true },
 }
 
@@ -56,6 +57,7 @@ impl<I: Input> Source<I> {
             input,
             window: Window::new(),
             stage: Stage::Reading,
+            remembered: Remembered::new(),
         }
     }
 
@@ -119,6 +121,11 @@ impl<I: Input> Source<I> {
         ensures cut { result ≡ Err ReadFailed
             → IsCutOff I.left self.old self.new [] }
     {
+        if let Some(count) = self.remembered.expect(self.window.held(), into) {
+            self.window.drop_front(count);
+            self.stage = stage_behind(into);
+            return Ok(true);
+        }
         let len = match line_end(&mut self.window, &mut self.input) {
             Ok(len) => len,
             Err(_) => {
@@ -130,7 +137,7 @@ impl<I: Input> Source<I> {
             self.stage = Stage::Failed(SourceFault::NoFinalize);
             return Err(SourceFault::NoFinalize);
         }
-        match read_into(&self.window.held()[..len], into) {
+        match self.remembered.read(&self.window.held()[..len], into) {
             Ok(()) => {
                 self.window.drop_front(len);
                 self.stage = stage_behind(into);

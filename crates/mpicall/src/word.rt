@@ -175,12 +175,19 @@ fn collective_of(field: &[u8]) -> Option<Collective>
     None
 }
 
-/// The operation that a field spells, if the format has it; the most frequent ones first.
+/// The operation that a field spells, if the format has it; the most frequent ones first. None begins with the letter
+/// that starts one, or as a wait.
 #[inline(always)]
 #[tactic(auto, unfolding(crate::specs::Word::operation_of))]
 fn operation_of(field: &[u8]) -> Option<Operation>
     ensures { result ≡ operation_of field.now }
 {
+    if !field.is_empty() && field[0] == b'i' {
+        return None;
+    }
+    if !field.is_empty() && field[0] == b'w' {
+        return None;
+    }
     if field == b"send".as_slice() {
         return Some(Operation::Send(Mode::Standard));
     }

@@ -1,12 +1,14 @@
 -- What one more call changes about the active requests of ranks.
-use Rattle.std.proofs.Common.{◌≡◌, ℕ, zero, suc, ◌<◌, ◌==◌, ◌&&◌, true, false, if◌then◌else◌, Option, Some, None, List, [], ◌∷◌, ◌++◌, length, get_or, replicate, refl, ⊎_elim, arith}
+use Rattle.std.proofs.Common.{◌≡◌, ℕ, zero, suc, ◌<◌, ◌==◌, ◌&&◌, true, false, if◌then◌else◌, Option, Some, None, List, [], ◌∷◌, ◌++◌, length, get_or, replicate, refl, sym, ap, ◌∙◌, ⊎_elim, arith}
 use Rattle.std.specs.List.{list_all}
-use Rattle.std.proofs.lemmas.Bool.{cases_eq, cases_Bool}
+use Rattle.std.specs.Option.{is_some, option_or}
+use Rattle.std.proofs.lemmas.Bool.{cases_eq, cases_Bool, eq-eqb}
 use Rattle.std.proofs.lemmas.Grind.{common_steps}
 use Rattle.mpicall.specs.declared.call.Call.{Call}
 use Rattle.pairing.specs.Recordings.{Lists, calls_of, appended}
-use Rattle.pairing.specs.Requests.{does_start, does_complete, started_in, is_active}
-use Rattle.pairing.specs.Starts.{place_in, has_place, IsActive}
+use Rattle.pairing.specs.Requests.{does_start, does_complete, started_in, is_active, HasActive}
+use Rattle.pairing.specs.Starts.{cell_in, place_at, place_in, has_place, IsActive}
+use Rattle.pairing.specs.declared.active.Request.{Request}
 use Rattle.pairing.specs.declared.active.Start.{Start}
 use Rattle.pairing.specs.declared.active.Active.{Active}
 use Rattle.pairing.proofs.RecordingLemmas.{calls_of-appended, calls_of-appended_other}
@@ -54,3 +56,18 @@ pub no_cell : (cells i : ℕ) → get_or {A = Option Start} (replicate cells Non
 no_cell zero i = refl
 no_cell (suc cells) zero = refl
 no_cell (suc cells) (suc i) = no_cell cells i
+
+or_some : (o : Option ℕ) (place : ℕ) → is_some (option_or o (Some place)) ≡ true
+or_some None place = refl
+or_some (Some other) place = refl
+
+-- a request that found another one in its cell is active
+pub other_active : (recording : Lists) (active : Active) (entries : List (Request × ℕ)) → active.others.entries ≡ entries → 0 < length entries → IsActive recording active → HasActive recording
+other_active recording active [] is some is_table = absurd (omega arith)
+other_active recording active (entry ∷ entries) is some is_table = record {
+  rank = entry.0.rank;
+  req = entry.0.req;
+  is_it =
+      ap is_some (sym (is_table entry.0.rank entry.0.req))
+      ∙ rw (is, eq-eqb entry.0.rank entry.0.rank refl, eq-eqb entry.0.req entry.0.req refl) (or_some (place_at entry.0.req (cell_in active entry.0.rank entry.0.req)) entry.1);
+}

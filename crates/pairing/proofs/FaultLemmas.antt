@@ -15,8 +15,8 @@ use Rattle.pairing.specs.Faults.{AnEndedLawfulListIsClosed, first_failed, comm_e
 use Rattle.pairing.specs.Requests.{waits_for}
 use Rattle.pairing.specs.declared.fault.CallFault.TheVariants.{CallAfterFinalize, TooManyCalls, UnknownCommunicator, CommunicatorNotHeld, PeerOutOfGroup, RequestInUse, RequestRepeated, RequestNotActive, WrongNewCommunicator}
 
--- where no test has failed each one passes; five of them are used
-all_pass : (a b c d e f g i j : Bool) → first_failed ((CallAfterFinalize, a) ∷ ((TooManyCalls, b) ∷ ((UnknownCommunicator, c) ∷ ((CommunicatorNotHeld, d) ∷ ((PeerOutOfGroup, e) ∷ ((RequestInUse, f) ∷ ((RequestRepeated, g) ∷ ((RequestNotActive, i) ∷ ((WrongNewCommunicator, j) ∷ []))))))))) ≡ None → (a ≡ true) × (b ≡ true) × (f ≡ true) × (i ≡ true) × (c ≡ true)
+-- where no test has failed each one passes; six of them are used
+all_pass : (a b c d e f g i j : Bool) → first_failed ((CallAfterFinalize, a) ∷ ((TooManyCalls, b) ∷ ((UnknownCommunicator, c) ∷ ((CommunicatorNotHeld, d) ∷ ((PeerOutOfGroup, e) ∷ ((RequestInUse, f) ∷ ((RequestRepeated, g) ∷ ((RequestNotActive, i) ∷ ((WrongNewCommunicator, j) ∷ []))))))))) ≡ None → (a ≡ true) × (b ≡ true) × (f ≡ true) × (i ≡ true) × (c ≡ true) × (d ≡ true)
 all_pass false b c d e f g i j h = absurd (none-some CallAfterFinalize (sym h))
 all_pass true false c d e f g i j h = absurd (none-some TooManyCalls (sym h))
 all_pass true true false d e f g i j h = absurd (none-some UnknownCommunicator (sym h))
@@ -26,7 +26,7 @@ all_pass true true true true true false g i j h = absurd (none-some RequestInUse
 all_pass true true true true true true false i j h = absurd (none-some RequestRepeated (sym h))
 all_pass true true true true true true true false j h = absurd (none-some RequestNotActive (sym h))
 all_pass true true true true true true true true false h = absurd (none-some WrongNewCommunicator (sym h))
-all_pass true true true true true true true true true h = (refl, refl, refl, refl, refl)
+all_pass true true true true true true true true true h = (refl, refl, refl, refl, refl, refl)
 
 -- what it means that a call has no fault
 pub record IsFaultless (groups : Groups) (rank : ℕ) (calls : List Call) (call : Call) : Type 0 where
@@ -35,6 +35,7 @@ pub record IsFaultless (groups : Groups) (rank : ℕ) (calls : List Call) (call 
   pub afresh : starts_afresh calls call ≡ true
   pub active : waits_for_active calls call ≡ true
   pub comm_is : comm_exists groups call ≡ true
+  pub holds_it : holds_comm groups rank calls call ≡ true
 
 pub not_true : (b : Bool) → not b ≡ true → b ≡ false
 not_true true h = absurd (false≢true h)
@@ -52,6 +53,7 @@ fault_none groups rank calls call h =
       afresh = passed.2;
       active = passed.3;
       comm_is = passed.4;
+      holds_it = passed.5;
     }
 
 -- one element that passes settles it

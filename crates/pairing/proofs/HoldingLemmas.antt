@@ -1,14 +1,19 @@
 -- What one more call changes about the communicators that ranks have made.
-use Rattle.std.proofs.Common.{◌≡◌, ℕ, ◌<◌, ◌==◌, ◌||◌, ◌&&◌, true, cond, Some, None, List, [], ◌∷◌, ◌++◌, length, ap, ◌∙◌, ⊎_elim, arith}
-use Rattle.std.specs.List.{list_any}
+use Rattle.std.proofs.Common.{◌≡◌, ℕ, ◌<◌, ◌==◌, ◌||◌, ◌&&◌, true, cond, Option, Some, None, List, [], ◌∷◌, ◌++◌, length, refl, sym, ap, ◌∙◌, ⊎_elim, arith}
+use Rattle.std.specs.List.{slice_get, list_any}
+use Rattle.std.proofs.lemmas.List.{nil_from_length}
+use Rattle.std.proofs.lemmas.Map.Keys.{any_passes_from_place}
 use Rattle.std.proofs.lemmas.List.Folds.{list_any-append}
-use Rattle.std.proofs.lemmas.Bool.{cases_eq}
+use Rattle.std.proofs.lemmas.Bool.{false≢true, cases_eq, eq-eqb}
 use Rattle.std.proofs.lemmas.Grind.{common_steps}
 use Rattle.mpicall.specs.declared.call.Call.{Call}
 use Rattle.pairing.specs.Recordings.{Lists, calls_of, appended}
-use Rattle.pairing.specs.Communicators.{makes, does_make}
-use Rattle.pairing.specs.Holdings.{has_holding, IsHolding}
+use Rattle.pairing.specs.Communicators.{makes, does_make, made_at, NoneIsMade, HasMade}
+use Rattle.pairing.specs.Holdings.{is_same_holding, has_holding, IsHolding}
 use Rattle.pairing.specs.declared.held.Held.{Held}
+use Rattle.pairing.specs.declared.held.Holding.{Holding}
+use Rattle.pairing.proofs.PartnerLemmas.{and_then_parts}
+use Rattle.pairing.proofs.RequestLaws.{find_any, is_it}
 use Rattle.pairing.proofs.RecordingLemmas.{calls_of-appended, calls_of-appended_other}
 
 -- the list with one more call at its end
@@ -53,3 +58,33 @@ held_same recording held rank call makes_none is_rank is_held r comm =
     let other = made_by_other recording rank r comm call differs in
     rw (other) (is_held r comm))
     (cases_eq r rank)
+
+-- where the table is empty no call makes a communicator
+pub none_made : (recording : Lists) (held : Held) → length held.pairs.keys ≡ 0 → IsHolding recording held → NoneIsMade recording
+none_made recording held none is_held rank place = by_made (made_at recording rank place) refl
+  where
+    by_made : (o : Option ℕ) → made_at recording rank place ≡ o → made_at recording rank place ≡ None
+    by_made None is = is
+    by_made (Some comm) is =
+        let call = and_then_parts makes (slice_get (calls_of recording rank) place) comm is in
+        let makes_it : does_make comm call.0 ≡ true = rw call.2 (eq-eqb comm comm refl) in
+        let there = any_passes_from_place (does_make comm) (calls_of recording rank) place call.0 call.1 makes_it in
+        absurd (false≢true
+        (sym (ap (λ (keys : List Holding). list_any (is_same_holding (record { rank = rank; comm = comm })) keys) (nil_from_length held.pairs.keys none))
+        ∙ is_held rank comm ∙ there))
+
+-- and where it is not, some call does
+first_held : (held : Held) (keys : List Holding) → held.pairs.keys ≡ keys → 0 < length keys → (rank : ℕ) × (comm : ℕ) × (has_holding held rank comm ≡ true)
+first_held held [] is some = absurd (omega arith)
+first_held held (key ∷ keys) is some = (key.rank, key.comm, rw (is, eq-eqb key.rank key.rank refl, eq-eqb key.comm key.comm refl) refl)
+
+pub some_made : (recording : Lists) (held : Held) → 0 < length held.pairs.keys → IsHolding recording held → HasMade recording
+some_made recording held some is_held =
+    let first = first_held held held.pairs.keys refl some in
+    let found = find_any (does_make first.1) (calls_of recording first.0) (sym (is_held first.0 first.1) ∙ first.2) in
+    record {
+      rank = first.0;
+      place = found.index;
+      comm = first.1;
+      makes_it = rw found.stands_there (is_it first.1 (makes found.element) found.passes);
+    }

@@ -25,3 +25,4 @@ pub mod FrontLemmas
 pub mod ProbedLemmas
 pub mod CallCountLemmas
 pub mod ProbingLemmas
+pub mod ReceivedLemmas

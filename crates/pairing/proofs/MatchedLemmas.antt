@@ -1,10 +1,13 @@
 -- Pending halves by the numbers of their envelopes.
 use Rattle.std.proofs.Common.{◌≡◌, ℕ, ◌+◌, ◌*◌, ◌<◌, ◌≤◌, true, false, Option, Some, None, List, [], ◌∷◌, ◌++◌, length, set, drop, get_or, refl, sym, ap, ◌∙◌, ⊎_elim, arith, get_or-set_same, get_or-set_other}
 use Rattle.std.specs.Prelude.{is_some, if◌then◌else◌}
-use Rattle.std.specs.List.{slice_get, list_any, position_or_len}
+use Rattle.std.specs.List.{slice_get, list_any, position_or_len, IsDistinct}
 use Rattle.std.specs.Option.{option_map_or}
 use Rattle.std.proofs.lemmas.List.Quantifiers.{position-Some}
-use Rattle.std.proofs.lemmas.Bool.{cases_Bool}
+use Rattle.std.proofs.lemmas.List.Sums.{position_or_len_is}
+use Rattle.std.proofs.lemmas.Map.Keys.{apart_from_distinct}
+use Rattle.std.proofs.lemmas.Option.{slice_get_within, get_or_from_slice_get}
+use Rattle.std.proofs.lemmas.Bool.{false≢true, cases_Bool}
 use Rattle.indexmap.specs.IndexSet.{insert_key}
 use Rattle.arenalist.specs.Arena.{contents, first_value, linked}
 use Rattle.arenalist.specs.Numbers.{list_at}
@@ -13,9 +16,11 @@ use Rattle.pairing.specs.declared.envelope.Envelope.{Envelope}
 use Rattle.pairing.specs.declared.envelope.Half.{Half}
 use Rattle.pairing.specs.declared.envelope.Half.TheVariants.{Send as SendHalf, Recv as RecvHalf}
 use Rattle.pairing.specs.Envelopes.{other_half, same_envelope}
-use Rattle.pairing.specs.Matched.{Matching, HaveLists, number_in, list_no, pending_at, met_if, met, IsGrown}
-use Rattle.pairing.proofs.NumberLemmas.{position_cases, number_stays, number_past}
-use Rattle.pairing.proofs.PartnerLemmas.{same_envelope_true}
+use Rattle.pairing.specs.Matched.{Matching, HaveLists, number_in, list_no, pending_at, pending_by, met_if, met, HasPending, IsGrown}
+use Rattle.pairing.proofs.NumberLemmas.{position_at, position_cases, number_stays, number_past}
+use Rattle.pairing.proofs.PlaceLemmas.{slice_get_there}
+use Rattle.pairing.proofs.RequestLaws.{some_parts}
+use Rattle.pairing.proofs.PartnerLemmas.{same_envelope_true, same_envelope_refl}
 
 -- the first pending place
 pub first_pending : (lists : List (List (ℕ × ℕ))) (half : Half) (number : ℕ) → first_value (list_at lists (list_no half number)) ≡ slice_get (pending_at (contents lists) half number) 0
@@ -126,3 +131,42 @@ written_rest keys lists half e number ps is h f differs = by_number (number_in k
         (λ same.
         let one = list_no_one h half m number same in
         differs (one.0, one_number keys e f number is (theirs ∙ ap (λ (k : ℕ). Some k) one.1)))
+
+-- an envelope has the number at which it stands
+pub own_number : (keys : List Envelope) (e : Envelope) (number : ℕ) → IsDistinct same_envelope keys → slice_get keys number ≡ Some e → number_in keys e ≡ Some number
+own_number keys e number distinct is =
+    let within = slice_get_within keys number e is in
+    let here : get_or keys number e ≡ e = get_or_from_slice_get keys number e e is in
+    let before : (k : ℕ) → k < number → same_envelope e (get_or keys k e) ≡ false =
+    λ k below.
+    ⊎_elim
+    (λ (same : same_envelope e (get_or keys k e) ≡ true).
+    let apart = apart_from_distinct same_envelope keys k number e distinct below within in
+    absurd (false≢true (sym apart ∙ ap (λ (f : Envelope). same_envelope (get_or keys k e) f) (here ∙ same_envelope_true e (get_or keys k e) same) ∙ same_envelope_refl (get_or keys k e))))
+    (λ (differs : same_envelope e (get_or keys k e) ≡ false). differs)
+    (cases_Bool (same_envelope e (get_or keys k e))) in
+    position_at (same_envelope e) keys number
+    (position_or_len_is (same_envelope e) keys number e (omega (arith, within)) before (λ _. rw here (same_envelope_refl e)))
+    within
+
+-- a list without a first place has none
+pub no_first : (xs : List ℕ) → is_some (slice_get xs 0) ≡ false → xs ≡ []
+no_first [] none = refl
+no_first (x ∷ xs) none = absurd (false≢true (sym none))
+
+pub pending_there : (matching : Matching) (half : Half) (number : ℕ) → IsDistinct same_envelope matching.keys → number < length matching.keys → is_some (slice_get (pending_at matching.lists half number) 0) ≡ true → HasPending matching half
+pending_there matching half number distinct within has =
+    let key = slice_get_there matching.keys number within in
+    let first = some_parts (slice_get (pending_at matching.lists half number) 0) has in
+    record {
+      envelope = key.0;
+      place = first.0;
+      is_first = ap (λ (o : Option ℕ). slice_get (option_map_or (pending_at matching.lists half) o []) 0) (own_number matching.keys key.0 number distinct key.1) ∙ first.1;
+    }
+
+pub none_pending : (matching : Matching) (half : Half) → ((number : ℕ) → number < length matching.keys → pending_at matching.lists half number ≡ []) → (e : Envelope) → pending_by matching half e ≡ []
+none_pending matching half none e = by_number (number_in matching.keys e) refl
+  where
+    by_number : (o : Option ℕ) → number_in matching.keys e ≡ o → option_map_or (pending_at matching.lists half) o [] ≡ []
+    by_number None is = refl
+    by_number (Some number) is = none number (position-Some (same_envelope e) matching.keys number e is).0

@@ -18,7 +18,7 @@ position_cases p xs =
     inr (ap (λ b. cond b (Some (position_or_len p xs)) None) past, omega (arith, most, ltb-false _ _ past)))
     (cases_Bool (ltb (position_or_len p xs) (length xs)))
 
-position_at : {K : Type 0} (p : K → Bool) (xs : List K) (i : ℕ) → position_or_len p xs ≡ i → i < length xs → position p xs ≡ Some i
+pub position_at : {K : Type 0} (p : K → Bool) (xs : List K) (i : ℕ) → position_or_len p xs ≡ i → i < length xs → position p xs ≡ Some i
 position_at p xs i same within =
     ap (λ b. cond b (Some (position_or_len p xs)) None) (lt-ltb (position_or_len p xs) (length xs) (omega (arith, same, within)))
     ∙ ap (λ (m : ℕ). Some m) same

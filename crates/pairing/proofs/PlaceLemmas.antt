@@ -81,6 +81,11 @@ slice_get-front [] ys i h = absurd (omega arith)
 slice_get-front (x ∷ xs) ys zero h = refl
 slice_get-front (x ∷ xs) ys (suc i) h = slice_get-front xs ys i (omega arith)
 
+pub slice_get_there : {A : Type 0} (xs : List A) (i : ℕ) → i < length xs → (x : A) × (slice_get xs i ≡ Some x)
+slice_get_there [] i within = absurd (omega arith)
+slice_get_there (x ∷ xs) zero within = (x, refl)
+slice_get_there (x ∷ xs) (suc i) within = slice_get_there xs i (omega arith)
+
 -- places rise with their numbers
 pub places_rise : {A : Type 0} (n : ℕ) (test : A → Bool) (xs : List A) (k k' p p' : ℕ) → k < k' → slice_get (places_from n test xs) k ≡ Some p → slice_get (places_from n test xs) k' ≡ Some p' → p < p'
 places_rise n test [] k k' p p' less h h' = absurd (none-some p h)

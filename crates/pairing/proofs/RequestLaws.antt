@@ -1,16 +1,19 @@
 -- Requests of lawful lists.
-use Rattle.std.proofs.Common.{◌≡◌, ℕ, zero, suc, ◌+◌, ◌-◌, ◌<◌, ◌≤◌, Bool, true, false, eqb, ltb, get_or, Option, Some, None, List, [], ◌∷◌, length, take, drop, refl, sym, ap, subst, ◌∙◌, ⊎_elim, arith}
+use Rattle.std.proofs.Common.{inl, inr, ◌≡◌, ℕ, zero, suc, ◌+◌, ◌-◌, ◌<◌, ◌≤◌, ◌⊎◌, Bool, true, false, eqb, Option, Some, None, List, [], ◌∷◌, ◌++◌, if◌then◌else◌, length, take, drop, refl, sym, ap, subst, ◌∙◌, ⊎_elim, arith, length-take-le}
 use Rattle.std.specs.List.{slice_get, list_any, list_all}
 use Rattle.std.specs.Option.{is_some, option_map_or}
-use Rattle.std.proofs.lemmas.Option.{slice_get_within, none-some, same_Some, slice_get-get_or}
-use Rattle.std.proofs.lemmas.Bool.{false≢true, cases_Bool, eqb-true, ltb-true, ltb-false}
+use Rattle.std.proofs.lemmas.List.{take_more, take_all}
+use Rattle.std.proofs.lemmas.Option.{slice_get_within, none-some, same_Some, get_or_from_slice_get}
+use Rattle.std.proofs.lemmas.Bool.{false≢true, cases_Bool, eqb-true}
 use Rattle.mpicall.specs.declared.call.Call.{Call}
 use Rattle.pairing.specs.Recordings.{calls_of}
 use Rattle.pairing.specs.Places.{places}
 use Rattle.pairing.specs.Requests.{starts, waits_for, does_start, does_complete, is_among, last_of, unless_completed, started_in, is_active}
-use Rattle.pairing.specs.Faults.{starts_afresh, EachWaitHasItsStarts, NoTwoStartsAreActive}
+use Rattle.pairing.specs.Faults.{starts_afresh, IsLawfulList, EachWaitHasItsStarts, NoTwoStartsAreActive}
+use Rattle.mpigroup.specs.Groups.{Groups}
+use Rattle.pairing.proofs.ActiveLemmas.{started-push}
 use Rattle.pairing.proofs.PartnerLemmas.{and_then_parts}
-use Rattle.pairing.proofs.PlaceLemmas.{nth_place, place_nth, places_rise}
+use Rattle.pairing.proofs.PlaceLemmas.{slice_get_there, nth_place}
 use Rattle.pairing.proofs.FaultLemmas.{fault_none, not_true}
 
 -- an element of a list's front, or of what is left of it, is one of the list
@@ -22,21 +25,8 @@ get_take (suc n) (y ∷ ys) (suc i) x h =
     let rest = get_take n ys i x h in
     (omega (arith, rest.0), rest.1)
 
-take_get : {A : Type 0} (n : ℕ) (xs : List A) (i : ℕ) (x : A) → i < n → slice_get xs i ≡ Some x → slice_get (take n xs) i ≡ Some x
-take_get zero xs i x less h = absurd (omega arith)
-take_get (suc n) [] i x less h = absurd (none-some x h)
-take_get (suc n) (y ∷ ys) zero x less h = h
-take_get (suc n) (y ∷ ys) (suc i) x less h = take_get n ys i x (omega arith) h
-
-get_drop : {A : Type 0} (n : ℕ) (xs : List A) (i : ℕ) (x : A) → slice_get (drop n xs) i ≡ Some x → slice_get xs (n + i) ≡ Some x
-get_drop zero xs i x h = subst (λ (j : ℕ). slice_get xs j ≡ Some x) (omega arith) h
-get_drop (suc n) [] i x h = absurd (none-some x h)
-get_drop (suc n) (y ∷ ys) i x h =
-    let end : suc (n + i) ≡ suc n + i = omega arith in
-    subst (λ (j : ℕ). slice_get (y ∷ ys) j ≡ Some x) end (get_drop n ys i x h)
-
 -- where some element passes, it stands somewhere
-record Found {A : Type 0} (test : A → Bool) (xs : List A) : Type 0 where
+pub record Found {A : Type 0} (test : A → Bool) (xs : List A) : Type 0 where
   pub index : ℕ
   pub element : A
   pub stands_there : slice_get xs index ≡ Some element
@@ -45,7 +35,7 @@ record Found {A : Type 0} (test : A → Bool) (xs : List A) : Type 0 where
 found_later : {A : Type 0} (test : A → Bool) (x : A) (xs : List A) → Found test xs → Found test (x ∷ xs)
 found_later test x xs found = record { index = suc found.index; element = found.element; stands_there = found.stands_there; passes = found.passes }
 
-find_any : {A : Type 0} (test : A → Bool) (xs : List A) → list_any test xs ≡ true → Found test xs
+pub find_any : {A : Type 0} (test : A → Bool) (xs : List A) → list_any test xs ≡ true → Found test xs
 find_any test [] h = absurd (false≢true h)
 find_any test (x ∷ xs) h =
     ⊎_elim
@@ -91,9 +81,9 @@ started calls req start h =
       starts_it = nth.passes;
     }
 
-some_parts : (o : Option ℕ) → is_some o ≡ true → (start : ℕ) × (o ≡ Some start)
+pub some_parts : {A : Type 0} (o : Option A) → is_some o ≡ true → (x : A) × (o ≡ Some x)
 some_parts None h = absurd (false≢true h)
-some_parts (Some start) h = (start, refl)
+some_parts (Some x) h = (x, refl)
 
 pub each_wait_has_its_starts : EachWaitHasItsStarts
 each_wait_has_its_starts groups recording rank place call req lawful here among =
@@ -108,35 +98,6 @@ each_wait_has_its_starts groups recording rank place call req lawful here among 
       (start.starter, there.1, start.starts_it),
     )
 
--- a list with an element has a last one
-record Last (numbers : List ℕ) (k : ℕ) : Type 0 where
-  pub last : ℕ
-  pub is_last : last_of numbers ≡ Some last
-  pub behind : k ≤ length numbers - 1
-
-last_there : (numbers : List ℕ) (k number : ℕ) → slice_get numbers k ≡ Some number → Last numbers k
-last_there numbers k number h =
-    let within = slice_get_within numbers k number h in
-    record {
-      last = get_or numbers (length numbers - 1) 0;
-      is_last = slice_get-get_or numbers (length numbers - 1) 0 (omega arith);
-      behind = omega arith;
-    }
-
--- no start of a request is behind the last one
-not_behind : (test : Call → Bool) (calls : List Call) (k start last : ℕ) → slice_get (places test calls) k ≡ Some start → last_of (places test calls) ≡ Some last → k ≤ length (places test calls) - 1 → start ≤ last
-not_behind test calls k start last h is_last behind =
-    ⊎_elim
-    (λ (less : ltb k (length (places test calls) - 1) ≡ true).
-    let rise = places_rise 0 test calls k (length (places test calls) - 1) start last (ltb-true _ _ less) h is_last in
-    omega arith)
-    (λ (end : ltb k (length (places test calls) - 1) ≡ false).
-    let not_less = ltb-false k (length (places test calls) - 1) end in
-    let same : k ≡ length (places test calls) - 1 = omega arith in
-    let both : start ≡ last = same_Some start last (sym (rw same at h) ∙ is_last) in
-    omega arith)
-    (cases_Bool (ltb k (length (places test calls) - 1)))
-
 pub is_it : (req : ℕ) (o : Option ℕ) → option_map_or (λ started. eqb started req) o false ≡ true → o ≡ Some req
 is_it req None h = absurd (false≢true h)
 is_it req (Some started) h = ap (λ (m : ℕ). Some m) (eqb-true started req h)
@@ -145,27 +106,110 @@ is_it req (Some started) h = ap (λ (m : ℕ). Some m) (eqb-true started req h)
 not_active : (calls : List Call) (req : ℕ) (restarter : Call) → starts_afresh calls restarter ≡ true → does_start req restarter ≡ true → is_active calls req ≡ false
 not_active calls req restarter afresh here = not_true (is_active calls req) (rw (is_it req (starts restarter) here) at afresh)
 
--- where a request isn't active, its last start was completed
-completed_since : (calls : List Call) (req last : ℕ) → last_of (places (does_start req) calls) ≡ Some last → is_active calls req ≡ false → list_any (does_complete req) (drop (last + 1) calls) ≡ true
-completed_since calls req last is_last inactive =
+-- what started a request once the call at the place is made
+after_call : (calls : List Call) (place req : ℕ) (call : Call) → slice_get calls place ≡ Some call → started_in (take (place + 1) calls) req ≡ (if does_start req call then Some place else if does_complete req call then None else started_in (take place calls) req)
+after_call calls place req call here =
+    let within = slice_get_within calls place call here in
+    let count : length (take place calls) ≡ place = length-take-le place calls (omega (arith, within)) in
+    ap (λ (front : List Call). started_in front req) (take_more calls place call within ∙ ap (λ (x : Call). take place calls ++ x ∷ []) (get_or_from_slice_get calls place call call here))
+    ∙ started-push (take place calls) call req
+    ∙ ap (λ (n : ℕ). if does_start req call then Some n else if does_complete req call then None else started_in (take place calls) req) count
+
+-- a call before the end completes the request as the call at `start` started it
+pub record IsCompleted (calls : List Call) (req start end : ℕ) : Type 0 where
+  pub wait : ℕ
+  pub call : Call
+  pub behind : start < wait
+  pub before : wait < end
+  pub stands_there : slice_get calls wait ≡ Some call
+  pub completes_it : does_complete req call ≡ true
+  pub started_there : started_in (take wait calls) req ≡ Some start
+
+-- behind a start its request stays active, up to the call that completes it
+stays_or_ends : (groups : Groups) (rank : ℕ) (calls : List Call) (req start place : ℕ) (call : Call) → IsLawfulList groups rank calls → start < place → slice_get calls place ≡ Some call → started_in (take place calls) req ≡ Some start → (started_in (take (place + 1) calls) req ≡ Some start) ⊎ IsCompleted calls req start (place + 1)
+stays_or_ends groups rank calls req start place call lawful behind here active =
     ⊎_elim
-    (λ (e : list_any (does_complete req) (drop (last + 1) calls) ≡ true). e)
-    (λ (e : list_any (does_complete req) (drop (last + 1) calls) ≡ false). absurd (false≢true (sym (rw (is_last, e) at inactive))))
-    (cases_Bool (list_any (does_complete req) (drop (last + 1) calls)))
+    (λ (starts_it : does_start req call ≡ true).
+    let afresh = (fault_none groups rank (take place calls) call (lawful place call here)).afresh in
+    absurd (false≢true (sym (not_active (take place calls) req call afresh starts_it) ∙ ap is_some active)))
+    (λ (no_start : does_start req call ≡ false).
+    ⊎_elim
+    (λ (ends : does_complete req call ≡ true).
+    inr (record { wait = place; call = call; behind = behind; before = omega arith; stands_there = here; completes_it = ends; started_there = active }))
+    (λ (stays : does_complete req call ≡ false). inl (after_call calls place req call here ∙ rw (no_start, stays) active))
+    (cases_Bool (does_complete req call)))
+    (cases_Bool (does_start req call))
+
+onward : (groups : Groups) (rank : ℕ) (calls : List Call) (req start more : ℕ) (starter : Call) → IsLawfulList groups rank calls → slice_get calls start ≡ Some starter → does_start req starter ≡ true → start + 1 + more ≤ length calls → (started_in (take (start + 1 + more) calls) req ≡ Some start) ⊎ IsCompleted calls req start (start + 1 + more)
+onward groups rank calls req start zero starter lawful here starts_it within =
+    let same : start + 1 ≡ start + 1 + 0 = omega arith in
+    inl (subst (λ (n : ℕ). started_in (take n calls) req ≡ Some start) same (after_call calls start req starter here ∙ rw starts_it refl))
+onward groups rank calls req start (suc more) starter lawful here starts_it within =
+    let next = slice_get_there calls (start + 1 + more) (omega arith) in
+    let same : start + 1 + more + 1 ≡ start + 1 + suc more = omega arith in
+    ⊎_elim
+    (λ (active : started_in (take (start + 1 + more) calls) req ≡ Some start).
+    subst (λ (n : ℕ). (started_in (take n calls) req ≡ Some start) ⊎ IsCompleted calls req start n) same
+    (stays_or_ends groups rank calls req start (start + 1 + more) next.0 lawful (omega arith) next.1 active))
+    (λ (completed : IsCompleted calls req start (start + 1 + more)).
+    inr (record {
+      wait = completed.wait;
+      call = completed.call;
+      behind = completed.behind;
+      before = omega (arith, completed.before);
+      stands_there = completed.stands_there;
+      completes_it = completed.completes_it;
+      started_there = completed.started_there;
+    }))
+    (onward groups rank calls req start more starter lawful here starts_it (omega arith))
+
+completed_before : (groups : Groups) (rank : ℕ) (calls : List Call) (req start end : ℕ) (starter : Call) → IsLawfulList groups rank calls → slice_get calls start ≡ Some starter → does_start req starter ≡ true → start < end → end ≤ length calls → (started_in (take end calls) req ≡ Some start → ⊥) → IsCompleted calls req start end
+completed_before groups rank calls req start end starter lawful here starts_it less within inactive =
+    let same : start + 1 + (end - (start + 1)) ≡ end = omega arith in
+    ⊎_elim
+    (λ (active : started_in (take end calls) req ≡ Some start). absurd (inactive active))
+    (λ (completed : IsCompleted calls req start end). completed)
+    (subst (λ (n : ℕ). (started_in (take n calls) req ≡ Some start) ⊎ IsCompleted calls req start n) same
+    (onward groups rank calls req start (end - (start + 1)) starter lawful here starts_it (omega arith)))
 
 pub no_two_starts_are_active : NoTwoStartsAreActive
 no_two_starts_are_active groups rank calls req start later starter restarter lawful less here starts_it there restarts_it =
-    let front : List Call = take later calls in
     let afresh = (fault_none groups rank (take later calls) restarter (lawful later restarter there)).afresh in
-    let inactive = not_active (take later calls) req restarter afresh restarts_it in
-    let own = place_nth 0 (does_start req) (take later calls) start starter (take_get later calls start starter less here) starts_it in
-    let last = last_there (places (does_start req) (take later calls)) _ _ own in
-    let behind = not_behind (does_start req) (take later calls) _ _ last.last own last.is_last last.behind in
-    let found = find_any (does_complete req) (drop (last.last + 1) (take later calls)) (completed_since (take later calls) req last.last last.is_last inactive) in
-    let at_front = get_drop (last.last + 1) (take later calls) found.index found.element found.stands_there in
-    let at_place = get_take later calls (last.last + 1 + found.index) found.element at_front in (
-      last.last + 1 + found.index,
-      omega (arith, behind),
-      at_place.0,
-      (found.element, at_place.1, found.passes),
-    )
+    let within = slice_get_within calls later restarter there in
+    let completed = completed_before groups rank calls req start later starter lawful here starts_it less (omega (arith, within))
+    (λ active. false≢true (sym (not_active (take later calls) req restarter afresh restarts_it) ∙ ap is_some active)) in
+    (completed.wait, completed.behind, completed.before, (completed.call, completed.stands_there, completed.completes_it))
+
+-- a start that isn't active after the calls was completed
+pub start_is_completed : (groups : Groups) (rank : ℕ) (calls : List Call) (req start : ℕ) (starter : Call) → IsLawfulList groups rank calls → slice_get calls start ≡ Some starter → does_start req starter ≡ true → (started_in calls req ≡ Some start → ⊥) → IsCompleted calls req start (length calls)
+start_is_completed groups rank calls req start starter lawful here starts_it inactive =
+    completed_before groups rank calls req start (length calls) starter lawful here starts_it (slice_get_within calls start starter here) (omega arith)
+    (λ active. inactive (ap (λ (front : List Call). started_in front req) (sym (take_all (length calls) calls (omega arith))) ∙ active))
+
+-- and behind a call that completes a request only a later start of it is active
+later_start : (calls : List Call) (req wait start : ℕ) (call : Call) (more : ℕ) → slice_get calls wait ≡ Some call → does_complete req call ≡ true → wait + 1 + more ≤ length calls → started_in (take (wait + 1 + more) calls) req ≡ Some start → wait ≤ start
+later_start calls req wait start call zero here completes_it within active =
+    let same : wait + 1 + 0 ≡ wait + 1 = omega arith in
+    at_start (does_start req call) (sym (after_call calls wait req call here) ∙ rw same at active)
+  where
+    at_start : (b : Bool) → (if b then Some wait else if does_complete req call then None else started_in (take wait calls) req) ≡ Some start → wait ≤ start
+    at_start true h = omega (arith, same_Some wait start h)
+    at_start false h = absurd (none-some start (rw completes_it at h))
+later_start calls req wait start call (suc more) here completes_it within active =
+    let next = slice_get_there calls (wait + 1 + more) (omega arith) in
+    let same : wait + 1 + suc more ≡ wait + 1 + more + 1 = omega arith in
+    at_next (does_start req next.0) (does_complete req next.0) (later_start calls req wait start call more here completes_it (omega arith)) (sym (after_call calls (wait + 1 + more) req next.0 next.1) ∙ rw same at active)
+  where
+    at_next : (b d : Bool) → (started_in (take (wait + 1 + more) calls) req ≡ Some start → wait ≤ start) → (if b then Some (wait + 1 + more) else if d then None else started_in (take (wait + 1 + more) calls) req) ≡ Some start → wait ≤ start
+    at_next true d rest h = omega (arith, same_Some (wait + 1 + more) start h)
+    at_next false true rest h = absurd (none-some start h)
+    at_next false false rest h = rest h
+
+pub completed_is_over : (calls : List Call) (req wait start : ℕ) (call : Call) → slice_get calls wait ≡ Some call → does_complete req call ≡ true → started_in (take wait calls) req ≡ Some start → started_in calls req ≡ Some start → ⊥
+completed_is_over calls req wait start call here completes_it started_there active =
+    let it = started (take wait calls) req start started_there in
+    let before = (get_take wait calls start it.starter it.stands_there).0 in
+    let within = slice_get_within calls wait call here in
+    let all : take (wait + 1 + (length calls - (wait + 1))) calls ≡ calls = take_all (wait + 1 + (length calls - (wait + 1))) calls (omega (arith, within)) in
+    let least = later_start calls req wait start call (length calls - (wait + 1)) here completes_it (omega (arith, within)) (ap (λ (front : List Call). started_in front req) all ∙ active) in
+    omega (arith, before, least)

@@ -1,6 +1,6 @@
 -- Pending halves of messages: those that have no partner yet stand in lists, by the numbers of their
 -- envelopes, and the partners of the others are kept with them.
-use Rattle.std.specs.Prelude.{◌≡◌, ℕ, ◌+◌, ◌*◌, ◌<◌, ◌≤◌, Bool, true, false, ◌&&◌, Option, Some, None, IfSome, option_map, if◌then◌else◌, is_some, List, [], ◌∷◌, ◌++◌, length, drop, slice_get, slice_set, position}
+use Rattle.std.specs.Prelude.{◌≡◌, ℕ, ◌+◌, ◌*◌, ◌<◌, ◌≤◌, Bool, true, false, ◌&&◌, Option, Some, None, IfSome, option_map, if◌then◌else◌, is_some, List, [], ◌∷◌, ◌++◌, length, drop, slice_get, slice_set, slice_index_or, position}
 use Rattle.std.specs.Option.{option_map_or}
 use Rattle.arenalist.specs.Arena.{counted}
 use Rattle.arenalist.specs.Numbers.{list_at}
@@ -10,7 +10,7 @@ use Rattle.pairing.specs.declared.envelope.Envelope.{Envelope}
 use Rattle.pairing.specs.declared.envelope.Half.{Half}
 use Rattle.pairing.specs.declared.envelope.Half.TheVariants.{Send as SendHalf, Recv as RecvHalf}
 use Rattle.pairing.specs.declared.matches.Halves.{Halves}
-use Rattle.pairing.specs.declared.matches.Numbered.{Numbered}
+use Rattle.pairing.specs.declared.numbering.Numbered.{Numbered}
 use Rattle.pairing.specs.Recordings.{Lists}
 use Rattle.pairing.specs.Envelopes.{envelope_of, other_half, same_envelope, rank_of_half}
 use Rattle.pairing.specs.Partners.{places_of, envelope_at}
@@ -43,6 +43,10 @@ pub record HaveLists (lists : List (List (ℕ × ℕ))) (keys : ℕ) : Type 0 wh
 abbrev pub number_in : List Envelope → Envelope → Option ℕ
 number_in keys e = position (same_envelope e) keys
 
+-- each of these stands beside its number
+abbrev pub AreKnown : List Envelope → List (Option Numbered) → Type 0
+AreKnown keys cells = (cell : ℕ) → IfSome (slice_index_or cells cell None) (λ known. number_in keys known.envelope ≡ Some known.number)
+
 -- the number of the list of an envelope's half
 abbrev pub list_no : Half → ℕ → ℕ
 list_no SendHalf number = 2 * number
@@ -55,6 +59,12 @@ pending_at lists half number = list_at lists (list_no half number)
 -- and of an envelope; none where it has no number
 abbrev pub pending_by : Matching → Half → Envelope → List ℕ
 pending_by matching half e = option_map_or (pending_at matching.lists half) (number_in matching.keys e) []
+
+-- some envelope has a pending half
+pub record HasPending (matching : Matching) (half : Half) : Type 0 where
+  pub envelope : Envelope
+  pub place : ℕ
+  pub is_first : slice_get (pending_by matching half envelope) 0 ≡ Some place
 
 -- the lists once a half comes to the place: it takes the first of the other half off its list, if there is one,
 -- and is put into its own list if not

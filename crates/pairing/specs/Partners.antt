@@ -1,13 +1,15 @@
 -- Partners. Messages of one envelope are received in the order in which they are sent (MPI 4.0, section
 -- 3.5, non-overtaking), so its k-th send and its k-th receive belong together, each counted in the order
 -- of its rank's list.
-use Rattle.std.specs.Prelude.{◌≡◌, ℕ, ◌<◌, Option, Some, option_map, option_and_then, List, slice_get}
+use Rattle.std.specs.Prelude.{◌≡◌, ℕ, ◌<◌, Option, Some, option_map, option_and_then, IsSome, None, List, slice_get}
 use Rattle.mpigroup.specs.Groups.{Groups}
 use Rattle.pairing.specs.declared.envelope.Envelope.{Envelope}
 use Rattle.pairing.specs.declared.envelope.Half.{Half}
+use Rattle.pairing.specs.declared.envelope.Half.TheVariants.{Send as SendHalf}
+use Rattle.pairing.specs.declared.envelope.Message.{Message}
 use Rattle.pairing.specs.Recordings.{Lists, calls_of, GoesOn}
 use Rattle.pairing.specs.Places.{places, count_before}
-use Rattle.pairing.specs.Envelopes.{envelope_of, has_envelope, other_half, rank_of_half}
+use Rattle.pairing.specs.Envelopes.{message_of, envelope_of, has_envelope, other_half, rank_of_half}
 
 -- the envelope of a half of the call at the place of the rank
 abbrev pub envelope_at : Groups → Lists → ℕ → ℕ → Half → Option Envelope
@@ -32,6 +34,23 @@ abbrev pub partner_of : Groups → Lists → ℕ → ℕ → Half → Option (�
 partner_of groups recording rank place half =
     option_and_then (λ e. numbered groups recording (other_half half) e (number_of groups recording rank half e place))
     (envelope_at groups recording rank place half)
+
+-- the message that the call at the place sends
+abbrev pub sent_at : Lists → ℕ → ℕ → Option Message
+sent_at recording rank place = option_and_then (message_of SendHalf) (slice_get (calls_of recording rank) place)
+
+-- each message that is sent has its receive
+abbrev pub EachIsReceived : Groups → Lists → Type 0
+EachIsReceived groups recording =
+    (rank place : ℕ) → IsSome (sent_at recording rank place) → IsSome (partner_of groups recording rank place SendHalf)
+
+-- some message that is sent has none
+pub record HasUnreceived (groups : Groups) (recording : Lists) : Type 0 where
+  pub rank : ℕ
+  pub place : ℕ
+  pub message : Message
+  pub is_sent : sent_at recording rank place ≡ Some message
+  pub is_alone : partner_of groups recording rank place SendHalf ≡ None
 
 -- Law: partners are mutual. If a half of a call has a partner, that partner's half has the call as its
 -- partner.

@@ -1,6 +1,6 @@
 -- Requests (MPI 4.0, section 3.7). A nonblocking call starts a request, and a wait completes it. A number
 -- may stand for another request once it was completed. All this is told by the rank's own list.
-use Rattle.std.specs.Prelude.{ℕ, ◌+◌, ◌-◌, ◌==◌, Bool, false, Option, Some, None, option_and_then, is_some, if◌then◌else◌, List, [], ◌∷◌, length, take, drop, slice_get}
+use Rattle.std.specs.Prelude.{◌≡◌, ℕ, ◌+◌, ◌-◌, ◌==◌, Bool, true, false, Option, Some, None, option_and_then, is_some, if◌then◌else◌, List, [], ◌∷◌, length, take, drop, slice_get}
 use Rattle.std.specs.List.{list_any}
 use Rattle.std.specs.Option.{option_map_or}
 use Rattle.mpicall.specs.declared.call.Call.{Call}
@@ -55,6 +55,12 @@ started_in calls req = option_and_then (unless_completed calls req) (last_of (pl
 -- the request is active after the calls: it was started, and not completed since
 abbrev pub is_active : List Call → ℕ → Bool
 is_active calls req = is_some (started_in calls req)
+
+-- some request is active after its rank's calls
+pub record HasActive (recording : Lists) : Type 0 where
+  pub rank : ℕ
+  pub req : ℕ
+  pub is_it : is_active (calls_of recording rank) req ≡ true
 
 -- the place that started a request as it stands when the rank comes to the place
 abbrev pub started_before : Lists → ℕ → ℕ → ℕ → Option ℕ

@@ -1,14 +1,14 @@
 //! Which requests of a recording are active, by look-up.
 
-ghost use Rattle.std.specs.Prelude.{◌≡◌, ◌+◌, ◌*◌, ◌^◌, ◌<◌, ◌≤◌, ◌==◌, ◌&&◌, [], Some, None, length, replicate, map, take, drop, ℕ, true, false, IfOk, OnOk, if◌then◌else◌};
+ghost use Rattle.std.specs.Prelude.{◌≡◌, ◌+◌, ◌*◌, ◌%◌, ◌^◌, ◌<◌, ◌≤◌, ◌==◌, ◌&&◌, [], Some, None, IfSome, IfNone, length, replicate, map, take, drop, ℕ, true, false, IfOk, OnOk, if◌then◌else◌};
 ghost use Rattle.std.specs.List.{list_all};
 ghost use Rattle.std.specs.Hash as fed;
 ghost use Rattle.std.specs.Cmp.Rules.{hashing};
 ghost use Rattle.std.proofs.Common.{rules};
 ghost use Rattle.indexmap.specs.IndexMap.{spare};
 ghost use Rattle.pairing.specs.Recordings.{Lists, calls_of, appended};
-ghost use Rattle.pairing.specs.Requests.{started_in, is_among, is_active, does_start};
-ghost use Rattle.pairing.specs.Starts.{cell_no, cell_in, place_at, place_in, known_front, IsActive, HasRoomToStart};
+ghost use Rattle.pairing.specs.Requests.{started_in, is_among, is_active, does_start, HasActive};
+ghost use Rattle.pairing.specs.Starts.{cell_no, cell_in, place_at, place_in, has_place, known_front, IsActive, HasRoomToStart};
 
 use crate::request::{completes, starts};
 use indexmap::IndexMap;
@@ -214,5 +214,35 @@ impl Active {
             (result ≡ length reqs.now) × (map Some (take result into.new) ≡ map (started_in (calls_of recording rank)) reqs.now) }
     {
         self.write_starts(rank, reqs, into)
+    }
+
+    /// The request that the cell has of those which belong there.
+    fn req_in(&self, rank: u16, index: usize) -> Option<u32>
+        requires { index < REQUEST_CELLS }
+        ensures none { IfNone result ((req : ℕ) → req % REQUEST_CELLS ≡ index → place_at req (cell_in self.now rank req) ≡ None) }
+        ensures some { IfSome result (λ req. has_place self.now rank req ≡ true) }
+    {
+        match self.cells.get(usize::from(rank) * REQUEST_CELLS + index) {
+            Some(Some(start)) if start.req as usize % REQUEST_CELLS == index => Some(start.req),
+            _ => None,
+        }
+    }
+
+    /// Whether a request of the rank may be active. It looks at the rank's cells alone: what found another request
+    /// in its cell is taken for the rank's.
+    pub(crate) fn may_have(&self, rank: u16) -> bool
+        ensures none { (recording : Lists) → IsActive recording self.now → result ≡ false →
+            (req : ℕ) → started_in (calls_of recording rank) req ≡ None }
+        ensures some { (recording : Lists) → IsActive recording self.now → result ≡ true → HasActive recording }
+    {
+        if !self.others.is_empty() {
+            return true;
+        }
+        for index in 0..REQUEST_CELLS {
+            if self.req_in(rank, index).is_some() {
+                return true;
+            }
+        }
+        false
     }
 }

@@ -1,11 +1,11 @@
 //! Which communicators the ranks of a recording hold, by look-up.
 
-ghost use Rattle.std.specs.Prelude.{◌≡◌, ◌+◌, ◌*◌, ◌^◌, ◌<◌, [], length, replicate, ℕ, OnOk, ◌||◌, ◌==◌};
+ghost use Rattle.std.specs.Prelude.{◌≡◌, ◌+◌, ◌*◌, ◌^◌, ◌<◌, [], length, replicate, ℕ, true, false, OnOk, ◌||◌, ◌==◌};
 ghost use Rattle.std.specs.Hash as fed;
 ghost use Rattle.std.specs.Cmp.Rules.{hashing};
 ghost use Rattle.std.proofs.Common.{rules};
 ghost use Rattle.pairing.specs.Recordings.{Lists, calls_of, appended};
-ghost use Rattle.pairing.specs.Communicators.{holds, makes};
+ghost use Rattle.pairing.specs.Communicators.{holds, makes, NoneIsMade, HasMade};
 ghost use Rattle.pairing.specs.Holdings.{has_holding, IsHolding, HasRoomToHold};
 
 use crate::comm::makes;
@@ -76,5 +76,13 @@ impl Held {
         ensures { (recording : Lists) → IsHolding recording self.now → result ≡ holds (calls_of recording rank) comm }
     {
         comm == 0 || self.pairs.contains(&Holding { rank, comm })
+    }
+
+    /// Whether some rank has made one.
+    pub(crate) fn has_made(&self) -> bool
+        ensures none { (recording : Lists) → IsHolding recording self.now → result ≡ false → NoneIsMade recording }
+        ensures some { (recording : Lists) → IsHolding recording self.now → result ≡ true → HasMade recording }
+    {
+        !self.pairs.is_empty()
     }
 }

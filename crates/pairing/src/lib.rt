@@ -11,7 +11,8 @@
 //!   wave that a collective joins, and `member` a member's call in a wave (`Waves`): blocking and nonblocking
 //!   ones count together. `started` and `completed` answer the call that started a request which a wait
 //!   names, or completes (`Requests`). `probed` answers the send that a probe sees (`Probed`): the one that
-//!   the next receive of its envelope takes.
+//!   the next receive of its envelope takes. `has_unreceived`, `may_have_active` and `has_made` tell by the tables
+//!   alone where no message waits for its receive, no request is active and no communicator was made.
 //! - Laws, each on a function that does nothing: partners are mutual, no two sends have one receive, and
 //!   messages of one envelope do not overtake; a wave has at most one call of each rank; in a list without
 //!   faults each request that a wait names has its start, and no request is started while it is active;
@@ -47,6 +48,7 @@ pub mod comm;
 pub mod envelope;
 pub mod fault;
 mod first_fault;
+mod growth;
 mod held;
 mod joined;
 pub mod limits;
@@ -54,6 +56,7 @@ mod matches;
 mod meeting;
 mod note;
 mod notes;
+mod numbering;
 mod packed;
 mod packing;
 pub mod pairs;

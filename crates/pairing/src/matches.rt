@@ -1,25 +1,19 @@
 //! Pending sends and receives by their envelopes, so that a call's partner is found without a look at other
 //! calls.
 
-ghost use Rattle.std.specs.Prelude.{◌≡◌, ◌+◌, ◌*◌, ◌<◌, ◌≤◌, ◌^◌, [], Some, length, slice_get, min, option_map, IfOk, IfSome, OnOk};
+ghost use Rattle.std.specs.Prelude.{◌≡◌, ◌+◌, ◌*◌, ◌<◌, ◌≤◌, ◌^◌, [], Some, length, slice_get, min, option_map, true, false, IfOk, IfSome, OnOk};
 ghost use Rattle.arenalist.specs.Arena.{counted};
 ghost use Rattle.pairing.specs.Envelopes.{other_half};
-ghost use Rattle.pairing.specs.Matched.{list_no, number_in, pending_at, pending_by, met, HasNumber, HasRoomFor, IsGrown};
+ghost use Rattle.pairing.specs.declared.envelope.Envelope.{Envelope};
+ghost use Rattle.pairing.specs.Matched.{list_no, number_in, pending_at, pending_by, met, HasNumber, HasPending, HasRoomFor, IsGrown};
 
 use crate::envelope::{Envelope, Half, envelope_of};
+use crate::numbering::{Numbered, Numbering};
 use arenalist::lists::Lists;
-use indexmap::IndexSet;
 use mpicall::record::Record;
 use mpigroup::head::Head;
 use std::alloc::{AllocError, Global};
 use std::marker::Model;
-
-/// The envelope of a half of a call, with its number.
-#[derive(Clone, Copy)]
-pub(crate) struct Numbered {
-    pub envelope: Envelope,
-    pub number: usize,
-}
 
 /// The halves of a call that have messages.
 #[derive(Clone, Copy)]
@@ -42,7 +36,7 @@ fn list_no(half: Half, number: usize) -> usize
 /// The places of sends and receives that have no partner yet, by their envelopes. An envelope has its number
 /// from the first call that makes room for it.
 pub(crate) struct Matches {
-    envelopes: IndexSet<Envelope>,
+    numbering: Numbering,
     // Of the envelope with number n list 2n has the pending sends, and list 2n + 1 the pending receives.
     pending: Lists<u32>,
 }
@@ -50,7 +44,7 @@ pub(crate) struct Matches {
 impl Drop for Matches {
     fn drop(self) {
         let Matches {
-            envelopes: _,
+            numbering: _,
             pending: _,
         } = self;
     }
@@ -64,25 +58,25 @@ impl Model for Matches {
     ghost Value = { Matching };
 
     ghost view = { λ m. record {
-      keys = m.envelopes.keys;
+      keys = m.numbering;
       lists = contents m.pending.lists;
       spare = m.pending.spare;
       work = m.pending.work;
     } };
 
-    ghost invariant = { λ m. HaveLists m.pending.lists (length m.envelopes.keys) };
+    ghost invariant = { λ m. HaveLists m.pending.lists (length m.numbering) };
 }
 
 impl Matches {
     /// No envelopes yet.
-    pub(crate) fn new(alloc: Global) -> Matches
-        ensures keys { result.keys ≡ [] }
-        ensures work { result.work ≡ 0 }
+    pub(crate) fn new(alloc: Global) -> Result<Matches, AllocError>
+        ensures keys { IfOk result (λ matches. matches.keys ≡ []) }
+        ensures work { IfOk result (λ matches. matches.work ≡ 0) }
     {
-        Matches {
-            envelopes: IndexSet::new(alloc),
+        Ok(Matches {
+            numbering: Numbering::new(alloc)?,
             pending: Lists::new(alloc),
-        }
+        })
     }
 
     /// Makes a list, where a further envelope lacks one.
@@ -92,7 +86,7 @@ impl Matches {
         ensures enough { 2 * length self.old.keys ≤ length self.old.lists }
         ensures more { OnOk result (min (length self.old.lists + 1) (2 * length self.old.keys + 2) ≤ length self.new.lists) }
     {
-        if self.pending.list_count() / 2 > self.envelopes.len() {
+        if self.pending.list_count() / 2 > self.numbering.len() {
             return Ok(());
         }
         self.pending.new_list()?;
@@ -106,7 +100,7 @@ impl Matches {
         ensures keys { self.new.keys ≡ self.old.keys }
         ensures enough { OnOk result (2 * length self.old.keys + 2 ≤ length self.new.lists) }
     {
-        if self.pending.list_count() / 2 > self.envelopes.len() {
+        if self.pending.list_count() / 2 > self.numbering.len() {
             return Ok(());
         }
         self.add_list()?;
@@ -119,7 +113,7 @@ impl Matches {
         ensures grown { IsGrown self.old self.new }
         ensures number { IfOk result (λ number. number_in self.new.keys envelope ≡ Some number) }
     {
-        let (number, _) = self.envelopes.insert_full(envelope)?;
+        let number = self.numbering.insert(envelope)?;
         Ok(number)
     }
 
@@ -128,8 +122,13 @@ impl Matches {
         ensures grown { IsGrown self.old self.new }
         ensures number { IfOk result (λ number. number_in self.new.keys envelope ≡ Some number) }
     {
-        self.add_lists()?;
-        self.insert(envelope)
+        match self.numbering.known(&envelope) {
+            Some(number) => Ok(number),
+            None => {
+                self.add_lists()?;
+                self.insert(envelope)
+            }
+        }
     }
 
     /// The same, for a half that may have no message.
@@ -206,10 +205,23 @@ impl Matches {
     pub(crate) fn first_pending(&self, half: Half, envelope: &Envelope) -> Option<u32>
         ensures { result ≡ slice_get (pending_by self.now half envelope.now) 0 }
     {
-        match self.envelopes.get_index_of(envelope) {
+        match self.numbering.get(envelope) {
             Some(number) => self.front(half, number),
             None => None,
         }
+    }
+
+    /// Whether such a half is pending of some envelope. It looks at each envelope once.
+    pub(crate) fn has_pending(&self, half: Half) -> bool
+        ensures none { result ≡ false → (e : Envelope) → pending_by self.now half e ≡ [] }
+        ensures some { result ≡ true → HasPending self.now half }
+    {
+        for number in 0..self.numbering.len() {
+            if self.front(half, number).is_some() {
+                return true;
+            }
+        }
+        false
     }
 
     /// How much was done in the lists.

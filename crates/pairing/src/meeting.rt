@@ -8,8 +8,9 @@ ghost use Rattle.pairing.specs.Matched.{Filing, filed_on, filed_halves, worked_i
 ghost use Rattle.pairing.specs.declared.envelope.Half.TheVariants.{Send as SendHalf, Recv as RecvHalf};
 
 use crate::envelope::{Half, rank_of_half};
-use crate::matches::{Halves, Matches, Numbered};
+use crate::matches::{Halves, Matches};
 use crate::notes::Notes;
+use crate::numbering::Numbered;
 use mpigroup::head::Head;
 
 /// Notes beside a half of the rank's call, and beside the half that it met, where the other stands.

@@ -315,9 +315,12 @@ impl Packed {
     pub(crate) fn joins(&self) -> Option<u16>
         ensures { (entries : List Entry) (starts : List ℕ) → result ≡ joins (unpack entries starts self.now) }
     {
-        match self.does() {
-            Does::Joins { comm, .. } => Some(comm),
-            _ => None,
+        match *self {
+            Packed::Coll { comm, .. } | Packed::Icoll { comm, .. } => Some(comm),
+            _ => match self.does() {
+                Does::Joins { comm, .. } => Some(comm),
+                _ => None,
+            },
         }
     }
 

@@ -4,10 +4,11 @@ ghost use Rattle.std.specs.Prelude.{◌≡◌, ◌<◌, ◌≤◌, ℕ, [], leng
 ghost use Rattle.mpigroup.specs.Groups.{ranks_of};
 ghost use Rattle.pairing.specs.Limits.{most_calls};
 ghost use Rattle.pairing.specs.Recordings.{Lists, calls_of, appended, is_ended, has_end};
-ghost use Rattle.pairing.specs.Partners.{partner_of};
+ghost use Rattle.pairing.specs.Partners.{partner_of, EachIsReceived, HasUnreceived};
 ghost use Rattle.pairing.specs.Probed.{probed_of, seen_from, HasProbe, NoneIsProbed};
 ghost use Rattle.pairing.specs.Seated.{IsProbing};
-ghost use Rattle.pairing.specs.Requests.{started_of};
+ghost use Rattle.pairing.specs.Communicators.{NoneIsMade, HasMade};
+ghost use Rattle.pairing.specs.Requests.{started_in, started_of, HasActive};
 ghost use Rattle.pairing.specs.Joined.{IsListFor};
 ghost use Rattle.pairing.specs.Waves.{wave_of, member_of};
 ghost use Rattle.pairing.specs.Faults.{fault_of, waits_for_active, IsLawful};
@@ -430,6 +431,14 @@ impl Pairs {
         partner_of(&self.head, &self.notes, rank, place, half)
     }
 
+    /// Whether a message that is sent has no receive among the calls.
+    pub fn has_unreceived(&self) -> bool
+        ensures none { result ≡ false → EachIsReceived self.now.groups self.now.recording }
+        ensures some { result ≡ true → HasUnreceived self.now.groups self.now.recording }
+    {
+        self.tables.matches.has_pending(Half::Send)
+    }
+
     /// Whether there is a probe among the calls, whose source is not MPI_PROC_NULL. Where this answers false,
     /// `probed` answers None everywhere.
     pub fn has_probes(&self) -> bool
@@ -485,6 +494,30 @@ impl Pairs {
         ensures { result ≡ completed_of self.now.recording rank place index }
     {
         completed_of(&self.notes, rank, place, index)
+    }
+
+    /// The place that started a request of the rank which is active after its calls; None where it isn't.
+    pub fn active_start(&self, rank: u16, req: u32) -> Option<u32>
+        ensures { result ≡ started_in (calls_of self.now.recording rank) req }
+    {
+        self.tables.active.start_of(rank, req)
+    }
+
+    /// Whether a request of the rank may be active after its calls: where this answers false, none is. It may
+    /// answer true for the sake of another rank's.
+    pub fn may_have_active(&self, rank: u16) -> bool
+        ensures none { result ≡ false → (req : ℕ) → started_in (calls_of self.now.recording rank) req ≡ None }
+        ensures some { result ≡ true → HasActive self.now.recording }
+    {
+        self.tables.active.may_have(rank)
+    }
+
+    /// Whether some call makes a communicator.
+    pub fn has_made(&self) -> bool
+        ensures none { result ≡ false → NoneIsMade self.now.recording }
+        ensures some { result ≡ true → HasMade self.now.recording }
+    {
+        self.tables.held.has_made()
     }
 
     /// How much was done in the arena of the halves that have no partner yet: 1 for each half of a message, which

@@ -3,8 +3,12 @@
 ghost use Rattle.std.specs.Prelude.{◌≡◌, ◌<◌, [], ◌∷◌, ◌++◌, length, replicate, slice_get, IfOk, OnErr, OnOk};
 ghost use Rattle.pairing.specs.Seats.{list_in, with_place_in, HasRoomIn};
 
+use crate::growth::more_room;
 use std::alloc::{AllocError, Global};
 use std::marker::Model;
+
+/// So many places fill a block.
+const PLACES_A_BLOCK: usize = 32_768;
 
 /// Places in the order in which they came. Contracts see them, and how many there is room for.
 #[derive(Drop)]
@@ -37,7 +41,8 @@ impl PlaceList {
         ensures places { self.new.places ≡ self.old.places }
         ensures room { OnOk result (length self.new.places < self.new.room) }
     {
-        self.places.reserve(1)
+        self.places
+            .reserve(more_room(self.places.len(), PLACES_A_BLOCK))
     }
 
     /// Adds a place, for which there is room.

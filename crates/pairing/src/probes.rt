@@ -14,7 +14,7 @@ ghost use Rattle.pairing.specs.Probed.{probed_message, probed_envelope, HasProbe
 ghost use Rattle.pairing.specs.Probing.{seat_for, Seating, AreSeated, HasRoomToSit, Sits, Follows};
 
 use crate::envelope::{Envelope, Half, Message, envelope_by};
-use crate::matches::Numbered;
+use crate::numbering::Numbered;
 use indexmap::IndexMap;
 use mpicall::call::{Call, Peer};
 use mpicall::does::{Does, Side};

@@ -8,12 +8,16 @@ ghost use Rattle.pairing.specs.Packed.{noted};
 
 use crate::beside::Beside;
 use crate::envelope::Half;
+use crate::growth::more_room;
 use crate::note::Note;
 use crate::packed::Entry;
 use crate::packing::{listed, listed_starts, pack};
 use mpicall::record::Record;
 use std::alloc::{AllocError, Global};
 use std::marker::Model;
+
+/// So many calls fill a block.
+const ENTRIES_A_BLOCK: usize = 4096;
 
 /// Puts the numbers behind others, for which there is room.
 fn push_all(to: &mut Vec<u32>, numbers: &[u32])
@@ -84,7 +88,8 @@ impl RankNotes {
         ensures calls { self.new.calls ≡ self.old.calls }
         ensures ok { OnOk result (Holds self.new.room call.now) }
     {
-        self.entries.reserve(1)?;
+        self.entries
+            .reserve(more_room(self.entries.len(), ENTRIES_A_BLOCK))?;
         self.starts.reserve(listed(call.as_call()).len())?;
         Ok(())
     }

@@ -53,7 +53,7 @@ impl Tables {
         ensures { IfOk result (λ tables. (ranks : ℕ) → AreTables head.now (replicate ranks []) tables) }
     {
         Ok(Tables {
-            matches: Matches::new(alloc),
+            matches: Matches::new(alloc)?,
             waves: Waves::new(alloc, head)?,
             held: Held::new(alloc),
             active: Active::new(alloc, head.ranks())?,

@@ -12,43 +12,43 @@ use std::sync::Wait;
 /// How many items are taken from one feed before those of the other ranks are looked at again.
 const MOST: u16 = 1024;
 
-/// What a turn over feeds found.
+/// What a sweep over the feeds found.
 #[derive(Clone, Copy, Debug, PartialEq, Eq)]
-struct Turn {
+struct Swept {
     all_ended: bool,
     some_came: bool,
 }
 
 /// Takes what is there from the feed of a rank.
-fn take_some(collector: &mut Collector, rank: u16, turn: &mut Turn)
+fn take_some(collector: &mut Collector, rank: u16, swept: &mut Swept)
     requires { rank < length (rings collector.old) }
     ensures { IsSameSession collector.old collector.new }
 {
     for _ in 0..MOST {
         match collector.step(rank) {
-            Stepped::Took | Stepped::Refused | Stepped::Discarded => turn.some_came = true,
+            Stepped::Took | Stepped::Refused | Stepped::Discarded => swept.some_came = true,
             Stepped::Empty => {
-                turn.all_ended = false;
+                swept.all_ended = false;
                 return;
             }
             Stepped::Ended => return,
         }
     }
-    turn.all_ended = false;
+    swept.all_ended = false;
 }
 
 /// Takes what is there from the feed of each rank.
-fn take_a_turn(collector: &mut Collector) -> Turn
+fn sweep(collector: &mut Collector) -> Swept
     ensures { IsSameSession collector.old collector.new }
 {
-    let mut turn = Turn {
+    let mut swept = Swept {
         all_ended: true,
         some_came: false,
     };
     for rank in 0..collector.ranks() {
-        take_some(collector, rank, &mut turn);
+        take_some(collector, rank, &mut swept);
     }
-    turn
+    swept
 }
 
 /// Takes what comes by the feeds of all ranks until each has ended.
@@ -57,11 +57,11 @@ pub(crate) fn take_all(collector: &mut Collector, wait: &impl Wait)
 {
     let mut pause = Pause::new();
     for _ in wait.forever() {
-        let turn = take_a_turn(collector);
-        if turn.all_ended {
+        let swept = sweep(collector);
+        if swept.all_ended {
             return;
         }
-        if turn.some_came {
+        if swept.some_came {
             pause = Pause::new();
         } else {
             pause.rest(wait);

@@ -1,6 +1,5 @@
 pub mod FindingLemmas
 pub mod WaveLemmas
-pub mod MarkLemmas
 pub mod OrderLemmas
 pub mod AddingLemmas
 pub mod AmongLemmas
@@ -21,6 +20,6 @@ pub mod CalledLemmas
 pub mod StuckLemmas
 pub mod WalkingLemmas
 pub mod AlikeLemmas
-pub mod PlainLemmas
+pub mod NothingLemmas
 pub mod VerdictLemmas
 pub mod StaysLemmas

@@ -1,5 +1,4 @@
 pub mod Places
-pub mod Marks
 pub mod Stuck
 pub mod Waits
 pub mod Spans

@@ -1,11 +1,10 @@
 //! What is wrong with a recorded run beside what makes it hang.
 
 ghost use Rattle.std.specs.Prelude.{◌≡◌, ◌++◌, IfOk, OnOk};
-ghost use Rattle.waitgraph.specs.Findings.{kinds_of, roots_of, lost_requests, wrong_groups_of, findings_of};
+ghost use Rattle.waitgraph.specs.Findings.{kinds_of, roots_of, findings_of};
 
 use crate::finding::group::add_wrong_groups;
 use crate::finding::kind::add_kinds;
-use crate::finding::plain::are_all_plain;
 use crate::finding::request::add_requests;
 use crate::finding::root::add_roots;
 use crate::finding::unreceived::add_unreceived;
@@ -17,7 +16,6 @@ use std::alloc::{AllocError, Global};
 pub mod group;
 pub mod kind;
 mod making;
-mod plain;
 pub mod request;
 pub mod root;
 pub mod unreceived;
@@ -74,22 +72,6 @@ fn add_differences(findings: &mut Vec<Finding>, pairs: &Pairs) -> Result<(), All
     add_roots(findings, pairs)
 }
 
-/// Adds what is found of requests, and then of new communicators.
-fn add_of_makers(
-    alloc: Global,
-    findings: &mut Vec<Finding>,
-    pairs: &Pairs,
-) -> Result<(), AllocError>
-    ensures { OnOk result (findings.new.items
-        ≡ findings.old.items ++ (lost_requests pairs.now.recording ++ wrong_groups_of pairs.now.groups pairs.now.recording)) }
-{
-    if are_all_plain(pairs) {
-        return Ok(());
-    }
-    add_requests(alloc, findings, pairs)?;
-    add_wrong_groups(alloc, findings, pairs)
-}
-
 /// All findings of a recorded run, in the order of the report: by kind, and within one kind by rising
 /// numbers.
 #[tactic(auto, unfolding(crate::specs::Findings::findings_of))]
@@ -99,6 +81,7 @@ pub fn findings(alloc: Global, pairs: &Pairs) -> Result<Vec<Finding>, AllocError
     let mut findings = Vec::new(alloc);
     add_differences(&mut findings, pairs)?;
     add_unreceived(&mut findings, pairs)?;
-    add_of_makers(alloc, &mut findings, pairs)?;
+    add_requests(&mut findings, pairs)?;
+    add_wrong_groups(alloc, &mut findings, pairs)?;
     Ok(findings)
 }

@@ -16,7 +16,7 @@
 //!   stuck too; the loose ranks are the least set that has each rank which it makes loose; the walk from each
 //!   held rank comes to a listed cause, each listed cause is the end of such a walk, and none is listed twice.
 //!
-//! Nobody has to believe `Comparisons`, `Makings`, `Marks` and `Spans`: they say how findings are looked for and needs
+//! Nobody has to believe `Comparisons`, `Makings` and `Spans`: they say how findings are looked for and needs
 //! are kept, and no public contract cites them.
 //!
 //! ```text

@@ -397,8 +397,9 @@ fn add_of_rank(
     Ok(())
 }
 
-/// Adds the calls whose new communicators have other groups than the calls give them, by rank and place.
-#[tactic(auto, using(crate::proofs::FindingLemmas::one_more), unfolding(crate::specs::Findings::wrong_groups_of))]
+/// Adds the calls whose new communicators have other groups than the calls give them, by rank and place. Where no
+/// call makes one it looks at none.
+#[tactic(auto, using(crate::proofs::FindingLemmas::one_more, crate::proofs::NothingLemmas::none_wrong), unfolding(crate::specs::Findings::wrong_groups_of))]
 pub fn add_wrong_groups(
     alloc: Global,
     findings: &mut Vec<Finding>,
@@ -406,6 +407,9 @@ pub fn add_wrong_groups(
 ) -> Result<(), AllocError>
     ensures { OnOk result (findings.new.items ≡ findings.old.items ++ wrong_groups_of pairs.now.groups pairs.now.recording) }
 {
+    if !pairs.has_made() {
+        return Ok(());
+    }
     let mut known = Known::new(alloc);
     for rank in 0..ranks(pairs) {
         add_of_rank(alloc, findings, &mut known, pairs, rank)?;

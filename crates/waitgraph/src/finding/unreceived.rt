@@ -71,11 +71,14 @@ fn add_of_rank(findings: &mut Vec<Finding>, pairs: &Pairs, rank: u16) -> Result<
     Ok(())
 }
 
-/// Adds the messages that nobody receives, by rank and place.
-#[tactic(auto, using(crate::proofs::FindingLemmas::one_more), unfolding(crate::specs::Findings::unreceived_of))]
+/// Adds the messages that nobody receives, by rank and place. Where each is received it looks at no call.
+#[tactic(auto, using(crate::proofs::FindingLemmas::one_more, crate::proofs::NothingLemmas::none_unreceived), unfolding(crate::specs::Findings::unreceived_of))]
 pub fn add_unreceived(findings: &mut Vec<Finding>, pairs: &Pairs) -> Result<(), AllocError>
     ensures { OnOk result (findings.new.items ≡ findings.old.items ++ unreceived_of pairs.now.groups pairs.now.recording) }
 {
+    if !pairs.has_unreceived() {
+        return Ok(());
+    }
     for rank in 0..ranks(pairs) {
         add_of_rank(findings, pairs, rank)?;
     }

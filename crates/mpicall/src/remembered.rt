@@ -1,0 +1,191 @@
+//! Lines that came before, held in place with their records: the traces of programs are loops, so that most lines
+//! equal one of the last few.
+
+ghost use Rattle.std.specs.Prelude.{◌≡◌, ◌≤◌, take, IfOk, MatchOption, MatchBool};
+ghost use Rattle.mpicall.specs.Reading.{record_of_line, ReadsInto, Spells, BeginsWith};
+ghost use Rattle.mpicall.specs.declared.remembered.TheConstants.{MOST_KEPT_BYTES};
+
+use crate::fault::LineFault;
+use crate::line::read_into;
+use crate::record::Record;
+use std::slice;
+
+/// How many lines are kept.
+const MOST_KEPT: usize = 24;
+
+/// The most bytes of a line that is kept.
+const MOST_KEPT_BYTES: usize = 56;
+
+/// How often a line may be missed before no line is sought for a while; one that was expected makes up for it.
+const MOST_MISSED: u16 = 32;
+
+/// The count at which that while ends.
+const MOST_PASSED: u16 = 4096;
+
+/// A line, and the record that it spells.
+#[derive(Clone, Copy)]
+struct KnownLine {
+    known: Record,
+    bytes: [u8; MOST_KEPT_BYTES],
+    len: u8,
+    ghost short: { len ≤ MOST_KEPT_BYTES },
+    ghost spelled: { Spells (take len bytes) known },
+}
+
+/// The last lines that were kept. A line that is sought is compared with the kept one, so that the places below may
+/// be any.
+#[derive(Drop)]
+pub(crate) struct Remembered {
+    kept: [KnownLine; MOST_KEPT],
+    /// The place of the line that came last behind each.
+    behind: [u8; MOST_KEPT],
+    /// The place of the last line with each mark.
+    places: [u8; 256],
+    /// The place of the line that came last, if it was kept.
+    last: u8,
+    /// The place of the next line that is kept, modulo how many there are.
+    fresh: u8,
+    /// The mark of the line that was sought last.
+    mark: u8,
+    /// How many lines were missed; from the most on, those count that were not sought.
+    missed: u16,
+}
+
+/// A mark of a line, by its ends.
+fn mark_of(line: &[u8]) -> u8 {
+    let (Some(first), Some(last)) = (line.first_chunk::<4>(), line.last_chunk::<4>()) else {
+        return 0;
+    };
+    let ends = u32::from_le_bytes(*first).wrapping_mul(31) ^ u32::from_le_bytes(*last);
+    ((ends.wrapping_mul(0x9e37_79b1) >> 24) & 0xff) as u8
+}
+
+impl KnownLine {
+    /// The line of the end record.
+    fn finalize() -> KnownLine {
+        let mut bytes = [0; MOST_KEPT_BYTES];
+        bytes[..9].copy_from_slice(b"finalize\n");
+        KnownLine {
+            known: Record::finalize(),
+            bytes,
+            len: 9,
+        }
+    }
+
+    fn line(&self) -> &[u8]
+        ensures { Spells result.now self.now.known }
+    {
+        &self.bytes[..usize::from(self.len)]
+    }
+
+    /// Copies the record into a place, as a slice of one, which takes one copy.
+    #[inline(always)]
+    fn write(&self, into: &mut Record)
+        ensures { into.new ≡ self.now.known }
+    {
+        slice::from_mut(into).copy_from_slice(slice::from_ref(&self.known));
+    }
+}
+
+impl Remembered {
+    pub(crate) fn new() -> Remembered {
+        Remembered {
+            kept: [KnownLine::finalize(); MOST_KEPT],
+            behind: [0; MOST_KEPT],
+            places: [0; 256],
+            last: 0,
+            fresh: 0,
+            mark: 0,
+            missed: 0,
+        }
+    }
+
+    /// Notes that the line at a place came.
+    fn note(&mut self, at: u8) {
+        if let Some(behind) = self.behind.get_mut(usize::from(self.last)) {
+            *behind = at;
+        }
+        self.last = at;
+    }
+
+    /// Reads the record of the first line of some bytes, where it is the line that came behind the last one
+    /// before; says how many bytes it has, and else leaves the place alone.
+    pub(crate) fn expect(&mut self, held: &[u8], into: &mut Record) -> Option<usize>
+        ensures { MatchOption result (into.new ≡ into.old) (BeginsWith held.now into.new) }
+    {
+        if self.missed >= MOST_MISSED {
+            return None;
+        }
+        let at = *self.behind.get(usize::from(self.last))?;
+        let kept = self.kept.get(usize::from(at))?;
+        let line = kept.line();
+        if held.len() < line.len() || &held[..line.len()] != line {
+            return None;
+        }
+        let len = line.len();
+        kept.write(into);
+        self.last = at;
+        self.missed = self.missed.saturating_sub(1);
+        Some(len)
+    }
+
+    /// Reads the record of a line that is kept; says whether it is, and else leaves the place alone.
+    #[inline(never)]
+    fn find(&mut self, line: &[u8], into: &mut Record) -> bool
+        ensures { MatchBool result (Spells line.now into.new) (into.new ≡ into.old) }
+    {
+        self.mark = mark_of(line);
+        let at = self.places[usize::from(self.mark)];
+        let Some(kept) = self.kept.get(usize::from(at)) else {
+            return false;
+        };
+        if kept.line() != line {
+            return false;
+        }
+        kept.write(into);
+        self.note(at);
+        true
+    }
+
+    /// Keeps a line that was not found, if it is short.
+    #[inline(never)]
+    fn keep(&mut self, line: &[u8], entry: &Record)
+        requires { Spells line.now entry.now }
+    {
+        if line.len() > MOST_KEPT_BYTES {
+            return;
+        }
+        let at = self.fresh % MOST_KEPT as u8;
+        self.fresh = self.fresh.wrapping_add(1);
+        self.places[usize::from(self.mark)] = at;
+        self.note(at);
+        let mut bytes = [0; MOST_KEPT_BYTES];
+        bytes[..line.len()].copy_from_slice(line);
+        self.kept[usize::from(at)] = KnownLine {
+            known: *entry,
+            bytes,
+            len: line.len() as u8,
+        };
+    }
+
+    /// Reads the record of a line into one place, which a line with a fault leaves alone.
+    pub(crate) fn read(&mut self, line: &[u8], into: &mut Record) -> Result<(), LineFault>
+        ensures reading { ReadsInto result into.old into.new (record_of_line line.now) }
+        ensures ok { IfOk result (λ _. Spells line.now into.new) }
+    {
+        let missed = self.missed;
+        if missed < MOST_MISSED && self.find(line, into) {
+            return Ok(());
+        }
+        match read_into(line, into) {
+            Ok(()) => {
+                if missed < MOST_MISSED {
+                    self.keep(line, into);
+                }
+                self.missed = if missed < MOST_PASSED { missed + 1 } else { 0 };
+                Ok(())
+            }
+            Err(fault) => Err(fault),
+        }
+    }
+}
