@@ -232,6 +232,12 @@ prober_of groups recording awaited rank place =
 abbrev pub woken_prober : Groups → Lists → ℕ → ℕ → WaitLists → WaitLists
 woken_prober groups recording rank place w = woken_partner w (prober_of groups recording w.awaited rank place)
 
+-- the waiting ranks once those are to be looked at that wait for a message of the call at the place
+abbrev pub woken_peers : Groups → Lists → ℕ → ℕ → WaitLists → WaitLists
+woken_peers groups recording rank place w =
+    woken_prober groups recording rank place
+    (woken_partner (woken_partner w (partner_of groups recording rank place SendHalf)) (partner_of groups recording rank place RecvHalf))
+
 -- and once those are to be looked at that wait for the waves of a communicator, if it is one
 abbrev pub woken_comm : WaitLists → Option ℕ → WaitLists
 woken_comm w comm = option_map_or (λ comm. woken w (comm_list (length w.awaited) comm)) comm w

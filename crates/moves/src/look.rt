@@ -11,6 +11,7 @@ ghost use Rattle.moves.specs.Waiting.{message_needs, AreWaves, IsNoException, Te
 use crate::need::{is_reached, stand_of};
 use crate::progress::Progress;
 use crate::reading::{Reading, sends_freely};
+use mpicall::does::Does;
 use pairing::envelope::Half;
 use pairing::pairs::Pairs;
 use pairing::stored::StoredCall;
@@ -69,6 +70,9 @@ fn are_messages_met(
 ) -> bool
     ensures { result ≡ list_all (is_met stands.now) (message_needs reading pairs.now.groups pairs.now.recording rank place call.now) }
 {
+    if !matches!(call.does(), Does::Exchanges { .. }) {
+        return true;
+    }
     (sends_freely(reading, call) || is_half_met(pairs, stands, rank, place, Half::Send, call))
         && is_half_met(pairs, stands, rank, place, Half::Recv, call)
         && is_probe_met(pairs, stands, rank, place, call)

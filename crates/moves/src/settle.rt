@@ -1,16 +1,18 @@
 //! Ranks that move on until none can, by looks at those alone that something woke.
 
-ghost use Rattle.std.specs.Prelude.{◌≡◌, ◌<◌, ◌≤◌, true, false, length, slice_index, IfSome};
+ghost use Rattle.std.specs.Prelude.{◌≡◌, ◌<◌, ◌≤◌, true, false, None, length, slice_index, IfSome};
 ghost use Rattle.pairing.specs.Limits.{most_calls};
 ghost use Rattle.pairing.specs.Partners.{partner_of};
+ghost use Rattle.pairing.specs.declared.envelope.Half.{Half as HalfValue};
 ghost use Rattle.moves.specs.Runs.{moved, StandsNoLater};
-ghost use Rattle.moves.specs.Waiting.{comm_list, sent_to, sees, prober_of, woken_partner, woken_prober, woken_comm, HoldsBetweenLooks, IsNobody, IsInHand, IsSettled, IsReaching, HasArrived, touches_of, to_do};
+ghost use Rattle.moves.specs.Waiting.{comm_list, sent_to, sees, prober_of, woken_partner, woken_prober, woken_peers, woken_comm, HoldsBetweenLooks, IsNobody, IsInHand, IsSettled, IsReaching, HasArrived, touches_of, to_do};
 
 use crate::look::{Look, look_at};
 use crate::need::stand_of;
 use crate::progress::Progress;
 use crate::reading::Reading;
 use crate::waiters::Waiters;
+use mpicall::does::Does;
 use pairing::envelope::Half;
 use pairing::pairs::Pairs;
 
@@ -77,6 +79,29 @@ fn wake_prober(pairs: &Pairs, waiters: &mut Waiters, rank: u16, place: u32)
     }
 }
 
+/// Whether the call at the place sends, receives or probes for a message; not where there is no call.
+#[inline(always)]
+fn exchanges(pairs: &Pairs, rank: u16, place: u32) -> bool
+    ensures partner { result ≡ false → (half : HalfValue) → partner_of pairs.now.groups pairs.now.recording rank place half ≡ None }
+    ensures sent { result ≡ false → sent_to pairs.now.groups pairs.now.recording rank place ≡ None }
+{
+    match pairs.call(rank, place) {
+        Some(call) => matches!(call.does(), Does::Exchanges { .. }),
+        None => false,
+    }
+}
+
+/// Wakes the ranks that wait for a message of the call at the place.
+fn wake_peers(pairs: &Pairs, waiters: &mut Waiters, rank: u16, place: u32)
+    ensures { waiters.new ≡ woken_peers pairs.now.groups pairs.now.recording rank place waiters.old }
+{
+    if exchanges(pairs, rank, place) {
+        wake_partner(pairs, waiters, rank, place, Half::Send);
+        wake_partner(pairs, waiters, rank, place, Half::Recv);
+        wake_prober(pairs, waiters, rank, place);
+    }
+}
+
 /// Wakes the ranks that wait for the waves of the communicator, if it is one.
 fn wake_members(waiters: &mut Waiters, comm: Option<u16>)
     requires { IfSome comm (λ comm. comm_list (length waiters.old.awaited) comm < length waiters.old.lists) }
@@ -101,9 +126,7 @@ fn reach(
     ensures in_hand { IsInHand reading pairs.now.groups pairs.now.recording stands.now progress.new waiters.new rank }
     ensures counts { touches_of progress.old waiters.old ≤ touches_of progress.new waiters.new }
 {
-    wake_partner(pairs, waiters, rank, place, Half::Send);
-    wake_partner(pairs, waiters, rank, place, Half::Recv);
-    wake_prober(pairs, waiters, rank, place);
+    wake_peers(pairs, waiters, rank, place);
     let complete = progress.reach(pairs, stands, rank, place);
     wake_members(waiters, complete);
 }

@@ -10,9 +10,9 @@ ghost use Rattle.pairing.specs.Recordings.{Lists, calls_of, appended};
 ghost use Rattle.pairing.specs.Requests.{started_in, is_among, is_active, does_start, HasActive};
 ghost use Rattle.pairing.specs.Starts.{cell_no, cell_in, place_at, place_in, has_place, known_front, IsActive, HasRoomToStart};
 
+use crate::next_call::NextCall;
 use crate::request::{completes, starts};
 use indexmap::IndexMap;
-use mpicall::record::Record;
 use std::alloc::{AllocError, Global};
 use std::hash::{Hash, Hasher};
 
@@ -74,7 +74,7 @@ impl Active {
     }
 
     /// Makes room for what the call starts, if it starts something. The table says the same after it.
-    pub(crate) fn reserve(&mut self, call: &Record) -> Result<(), AllocError>
+    pub(crate) fn reserve(&mut self, call: &NextCall<'_>) -> Result<(), AllocError>
         ensures kept { (recording : Lists) → IsActive recording self.old → IsActive recording self.new }
         ensures ok { OnOk result (HasRoomToStart self.new call.now) }
     {
@@ -150,7 +150,7 @@ impl Active {
     }
 
     /// Puts in the request that the call at the place starts, if it starts one.
-    fn start(&mut self, rank: u16, place: u32, call: &Record)
+    fn start(&mut self, rank: u16, place: u32, call: &NextCall<'_>)
         requires { HasRoomToStart self.old call.now }
         ensures { (r req : ℕ) → place_in self.new r req ≡ (if r == rank && does_start req call.now then Some place else place_in self.old r req) }
     {
@@ -161,7 +161,7 @@ impl Active {
 
     /// Puts in the request that the rank's next call starts, and takes out those that it completes. It
     /// takes no memory.
-    pub(crate) fn put(&mut self, rank: u16, place: u32, call: &Record)
+    pub(crate) fn put(&mut self, rank: u16, place: u32, call: &NextCall<'_>)
         requires { HasRoomToStart self.old call.now }
         ensures { (recording : Lists) → IsActive recording self.old → rank < length recording →
             place ≡ length (calls_of recording rank) → IsActive (appended recording rank call.now) self.new }

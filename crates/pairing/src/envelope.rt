@@ -4,9 +4,12 @@ ghost use Rattle.std.specs.Prelude.{◌≡◌, ◌+◌, ◌*◌, ◌^◌, Some};
 ghost use Rattle.std.specs.Hash as fed;
 ghost use Rattle.std.specs.Cmp.Rules.{hashing};
 ghost use Rattle.std.proofs.Common.{rules};
-ghost use Rattle.pairing.specs.Envelopes.{other_half, message_of, envelope_by, envelope_of, rank_of_half};
+ghost use Rattle.mpicall.specs.Does.{does_of};
+ghost use Rattle.mpicall.specs.declared.call.Call.{Call as CallValue};
+ghost use Rattle.pairing.specs.Envelopes.{other_half, message, message_by, message_of, envelope_by, envelope_of, rank_of_half};
 
 use mpicall::call::{Call, Peer};
+use mpicall::does::{Does, Side};
 use mpicall::record::Record;
 use mpigroup::head::Head;
 use std::hash::{Hash, Hasher};
@@ -63,55 +66,43 @@ impl Hash for Envelope {
     }
 }
 
-/// The message that the call sends.
-fn sent(call: &Call) -> Option<Message>
-    ensures { result ≡ message_of Half.Send call.now }
+/// A message over a communicator; none where its other end is MPI_PROC_NULL.
+#[inline(always)]
+pub(crate) fn message_with(comm: u16, side: Side) -> Option<Message>
+    ensures { result ≡ message comm side }
 {
-    match *call {
-        Call::Send {
+    match side.peer {
+        Peer::Rank(peer) => Some(Message {
             comm,
-            dest: Peer::Rank(peer),
-            tag,
-            ..
-        }
-        | Call::Isend {
-            comm,
-            dest: Peer::Rank(peer),
-            tag,
-            ..
-        }
-        | Call::Sendrecv {
-            comm,
-            dest: Peer::Rank(peer),
-            send_tag: tag,
-            ..
-        } => Some(Message { comm, peer, tag }),
-        _ => None,
+            peer,
+            tag: side.tag,
+        }),
+        Peer::Null => None,
     }
 }
 
-/// The message that the call receives.
-fn received(call: &Call) -> Option<Message>
-    ensures { result ≡ message_of Half.Recv call.now }
+/// The message that a half of what a call does sends or receives.
+#[inline(always)]
+pub(crate) fn message_by(half: Half, does: &Does) -> Option<Message>
+    ensures { result ≡ message_by half does.now }
 {
-    match *call {
-        Call::Recv {
-            comm,
-            source: Peer::Rank(peer),
-            tag,
-        }
-        | Call::Irecv {
-            comm,
-            source: Peer::Rank(peer),
-            tag,
-            ..
-        }
-        | Call::Sendrecv {
-            comm,
-            source: Peer::Rank(peer),
-            recv_tag: tag,
-            ..
-        } => Some(Message { comm, peer, tag }),
+    match (half, *does) {
+        (
+            Half::Send,
+            Does::Exchanges {
+                comm,
+                sent: Some(side),
+                ..
+            },
+        )
+        | (
+            Half::Recv,
+            Does::Exchanges {
+                comm,
+                received: Some(side),
+                ..
+            },
+        ) => message_with(comm, side),
         _ => None,
     }
 }
@@ -121,10 +112,7 @@ fn received(call: &Call) -> Option<Message>
 pub fn message_of(half: Half, call: &Call) -> Option<Message>
     ensures { result ≡ message_of half call.now }
 {
-    match half {
-        Half::Send => sent(call),
-        Half::Recv => received(call),
-    }
+    message_by(half, &call.does())
 }
 
 /// The envelope of a message by the half that the member with that rank in the group has of it.
@@ -148,14 +136,22 @@ pub(crate) fn envelope_by(half: Half, message: Message, own: u16) -> Envelope
     }
 }
 
+/// The envelope of the message that a half of what the rank's call does sends or receives.
+#[inline(always)]
+pub(crate) fn envelope_in(head: &Head, rank: u16, half: Half, does: &Does) -> Option<Envelope>
+    ensures { (call : CallValue) → does_of call ≡ does.now → result ≡ envelope_of head.now rank half call }
+{
+    let message = message_by(half, does)?;
+    let own = head.group_rank(message.comm, rank)?;
+    Some(envelope_by(half, message, own))
+}
+
 /// The envelope of the message that a half of the rank's call sends or receives. None where the call
 /// has no such message, and where the rank is not in the communicator's group.
 pub fn envelope_of(head: &Head, rank: u16, half: Half, call: &Record) -> Option<Envelope>
     ensures { result ≡ envelope_of head.now rank half call.now }
 {
-    let message = message_of(half, call.as_call())?;
-    let own = head.group_rank(message.comm, rank)?;
-    Some(envelope_by(half, message, own))
+    envelope_in(head, rank, half, &call.as_call().does())
 }
 
 /// The rank of the world whose calls have that half of the envelope's messages, if there is one.

@@ -3,10 +3,11 @@
 ghost use Rattle.std.specs.Prelude.{◌≡◌, true};
 ghost use Rattle.std.specs.Option.{option_map_or};
 ghost use Rattle.pairing.specs.Codes.{code_of_call};
-ghost use Rattle.pairing.specs.Faults.{comm_of, is_group_rank, is_peer, is_member, comm_exists, peers_exist, are_distinct, AnEndedLawfulListIsClosed, EachWaitHasItsStarts, NoTwoStartsAreActive};
+ghost use Rattle.pairing.specs.Faults.{is_group_rank, is_peer, is_member, comm_exists, peers_exist, are_distinct, AnEndedLawfulListIsClosed, EachWaitHasItsStarts, NoTwoStartsAreActive};
 
+use crate::next_call::NextCall;
 use crate::request::is_among;
-use mpicall::call::{Call, Peer};
+use mpicall::call::Peer;
 use mpicall::does::{Does, Side};
 use mpigroup::head::Head;
 use thiserror::Error;
@@ -50,16 +51,6 @@ impl CallFault {
             CallFault::RequestNotActive => "C5",
             CallFault::WrongNewCommunicator => "C7",
         }
-    }
-}
-
-/// The communicator over which the call is made, if it names one.
-pub(crate) fn comm_of(call: &Call) -> Option<u16>
-    ensures { result ≡ comm_of call.now }
-{
-    match call.does() {
-        Does::Exchanges { comm, .. } | Does::Joins { comm, .. } => Some(comm),
-        Does::Alone => None,
     }
 }
 
@@ -111,20 +102,20 @@ pub(crate) fn is_member(head: &Head, rank: u16, comm: u16) -> bool
 }
 
 /// Whether the communicator that the call names exists.
-pub(crate) fn comm_exists(head: &Head, call: &Call) -> bool
+pub(crate) fn comm_exists(head: &Head, call: &NextCall<'_>) -> bool
     ensures { result ≡ comm_exists head.now call.now }
 {
-    match comm_of(call) {
+    match call.comm() {
         Some(comm) => head.size(comm).is_some(),
         None => true,
     }
 }
 
 /// Whether each peer and root that the call names is a rank of its communicator's group.
-pub(crate) fn peers_exist(head: &Head, call: &Call) -> bool
+pub(crate) fn peers_exist(head: &Head, call: &NextCall<'_>) -> bool
     ensures { result ≡ peers_exist head.now call.now }
 {
-    match call.does() {
+    match *call.does() {
         Does::Exchanges {
             comm,
             sent,

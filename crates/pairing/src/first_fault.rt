@@ -9,28 +9,29 @@ ghost use Rattle.pairing.specs.Holdings.{IsHolding};
 ghost use Rattle.pairing.specs.Starts.{has_place, IsActive};
 
 use crate::active::Active;
-use crate::fault::{CallFault, are_distinct, comm_exists, comm_of, is_member, peers_exist};
+use crate::fault::{CallFault, are_distinct, comm_exists, is_member, peers_exist};
 use crate::held::Held;
 use crate::limits::MOST_CALLS;
+use crate::next_call::NextCall;
 use crate::request::{starts, waits_for};
 use mpicall::call::Call;
 use mpigroup::head::Head;
 
 /// Whether the rank is in the group of the communicator that the call names, and holds it.
-fn holds_comm(head: &Head, held: &Held, rank: u16, call: &Call) -> bool
+fn holds_comm(head: &Head, held: &Held, rank: u16, call: &NextCall<'_>) -> bool
     ensures { (recording : Lists) → IsHolding recording held.now → result ≡ holds_comm head.now rank (calls_of recording rank) call.now }
 {
-    match comm_of(call) {
+    match call.comm() {
         Some(comm) => is_member(head, rank, comm) && held.holds(rank, comm),
         None => true,
     }
 }
 
 /// Whether the request that the call starts isn't active before.
-fn starts_afresh(active: &Active, rank: u16, call: &Call) -> bool
+fn starts_afresh(active: &Active, rank: u16, call: &NextCall<'_>) -> bool
     ensures { (recording : Lists) → IsActive recording active.now → result ≡ starts_afresh (calls_of recording rank) call.now }
 {
-    match starts(call) {
+    match starts(call.as_call()) {
         Some(req) => active.start_of(rank, req).is_none(),
         None => true,
     }
@@ -44,10 +45,10 @@ fn are_in(active: &Active, rank: u16, reqs: &[u32]) -> bool
 }
 
 /// Whether each request that the wait names is active.
-fn waits_for_active(active: &Active, rank: u16, call: &Call) -> bool
+fn waits_for_active(active: &Active, rank: u16, call: &NextCall<'_>) -> bool
     ensures { (recording : Lists) → IsActive recording active.now → result ≡ waits_for_active (calls_of recording rank) call.now }
 {
-    are_in(active, rank, waits_for(call))
+    are_in(active, rank, waits_for(call.as_call()))
 }
 
 /// Whether the rank may come to hold the communicator: not the world, with the rank in its group, and not
@@ -59,10 +60,10 @@ fn is_fresh_comm(head: &Head, held: &Held, rank: u16, comm: u16) -> bool
 }
 
 /// Whether what the call makes is such a communicator; a split makes one just where it has a colour.
-fn makes_afresh(head: &Head, held: &Held, rank: u16, call: &Call) -> bool
+fn makes_afresh(head: &Head, held: &Held, rank: u16, call: &NextCall<'_>) -> bool
     ensures { (recording : Lists) → IsHolding recording held.now → result ≡ makes_afresh head.now rank (calls_of recording rank) call.now }
 {
-    match *call {
+    match *call.as_call() {
         Call::Dup { new, .. } => is_fresh_comm(head, held, rank, new),
         Call::Split { colour, new, .. } => match (colour, new) {
             (None, None) => true,
@@ -85,7 +86,7 @@ pub(crate) fn first_fault(
     rank: u16,
     count: usize,
     is_over: bool,
-    call: &Call,
+    call: &NextCall<'_>,
 ) -> Option<CallFault>
     ensures value { (recording : Lists) → IsHolding recording held.now → IsActive recording active.now →
         count ≡ length (calls_of recording rank) → is_over ≡ has_end (calls_of recording rank) →
@@ -104,7 +105,7 @@ pub(crate) fn first_fault(
         Some(CallFault::PeerOutOfGroup)
     } else if !starts_afresh(active, rank, call) {
         Some(CallFault::RequestInUse)
-    } else if !are_distinct(waits_for(call)) {
+    } else if !are_distinct(waits_for(call.as_call())) {
         Some(CallFault::RequestRepeated)
     } else if !waits_for_active(active, rank, call) {
         Some(CallFault::RequestNotActive)

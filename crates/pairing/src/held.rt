@@ -8,9 +8,8 @@ ghost use Rattle.pairing.specs.Recordings.{Lists, calls_of, appended};
 ghost use Rattle.pairing.specs.Communicators.{holds, makes, NoneIsMade, HasMade};
 ghost use Rattle.pairing.specs.Holdings.{has_holding, IsHolding, HasRoomToHold};
 
-use crate::comm::makes;
+use crate::next_call::NextCall;
 use indexmap::IndexSet;
-use mpicall::record::Record;
 use std::alloc::{AllocError, Global};
 use std::hash::{Hash, Hasher};
 
@@ -50,23 +49,23 @@ impl Held {
     }
 
     /// Makes room for what the call makes, if it makes something. The table says the same after it.
-    pub(crate) fn reserve(&mut self, call: &Record) -> Result<(), AllocError>
+    pub(crate) fn reserve(&mut self, call: &NextCall<'_>) -> Result<(), AllocError>
         ensures kept { (recording : Lists) → IsHolding recording self.old → IsHolding recording self.new }
         ensures ok { OnOk result (HasRoomToHold self.new call.now) }
     {
-        match makes(call.as_call()) {
+        match call.makes() {
             Some(_) => self.pairs.reserve(1),
             None => Ok(()),
         }
     }
 
     /// Puts in what the rank's next call makes, if it makes something. It takes no memory.
-    pub(crate) fn put(&mut self, rank: u16, call: &Record)
+    pub(crate) fn put(&mut self, rank: u16, call: &NextCall<'_>)
         requires { HasRoomToHold self.old call.now }
         ensures { (recording : Lists) → IsHolding recording self.old → rank < length recording →
             IsHolding (appended recording rank call.now) self.new }
     {
-        if let Some(comm) = makes(call.as_call()) {
+        if let Some(comm) = call.makes() {
             self.pairs.insert(Holding { rank, comm }).unwrap();
         }
     }

@@ -54,6 +54,7 @@ mod joined;
 pub mod limits;
 mod matches;
 mod meeting;
+mod next_call;
 mod note;
 mod notes;
 mod numbering;

@@ -1,6 +1,7 @@
 //! A noted call, seen in place.
 
 ghost use Rattle.std.specs.Prelude.{◌≡◌, ◌==◌, length, slice_get, find};
+ghost use Rattle.mpicall.specs.Does.{does_of};
 ghost use Rattle.mpicall.specs.Ending.{ends_list};
 ghost use Rattle.pairing.specs.Envelopes.{message_of};
 ghost use Rattle.pairing.specs.Beside.{partner_in, wave_in};
@@ -15,6 +16,7 @@ use crate::envelope::{Half, Message};
 use crate::packed::{Entry, Packed};
 use crate::packing::{req_at, unpack, unpack_starts};
 use mpicall::call::{Kind, Mode};
+use mpicall::does::Does;
 use mpicall::record::Record;
 use std::marker::Model;
 use std::slice::from_ref;
@@ -64,6 +66,14 @@ impl<'a> Note<'a> {
         ensures { result ≡ self.now.call }
     {
         Record::new(unpack(&self.entry.call, self.entries, self.starts)).unwrap()
+    }
+
+    /// What the call does over its communicator.
+    #[inline(always)]
+    pub(crate) fn does(&self) -> Does
+        ensures { result ≡ does_of self.now.call }
+    {
+        self.entry.call.does()
     }
 
     /// The message that a half of the call sends or receives. None where the call has no such half, and

@@ -4,7 +4,7 @@
 ghost use Rattle.std.specs.Prelude.{◌≡◌, List, ℕ};
 ghost use Rattle.mpicall.specs.Does.{does_of};
 ghost use Rattle.mpicall.specs.Ending.{ends_list};
-ghost use Rattle.pairing.specs.Envelopes.{message, message_of};
+ghost use Rattle.pairing.specs.Envelopes.{message_of};
 ghost use Rattle.pairing.specs.Requests.{starts};
 ghost use Rattle.pairing.specs.Waves.{joins};
 ghost use Rattle.pairing.specs.Pairs.{bytes_told, kind_of, mode_of};
@@ -13,10 +13,11 @@ ghost use Rattle.pairing.specs.Packed.{request_of, plain_of, unpack};
 ghost use Rattle.pairing.specs.declared.packed.Entry.{Entry};
 
 use crate::beside::Beside;
-use crate::envelope::{Half, Message};
+use crate::envelope::{Half, Message, message_by};
+use crate::probes::probed_by;
 use crate::slots::{PackedBytes, PackedPeer};
-use mpicall::call::{Call, Kind, Mode, Peer};
-use mpicall::does::{Does, Side};
+use mpicall::call::{Call, Kind, Mode};
+use mpicall::does::Does;
 use mpicall::laid::Laid;
 use mpicall::word::{Name, root_of};
 use std::mem::size_of;
@@ -115,21 +116,6 @@ pub(crate) struct Entry {
 
 const _: () = prove!(size_of::<Entry>() <= 32);
 
-/// A message over a communicator; none where its other end is MPI_PROC_NULL.
-#[inline(always)]
-fn message_with(comm: u16, side: Side) -> Option<Message>
-    ensures { result ≡ message comm side }
-{
-    match side.peer {
-        Peer::Rank(peer) => Some(Message {
-            comm,
-            peer,
-            tag: side.tag,
-        }),
-        Peer::Null => None,
-    }
-}
-
 impl Packed {
     /// The call of a name and what stands behind it; None for an operation and a wait.
     #[inline(always)]
@@ -184,7 +170,7 @@ impl Packed {
 
     /// What the call does over its communicator.
     #[inline(always)]
-    fn does(&self) -> Does
+    pub(crate) fn does(&self) -> Does
         ensures { (entries : List Entry) (starts : List ℕ) → result ≡ does_of (unpack entries starts self.now) }
     {
         match *self {
@@ -225,25 +211,7 @@ impl Packed {
     pub(crate) fn message(&self, half: Half) -> Option<Message>
         ensures { (entries : List Entry) (starts : List ℕ) → result ≡ message_of half (unpack entries starts self.now) }
     {
-        match (half, self.does()) {
-            (
-                Half::Send,
-                Does::Exchanges {
-                    comm,
-                    sent: Some(side),
-                    ..
-                },
-            )
-            | (
-                Half::Recv,
-                Does::Exchanges {
-                    comm,
-                    received: Some(side),
-                    ..
-                },
-            ) => message_with(comm, side),
-            _ => None,
-        }
+        message_by(half, &self.does())
     }
 
     /// The message that the call probes for. None where it is no probe, and where its source is
@@ -251,14 +219,7 @@ impl Packed {
     pub(crate) fn probed(&self) -> Option<Message>
         ensures { (entries : List Entry) (starts : List ℕ) → result ≡ probed_message (unpack entries starts self.now) }
     {
-        match self.does() {
-            Does::Exchanges {
-                comm,
-                probed: Some(side),
-                ..
-            } => message_with(comm, side),
-            _ => None,
-        }
+        probed_by(&self.does())
     }
 
     /// The mode of a call that sends, blocking or not; None for every other call, MPI_Sendrecv too.

@@ -24,6 +24,7 @@ use crate::envelope::{Envelope, Half, rank_of_half};
 use crate::fault::CallFault;
 use crate::first_fault::first_fault;
 use crate::meeting::meet_halves;
+use crate::next_call::NextCall;
 use crate::notes::Notes;
 use crate::probes::received_by;
 use crate::probing::Probing;
@@ -90,7 +91,7 @@ fn next_fault(
     notes: &Notes,
     tables: &Tables,
     rank: u16,
-    call: &Record,
+    call: &NextCall<'_>,
 ) -> Option<CallFault>
     requires is_rank { rank < length notes.now.lists }
     requires kept { IsKept head.now notes.now.lists tables.now }
@@ -105,7 +106,7 @@ fn next_fault(
         rank,
         count,
         is_over,
-        call.as_call(),
+        call,
     )
 }
 
@@ -115,7 +116,7 @@ fn reserve(
     notes: &mut Notes,
     tables: &mut Tables,
     rank: u16,
-    call: &Record,
+    call: &NextCall<'_>,
 ) -> Result<Room, AllocError>
     requires { rank < length notes.old.lists }
     ensures notes { notes.new.lists ≡ notes.old.lists }
@@ -123,7 +124,7 @@ fn reserve(
     ensures noted { OnOk result (HasRoom notes.new rank call.now) }
     ensures room { IfOk result (λ room. HaveRoom head.now rank call.now room tables.new) }
 {
-    notes.reserve(rank, call)?;
+    notes.reserve(rank, call.record())?;
     tables.reserve(head, rank, call)
 }
 
@@ -133,7 +134,7 @@ fn note_wait(
     notes: &mut Notes,
     tables: &Tables,
     rank: u16,
-    call: &Record,
+    call: &NextCall<'_>,
     list: Option<usize>,
 )
     requires is_rank { rank < length notes.old.lists }
@@ -150,7 +151,7 @@ fn note_wait(
     let count = tables
         .active
         .starts_of(rank, waits_for(call.as_call()), &mut starts);
-    notes.note(rank, call, beside, &starts[..count]);
+    notes.note(rank, call.record(), beside, &starts[..count]);
 }
 
 /// Notes the rank's next call, whose wave has that list, with what the tables of the calls before it say of it.
@@ -159,7 +160,7 @@ fn note_call(
     notes: &mut Notes,
     tables: &Tables,
     rank: u16,
-    call: &Record,
+    call: &NextCall<'_>,
     list: Option<usize>,
 )
     requires is_rank { rank < length notes.old.lists }
@@ -171,7 +172,7 @@ fn note_call(
     ensures { GoOnBy notes.old.lists notes.new.lists rank call.now }
 {
     if waits_for(call.as_call()).is_empty() {
-        notes.note(rank, call, tables.beside(list), &[]);
+        notes.note(rank, call.record(), tables.beside(list), &[]);
     } else {
         note_wait(head, notes, tables, rank, call, list);
     }
@@ -184,7 +185,7 @@ fn put(
     tables: &mut Tables,
     rank: u16,
     place: u32,
-    call: &Record,
+    call: &NextCall<'_>,
     room: &Room,
 )
     requires is_rank { rank < length notes.old.lists }
@@ -341,6 +342,7 @@ impl Pairs {
     {
         // The ranks are few, so the calls are, and each probe's seat has a number of 32 bits.
         let _ranks = self.head.ranks();
+        let call = &NextCall::of(call);
         if let Some(fault) = next_fault(&self.head, &self.notes, &self.tables, rank, call) {
             return Err(PairFault::Refused(fault));
         }

@@ -7,45 +7,35 @@
 
 ghost use Rattle.std.specs.Prelude.{◌≡◌, ◌<◌, ◌^◌, ℕ, [], length, replicate, Option, None, Some, OnOk, IfSome, slice_get, slice_set, option_map, option_and_then, is_some};
 ghost use Rattle.mpigroup.specs.Groups.{Groups, group_rank_of};
+ghost use Rattle.mpicall.specs.Does.{does_of};
+ghost use Rattle.mpicall.specs.declared.call.Call.{Call as CallValue};
 ghost use Rattle.pairing.specs.declared.envelope.Half.TheVariants.{Recv as RecvHalf};
 ghost use Rattle.pairing.specs.Envelopes.{envelope_by};
 ghost use Rattle.pairing.specs.Recordings.{Lists};
 ghost use Rattle.pairing.specs.Probed.{probed_message, probed_envelope, HasProbesIf};
 ghost use Rattle.pairing.specs.Probing.{seat_for, Seating, AreSeated, HasRoomToSit, Sits, Follows};
 
-use crate::envelope::{Envelope, Half, Message, envelope_by};
+use crate::envelope::{Envelope, Half, Message, envelope_by, message_with};
+use crate::next_call::NextCall;
 use crate::numbering::Numbered;
 use indexmap::IndexMap;
-use mpicall::call::{Call, Peer};
-use mpicall::does::{Does, Side};
-use mpicall::record::Record;
+use mpicall::does::Does;
 use mpigroup::head::Head;
 use std::alloc::{AllocError, Global};
 
-/// The message that the call probes for.
-fn probed_message(call: &Call) -> Option<Message>
-    ensures { result ≡ probed_message call.now }
+/// The message that a call which does this probes for.
+#[inline(always)]
+pub(crate) fn probed_by(does: &Does) -> Option<Message>
+    ensures { (call : CallValue) → does_of call ≡ does.now → result ≡ probed_message call }
 {
-    match call.does() {
+    match *does {
         Does::Exchanges {
             comm,
-            probed: Some(
-                Side {
-                    peer: Peer::Rank(peer),
-                    tag,
-                },
-            ),
+            probed: Some(side),
             ..
-        } => Some(Message { comm, peer, tag }),
+        } => message_with(comm, side),
         _ => None,
     }
-}
-
-/// Whether the call probes for a message.
-pub(crate) fn is_probe(call: &Record) -> bool
-    ensures { result ≡ is_some (probed_message call.now) }
-{
-    probed_message(call.as_call()).is_some()
 }
 
 /// The envelope of a message that the rank receives, by what its call says of it. None where the rank is not
@@ -58,10 +48,10 @@ pub(crate) fn received_by(head: &Head, rank: u16, message: Message) -> Option<En
 }
 
 /// The envelope of the message that the rank's call probes for.
-pub(crate) fn probed_envelope(head: &Head, rank: u16, call: &Record) -> Option<Envelope>
+pub(crate) fn probed_envelope(head: &Head, rank: u16, call: &NextCall<'_>) -> Option<Envelope>
     ensures { result ≡ probed_envelope head.now rank call.now }
 {
-    let message = probed_message(call.as_call())?;
+    let message = call.probed()?;
     received_by(head, rank, message)
 }
 

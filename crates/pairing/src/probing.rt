@@ -12,9 +12,9 @@ ghost use Rattle.pairing.specs.Seated.{seat_in, IsProbing, HasRoomForProbe, HasR
 
 use crate::envelope::Envelope;
 use crate::matches::Halves;
-use crate::probes::{Probes, is_probe, probed_envelope};
+use crate::next_call::NextCall;
+use crate::probes::{Probes, probed_envelope};
 use indexmap::IndexMap;
-use mpicall::record::Record;
 use mpigroup::head::Head;
 use std::alloc::{AllocError, Global};
 
@@ -75,11 +75,11 @@ impl Probing {
     }
 
     /// Makes room for the call, if it is a probe. The table says the same after it.
-    pub(crate) fn reserve(&mut self, call: &Record) -> Result<(), AllocError>
+    pub(crate) fn reserve(&mut self, call: &NextCall<'_>) -> Result<(), AllocError>
         ensures kept { (groups : Groups) (recording : Lists) → IsProbing groups recording self.old → IsProbing groups recording self.new }
         ensures ok { OnOk result (HasRoomToProbe self.new call.now) }
     {
-        if is_probe(call) {
+        if call.probed().is_some() {
             self.reserve_seat()
         } else {
             Ok(())
@@ -98,7 +98,14 @@ impl Probing {
     }
 
     /// Puts in the rank's next call, at its place, with the halves that it has. It takes no memory.
-    pub(crate) fn put(&mut self, head: &Head, rank: u16, place: u32, call: &Record, halves: &Halves)
+    pub(crate) fn put(
+        &mut self,
+        head: &Head,
+        rank: u16,
+        place: u32,
+        call: &NextCall<'_>,
+        halves: &Halves,
+    )
         requires room { HasRoomToProbe self.old call.now }
         requires few { length self.old.probes.seats.items < 2 ^ 32 }
         requires received { option_map (λ half. half.envelope) halves.now.recv ≡ envelope_of head.now rank RecvHalf call.now }

@@ -1,6 +1,7 @@
 //! A call that is kept, seen in place.
 
 ghost use Rattle.std.specs.Prelude.{◌≡◌, length, slice_get};
+ghost use Rattle.mpicall.specs.Does.{does_of};
 ghost use Rattle.mpicall.specs.Ending.{ends_list};
 ghost use Rattle.pairing.specs.Envelopes.{message_of};
 ghost use Rattle.pairing.specs.Requests.{starts, completes};
@@ -11,6 +12,7 @@ ghost use Rattle.pairing.specs.Probed.{probed_message};
 use crate::envelope::{Half, Message};
 use crate::note::Note;
 use mpicall::call::{Kind, Mode};
+use mpicall::does::Does;
 use mpicall::record::Record;
 use std::marker::Model;
 
@@ -41,6 +43,14 @@ impl<'a> StoredCall<'a> {
         ensures { result ≡ self.now }
     {
         self.note.record()
+    }
+
+    /// What the call does over its communicator.
+    #[inline(always)]
+    pub fn does(&self) -> Does
+        ensures { result ≡ does_of self.now }
+    {
+        self.note.does()
     }
 
     /// The message that a half of the call sends or receives. None where the call has no such half, and

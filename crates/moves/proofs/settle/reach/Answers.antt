@@ -1,7 +1,11 @@
-use Rattle.std.proofs.Common.{◌≡◌, ◌+◌, ◌<◌, ℕ, Option, Some, None, length, ap, subst, ◌∙◌, arith}
+use Rattle.std.proofs.Common.{◌≡◌, ◌+◌, ◌<◌, ℕ, Option, Some, None, length, refl, ap, subst, ◌∙◌, arith}
 use Rattle.std.specs.Prelude.{IfSome}
 use Rattle.std.proofs.lemmas.Option.{none-some, same_Some}
-use Rattle.moves.specs.Waiting.{WaitLists, woken_comm, comm_list}
+use Rattle.mpigroup.specs.Groups.{Groups}
+use Rattle.pairing.specs.Recordings.{Lists}
+use Rattle.pairing.specs.Partners.{partner_of}
+use Rattle.pairing.specs.declared.envelope.Half.TheVariants.{Send as SendHalf, Recv as RecvHalf}
+use Rattle.moves.specs.Waiting.{WaitLists, woken_partner, woken_peers, woken_comm, comm_list}
 use Rattle.moves.proofs.WakeLemmas.{all_woken, one_by_one}
 use Rattle.moves.proofs.SettleLemmas.{partners_room, reach_hand, reach_counts}
 use Rattle.moves.proofs.settle.reach.Goals as goal
@@ -15,13 +19,19 @@ if_known : (done : Option ℕ) (comms awaited lists : ℕ) → 1 + awaited + com
 if_known None comms awaited lists e h = tt
 if_known (Some c) comms awaited lists e h = omega (arith, e, h)
 
+-- who waits for the messages is woken one by one
+peers : (groups : Groups) (recording : Lists) (rank place : ℕ) (w woken : WaitLists) → woken ≡ woken_peers groups recording rank place w → woken ≡ all_woken groups recording rank place w None
+peers groups recording rank place w woken e =
+    let sender : WaitLists = woken_partner w (partner_of groups recording rank place SendHalf) in
+    one_by_one groups recording rank place w sender (woken_partner sender (partner_of groups recording rank place RecvHalf)) woken refl refl e
+
 pub wake_members-requires : goal.wake_members-requires
 wake_members-requires c =
     let p = c.args.pairs.now in
     let w = c.args.waiters.now in
-    let both = one_by_one p.groups p.recording c.args.rank c.args.place w c.wake_partner.new.waiters c.wake_partner-2.new.waiters c.wake_prober.new.waiters c.wake_partner.ensures c.wake_partner-2.ensures c.wake_prober.ensures in
+    let both = peers p.groups p.recording c.args.rank c.args.place w c.wake_peers.new.waiters c.wake_peers.ensures in
     let room = partners_room p.groups p.recording c.args.rank c.args.place w c.requires.has_lists in
-    if_known c.reach-complete.result (length p.groups) (length c.wake_prober.new.waiters.awaited) (length c.wake_prober.new.waiters.lists)
+    if_known c.reach-complete.result (length p.groups) (length c.wake_peers.new.waiters.awaited) (length c.wake_peers.new.waiters.lists)
     (omega (arith, room.0, room.1, ap (λ (x : WaitLists). length x.lists) both, ap (λ (x : WaitLists). length x.awaited) both, c.requires.has_lists.lists, c.requires.has_lists.awaited))
     c.reach-complete.ensures.comm
 
@@ -29,7 +39,7 @@ pub returns : goal.returns
 returns c =
     let p = c.args.pairs.now in
     let w = c.args.waiters.now in
-    let both = one_by_one p.groups p.recording c.args.rank c.args.place w c.wake_partner.new.waiters c.wake_partner-2.new.waiters c.wake_prober.new.waiters c.wake_partner.ensures c.wake_partner-2.ensures c.wake_prober.ensures in
+    let both = peers p.groups p.recording c.args.rank c.args.place w c.wake_peers.new.waiters c.wake_peers.ensures in
     let all : c.wake_members.new.waiters ≡ all_woken p.groups p.recording c.args.rank c.args.place w c.reach-complete.result = c.wake_members.ensures ∙ ap (λ (x : WaitLists). woken_comm x c.reach-complete.result) both in
     let is_known = known (length p.groups) c.reach-complete.result c.reach-complete.ensures.comm in
     record {

@@ -1,9 +1,6 @@
 -- The first fault is told by the tables of the calls before it.
-use Rattle.std.proofs.Common.{◌∙◌, sym, ap}
-use Rattle.mpicall.specs.declared.call.Call.{Call}
-use Rattle.pairing.specs.Faults.{fault_of}
+use Rattle.std.proofs.Common.{◌∙◌, sym}
 use Rattle.pairing.specs.Notes.{recording_of}
-use Rattle.pairing.specs.Recordings.{calls_of}
 use Rattle.pairing.proofs.KeptLemmas.{is_over_by, count_noted}
 use Rattle.pairing.proofs.pairs.next_fault.Goals as goal
 
@@ -15,6 +12,5 @@ returns c =
       value =
           c.first_fault.ensures.value (recording_of notes) others.held others.active
           (c.count-count.ensures.value ∙ sym (count_noted notes c.args.rank))
-          (c.is_over-is_over.ensures ∙ is_over_by c.args.head.now notes c.args.tables.now c.args.rank c.requires.is_rank c.requires.kept)
-          ∙ ap (λ (call : Call). fault_of c.args.head.now c.args.rank (calls_of (recording_of notes) c.args.rank) call) c.as_call.ensures.value;
+          (c.is_over-is_over.ensures ∙ is_over_by c.args.head.now notes c.args.tables.now c.args.rank c.requires.is_rank c.requires.kept);
     }
