@@ -59,6 +59,7 @@ fn meet_own(
 }
 
 /// The same for a half that the call may not have.
+#[inline(always)]
 fn meet_half(
     head: &Head,
     notes: &mut Notes,
