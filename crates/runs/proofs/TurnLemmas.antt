@@ -1,11 +1,11 @@
 -- What the turns over the sources keep.
-use Rattle.std.proofs.Common.{◌≡◌, ◌≢◌, ℕ, ◌+◌, ◌<◌, ◌≤◌, Bool, true, false, All, take, Option, Some, None, List, [], ◌∷◌, ◌++◌, length, map, get_or, slice_get, slice_set, refl, sym, ap, subst, ◌∙◌, ⊎_elim, arith, append_assoc, append-nil}
+use Rattle.std.proofs.Common.{◌≡◌, ◌≢◌, ℕ, zero, suc, ◌<◌, ◌≤◌, Bool, true, false, All, take, Option, Some, None, List, [], ◌∷◌, ◌++◌, length, map, replicate, get_or, slice_get, slice_set, refl, sym, ap, subst, ◌∙◌, ⊎_elim, arith}
 use Rattle.std.proofs.lemmas.Bool.{cases_eq}
-use Rattle.std.proofs.lemmas.List.{length-map, length-set, map-append, take_all}
-use Rattle.std.proofs.lemmas.List.Elements.{All-get_or, All-push}
+use Rattle.std.proofs.lemmas.List.{length-map, length-set, take_all}
+use Rattle.std.proofs.lemmas.List.Elements.{All-nil, All-cons, All-head, All-tail, All-set, All-get_or}
 use Rattle.std.proofs.lemmas.Option.{slice_get-get_or, slice_get_within, get_or_from_slice_get}
 use Rattle.mpicall.specs.Ending.{ends_list}
-use Rattle.mpicall.specs.Source.{coming}
+use Rattle.mpicall.specs.Source.{coming, ended}
 use Rattle.mpicall.specs.Trace.{Trace}
 use Rattle.mpicall.specs.declared.call.Call.{Call}
 use Rattle.mpicall.specs.declared.fault.SourceFault.{SourceFault}
@@ -21,10 +21,10 @@ use Rattle.rankfeed.proofs.ItemLemmas.{last_item-push}
 use Rattle.gather.specs.Collected.{Kept, nothing_kept, torn, EntersRecord, IsKeptIn, LeavesOthers}
 use Rattle.gather.specs.Fed.{marked, Continues, IsFed}
 use Rattle.gather.specs.Reads.{IsReading}
-use Rattle.runs.specs.Turns.{IsWhole, IsGoing, CameOf, IsTurnOf, source_of, IsBegun, IsOver, IsLater, AreTurnsOf, AreLater, IsReadOf, AreReadOf}
+use Rattle.runs.specs.Turns.{AtTurn, at_turn, at_turns, first_turn, IsReady, IsWhole, IsGoing, CameOf, IsTurnOf, source_of, IsBegun, IsOver, IsLater, AreTurnsOf, AreLater, IsReadOf, AreReadOf}
 use Rattle.gather.specs.declared.fault.RankFault.TheVariants.{OfSource}
 use Rattle.gather.specs.declared.ledger.Stepped.{Stepped}
-use Rattle.runs.specs.declared.turn.Turn.{Turn}
+use Rattle.runs.specs.declared.turn.Turn.{Turn as Progress}
 use Rattle.gather.proofs.CollectedLemmas.{end_mark_of-push, mark_sealed, nothing_new, record_leaves, record_own, torn_leaves, torn_own}
 use Rattle.gather.proofs.FedLemmas.{begins, marked_calls}
 use Rattle.runs.proofs.HeldLemmas.{found_at, same_ended, mapped_at}
@@ -58,7 +58,7 @@ never_sealed items fault is = let e : Some (Torn fault) ≡ Some Sealed = sym (e
 
 -- One record more of a source, or its end.
 
-module _ {I : Type 0} (left : I → Option (List ℕ)) (may_stop : ℕ → ℕ → Type 0) (rank : ℕ) (old new : Turn I) (before : Kept) where
+module _ {I : Type 0} (left : I → Option (List ℕ)) (may_stop : ℕ → ℕ → Type 0) (rank : ℕ) (old new : AtTurn I) (before : Kept) where
   came_going : (source : Source I) (items : List Item) → old.over ≡ false → CameOf left (may_stop rank) source old items old.over → IsGoing left source old items
   came_going source items was came = subst (λ (over : Bool). CameOf left (may_stop rank) source old items over) was came
 
@@ -68,12 +68,13 @@ module _ {I : Type 0} (left : I → Option (List ℕ)) (may_stop : ℕ → ℕ �
   comes_whole : (source : Source I) (items : List Item) → new.over ≡ true → IsWhole (coming left source) (may_stop rank) items → CameOf left (may_stop rank) source new items new.over
   comes_whole source items is whole = subst (λ (over : Bool). CameOf left (may_stop rank) source new items over) (sym is) whole
 
-  pub later_record : (after : Kept) (call : Call) (answer : Stepped) → rank < length before.recording → old.over ≡ false → new.over ≡ false → new.done ≡ ends_list call → EntersRecord rank call before answer after →
+  pub later_record : (after : Kept) (call : Call) (answer : Stepped) → rank < length before.recording → ended new.source ≡ None → old.over ≡ false → new.over ≡ false → new.done ≡ ends_list call → EntersRecord rank call before answer after →
       ((start : Source I) (items : List Item) → end_the_list items ≡ old.done → IsReading left start old.source items old.line → IsReading left start new.source (items ++ Entry call ∷ []) new.line) →
       IsLater left may_stop rank old before new after
-  later_record after call answer within was is done enters reads =
+  later_record after call answer within fresh was is done enters reads =
       let leaves = record_leaves rank before after call answer enters in record {
         leaves = leaves;
+        ready = λ ready going. fresh;
         turn = λ source of. let going = came_going source of.items was of.came in record {
           items = of.items ++ Entry call ∷ [];
           places = leaves.places ∙ of.places ∙ sym leaves.ranks;
@@ -87,6 +88,7 @@ module _ {I : Type 0} (left : I → Option (List ℕ)) (may_stop : ℕ → ℕ �
       IsLater left may_stop rank old before new before
   later_sealed end is_end was is done ends = record {
     leaves = nothing_new rank before before refl;
+    ready = λ ready going. let e : true ≡ false = sym is ∙ going in absurd cc;
     turn = λ source of. let going = came_going source of.items was of.came in record {
       items = of.items ++ Mark Sealed ∷ [];
       places = of.places;
@@ -104,6 +106,7 @@ module _ {I : Type 0} (left : I → Option (List ℕ)) (may_stop : ℕ → ℕ �
   later_torn after end fault is_end within was is tears ends =
       let leaves = torn_leaves rank before after (OfSource fault) tears in record {
         leaves = leaves;
+        ready = λ ready going. let e : true ≡ false = sym is ∙ going in absurd cc;
         turn = λ source of. let going = came_going source of.items was of.came in record {
           items = of.items ++ Mark (Torn fault) ∷ [];
           places = leaves.places ∙ of.places ∙ sym leaves.ranks;
@@ -117,19 +120,20 @@ module _ {I : Type 0} (left : I → Option (List ℕ)) (may_stop : ℕ → ℕ �
 
 -- Later times follow one another.
 
-pub are_later_still : {I : Type 0} (left : I → Option (List ℕ)) (may_stop : ℕ → ℕ → Type 0) (old now new : List (Turn I)) (before then after : Kept) → AreLater left may_stop old before now then → AreLater left may_stop now then new after → AreLater left may_stop old before new after
+pub are_later_still : {I : Type 0} (left : I → Option (List ℕ)) (may_stop : ℕ → ℕ → Type 0) (old now new : List (AtTurn I)) (before then after : Kept) → AreLater left may_stop old before now then → AreLater left may_stop now then new after → AreLater left may_stop old before new after
 are_later_still left may_stop old now new before then after first next = record {
   count = next.count ∙ first.count;
   ranks = next.ranks ∙ first.ranks;
   places = next.places ∙ first.places;
   reading = next.reading ∙ first.reading;
   groups = next.groups ∙ first.groups;
+  ready = λ ready. next.ready (first.ready ready);
   turns = λ sources all. next.turns sources (first.turns sources all);
 }
 
 -- One turn goes on, and the others stay.
 
-other_stays : {I : Type 0} (left : I → Option (List ℕ)) (may_stop : ℕ → ℕ → Type 0) (rank other : ℕ) (source : Source I) (turn : Turn I) (before after : Kept) → LeavesOthers rank before after → other ≢ rank → IsTurnOf left may_stop other source turn before → IsTurnOf left may_stop other source turn after
+other_stays : {I : Type 0} (left : I → Option (List ℕ)) (may_stop : ℕ → ℕ → Type 0) (rank other : ℕ) (source : Source I) (turn : AtTurn I) (before after : Kept) → LeavesOthers rank before after → other ≢ rank → IsTurnOf left may_stop other source turn before → IsTurnOf left may_stop other source turn after
 other_stays left may_stop rank other source turn before after leaves differs of = record {
   items = of.items;
   places = leaves.places ∙ of.places ∙ sym leaves.ranks;
@@ -137,7 +141,7 @@ other_stays left may_stop rank other source turn before after leaves differs of 
   kept_so = λ calm. rw (leaves.calls other differs, leaves.faults other differs, leaves.groups) (of.kept_so (leaves.unwanted calm));
 }
 
-one_goes_on : {I : Type 0} (left : I → Option (List ℕ)) (may_stop : ℕ → ℕ → Type 0) (turns : List (Turn I)) (rank : ℕ) (was now : Turn I) (before after : Kept) (sources : List (Source I)) (other : ℕ) (source : Source I) (turn : Turn I) → rank < length turns → slice_get turns rank ≡ Some was → IsLater left may_stop rank was before now after → AreTurnsOf left may_stop sources turns before → slice_get sources other ≡ Some source → slice_get (slice_set turns rank now) other ≡ Some turn → IsTurnOf left may_stop other source turn after
+one_goes_on : {I : Type 0} (left : I → Option (List ℕ)) (may_stop : ℕ → ℕ → Type 0) (turns : List (AtTurn I)) (rank : ℕ) (was now : AtTurn I) (before after : Kept) (sources : List (Source I)) (other : ℕ) (source : Source I) (turn : AtTurn I) → rank < length turns → slice_get turns rank ≡ Some was → IsLater left may_stop rank was before now after → AreTurnsOf left may_stop sources turns before → slice_get sources other ≡ Some source → slice_get (slice_set turns rank now) other ≡ Some turn → IsTurnOf left may_stop other source turn after
 one_goes_on {I = I} left may_stop turns rank was now before after sources other source turn within at later all at_source at_turn =
     ⊎_elim
     (λ (same : other ≡ rank).
@@ -145,13 +149,16 @@ one_goes_on {I = I} left may_stop turns rank was now before after sources other 
     let is : now ≡ turn = cc in
     let here : slice_get sources rank ≡ Some source = ap (slice_get sources) (sym same) ∙ at_source in
     subst (λ (n : ℕ). IsTurnOf left may_stop n source turn after) (sym same)
-    (subst (λ (t : Turn I). IsTurnOf left may_stop rank source t after) is (later.turn source (all.each rank source was here at))))
+    (subst (λ (t : AtTurn I). IsTurnOf left may_stop rank source t after) is (later.turn source (all.each rank source was here at))))
     (λ (differs : other ≡ rank → ⊥).
     other_stays left may_stop rank other source turn before after later.leaves differs
     (all.each other source turn at_source (sym (slice_get-set_other turns rank other now differs) ∙ at_turn)))
     (cases_eq other rank)
 
-pub set_later : {I : Type 0} (left : I → Option (List ℕ)) (may_stop : ℕ → ℕ → Type 0) (turns : List (Turn I)) (place rank : ℕ) (was now : Turn I) (before after : Kept) → place ≡ rank → rank < length turns → was ≡ get_or turns place was → IsLater left may_stop rank was before now after → AreLater left may_stop turns before (slice_set turns place now) after
+all_at : {X : Type 0} (P : X → Type 0) (xs : List X) (k : ℕ) (x : X) → All P xs → slice_get xs k ≡ Some x → P x
+all_at P xs k x all at = subst P (get_or_from_slice_get xs k x x at) (All-get_or P xs k x (slice_get_within xs k x at) all)
+
+pub set_later : {I : Type 0} (left : I → Option (List ℕ)) (may_stop : ℕ → ℕ → Type 0) (turns : List (AtTurn I)) (place rank : ℕ) (was now : AtTurn I) (before after : Kept) → place ≡ rank → rank < length turns → was ≡ get_or turns place was → IsLater left may_stop rank was before now after → AreLater left may_stop turns before (slice_set turns place now) after
 set_later left may_stop turns place rank was now before after same within read later =
     let at : slice_get turns rank ≡ Some was = slice_get-get_or turns rank was within ∙ ap Some (ap (λ (n : ℕ). get_or turns n was) (sym same) ∙ sym read) in
     rw same (record {
@@ -160,6 +167,7 @@ set_later left may_stop turns place rank was now before after same within read l
       places = later.leaves.places;
       reading = later.leaves.reading;
       groups = later.leaves.groups;
+      ready = λ ready. All-set (λ turn. IsReady turn) turns rank now (later.ready (all_at (λ turn. IsReady turn) turns rank was ready at)) ready;
       turns = λ sources all. record {
         count = length-set turns rank now ∙ all.count;
         each = λ other source turn at_source at_turn. one_goes_on left may_stop turns rank was now before after sources other source turn within at later all at_source at_turn;
@@ -168,57 +176,87 @@ set_later left may_stop turns place rank was now before after same within read l
 
 -- Turns that begin.
 
-pub one_begun : {I : Type 0} (turns more : List (Turn I)) (turn : Turn I) → All (λ turn. IsBegun turn) turns → IsBegun turn → more ≡ turns ++ turn ∷ [] → All (λ turn. IsBegun turn) more
-one_begun turns more turn all one is = rw is (All-push (λ turn. IsBegun turn) turns turn all one)
+-- the sources with their first turns
+pub first_sources : {I : Type 0} (sources : List (Source I)) → map source_of (at_turns sources (replicate (length sources) first_turn)) ≡ sources
+first_sources [] = refl
+first_sources (source ∷ sources) = ap (λ ss. source ∷ ss) (first_sources sources)
 
--- one source more has its turn
-pub one_more_source : {I : Type 0} (turns more : List (Turn I)) (turn : Turn I) (source : Source I) (sources now rest : List (Source I)) → map source_of turns ++ now ≡ sources → now ≡ source ∷ rest → source_of turn ≡ source → more ≡ turns ++ turn ∷ [] → map source_of more ++ rest ≡ sources
-one_more_source turns more turn source sources now rest so begins same is =
-    ap (λ ts. map source_of ts ++ rest) is
-    ∙ ap (λ ss. ss ++ rest) (map-append source_of turns (turn ∷ []))
-    ∙ append_assoc (map source_of turns) (source_of turn ∷ []) rest
-    ∙ ap (λ s. map source_of turns ++ s ∷ rest) same
-    ∙ ap (λ ss. map source_of turns ++ ss) (sym begins) ∙ so
+pub first_begun : {I : Type 0} (sources : List (Source I)) → All (λ turn. IsBegun turn) (at_turns sources (replicate (length sources) first_turn))
+first_begun [] = All-nil (λ turn. IsBegun turn)
+first_begun (source ∷ sources) = All-cons (λ turn. IsBegun turn) (at_turn source first_turn) (at_turns sources (replicate (length sources) first_turn)) (refl, refl, refl) (first_begun sources)
 
-pub all_sources : {I : Type 0} (turns : List (Turn I)) (sources now : List (Source I)) → map source_of turns ++ now ≡ sources → length now ≡ 0 → map source_of turns ≡ sources
-all_sources turns sources [] so none = sym (append-nil (map source_of turns)) ∙ so
-all_sources turns sources (s ∷ ss) so none = absurd (omega (arith, none))
+pub first_ready : {I : Type 0} (sources : List (Source I)) → All (λ source. ended source ≡ None) sources → All (λ turn. IsReady turn) (at_turns sources (replicate (length sources) first_turn))
+first_ready [] fresh = All-nil (λ turn. IsReady turn)
+first_ready (source ∷ sources) fresh =
+    All-cons (λ turn. IsReady turn) (at_turn source first_turn) (at_turns sources (replicate (length sources) first_turn))
+    (λ going. All-head (λ one. ended one ≡ None) source sources fresh)
+    (first_ready sources (All-tail (λ one. ended one ≡ None) source sources fresh))
 
-all_at : {X : Type 0} (P : X → Type 0) (xs : List X) (k : ℕ) (x : X) → All P xs → slice_get xs k ≡ Some x → P x
-all_at P xs k x all at = subst P (get_or_from_slice_get xs k x x at) (All-get_or P xs k x (slice_get_within xs k x at) all)
+-- One source and its turn among all.
 
-turn_begun : {I : Type 0} (left : I → Option (List ℕ)) (may_stop : ℕ → ℕ → Type 0) (rank : ℕ) (turn : Turn I) (kept : Kept) → kept ≡ nothing_kept kept.reading kept.groups → IsBegun turn → IsTurnOf left may_stop rank turn.source turn kept
-turn_begun left may_stop rank turn kept nothing begun = record {
+pub turns_count : {I : Type 0} (sources : List (Source I)) (turns : List Progress) → length turns ≡ length sources → length (at_turns sources turns) ≡ length sources
+turns_count [] turns same = refl
+turns_count (source ∷ sources) [] same = absurd (omega (arith, same))
+turns_count (source ∷ sources) (turn ∷ turns) same = ap (λ n. suc n) (turns_count sources turns (omega (arith, same)))
+
+pub turns_set : {I : Type 0} (sources : List (Source I)) (turns : List Progress) (k : ℕ) (source : Source I) (turn : Progress) → at_turns (slice_set sources k source) (slice_set turns k turn) ≡ slice_set (at_turns sources turns) k (at_turn source turn)
+turns_set [] turns k source turn = refl
+turns_set (s ∷ sources) [] zero source turn = refl
+turns_set (s ∷ sources) [] (suc k) source turn = refl
+turns_set (s ∷ sources) (t ∷ turns) zero source turn = refl
+turns_set (s ∷ sources) (t ∷ turns) (suc k) source turn = ap (λ ts. at_turn s t ∷ ts) (turns_set sources turns k source turn)
+
+pub turns_read : {I : Type 0} (sources : List (Source I)) (turns : List Progress) (k : ℕ) (source : Source I) (turn : Progress) → source ≡ get_or sources k source → turn ≡ get_or turns k turn → at_turn source turn ≡ get_or (at_turns sources turns) k (at_turn source turn)
+turns_read [] turns k source turn is_source is_turn = refl
+turns_read (s ∷ sources) [] k source turn is_source is_turn = refl
+turns_read (s ∷ sources) (t ∷ turns) zero source turn is_source is_turn = ap (λ one. at_turn one turn) is_source ∙ ap (λ one. at_turn s one) is_turn
+turns_read (s ∷ sources) (t ∷ turns) (suc k) source turn is_source is_turn = turns_read sources turns k source turn is_source is_turn
+
+pub turns_over : {I : Type 0} (sources : List (Source I)) (turns : List Progress) → All (λ turn. turn.over ≡ true) turns → All (λ turn. IsOver turn) (at_turns sources turns)
+turns_over [] turns over = All-nil (λ turn. IsOver turn)
+turns_over (source ∷ sources) [] over = All-nil (λ turn. IsOver turn)
+turns_over (source ∷ sources) (turn ∷ turns) over =
+    All-cons (λ it. IsOver it) (at_turn source turn) (at_turns sources turns) (All-head (λ it. it.over ≡ true) turn turns over)
+    (turns_over sources turns (All-tail (λ it. it.over ≡ true) turn turns over))
+
+-- one turn more was taken of all
+pub ready_at : {I : Type 0} (sources : List (Source I)) (turns : List Progress) (k : ℕ) (source : Source I) (turn : Progress) → k < length sources → length turns ≡ length sources → source ≡ get_or sources k source → turn ≡ get_or turns k turn → All (λ it. IsReady it) (at_turns sources turns) → IsReady (at_turn source turn)
+ready_at sources turns k source turn within same is_source is_turn all =
+    subst (λ it. IsReady it) (sym (turns_read sources turns k source turn is_source is_turn))
+    (All-get_or (λ it. IsReady it) (at_turns sources turns) k (at_turn source turn) (omega (arith, within, turns_count sources turns same)) all)
+
+turn_begun : {I : Type 0} (left : I → Option (List ℕ)) (may_stop : ℕ → ℕ → Type 0) (rank : ℕ) (turn : AtTurn I) (kept : Kept) → kept ≡ nothing_kept kept.reading kept.groups → IsReady turn → IsBegun turn → IsTurnOf left may_stop rank turn.source turn kept
+turn_begun left may_stop rank turn kept nothing ready begun = record {
   items = [];
   places = subst (λ (k : Kept). length k.faults ≡ length k.recording) (sym nothing) (places_at_first kept.reading kept.groups);
   came = subst (λ (over : Bool). CameOf left (may_stop rank) turn.source turn [] over) (sym begun.2) (record {
-    read = record { fresh = turn.fresh begun.2; told = begins (coming left turn.source) [] refl; at = rw begun.0 refl };
+    read = record { fresh = ready begun.2; told = begins (coming left turn.source) [] refl; at = rw begun.0 refl };
     done = sym begun.1;
   });
   kept_so = λ calm. subst (λ (k : Kept). IsKeptIn rank [] k) (sym nothing) (kept_at_first kept.reading kept.groups rank);
 }
 
-all_begun : {I : Type 0} (left : I → Option (List ℕ)) (may_stop : ℕ → ℕ → Type 0) (sources : List (Source I)) (turns : List (Turn I)) (kept : Kept) → kept ≡ nothing_kept kept.reading kept.groups → map source_of turns ≡ sources → All (λ turn. IsBegun turn) turns → AreTurnsOf left may_stop sources turns kept
-all_begun {I = I} left may_stop sources turns kept nothing are all = record {
+all_begun : {I : Type 0} (left : I → Option (List ℕ)) (may_stop : ℕ → ℕ → Type 0) (sources : List (Source I)) (turns : List (AtTurn I)) (kept : Kept) → kept ≡ nothing_kept kept.reading kept.groups → map source_of turns ≡ sources → All (λ turn. IsReady turn) turns → All (λ turn. IsBegun turn) turns → AreTurnsOf left may_stop sources turns kept
+all_begun {I = I} left may_stop sources turns kept nothing are ready all = record {
   count = sym (length-map turns source_of) ∙ ap length are;
   each = λ rank source turn at_source at_turn.
       let there : Some turn.source ≡ Some source = sym (mapped_at source_of turns rank turn at_turn) ∙ ap (λ (ss : List (Source I)). slice_get ss rank) are ∙ at_source in
       let same : turn.source ≡ source = cc in
-      subst (λ (one : Source I). IsTurnOf left may_stop rank one turn kept) same (turn_begun left may_stop rank turn kept nothing (all_at (λ turn. IsBegun turn) turns rank turn all at_turn));
+      subst (λ (one : Source I). IsTurnOf left may_stop rank one turn kept) same (turn_begun left may_stop rank turn kept nothing (all_at (λ turn. IsReady turn) turns rank turn ready at_turn) (all_at (λ turn. IsBegun turn) turns rank turn all at_turn));
 }
 
 -- Turns that are over.
 
-read_by : {I : Type 0} (left : I → Option (List ℕ)) (may_stop : ℕ → ℕ → Type 0) (rank : ℕ) (source : Source I) (turn : Turn I) (kept : Kept) → turn.over ≡ true → IsTurnOf left may_stop rank source turn kept → IsReadOf left may_stop rank source kept
+read_by : {I : Type 0} (left : I → Option (List ℕ)) (may_stop : ℕ → ℕ → Type 0) (rank : ℕ) (source : Source I) (turn : AtTurn I) (kept : Kept) → turn.over ≡ true → IsTurnOf left may_stop rank source turn kept → IsReadOf left may_stop rank source kept
 read_by left may_stop rank source turn kept over of = record {
   items = of.items;
   whole = subst (λ (o : Bool). CameOf left (may_stop rank) source turn of.items o) over of.came;
   kept_so = of.kept_so;
 }
 
-pub all_read : {I : Type 0} (left : I → Option (List ℕ)) (may_stop : ℕ → ℕ → Type 0) (sources : List (Source I)) (begun over : List (Turn I)) (first last : Kept) → length first.recording ≡ length sources → first ≡ nothing_kept first.reading first.groups → map source_of begun ≡ sources → All (λ turn. IsBegun turn) begun → AreLater left may_stop begun first over last → All (λ turn. IsOver turn) over → AreReadOf left may_stop sources last
-all_read left may_stop sources begun over first last one nothing are all later ends =
-    let turns = later.turns sources (all_begun left may_stop sources begun first nothing are all) in record {
+pub all_read : {I : Type 0} (left : I → Option (List ℕ)) (may_stop : ℕ → ℕ → Type 0) (sources : List (Source I)) (begun over : List (AtTurn I)) (first last : Kept) → length first.recording ≡ length sources → first ≡ nothing_kept first.reading first.groups → map source_of begun ≡ sources → All (λ turn. IsReady turn) begun → All (λ turn. IsBegun turn) begun → AreLater left may_stop begun first over last → All (λ turn. IsOver turn) over → AreReadOf left may_stop sources last
+all_read left may_stop sources begun over first last one nothing are ready all later ends =
+    let turns = later.turns sources (all_begun left may_stop sources begun first nothing are ready all) in record {
       one_a_rank = later.ranks ∙ one;
       places = later.places ∙ subst (λ (k : Kept). length k.faults ≡ length k.recording) (sym nothing) (places_at_first first.reading first.groups) ∙ sym later.ranks;
       each = λ rank source at.

@@ -13,6 +13,7 @@ ghost use Rattle.runs.specs.Runs.{receipt_of, of_close, IsOutcomeOfFeeds, Refuse
 
 use crate::gathering::in_threads;
 use crate::threads::{Fed, NotStarted};
+use crate::turn::Turn;
 use crate::turns::read_in_turns;
 use gather::fault::RunFault;
 use gather::gate::Gate;
@@ -127,7 +128,7 @@ where
     ensures ok { IfOk result (IsOutcomeOfFeeds I.left (G.may_stop gate.now) sources.items reading head) }
     ensures fault { IfErr result (λ fault. RefusesFeeds I.left (G.may_stop gate.now) sources.items head (of_close fault)) }
 {
-    let Ok(turns) = Vec::with_capacity(alloc, sources.len()) else {
+    let Ok(turns) = vec![in alloc; Turn::first(); sources.len()] else {
         return Err(CloseFault::Memory);
     };
     match Ledger::new(alloc, head, reading) {

@@ -1,17 +1,26 @@
-//! A rank's source that is read while those of other ranks are read in between.
+//! How far the source of a rank was read, while those of other ranks are read in between.
 
-ghost use Rattle.std.specs.Prelude.{◌≡◌, false, None};
-ghost use Rattle.mpicall.specs.Source.{ended};
+ghost use Rattle.std.specs.Prelude.{◌≡◌};
+ghost use Rattle.runs.specs.Turns.{first_turn};
 
-use mpicall::source::Source;
-
-/// A rank's source, the number of the next record, whether the last record ended the list, and whether the source
-/// has ended.
-#[derive(Drop)]
-pub(crate) struct Turn<I> {
-    pub(crate) source: Source<I>,
+/// The number of the next record of a rank's source, whether the last record ended the list, and whether the source
+/// has ended. The source itself stays in the list of all sources.
+#[derive(Clone, Copy)]
+pub(crate) struct Turn {
     pub(crate) line: u32,
     pub(crate) done: bool,
     pub(crate) over: bool,
-    ghost fresh: { over ≡ false → ended source ≡ None },
+}
+
+impl Turn {
+    /// The turn of a source of which nothing was read.
+    pub(crate) fn first() -> Turn
+        ensures { result ≡ first_turn }
+    {
+        Turn {
+            line: 0,
+            done: false,
+            over: false,
+        }
+    }
 }

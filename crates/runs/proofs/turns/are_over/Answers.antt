@@ -1,12 +1,12 @@
 -- One turn more was looked at, or all were.
-use Rattle.std.proofs.Common.{rules, arith, subst}
-use Rattle.runs.specs.Turns.{IsOver}
+use Rattle.std.proofs.Common.{◌≡◌, true, arith}
 use Rattle.std.proofs.lemmas.List.Elements.{All-more}
+use Rattle.runs.specs.Turns.{first_turn}
 use Rattle.runs.proofs.TurnLemmas.{over_all}
 use Rattle.runs.proofs.turns.are_over.Goals as goal
 
 pub loop-turn-preserved : goal.loop-turn-preserved
-loop-turn-preserved g c = All-more (λ turn. IsOver turn) c.args.turns.now c.loop-turn.turn-index _ (omega arith) c.loop-turn.invariant (subst (λ turn. IsOver turn) c.turn-item.is (search rules))
+loop-turn-preserved c = All-more (λ turn. turn.over ≡ true) c.args.turns.now c.loop-turn.turn-index first_turn (omega arith) c.loop-turn.invariant c.if-not-turn.false
 
 pub returns : goal.returns
-returns g c h = over_all (λ turn. IsOver turn) c.args.turns.now c.loop-turn.turn-index (omega arith) c.loop-turn.invariant
+returns c h = over_all (λ turn. turn.over ≡ true) c.args.turns.now c.loop-turn.turn-index (omega arith) c.loop-turn.invariant

@@ -1,6 +1,11 @@
 -- The turns are later ones.
-use Rattle.runs.specs.Turns.{AreLater}
+use Rattle.std.proofs.Common.{◌≡◌, vec_len}
+use Rattle.runs.specs.Turns.{at_turns, AreLater}
 use Rattle.runs.proofs.turns.take_a_round.Given as goal
 
 abbrev pub invariant-loop-rank : goal.invariant-loop-rank
-invariant-loop-rank g l = AreLater g.I.Input.left (g.G.Gate.may_stop l.gate) l.fn.turns.items l.fn.ledger l.turns.items l.ledger
+invariant-loop-rank g l = record {
+  later : AreLater g.I.Input.left (g.G.Gate.may_stop l.gate) (at_turns l.fn.sources.items l.fn.turns.items) l.fn.ledger (at_turns l.sources.items l.turns.items) l.ledger;
+  sources : vec_len l.sources ≡ vec_len l.fn.sources;
+  turns : vec_len l.turns ≡ vec_len l.fn.turns;
+}
