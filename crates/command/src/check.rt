@@ -87,7 +87,7 @@ fn open_sources<'a, P: Opener>(
         ≡ map (λ path. option_map trace_of (P.told opener.now path.now)) paths.now) }
     ensures fault { IfErr result (IsFaultOfOpening (P.told opener.now) paths.now) }
 {
-    let mut sources = Vec::new(alloc);
+    let mut sources = Vec::with_capacity(alloc, paths.len())?;
     for path in paths {
         let Some(input) = opener.open_input(path) else {
             return Err(Fault::Open(path));
