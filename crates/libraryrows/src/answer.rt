@@ -1,110 +1,187 @@
 //! Answers, as texts. Each is put together in place; one that stays empty is `none`.
 
-use crate::fault::LineFault;
+use crate::fault::Fault;
 use mpicall::memory::MemoryOutput;
 use mpicall::record::Record;
 use mpicall::spelling::write_line;
-use std::alloc::{AllocError, Global};
+use std::alloc::Global;
 use std::fmt::Display;
 
-/// Answers that should be alike: one is told again only where it differs from that before it.
-pub struct Alike {
+/// An answer, and the first thing that went wrong with it. So what adds to it needs to tell no fault.
+pub struct Answer {
     text: String,
-    last: String,
+    /// Where the last of several answers begins.
+    last: usize,
+    fault: Option<Fault>,
 }
 
-impl Drop for Alike {
+impl Drop for Answer {
     fn drop(self) {
-        let Alike { text: _, last: _ } = self;
+        let Answer {
+            text: _,
+            last: _,
+            fault: _,
+        } = self;
     }
 }
 
-impl Alike {
-    pub fn new(alloc: Global) -> Alike {
-        Alike {
+impl Answer {
+    pub fn new(alloc: Global) -> Answer {
+        Answer {
             text: String::new(alloc),
-            last: String::new(alloc),
+            last: 0,
+            fault: None,
         }
     }
 
-    pub fn add(&mut self, answer: String) -> Result<(), AllocError> {
-        if self.last.as_str() != answer.as_str() {
-            let separator = if self.text.is_empty() { "" } else { ", or " };
-            write!(self.text, "{separator}{answer}")?;
-            self.last = answer;
-        }
-        Ok(())
+    pub fn clear(&mut self) {
+        self.text.clear();
+        self.last = 0;
+        self.fault = None;
+    }
+
+    pub fn alloc(&self) -> Global {
+        *self.text.allocator()
     }
 
     pub fn text(&self) -> &str {
         self.text.as_str()
     }
-}
 
-/// Adds numbers with a space between two.
-pub fn add_numbers<T: Display>(answer: &mut String, numbers: &[T]) -> Result<(), AllocError> {
-    let mut separator = "";
-    for number in numbers {
-        write!(answer, "{separator}{number}")?;
-        separator = " ";
+    pub fn is_wrong(&self) -> bool {
+        self.fault.is_some()
     }
-    Ok(())
-}
 
-pub fn add_yes_or_no(answer: &mut String, is_so: bool) -> Result<(), AllocError> {
-    answer.push_str(if is_so { "yes" } else { "no" })
-}
-
-/// Adds a number, if there is one.
-pub fn add_number<T: Display + Drop>(
-    answer: &mut String,
-    number: Option<T>,
-) -> Result<(), AllocError> {
-    match number {
-        Some(number) => write!(answer, "{number}"),
-        None => Ok(()),
-    }
-}
-
-/// Adds a rank and a place, or a communicator and a wave, if there are such.
-pub fn add_pair(answer: &mut String, pair: Option<(u16, u32)>) -> Result<(), AllocError> {
-    match pair {
-        Some((first, second)) => write!(answer, "{first} {second}"),
-        None => Ok(()),
-    }
-}
-
-/// Adds bytes as a text with `\n` for each line feed.
-pub fn add_escaped(answer: &mut String, bytes: &[u8]) -> Result<(), LineFault> {
-    let Ok(text) = str::from_utf8(bytes) else {
-        return Err(LineFault::Unread);
-    };
-    for line in text.split_inclusive('\n') {
-        match line.strip_suffix('\n') {
-            Some(line) => write!(answer, "{line}\\n")?,
-            None => answer.push_str(line)?,
+    /// Notes what went wrong, if nothing did before.
+    pub fn fail(&mut self, fault: Fault) {
+        if self.fault.is_none() {
+            self.fault = Some(fault);
         }
     }
-    Ok(())
-}
 
-/// Adds the line of a record, without its line feed.
-pub fn add_line(answer: &mut String, record: &Record) -> Result<(), LineFault> {
-    let alloc = *answer.allocator();
-    let mut output = MemoryOutput::new(alloc);
-    if write_line(record, &mut output).is_err() {
-        return Err(LineFault::Memory);
+    pub fn put(&mut self, text: &str) {
+        if self.text.push_str(text).is_err() {
+            self.fail(Fault::Memory);
+        }
     }
-    match str::from_utf8(output.bytes()) {
-        Ok(line) => Ok(answer.push_str(line.trim_end())?),
-        Err(_) => Err(LineFault::Unread),
-    }
-}
 
-/// The same, if there is a record.
-pub fn add_record(answer: &mut String, record: Option<Record>) -> Result<(), LineFault> {
-    match record {
-        Some(record) => add_line(answer, &record),
-        None => Ok(()),
+    pub fn yes_or_no(&mut self, is_so: bool) {
+        self.put(if is_so { "yes" } else { "no" });
+    }
+
+    /// Adds a separator, unless nothing stands before it.
+    pub fn separate(&mut self, separator: &str) {
+        if !self.text.is_empty() {
+            self.put(separator);
+        }
+    }
+
+    /// Adds a value behind a text.
+    pub fn value<T: Display>(&mut self, before: &str, value: &T) {
+        if write!(self.text, "{before}{value}").is_err() {
+            self.fail(Fault::Memory);
+        }
+    }
+
+    /// Adds a fault's code and words.
+    pub fn coded<T: Display>(&mut self, code: &str, fault: &T) {
+        self.put(code);
+        self.value(" ", fault);
+    }
+
+    /// Adds a number behind a text.
+    pub fn number(&mut self, before: &str, number: u32) {
+        self.value(before, &number);
+    }
+
+    /// Adds numbers, with a space between two.
+    pub fn numbers<T: Display>(&mut self, numbers: &[T]) {
+        let mut separator = "";
+        for number in numbers {
+            self.value(separator, number);
+            separator = " ";
+        }
+    }
+
+    /// Adds a rank and a place, or a communicator and a wave, behind a text.
+    pub fn pair(&mut self, before: &str, first: u16, second: u32) {
+        self.number(before, u32::from(first));
+        self.number(" ", second);
+    }
+
+    /// Adds another answer, and what went wrong with it.
+    pub fn add(&mut self, other: &Answer) {
+        if let Some(fault) = other.fault {
+            self.fail(fault);
+        }
+        self.put(other.text());
+    }
+
+    /// Adds one of several answers, if it differs from the one before it.
+    pub fn other(&mut self, other: &Answer) {
+        if other.is_wrong() || self.text.get(self.last..) != Some(other.text()) {
+            self.separate(", or ");
+            self.last = self.text.len();
+            self.add(other);
+        }
+    }
+
+    /// Adds bytes as a text with `\n` for each line feed.
+    pub fn escaped(&mut self, bytes: &[u8]) {
+        let text = self.text_in(bytes);
+        for line in text.split_inclusive('\n') {
+            match line.strip_suffix('\n') {
+                Some(line) => self.value(line, &"\\n"),
+                None => self.put(line),
+            }
+        }
+    }
+
+    /// The text that bytes are.
+    fn text_in<'a>(&mut self, bytes: &'a [u8]) -> &'a str {
+        match str::from_utf8(bytes) {
+            Ok(text) => text,
+            Err(_) => {
+                self.fail(Fault::Unread);
+                ""
+            }
+        }
+    }
+
+    /// Adds the line of a record, without its line feed.
+    pub fn line(&mut self, record: &Record) {
+        let mut output = MemoryOutput::new(self.alloc());
+        if write_line(record, &mut output).is_err() {
+            self.fail(Fault::Memory);
+        }
+        let line = self.text_in(output.bytes());
+        self.put(line.trim_end());
+    }
+
+    /// Adds the line of a record, if there is one.
+    pub fn record(&mut self, record: Option<Record>) {
+        if let Some(record) = record {
+            self.line(&record);
+        }
+    }
+
+    /// Tells `none` where nothing was told.
+    pub fn close(&mut self) {
+        if self.text.is_empty() {
+            self.put("none");
+        }
+    }
+
+    /// Whether this is the wanted answer, with nothing wrong.
+    pub fn is(&self, wanted: &str) -> bool {
+        self.fault.is_none() && self.text.as_str() == wanted
+    }
+
+    /// What went wrong, or the answer.
+    pub fn told(&self) -> &str {
+        match self.fault {
+            Some(fault) => fault.text(),
+            None => self.text.as_str(),
+        }
     }
 }

@@ -1,240 +1,309 @@
 //! What a row holds while its questions are asked.
 
-use crate::answer::add_yes_or_no;
-use crate::chains::Chains;
-use crate::fault::LineFault;
-use crate::fields::is_record;
-use crate::groups::{answer_of_head, requests, split};
-use crate::mixes::mixes;
-use crate::pairs::{add, answer_of_pairs, told};
-use crate::readings::{reading_in, told_of_readings};
-use crate::runs::{answer_of_run, offer, offer_of_all};
+use crate::answer::Answer;
+use crate::chains::{set_lists, take_of_lists, tell_list};
+use crate::fault::Fault;
+use crate::fields::tell_sized;
+use crate::groups::{tell_requests, tell_split};
+use crate::mixes::tell_mixes;
+use crate::numbers::{Calls, tell_numbers};
+use crate::pairs::{add, tell_partner, told};
+use crate::readings::{reading_in, tell_held_back};
+use crate::runs::{begin, offer, offer_of_all, tell_stands};
 use crate::texts::{
-    add_text, fault_words, records, told_of_fronts, told_of_head, told_of_line, told_of_text,
-    told_of_trace, values,
+    add_text, tell_call, tell_fault, tell_fronts, tell_head, tell_line, tell_records, tell_text,
+    tell_trace,
 };
-use crate::waits::{answer_of_waits, findings_of, report};
-use crate::words::Words;
+use crate::waits::{question_in, tell_findings, tell_of_waits};
+use crate::words::{Numbers, first_word, number_in, numbers_in, short};
+use arenalist::lists::Lists;
 use moves::analyser::Analyser;
 use moves::reading::Reading;
+use mpicall::record::Record;
 use mpigroup::head::Head;
 use pairing::pairs::Pairs;
-use std::alloc::Global;
+use pairing::stored::StoredCall;
+use std::alloc::{AllocError, Global};
 use std::sync::Wait;
 
-/// The head of a run, its calls as they were offered to an analyser and added to pairs, a text, and lists.
+/// The name of a row, the head of its run, its calls as they were offered to an analyser and added to pairs, a text, and lists.
 pub struct Desk {
+    name: String,
     head: Vec<u8>,
     run: Analyser,
     pairs: Pairs,
     text: Vec<u8>,
-    chains: Chains,
+    lists: Lists<u32>,
 }
 
 impl Drop for Desk {
     fn drop(self) {
         let Desk {
+            name: _,
             head: _,
             run: _,
             pairs: _,
             text: _,
-            chains: _,
+            lists: _,
         } = self;
     }
 }
 
-/// The analyser, by a reading, and the pairs of a head, without calls.
-fn fresh(alloc: Global, head: &[u8], reading: Reading) -> Result<(Analyser, Pairs), LineFault> {
-    let run = Analyser::new(alloc, Head::read(alloc, head)?, reading)?;
-    let pairs = Pairs::new(alloc, Head::read(alloc, head)?)?;
-    Ok((run, pairs))
+/// Pairs without calls, of the ranks and groups of a head.
+fn no_pairs(alloc: Global, head: &[u8]) -> Result<Pairs, Fault> {
+    let Ok(head) = Head::read(alloc, head) else {
+        return Err(Fault::Unread);
+    };
+    match Pairs::new(alloc, head) {
+        Ok(pairs) => Ok(pairs),
+        Err(_) => Err(Fault::Memory),
+    }
 }
 
-/// How often the words begin with telling that a line is done, and the rest of them.
-fn many(words: Words<'_>) -> Result<(u32, &str), LineFault> {
-    let mut words = words;
-    let times = words.number()?;
-    Ok((times, words.0))
+/// The record of a stored call, if there is one.
+fn record_of_call(call: Option<StoredCall<'_>>) -> Option<Record> {
+    match call {
+        Some(call) => Some(call.record()),
+        None => None,
+    }
+}
+
+/// Puts the lines of a head in place of others.
+fn set_head(head: &mut Vec<u8>, lines: &str) -> Result<(), AllocError> {
+    head.clear();
+    for line in lines.split(" / ") {
+        head.extend_from_slice(line.as_bytes())?;
+        head.push(b'\n')?;
+    }
+    Ok(())
 }
 
 impl Desk {
     /// One rank, and nothing else.
-    pub fn new(alloc: Global) -> Result<Desk, LineFault> {
-        let head = b"ranks 1\n".to_vec(alloc)?;
-        let (run, pairs) = fresh(alloc, &head, Reading::Strict)?;
-        Ok(Desk {
-            head,
-            run,
-            pairs,
-            text: Vec::new(alloc),
-            chains: Chains::new(alloc),
-        })
+    pub fn new(alloc: Global) -> Result<Desk, Fault> {
+        let mut head = Vec::new(alloc);
+        if set_head(&mut head, "ranks 1").is_err() {
+            return Err(Fault::Memory);
+        }
+        let run = begin(alloc, &head, Reading::Strict)?;
+        match no_pairs(alloc, &head) {
+            Ok(pairs) => Ok(Desk {
+                name: String::new(alloc),
+                head,
+                run,
+                pairs,
+                text: Vec::new(alloc),
+                lists: Lists::new(alloc),
+            }),
+            Err(fault) => Err(fault),
+        }
     }
 
     /// Begins a run, with the lines of its head.
-    fn begin_run(&mut self, lines: &str) -> Result<(), LineFault> {
-        self.head.clear();
-        for line in lines.split(" / ") {
-            self.head.extend_from_slice(line.as_bytes())?;
-            self.head.push(b'\n')?;
+    fn begin_run(&mut self, answer: &mut Answer, lines: &str) {
+        if set_head(&mut self.head, lines).is_err() {
+            answer.fail(Fault::Memory);
         }
-        self.read_by(Reading::Strict)
+        self.read_by(answer, Some(Reading::Strict));
     }
 
     /// Begins the run anew, by a reading.
-    fn read_by(&mut self, reading: Reading) -> Result<(), LineFault> {
-        let (run, pairs) = fresh(*self.head.allocator(), &self.head, reading)?;
-        self.run = run;
-        self.pairs = pairs;
-        Ok(())
+    fn read_by(&mut self, answer: &mut Answer, reading: Option<Reading>) {
+        let Some(reading) = reading else {
+            answer.fail(Fault::Unread);
+            return;
+        };
+        match begin(answer.alloc(), &self.head, reading) {
+            Ok(run) => self.run = run,
+            Err(fault) => answer.fail(fault),
+        }
+        match no_pairs(answer.alloc(), &self.head) {
+            Ok(pairs) => self.pairs = pairs,
+            Err(fault) => answer.fail(fault),
+        }
+    }
+
+    /// The name of the row.
+    pub fn name(&self) -> &str {
+        self.name.as_str()
     }
 
     /// Begins a row.
-    pub fn begin(&mut self) -> Result<(), LineFault> {
+    pub fn begin(&mut self, answer: &mut Answer, name: &str) {
+        self.name.clear();
+        if self.name.push_str(name).is_err() {
+            answer.fail(Fault::Memory);
+        }
         self.text.clear();
-        self.chains = Chains::new(*self.head.allocator());
-        self.begin_run("ranks 1")
+        self.lists = Lists::new(answer.alloc());
+        self.begin_run(answer, "ranks 1");
+    }
+
+    /// Adds a text so many times.
+    fn add_text(&mut self, answer: &mut Answer, times: u32, text: &str) {
+        for _ in 0..times {
+            if !add_text(&mut self.text, text) {
+                answer.fail(Fault::Unread);
+            }
+        }
+    }
+
+    /// Adds a text so many times as the number in front of it says.
+    fn add_many(&mut self, answer: &mut Answer, line: &str) {
+        let (number, text) = first_word(line);
+        match number_in(number) {
+            Some(times) => self.add_text(answer, times, text),
+            None => answer.fail(Fault::Unread),
+        }
     }
 
     /// Does what a line without an answer says, if it is such a one.
-    pub fn set(&mut self, line: &str) -> Result<bool, LineFault> {
-        let mut words = Words(line);
-        match words.word() {
-            "head" => self.begin_run(words.0)?,
-            "reading" => {
-                let reading = reading_in(&mut words)?;
-                words.end()?;
-                self.read_by(reading)?;
-            }
+    pub fn set(&mut self, answer: &mut Answer, line: &str) -> bool {
+        let (word, rest) = first_word(line);
+        match word {
+            "head" => self.begin_run(answer, rest),
+            "reading" => self.read_by(answer, reading_in(rest)),
             "text" => {
                 self.text.clear();
-                add_text(&mut self.text, 1, words.0)?;
+                self.add_text(answer, 1, rest);
             }
-            "more" => {
-                let (times, text) = many(words)?;
-                add_text(&mut self.text, times, text)?;
-            }
-            _ => return self.chains.set(Words(line)),
+            "more" => self.add_many(answer, rest),
+            _ => return set_lists(answer, &mut self.lists, word, rest),
         }
-        Ok(true)
+        true
     }
 
-    /// Answers a line that gives calls, if it is such a one.
-    fn answer_of_calls(&mut self, answer: &mut String, line: &str) -> Result<bool, LineFault> {
-        let mut words = Words(line);
-        match words.word() {
-            "offer" => offer(answer, &mut self.run, 1, words.0)?,
-            "offers" => {
-                let (times, calls) = many(words)?;
-                offer(answer, &mut self.run, times, calls)?;
-            }
-            "all" => {
-                let (times, call) = many(words)?;
-                offer_of_all(answer, &mut self.run, times, call)?;
-            }
-            "add" => add(answer, &mut self.pairs, 1, words.0)?,
-            "adds" => {
-                let (times, calls) = many(words)?;
-                add(answer, &mut self.pairs, times, calls)?;
-            }
-            "told" => told(answer, &mut self.pairs, words)?,
-            _ => return Ok(false),
+    /// Answers a line that gives calls once, if it is such a one.
+    fn take_once(&mut self, answer: &mut Answer, word: &str, rest: &str) -> bool {
+        match word {
+            "offer" => offer(answer, &mut self.run, 1, rest),
+            "add" => add(answer, &mut self.pairs, 1, rest),
+            "told" => told(answer, &mut self.pairs, rest),
+            _ => return take_of_lists(answer, &mut self.lists, word, rest),
         }
-        Ok(true)
+        true
     }
 
-    /// Answers a question whose words are a text, if it is such a one.
-    fn answer_of_texts(&self, answer: &mut String, line: &str) -> Result<bool, LineFault> {
-        let mut words = Words(line);
-        match words.word() {
-            "line" => told_of_text(answer, words.0)?,
-            "values" => values(answer, words.0)?,
-            "split" => split(answer, words.0)?,
-            "mixes" => mixes(answer, &self.head, &self.run, words.0)?,
-            _ => return Ok(false),
+    /// Answers a line that gives calls so many times, if it is such a one.
+    fn take_often(&mut self, answer: &mut Answer, word: &str, rest: &str) -> bool {
+        let (number, calls) = first_word(rest);
+        let Some(times) = number_in(number) else {
+            return false;
+        };
+        match word {
+            "offers" => offer(answer, &mut self.run, times, calls),
+            "all" => offer_of_all(answer, &mut self.run, times, calls),
+            "adds" => add(answer, &mut self.pairs, times, calls),
+            _ => return false,
         }
-        Ok(true)
+        true
     }
 
-    /// Answers a question about the text, if it is such a one.
-    fn answer_of_text(
-        &self,
-        answer: &mut String,
-        asked: &str,
-        words: &mut Words<'_>,
-        wait: &impl Wait,
-    ) -> Result<bool, LineFault> {
+    /// Answers a question behind whose word no numbers stand, if it is such a one.
+    fn tell_of_words(&self, answer: &mut Answer, word: &str, rest: &str) -> bool {
+        match word {
+            "line" => tell_text(answer, rest),
+            "values" => tell_call(answer, rest),
+            "split" => tell_split(answer, rest),
+            "sized" => tell_sized(answer, rest),
+            "mixes" => tell_mixes(answer, &self.head, &self.run, rest),
+            "heldback" => tell_held_back(answer, &self.head, &self.run, rest),
+            "partner" => tell_partner(answer, &self.pairs, rest),
+            _ => return self.tell_of_graph(answer, word, rest),
+        }
+        true
+    }
+
+    /// Answers a question about the wait graph, if it is such a one.
+    fn tell_of_graph(&self, answer: &mut Answer, word: &str, rest: &str) -> bool {
+        match question_in(word, rest) {
+            Some(question) => {
+                tell_of_waits(answer, &self.run, question);
+                true
+            }
+            None => false,
+        }
+    }
+
+    /// Answers a question without words, if more than one value answers it.
+    fn tell_of_none(&self, answer: &mut Answer, asked: &str, wait: &impl Wait) -> bool {
         match asked {
-            "asline" => told_of_line(answer, &self.text)?,
-            "ashead" => told_of_head(answer, &self.text)?,
-            "astrace" => told_of_trace(answer, &self.text, wait)?,
-            "fronts" => told_of_fronts(answer, &self.text, words, wait)?,
-            "gives" => records(answer, &self.text, words)?,
-            "fault" => fault_words(answer, words)?,
-            "requests" => requests(answer, words)?,
-            "sized" => add_yes_or_no(answer, is_record(words)?)?,
-            _ => return Ok(false),
+            "stands" => tell_stands(answer, &self.run),
+            "findings" => tell_findings(answer, &self.pairs),
+            "asline" => tell_line(answer, &self.text),
+            "ashead" => tell_head(answer, &self.text),
+            "astrace" => tell_trace(answer, &self.text, wait),
+            "touched" => answer.value("", &self.lists.work()),
+            _ => return false,
         }
-        Ok(true)
+        true
     }
 
-    /// Answers a question about the run, its wait graph or its readings, if it is such a one.
-    fn answer_of_waits(
-        &self,
-        answer: &mut String,
-        asked: &str,
-        words: &mut Words<'_>,
-    ) -> Result<bool, LineFault> {
+    /// Answers a question with one number, if more than one value answers it.
+    fn tell_of_one(&self, answer: &mut Answer, asked: &str, number: u32) -> bool {
         match asked {
-            "verdict" | "stuck" | "held" | "unmet" | "causes" => {
-                answer_of_waits(answer, &self.run, asked, words)?;
-            }
-            "report" => report(answer, &self.run, words)?,
-            "heldback" => told_of_readings(answer, &self.head, &self.run, words)?,
-            "findings" => findings_of(answer, &self.pairs)?,
-            _ => return Ok(false),
+            "gives" => tell_records(answer, &self.text, number),
+            "fault" => tell_fault(answer, number),
+            "requests" => tell_requests(answer, number),
+            "list" => tell_list(answer, &self.lists, number),
+            _ => return false,
         }
-        Ok(true)
+        true
     }
 
-    /// Answers a question whose words are taken one by one.
-    fn answer_of_words(
+    /// Answers a question with two numbers, if more than one value answers it.
+    fn tell_of_two(
         &self,
-        answer: &mut String,
-        line: &str,
+        answer: &mut Answer,
+        asked: &str,
+        first: u32,
+        second: u32,
         wait: &impl Wait,
-    ) -> Result<(), LineFault> {
-        let mut left = Words(line);
-        let words = &mut left;
-        let asked = words.word();
-        let is_answered = self.answer_of_text(answer, asked, words, wait)?
-            || self.answer_of_waits(answer, asked, words)?
-            || answer_of_head(answer, self.run.head(), asked, words)?
-            || answer_of_pairs(answer, &self.pairs, asked, words)?
-            || answer_of_run(answer, &self.run, asked, words)?;
-        if is_answered {
-            words.end()
-        } else {
-            Err(LineFault::Unread)
+    ) -> bool {
+        match asked {
+            "fronts" => tell_fronts(answer, &self.text, first, second, wait),
+            "record" => answer.record(self.run.record(short(first), second)),
+            "call" => answer.record(record_of_call(self.pairs.call(short(first), second))),
+            _ => return false,
+        }
+        true
+    }
+
+    /// Answers a question with these numbers.
+    fn tell_of_numbers(
+        &self,
+        answer: &mut Answer,
+        asked: &str,
+        numbers: Numbers,
+        wait: &impl Wait,
+    ) {
+        let is_answered = match numbers {
+            Numbers::None => self.tell_of_none(answer, asked, wait),
+            Numbers::One(number) => self.tell_of_one(answer, asked, number),
+            Numbers::Two(first, second) => self.tell_of_two(answer, asked, first, second, wait),
+            Numbers::Three(..) => false,
+        };
+        if !is_answered {
+            let calls = Calls {
+                run: &self.run,
+                pairs: &self.pairs,
+            };
+            tell_numbers(answer, calls, asked, numbers);
         }
     }
 
     /// Answers a question: `none` where nothing is to be told.
-    pub fn answer(
-        &mut self,
-        answer: &mut String,
-        line: &str,
-        wait: &impl Wait,
-    ) -> Result<(), LineFault> {
-        let is_answered = self.answer_of_calls(answer, line)?
-            || self.chains.answer(answer, line)?
-            || self.answer_of_texts(answer, line)?;
+    pub fn ask(&mut self, answer: &mut Answer, line: &str, wait: &impl Wait) {
+        let (asked, rest) = first_word(line);
+        let is_answered = self.take_once(answer, asked, rest)
+            || self.take_often(answer, asked, rest)
+            || self.tell_of_words(answer, asked, rest);
         if !is_answered {
-            self.answer_of_words(answer, line, wait)?;
+            match numbers_in(rest) {
+                Some(numbers) => self.tell_of_numbers(answer, asked, numbers, wait),
+                None => answer.fail(Fault::Unread),
+            }
         }
-        if answer.is_empty() {
-            answer.push_str("none")?;
-        }
-        Ok(())
+        answer.close();
     }
 }

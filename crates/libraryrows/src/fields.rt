@@ -1,12 +1,11 @@
 //! The values of a call, one by one.
 
-use crate::answer::add_numbers;
-use crate::fault::LineFault;
-use crate::words::Words;
+use crate::answer::Answer;
+use crate::fault::Fault;
+use crate::words::{first_word, number_in};
 use mpicall::call::{Call, Kind, Mode, Peer};
 use mpicall::record::Record;
 use mpicall::word::root_of;
-use std::alloc::AllocError;
 
 fn mode_text(mode: Mode) -> &'static str {
     match mode {
@@ -31,156 +30,195 @@ fn kind_text(kind: Kind) -> &'static str {
     }
 }
 
-fn add_kind(answer: &mut String, comm: u16, kind: Kind) -> Result<(), AllocError> {
-    write!(answer, "comm {comm}, {}", kind_text(kind))?;
-    match root_of(kind) {
-        Some(root) => write!(answer, " root {root}"),
-        None => Ok(()),
+fn tell_kind(answer: &mut Answer, comm: u16, kind: Kind) {
+    answer.value("comm ", &comm);
+    answer.value(", ", &kind_text(kind));
+    if let Some(root) = root_of(kind) {
+        answer.value(" root ", &root);
     }
 }
 
-/// Adds a name, and a number or `none`.
-fn add_option(answer: &mut String, name: &str, number: Option<u32>) -> Result<(), AllocError> {
+/// Adds a number behind a name, or `none`.
+fn tell_option(answer: &mut Answer, name: &str, number: Option<u32>) {
     match number {
-        Some(number) => write!(answer, ", {name} {number}"),
-        None => write!(answer, ", {name} none"),
+        Some(number) => answer.number(name, number),
+        None => answer.value(name, &"none"),
     }
 }
 
 /// Adds the name of a peer's place, the peer and the tag.
-fn add_peer(answer: &mut String, name: &str, peer: Peer, tag: u32) -> Result<(), AllocError> {
+fn tell_peer(answer: &mut Answer, name: &str, peer: Peer, tag: u32) {
+    answer.put(name);
     match peer {
-        Peer::Rank(rank) => write!(answer, ", {name} rank {rank}, tag {tag}"),
-        Peer::Null => write!(answer, ", {name} null, tag {tag}"),
+        Peer::Rank(rank) => answer.value(" rank ", &rank),
+        Peer::Null => answer.put(" null"),
     }
+    answer.number(", tag ", tag);
 }
 
 /// Adds the bytes of a message, where they are told.
-fn add_bytes(answer: &mut String, bytes: Option<u32>) -> Result<(), AllocError> {
-    match bytes {
-        Some(count) => write!(answer, ", bytes {count}"),
-        None => Ok(()),
+fn tell_bytes(answer: &mut Answer, bytes: Option<u32>) {
+    if let Some(count) = bytes {
+        answer.number(", bytes ", count);
     }
 }
 
-/// Adds the values of a call that sends or receives.
-fn add_message(answer: &mut String, call: &Call) -> Result<(), AllocError> {
+/// Adds the shape of a call that starts a request, and the request.
+fn tell_started(answer: &mut Answer, name: &str, req: u32) {
+    answer.put(name);
+    answer.number(" req ", req);
+    answer.put(", ");
+}
+
+/// Adds the values of a message that is received or seen, and the communicator.
+fn tell_received(answer: &mut Answer, comm: u16, source: Peer, tag: u32) {
+    answer.value("comm ", &comm);
+    tell_peer(answer, ", source", source, tag);
+}
+
+/// Adds the values of a message that is sent, behind how it is sent.
+fn tell_sent(answer: &mut Answer, mode: Mode, comm: u16, dest: Peer, tag: u32) {
+    answer.put(mode_text(mode));
+    answer.value(", comm ", &comm);
+    tell_peer(answer, ", dest", dest, tag);
+}
+
+/// Adds the values of a call that receives or probes.
+fn tell_receive(answer: &mut Answer, call: &Call) {
     match *call {
-        Call::Send { mode, comm, .. } => write!(answer, "Send {}, comm {comm}", mode_text(mode))?,
+        Call::Recv { comm, source, tag } => {
+            answer.put("Recv ");
+            tell_received(answer, comm, source, tag);
+        }
+        Call::Irecv {
+            req,
+            comm,
+            source,
+            tag,
+        } => {
+            tell_started(answer, "Irecv", req);
+            tell_received(answer, comm, source, tag);
+        }
+        Call::Probe { comm, source, tag } => {
+            answer.put("Probe ");
+            tell_received(answer, comm, source, tag);
+        }
+        _ => {}
+    }
+}
+
+/// Adds the values of a call that sends, or of one that receives.
+fn tell_message(answer: &mut Answer, call: &Call) {
+    match *call {
+        Call::Send {
+            mode,
+            comm,
+            dest,
+            tag,
+            bytes,
+        } => {
+            answer.put("Send ");
+            tell_sent(answer, mode, comm, dest, tag);
+            tell_bytes(answer, bytes);
+        }
         Call::Isend {
             req,
             mode,
             comm,
-            ..
-        } => {
-            let mode = mode_text(mode);
-            write!(answer, "Isend req {req}, {mode}, comm {comm}")?;
-        }
-        Call::Recv { comm, .. } => write!(answer, "Recv comm {comm}")?,
-        Call::Irecv { req, comm, .. } => write!(answer, "Irecv req {req}, comm {comm}")?,
-        Call::Probe { comm, .. } => write!(answer, "Probe comm {comm}")?,
-        Call::Sendrecv { comm, .. } => write!(answer, "Sendrecv comm {comm}")?,
-        _ => {}
-    }
-    match *call {
-        Call::Send {
             dest,
             tag,
             bytes,
-            ..
-        }
-        | Call::Isend {
-            dest,
-            tag,
-            bytes,
-            ..
         } => {
-            add_peer(answer, "dest", dest, tag)?;
-            add_bytes(answer, bytes)
+            tell_started(answer, "Isend", req);
+            tell_sent(answer, mode, comm, dest, tag);
+            tell_bytes(answer, bytes);
         }
-        Call::Recv { source, tag, .. }
-        | Call::Irecv { source, tag, .. }
-        | Call::Probe { source, tag, .. } => add_peer(answer, "source", source, tag),
-        Call::Sendrecv {
-            dest,
-            send_tag,
-            source,
-            recv_tag,
-            bytes,
-            ..
-        } => {
-            add_peer(answer, "dest", dest, send_tag)?;
-            add_peer(answer, "source", source, recv_tag)?;
-            add_bytes(answer, bytes)
-        }
-        _ => Ok(()),
+        _ => tell_receive(answer, call),
     }
 }
 
-/// Adds the values of a call: its shape, and each value behind its name.
-pub fn add_values(answer: &mut String, call: &Call) -> Result<(), AllocError> {
+/// Adds the values of a collective call, or of one that makes a communicator.
+fn tell_collective(answer: &mut Answer, call: &Call) {
     match *call {
-        Call::Wait { req } => write!(answer, "Wait req {req}"),
-        Call::Waitall { ref reqs } => {
-            answer.push_str("Waitall reqs ")?;
-            add_numbers(answer, reqs.as_slice())
-        }
-        Call::Waitany { chosen, ref reqs } => {
-            write!(answer, "Waitany chosen {chosen}, reqs ")?;
-            add_numbers(answer, reqs.as_slice())
-        }
         Call::Coll { comm, kind } => {
-            answer.push_str("Coll ")?;
-            add_kind(answer, comm, kind)
+            answer.put("Coll ");
+            tell_kind(answer, comm, kind);
         }
         Call::Icoll { req, comm, kind } => {
-            write!(answer, "Icoll req {req}, ")?;
-            add_kind(answer, comm, kind)
+            tell_started(answer, "Icoll", req);
+            tell_kind(answer, comm, kind);
         }
-        Call::Dup { comm, new } => write!(answer, "Dup comm {comm}, new {new}"),
+        Call::Dup { comm, new } => {
+            answer.value("Dup comm ", &comm);
+            answer.value(", new ", &new);
+        }
         Call::Split {
             comm,
             colour,
             key,
             new,
         } => {
-            write!(answer, "Split comm {comm}")?;
-            add_option(answer, "colour", colour)?;
-            write!(answer, ", key {key}")?;
-            add_option(answer, "new", new.map(u32::from))
+            answer.value("Split comm ", &comm);
+            tell_option(answer, ", colour ", colour);
+            answer.value(", key ", &key);
+            tell_option(answer, ", new ", new.map(u32::from));
         }
-        Call::Finalize => answer.push_str("Finalize"),
-        Call::Open => answer.push_str("Open"),
-        _ => add_message(answer, call),
+        _ => tell_message(answer, call),
     }
 }
 
-/// A send of so many bytes to rank 0, by the word of its line; none has a word of another kind.
-fn sized_send(word: &str, bytes: Option<u32>) -> Option<Call> {
+/// Adds the values of a call: its shape, and each value behind its name.
+pub fn tell_values(answer: &mut Answer, call: &Call) {
+    match *call {
+        Call::Sendrecv {
+            comm,
+            dest,
+            send_tag,
+            source,
+            recv_tag,
+            bytes,
+        } => {
+            answer.value("Sendrecv comm ", &comm);
+            tell_peer(answer, ", dest", dest, send_tag);
+            tell_peer(answer, ", source", source, recv_tag);
+            tell_bytes(answer, bytes);
+        }
+        Call::Wait { req } => answer.number("Wait req ", req),
+        Call::Waitall { ref reqs } => {
+            answer.put("Waitall reqs ");
+            answer.numbers(reqs.as_slice());
+        }
+        Call::Waitany { chosen, ref reqs } => {
+            answer.value("Waitany chosen ", &chosen);
+            answer.put(", reqs ");
+            answer.numbers(reqs.as_slice());
+        }
+        Call::Finalize => answer.put("Finalize"),
+        Call::Open => answer.put("Open"),
+        _ => tell_collective(answer, call),
+    }
+}
+
+/// A send of so many bytes to rank 0, which starts request 0 where it is asked for one.
+fn sized_send(mode: Mode, is_started: bool, bytes: Option<u32>) -> Call {
     let (comm, dest, tag, req) = (0, Peer::Rank(0), 0, 0);
-    let mode = match word {
-        "send" | "isend" => Mode::Standard,
-        "ssend" | "issend" => Mode::Synchronous,
-        "bsend" | "ibsend" => Mode::Buffered,
-        _ => return None,
-    };
-    if word.starts_with('i') {
-        Some(Call::Isend {
+    if is_started {
+        Call::Isend {
             req,
             mode,
             comm,
             dest,
             tag,
             bytes,
-        })
+        }
     } else {
-        Some(Call::Send {
+        Call::Send {
             mode,
             comm,
             dest,
             tag,
             bytes,
-        })
+        }
     }
 }
 
@@ -196,22 +234,34 @@ fn sized_exchange(bytes: Option<u32>) -> Call {
     }
 }
 
-/// The bytes that a word tells, or none.
-fn bytes_in(word: &str) -> Result<Option<u32>, LineFault> {
-    match (word, word.parse::<u32>()) {
-        ("none", _) => Ok(None),
-        (_, Ok(count)) => Ok(Some(count)),
-        (_, Err(_)) => Err(LineFault::Unread),
+/// A send of so many bytes to rank 0, by the word of its line; none has a word of another kind.
+fn sized_call(word: &str, bytes: Option<u32>) -> Option<Call> {
+    match word {
+        "send" => Some(sized_send(Mode::Standard, false, bytes)),
+        "isend" => Some(sized_send(Mode::Standard, true, bytes)),
+        "ssend" => Some(sized_send(Mode::Synchronous, false, bytes)),
+        "issend" => Some(sized_send(Mode::Synchronous, true, bytes)),
+        "bsend" => Some(sized_send(Mode::Buffered, false, bytes)),
+        "ibsend" => Some(sized_send(Mode::Buffered, true, bytes)),
+        "sendrecv" => Some(sized_exchange(bytes)),
+        _ => None,
     }
 }
 
-/// Whether there is a record of a send of so many bytes.
-pub fn is_record(words: &mut Words<'_>) -> Result<bool, LineFault> {
-    let word = words.word();
-    let bytes = bytes_in(words.word())?;
-    if word == "sendrecv" {
-        return Ok(Record::new(sized_exchange(bytes)).is_some());
+/// The call of a word and of the bytes behind it, a number or `none`.
+fn sized_in(text: &str) -> Option<Call> {
+    let (word, bytes) = first_word(text);
+    if bytes == "none" {
+        return sized_call(word, None);
     }
-    let call = sized_send(word, bytes).ok_or(LineFault::Unread)?;
-    Ok(Record::new(call).is_some())
+    let count = number_in(bytes)?;
+    sized_call(word, Some(count))
+}
+
+/// Whether there is a record of a send of so many bytes.
+pub fn tell_sized(answer: &mut Answer, text: &str) {
+    match sized_in(text) {
+        Some(call) => answer.yes_or_no(Record::new(call).is_some()),
+        None => answer.fail(Fault::Unread),
+    }
 }

@@ -1,82 +1,74 @@
-//! What is told of the groups of communicators, and of lists of requests.
+//! What is told of the groups of splits, and of lists of requests.
 
-use crate::answer::{add_number, add_numbers};
-use crate::fault::LineFault;
-use crate::words::Words;
+use crate::answer::Answer;
+use crate::fault::Fault;
+use crate::words::{first_word, number_in};
 use mpicall::reqs::Reqs;
-use mpigroup::head::Head;
 use mpigroup::split::split_groups;
 use std::alloc::Global;
 
-/// Answers a question about the groups of a head, if it is such a one.
-pub fn answer_of_head(
-    answer: &mut String,
-    head: &Head,
-    asked: &str,
-    words: &mut Words<'_>,
-) -> Result<bool, LineFault> {
-    let number = match asked {
-        "ranks" => Some(head.ranks()),
-        "comms" => Some(head.comms()),
-        "size" => head.size(words.rank()?),
-        "grouprank" => head.group_rank(words.rank()?, words.rank()?),
-        "worldrank" => head.world_rank(words.rank()?, words.rank()?),
-        _ => return Ok(false),
-    };
-    add_number(answer, number)?;
-    Ok(true)
-}
+/// The most members and requests that a line may ask for.
+const MOST: usize = 1000;
 
 /// The colour and the key of a member.
-fn choice_in(text: &str) -> Result<(Option<u32>, i32), LineFault> {
-    let mut words = Words(text);
-    let colour = match words.word() {
-        "undefined" => None,
-        word => match word.parse::<u32>() {
-            Ok(colour) => Some(colour),
-            Err(_) => return Err(LineFault::Unread),
-        },
-    };
-    match words.word().parse::<i32>() {
-        Ok(key) => Ok((colour, key)),
-        Err(_) => Err(LineFault::Unread),
+fn choice_in(text: &str) -> Option<(Option<u32>, i32)> {
+    let (word, key) = first_word(text);
+    let key = key.parse::<i32>().ok()?;
+    if word == "undefined" {
+        return Some((None, key));
     }
+    Some((Some(number_in(word)?), key))
 }
 
-fn choices_in(alloc: Global, text: &str) -> Result<Vec<(Option<u32>, i32)>, LineFault> {
+fn choices_in(alloc: Global, text: &str) -> Result<Vec<(Option<u32>, i32)>, Fault> {
     let mut choices = Vec::new(alloc);
     for member in text.split(" / ") {
-        choices.push(choice_in(member)?)?;
+        let choice = choice_in(member).ok_or(Fault::Unread)?;
+        if choices.push(choice).is_err() {
+            return Err(Fault::Memory);
+        }
     }
     Ok(choices)
 }
 
+fn tell_groups(answer: &mut Answer, choices: &[(Option<u32>, i32)]) {
+    if choices.len() > MOST {
+        answer.fail(Fault::Unread);
+        return;
+    }
+    match split_groups(answer.alloc(), choices) {
+        Ok(groups) => tell_each(answer, &groups),
+        Err(_) => answer.fail(Fault::Memory),
+    }
+}
+
+fn tell_each(answer: &mut Answer, groups: &[Vec<u16>]) {
+    for group in groups {
+        answer.separate(" / ");
+        answer.numbers(group);
+    }
+}
+
 /// The groups that a split makes of these colours and keys.
-pub fn split(answer: &mut String, text: &str) -> Result<(), LineFault> {
-    let alloc = *answer.allocator();
-    let choices = choices_in(alloc, text)?;
-    if choices.len() > 1000 {
-        return Err(LineFault::Unread);
+pub fn tell_split(answer: &mut Answer, text: &str) {
+    match choices_in(answer.alloc(), text) {
+        Ok(choices) => tell_groups(answer, &choices),
+        Err(fault) => answer.fail(fault),
     }
-    for group in split_groups(alloc, &choices)? {
-        answer.push_str(if answer.is_empty() { "" } else { " / " })?;
-        add_numbers(answer, &group)?;
-    }
-    Ok(())
 }
 
 /// The list of so many requests, each numbered 1.
-pub fn requests(answer: &mut String, words: &mut Words<'_>) -> Result<(), LineFault> {
-    let alloc = *answer.allocator();
-    let count = words.number()? as usize;
-    if count > 1000 {
-        return Err(LineFault::Unread);
+pub fn tell_requests(answer: &mut Answer, count: u32) {
+    let ones = [1u32; MOST];
+    match ones.get(..count as usize) {
+        Some(numbers) => tell_reqs(answer, numbers),
+        None => answer.fail(Fault::Unread),
     }
-    let numbers = vec![in alloc; 1u32; count]?;
-    match Reqs::new(&numbers) {
-        Some(reqs) if reqs.as_slice() == numbers.as_slice() => answer.push_str("all")?,
-        Some(_) => answer.push_str("others")?,
-        None => {}
+}
+
+fn tell_reqs(answer: &mut Answer, numbers: &[u32]) {
+    if let Some(reqs) = Reqs::new(numbers) {
+        let is_same = reqs.as_slice() == numbers;
+        answer.put(if is_same { "all" } else { "others" });
     }
-    Ok(())
 }

@@ -65,6 +65,7 @@ mod fault;
 mod fields;
 mod groups;
 mod mixes;
+mod numbers;
 mod pairs;
 mod readings;
 mod runs;
@@ -72,65 +73,98 @@ mod texts;
 mod waits;
 mod words;
 
+use answer::Answer;
 use desk::Desk;
-use fault::LineFault;
 use std::io;
 use std::sync::Wait;
 
 /// What a line came to.
+#[derive(Clone, Copy)]
 enum Outcome {
+    /// It begins a row.
+    Row,
     /// It asks nothing.
     Nothing,
     /// It was answered as it says.
     Told,
-    /// It was answered otherwise.
+    /// It was answered otherwise, or it can't be read.
     Other,
 }
 
-/// Does what a line says, and puts its answer in place. Without an answer of its own a line is answered `ok`.
-fn outcome_of(
+/// How many rows and right answers there were.
+#[derive(Clone, Copy)]
+struct Count {
+    rows: u64,
+    answers: u64,
+}
+
+/// Asks what a line asks. Without an answer of its own a line is answered `ok`.
+fn outcome_of_question(
     desk: &mut Desk,
+    answer: &mut Answer,
     line: &str,
-    answer: &mut String,
     wait: &impl Wait,
-) -> Result<Outcome, LineFault> {
-    answer.clear();
-    if line.is_empty() || line.starts_with('#') || desk.set(line)? {
-        return Ok(Outcome::Nothing);
-    }
+) -> Outcome {
     let (asked, wanted) = line.rsplit_once(" -> ").unwrap_or((line, "ok"));
-    desk.answer(answer, asked, wait)?;
-    if answer.as_str() == wanted {
-        Ok(Outcome::Told)
+    desk.ask(answer, asked, wait);
+    if answer.is(wanted) {
+        Outcome::Told
     } else {
-        Ok(Outcome::Other)
+        Outcome::Other
     }
 }
 
+/// Does what a line says that sets something up, if it is such a one.
+fn is_set(desk: &mut Desk, answer: &mut Answer, line: &str) -> bool {
+    line.is_empty() || line.starts_with('#') || desk.set(answer, line)
+}
+
+/// Does what a line says, and puts its answer in place.
+fn outcome_of(desk: &mut Desk, answer: &mut Answer, line: &str, wait: &impl Wait) -> Outcome {
+    answer.clear();
+    if let Some(name) = line.strip_prefix("row ") {
+        desk.begin(answer, name);
+        return Outcome::Row;
+    }
+    if is_set(desk, answer, line) {
+        return Outcome::Nothing;
+    }
+    outcome_of_question(desk, answer, line, wait)
+}
+
+/// Does what a line says, counts it, and prints it where it was answered otherwise or went wrong.
+fn take<R: Print + Wait>(
+    rt: &R,
+    desk: &mut Desk,
+    answer: &mut Answer,
+    count: &mut Count,
+    line: &str,
+) -> io::Result<()> {
+    let outcome = outcome_of(desk, answer, line, rt);
+    match outcome {
+        Outcome::Row => count.rows = count.rows.saturating_add(1),
+        Outcome::Told => count.answers = count.answers.saturating_add(1),
+        Outcome::Nothing | Outcome::Other => {}
+    }
+    if answer.is_wrong() || matches!(outcome, Outcome::Other) {
+        return println!(rt; "{}: {line}: answered {}", desk.name(), answer.told());
+    }
+    Ok(())
+}
+
 fn main(rt: HostRuntime) -> io::Result<()> {
+    let mut answer = Answer::new(rt.alloc());
+    let mut count = Count {
+        rows: 0,
+        answers: 0,
+    };
     let mut desk = match Desk::new(rt.alloc()) {
         Ok(desk) => desk,
-        Err(fault) => return println!(rt; "no desk: {fault}"),
+        Err(fault) => return println!(rt; "the first row: answered {}", fault.text()),
     };
-    let (mut rows, mut answers) = (0u64, 0u64);
-    let mut name = String::new(rt.alloc());
-    let mut answer = String::new(rt.alloc());
     for line in rt.lines(rt.alloc()) {
         let line = line?;
-        if let Some(row) = line.as_str().strip_prefix("row ") {
-            rows = rows.saturating_add(1);
-            name = row.to_string(rt.alloc())?;
-            if let Err(fault) = desk.begin() {
-                println!(rt; "{name}: no row begins: {fault}")?;
-            }
-            continue;
-        }
-        match outcome_of(&mut desk, line.as_str(), &mut answer, &rt) {
-            Ok(Outcome::Nothing) => {}
-            Ok(Outcome::Told) => answers = answers.saturating_add(1),
-            Ok(Outcome::Other) => println!(rt; "{name}: {line}: answered {answer}")?,
-            Err(fault) => println!(rt; "{name}: {line}: {fault}")?,
-        }
+        take(&rt, &mut desk, &mut answer, &mut count, line.as_str())?;
     }
-    println!(rt; "{rows} rows, {answers} answers")
+    println!(rt; "{} rows, {} answers", count.rows, count.answers)
 }

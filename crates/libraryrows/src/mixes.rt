@@ -1,13 +1,12 @@
 //! All orders in which ranks' lists may come.
 
-use crate::answer::Alike;
+use crate::answer::Answer;
 use crate::calls::calls_in;
-use crate::fault::LineFault;
-use crate::runs::add_stands;
+use crate::fault::Fault;
+use crate::runs::{begin, tell_stands};
 use moves::analyser::Analyser;
 use moves::reading::Reading;
 use mpicall::record::Record;
-use mpigroup::head::Head;
 use std::alloc::{AllocError, Global};
 
 /// How many calls of a rank are among these.
@@ -20,7 +19,24 @@ fn turns_of(mix: &[u16], rank: u16) -> usize {
     mix.iter().filter(|turn| **turn == rank).count()
 }
 
-/// The mixes that begin as the given ones and have one call more, of a rank that has one left.
+/// Adds the mixes that begin as a given one and have one call more, of a rank that has one left.
+fn add_longer(
+    longer: &mut Vec<Vec<u16>>,
+    mix: &[u16],
+    calls: &[(u16, Record)],
+    ranks: u16,
+) -> Result<(), AllocError> {
+    for rank in 0..ranks {
+        if turns_of(mix, rank) < count_of(calls, rank) {
+            let mut next = mix.to_vec(*longer.allocator())?;
+            next.push(rank)?;
+            longer.push(next)?;
+        }
+    }
+    Ok(())
+}
+
+/// The mixes that have one call more than the given ones.
 fn longer_mixes(
     alloc: Global,
     mixes: &[Vec<u16>],
@@ -29,46 +45,29 @@ fn longer_mixes(
 ) -> Result<Vec<Vec<u16>>, AllocError> {
     let mut longer = Vec::new(alloc);
     for mix in mixes {
-        for rank in 0..ranks {
-            if turns_of(mix, rank) < count_of(calls, rank) {
-                let mut next = mix.clone()?;
-                next.push(rank)?;
-                longer.push(next)?;
-            }
-        }
+        add_longer(&mut longer, mix, calls, ranks)?;
     }
     Ok(longer)
 }
 
-/// Offers the rank's next call among these.
-fn offer_next(run: &mut Analyser, calls: &[(u16, Record)], rank: u16) -> Result<(), LineFault> {
-    let place = run.accepted(rank).ok_or(LineFault::Missing)?;
+/// Offers the rank's next call among these, if it is taken.
+fn offer_next(run: &mut Analyser, calls: &[(u16, Record)], rank: u16) -> bool {
+    let place = run.accepted(rank).unwrap_or(0);
     let mut own = calls.iter().filter(|call| call.0 == rank);
-    let (_, call) = own.nth(place as usize).ok_or(LineFault::Missing)?;
-    if rank >= run.head().ranks() {
-        return Err(LineFault::Missing);
-    }
-    match run.offer(rank, call) {
-        Ok(()) => Ok(()),
-        Err(_) => Err(LineFault::Missing),
+    match own.nth(place as usize) {
+        Some((_, call)) if rank < run.head().ranks() => run.offer(rank, call).is_ok(),
+        _ => false,
     }
 }
 
-/// Where the ranks stand once their calls came in the order of the mix.
-fn stands_of_mix(
-    alloc: Global,
-    head: &[u8],
-    reading: Reading,
-    calls: &[(u16, Record)],
-    mix: &[u16],
-) -> Result<String, LineFault> {
-    let mut run = Analyser::new(alloc, Head::read(alloc, head)?, reading)?;
+/// Offers calls in the order of a mix, and tells where the ranks stand then.
+fn tell_mix(answer: &mut Answer, run: &mut Analyser, calls: &[(u16, Record)], mix: &[u16]) {
     for rank in mix {
-        offer_next(&mut run, calls, *rank)?;
+        if !offer_next(run, calls, *rank) {
+            answer.fail(Fault::Missing);
+        }
     }
-    let mut stands = String::new(alloc);
-    add_stands(&mut stands, &run)?;
-    Ok(stands)
+    tell_stands(answer, run);
 }
 
 /// All mixes of the calls.
@@ -76,7 +75,7 @@ fn mixes_of(
     alloc: Global,
     calls: &[(u16, Record)],
     ranks: u16,
-) -> Result<Vec<Vec<u16>>, LineFault> {
+) -> Result<Vec<Vec<u16>>, AllocError> {
     let mut mixes = vec![in alloc; Vec::new(alloc)]?;
     for _ in 0..calls.len() {
         mixes = longer_mixes(alloc, &mixes, calls, ranks)?;
@@ -84,19 +83,44 @@ fn mixes_of(
     Ok(mixes)
 }
 
-/// How many mixes the calls of a text have, and where the ranks of a run stand after each: all that differ.
-pub fn mixes(
-    answer: &mut String,
+/// Tells where the ranks of a run stand after each mix of calls: all that differ.
+fn tell_each(
+    answer: &mut Answer,
     head: &[u8],
-    run: &Analyser,
-    text: &str,
-) -> Result<(), LineFault> {
-    let alloc = *answer.allocator();
-    let calls = calls_in(alloc, text)?;
-    let mixes = mixes_of(alloc, &calls, run.head().ranks())?;
-    let mut alike = Alike::new(alloc);
-    for mix in &mixes {
-        alike.add(stands_of_mix(alloc, head, run.reading(), &calls, mix)?)?;
+    reading: Reading,
+    calls: &[(u16, Record)],
+    mixes: &[Vec<u16>],
+) {
+    let mut told = Answer::new(answer.alloc());
+    for mix in mixes {
+        told.clear();
+        match begin(answer.alloc(), head, reading) {
+            Ok(mut run) => tell_mix(&mut told, &mut run, calls, mix),
+            Err(fault) => answer.fail(fault),
+        }
+        answer.other(&told);
     }
-    Ok(write!(answer, "{} mixes, {}", mixes.len(), alike.text())?)
+}
+
+/// How many mixes calls have, and where the ranks stand after each: all that differ.
+fn tell_mixes_of(answer: &mut Answer, head: &[u8], run: &Analyser, calls: &[(u16, Record)]) {
+    let alloc = answer.alloc();
+    match mixes_of(alloc, calls, run.head().ranks()) {
+        Ok(mixes) => {
+            let mut told = Answer::new(alloc);
+            tell_each(&mut told, head, run.reading(), calls, &mixes);
+            answer.value("", &mixes.len());
+            answer.put(" mixes, ");
+            answer.add(&told);
+        }
+        Err(_) => answer.fail(Fault::Memory),
+    }
+}
+
+/// The same of the calls of a text.
+pub fn tell_mixes(answer: &mut Answer, head: &[u8], run: &Analyser, text: &str) {
+    match calls_in(answer.alloc(), text) {
+        Ok(calls) => tell_mixes_of(answer, head, run, &calls),
+        Err(fault) => answer.fail(fault),
+    }
 }

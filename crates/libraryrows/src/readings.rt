@@ -4,9 +4,9 @@ ghost use Rattle.std.specs.Prelude.{◌≡◌, ◌<◌, length, OnOk};
 ghost use Rattle.moves.specs.Readings.{is_no_laxer};
 ghost use Rattle.pairing.specs.Recordings.{appended};
 
-use crate::answer::add_numbers;
-use crate::fault::LineFault;
-use crate::words::Words;
+use crate::answer::Answer;
+use crate::fault::Fault;
+use crate::words::{first_word, number_in};
 use moves::analyser::Analyser;
 use moves::held_back::held_back;
 use moves::reading::Reading;
@@ -14,12 +14,24 @@ use mpicall::record::Record;
 use mpigroup::head::Head;
 use std::alloc::{AllocError, Global};
 
-/// The reading that the next words name: `strict`, or `eager` and a limit.
-pub fn reading_in(words: &mut Words<'_>) -> Result<Reading, LineFault> {
-    match words.word() {
-        "strict" => Ok(Reading::Strict),
-        "eager" => Ok(Reading::Eager(words.number()?)),
-        _ => Err(LineFault::Unread),
+/// The reading that a text begins with, `strict`, or `eager` and a limit; and what stands behind it.
+fn reading_before(text: &str) -> Option<(Reading, &str)> {
+    let (word, rest) = first_word(text);
+    match word {
+        "strict" => Some((Reading::Strict, rest)),
+        "eager" => {
+            let (limit, rest) = first_word(rest);
+            Some((Reading::Eager(number_in(limit)?), rest))
+        }
+        _ => None,
+    }
+}
+
+/// The reading that a text is.
+pub fn reading_in(text: &str) -> Option<Reading> {
+    match reading_before(text) {
+        Some((reading, "")) => Some(reading),
+        _ => None,
     }
 }
 
@@ -53,7 +65,7 @@ fn calls_of(alloc: Global, run: &Analyser) -> Result<Vec<(u16, Record)>, AllocEr
     Ok(calls)
 }
 
-fn offer(run: &mut Analyser, rank: u16, call: &Record) -> Result<(), LineFault>
+fn offer(run: &mut Analyser, rank: u16, call: &Record) -> Result<(), Fault>
     requires is_rank { rank < length run.old.recording }
     ensures reading { run.new.reading ≡ run.old.reading }
     ensures groups { run.new.groups ≡ run.old.groups }
@@ -61,7 +73,7 @@ fn offer(run: &mut Analyser, rank: u16, call: &Record) -> Result<(), LineFault>
 {
     match run.offer(rank, call) {
         Ok(()) => Ok(()),
-        Err(_) => Err(LineFault::Missing),
+        Err(_) => Err(Fault::Missing),
     }
 }
 
@@ -71,7 +83,7 @@ fn offer_to_both(
     second: &mut Analyser,
     rank: u16,
     call: &Record,
-) -> Result<(), LineFault>
+) -> Result<(), Fault>
     requires is_rank { rank < length first.old.recording }
     requires recordings { first.old.recording ≡ second.old.recording }
     ensures first_reading { first.new.reading ≡ first.old.reading }
@@ -89,7 +101,7 @@ fn offer_all(
     first: &mut Analyser,
     second: &mut Analyser,
     calls: &[(u16, Record)],
-) -> Result<(), LineFault>
+) -> Result<(), Fault>
     requires recordings { first.old.recording ≡ second.old.recording }
     ensures first_reading { first.new.reading ≡ first.old.reading }
     ensures first_groups { first.new.groups ≡ first.old.groups }
@@ -99,7 +111,7 @@ fn offer_all(
 {
     for (rank, call) in calls {
         if *rank >= first.head().ranks() {
-            return Err(LineFault::Missing);
+            return Err(Fault::Missing);
         }
         offer_to_both(first, second, *rank, call)?;
     }
@@ -113,26 +125,43 @@ fn ranks_held_back(
     calls: &[(u16, Record)],
     first: Reading,
     second: Reading,
-) -> Result<Vec<u16>, LineFault> {
+) -> Result<Vec<u16>, Fault> {
     if !is_no_laxer(first, second) {
-        return Err(LineFault::Missing);
+        return Err(Fault::Missing);
     }
-    let mut stricter = Analyser::new(alloc, Head::read(alloc, head)?, first)?;
-    let mut laxer = Analyser::new(alloc, Head::read(alloc, head)?, second)?;
+    let Ok(first_head) = Head::read(alloc, head) else {
+        return Err(Fault::Unread);
+    };
+    let Ok(second_head) = Head::read(alloc, head) else {
+        return Err(Fault::Unread);
+    };
+    let Ok(mut stricter) = Analyser::new(alloc, first_head, first) else {
+        return Err(Fault::Memory);
+    };
+    let Ok(mut laxer) = Analyser::new(alloc, second_head, second) else {
+        return Err(Fault::Memory);
+    };
     offer_all(&mut stricter, &mut laxer, calls)?;
-    Ok(held_back(alloc, &stricter, &laxer)?)
+    match held_back(alloc, &stricter, &laxer) {
+        Ok(ranks) => Ok(ranks),
+        Err(_) => Err(Fault::Memory),
+    }
 }
 
-/// What the first of two readings holds back of a run's ranks, over the calls that were offered to it.
-pub fn told_of_readings(
-    answer: &mut String,
-    head: &[u8],
-    run: &Analyser,
-    words: &mut Words<'_>,
-) -> Result<(), LineFault> {
-    let alloc = *answer.allocator();
-    let (first, second) = (reading_in(words)?, reading_in(words)?);
-    let calls = calls_of(alloc, run)?;
-    let ranks = ranks_held_back(alloc, head, &calls, first, second)?;
-    Ok(add_numbers(answer, &ranks)?)
+/// The ranks of a run that the first of two readings holds back, over the calls that were offered to it.
+fn held_ranks(alloc: Global, head: &[u8], run: &Analyser, text: &str) -> Result<Vec<u16>, Fault> {
+    let (first, rest) = reading_before(text).ok_or(Fault::Unread)?;
+    let second = reading_in(rest).ok_or(Fault::Unread)?;
+    match calls_of(alloc, run) {
+        Ok(calls) => ranks_held_back(alloc, head, &calls, first, second),
+        Err(_) => Err(Fault::Memory),
+    }
+}
+
+/// What the first of two readings holds back of a run's ranks.
+pub fn tell_held_back(answer: &mut Answer, head: &[u8], run: &Analyser, text: &str) {
+    match held_ranks(answer.alloc(), head, run, text) {
+        Ok(ranks) => answer.numbers(&ranks),
+        Err(fault) => answer.fail(fault),
+    }
 }

@@ -1,140 +1,109 @@
-//! What an analyser answers.
+//! What an analyser is offered, and where its ranks stand.
 
-use crate::answer::{add_number, add_pair, add_record, add_yes_or_no};
+use crate::answer::Answer;
 use crate::calls::{calls_in, record_of};
-use crate::fault::LineFault;
-use crate::words::Words;
+use crate::fault::Fault;
 use moves::analyser::{Analyser, OfferFault};
+use moves::reading::Reading;
 use mpicall::record::Record;
-use std::alloc::{AllocError, Global};
+use mpigroup::head::Head;
+use std::alloc::Global;
 
-/// Offers a call, adds why it is refused, if it is, and tells whether it was taken.
-fn offer_call(
-    answer: &mut String,
-    run: &mut Analyser,
-    rank: u16,
-    call: &Record,
-) -> Result<bool, LineFault> {
+/// An analyser without calls, of the ranks and groups of a head.
+pub fn begin(alloc: Global, head: &[u8], reading: Reading) -> Result<Analyser, Fault> {
+    let Ok(head) = Head::read(alloc, head) else {
+        return Err(Fault::Unread);
+    };
+    match Analyser::new(alloc, head, reading) {
+        Ok(run) => Ok(run),
+        Err(_) => Err(Fault::Memory),
+    }
+}
+
+/// Offers a call, tells why it is refused, if it is, and answers whether it was taken.
+fn offer_call(answer: &mut Answer, run: &mut Analyser, rank: u16, call: &Record) -> bool {
     if rank >= run.head().ranks() {
-        return Err(LineFault::Missing);
+        answer.fail(Fault::Missing);
+        return false;
     }
     match run.offer(rank, call) {
-        Ok(()) => Ok(true),
+        Ok(()) => true,
         Err(OfferFault::Refused(fault)) => {
-            write!(answer, "refused {} {fault}", fault.code())?;
-            Ok(false)
+            answer.put("refused ");
+            answer.coded(fault.code(), &fault);
+            false
         }
-        Err(OfferFault::Memory) => Err(LineFault::Memory),
+        Err(OfferFault::Memory) => {
+            answer.fail(Fault::Memory);
+            false
+        }
     }
 }
 
 /// Offers calls, up to the first that is refused.
-fn offer_calls(
-    answer: &mut String,
-    run: &mut Analyser,
-    calls: &[(u16, Record)],
-) -> Result<bool, LineFault> {
+fn offer_calls(answer: &mut Answer, run: &mut Analyser, calls: &[(u16, Record)]) -> bool {
     for (rank, call) in calls {
-        if !offer_call(answer, run, *rank, call)? {
-            return Ok(false);
+        if !offer_call(answer, run, *rank, call) {
+            return false;
         }
     }
-    Ok(true)
+    true
 }
 
 /// Offers the calls of a text, so many times.
-pub fn offer(
-    answer: &mut String,
-    run: &mut Analyser,
-    times: u32,
-    text: &str,
-) -> Result<(), LineFault> {
-    let alloc = *answer.allocator();
-    let calls = calls_in(alloc, text)?;
+pub fn offer(answer: &mut Answer, run: &mut Analyser, times: u32, text: &str) {
+    match calls_in(answer.alloc(), text) {
+        Ok(calls) => offer_times(answer, run, times, &calls),
+        Err(fault) => answer.fail(fault),
+    }
+}
+
+fn offer_times(answer: &mut Answer, run: &mut Analyser, times: u32, calls: &[(u16, Record)]) {
     for _ in 0..times {
-        if !offer_calls(answer, run, &calls)? {
-            return Ok(());
+        if !offer_calls(answer, run, calls) {
+            return;
         }
     }
-    Ok(answer.push_str("ok")?)
+    answer.put("ok");
 }
 
 /// Offers a rank's call so many times, and then its Finalize.
 fn offer_list(
-    answer: &mut String,
+    answer: &mut Answer,
     run: &mut Analyser,
     rank: u16,
     call: &Record,
     times: u32,
-) -> Result<bool, LineFault> {
+) -> bool {
     for _ in 0..times {
-        if !offer_call(answer, run, rank, call)? {
-            return Ok(false);
+        if !offer_call(answer, run, rank, call) {
+            return false;
         }
     }
     offer_call(answer, run, rank, &Record::finalize())
 }
 
 /// Offers of each rank, the last one first, a call so many times, and then its Finalize.
-pub fn offer_of_all(
-    answer: &mut String,
-    run: &mut Analyser,
-    times: u32,
-    line: &str,
-) -> Result<(), LineFault> {
-    let alloc = *answer.allocator();
-    let call = record_of(alloc, line)?;
+pub fn offer_of_all(answer: &mut Answer, run: &mut Analyser, times: u32, line: &str) {
+    match record_of(answer.alloc(), line) {
+        Ok(call) => offer_lists(answer, run, times, &call),
+        Err(fault) => answer.fail(fault),
+    }
+}
+
+fn offer_lists(answer: &mut Answer, run: &mut Analyser, times: u32, call: &Record) {
     for rank in (0..run.head().ranks()).rev() {
-        if !offer_list(answer, run, rank, &call, times)? {
-            return Ok(());
+        if !offer_list(answer, run, rank, call, times) {
+            return;
         }
     }
-    Ok(answer.push_str("ok")?)
+    answer.put("ok");
 }
 
 /// Adds where the ranks stand.
-pub fn add_stands(answer: &mut String, run: &Analyser) -> Result<(), AllocError> {
-    let mut separator = "";
+pub fn tell_stands(answer: &mut Answer, run: &Analyser) {
     for rank in 0..run.head().ranks() {
-        if let Some(stand) = run.stand(rank) {
-            write!(answer, "{separator}{stand}")?;
-            separator = " ";
-        }
+        answer.separate(" ");
+        answer.number("", run.stand(rank).unwrap_or(0));
     }
-    Ok(())
-}
-
-/// Whether the touches are so many at least and at most, and else how many they are.
-fn add_touches(
-    answer: &mut String,
-    run: &Analyser,
-    words: &mut Words<'_>,
-) -> Result<(), LineFault> {
-    let (least, most) = (words.number()?, words.number()?);
-    let touches = run.touches();
-    if u64::from(least) <= touches && touches <= u64::from(most) {
-        Ok(answer.push_str("within")?)
-    } else {
-        Ok(write!(answer, "{touches}")?)
-    }
-}
-
-/// Answers a question about the run, if it is such a one.
-pub fn answer_of_run(
-    answer: &mut String,
-    run: &Analyser,
-    asked: &str,
-    words: &mut Words<'_>,
-) -> Result<bool, LineFault> {
-    match asked {
-        "stands" => add_stands(answer, run)?,
-        "closed" => add_yes_or_no(answer, run.is_closed())?,
-        "ended" => add_yes_or_no(answer, run.is_ended(words.rank()?))?,
-        "accepted" => add_number(answer, run.accepted(words.rank()?))?,
-        "record" => add_record(answer, run.record(words.rank()?, words.number()?))?,
-        "joins" => add_pair(answer, run.pairs().wave_of(words.rank()?, words.number()?))?,
-        "touches" => add_touches(answer, run, words)?,
-        _ => return Ok(false),
-    }
-    Ok(true)
 }

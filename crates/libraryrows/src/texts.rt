@@ -2,104 +2,102 @@
 
 ghost use Rattle.std.specs.Prelude.{◌<◌};
 
-use crate::answer::{Alike, add_line};
-use crate::calls::{bytes_of, record_of};
-use crate::fault::LineFault;
-use crate::fields::add_values;
-use crate::words::Words;
-use mpicall::fault::{LineFault as TextFault, SourceFault};
+use crate::answer::Answer;
+use crate::calls::bytes_of;
+use crate::fault::Fault;
+use crate::fields::tell_values;
+use mpicall::fault::{LineFault, SourceFault};
 use mpicall::line::read_line;
-use mpicall::lint::{LintFault, lint};
+use mpicall::lint::lint;
 use mpicall::memory::{MemoryInput, MemoryOutput};
+use mpicall::record::Record;
 use mpicall::source::Source;
 use mpicall::spelling::write_line;
 use mpigroup::fault::ReadFault;
 use mpigroup::head::Head;
-use std::alloc::{AllocError, Global};
 use std::sync::Wait;
 
-/// Adds a piece that stood behind a `\`.
-fn add_escape(bytes: &mut Vec<u8>, piece: &str) -> Result<(), LineFault> {
-    let escapes = [("n", b'\n'), ("r", b'\r'), ("0", 0), ("ff", 255)];
-    for (letters, byte) in escapes {
-        if let Some(rest) = piece.strip_prefix(letters) {
-            bytes.push(byte)?;
-            bytes.extend_from_slice(rest.as_bytes())?;
-            return Ok(());
+/// What may stand behind a `\`, and the byte that it is.
+const ESCAPES: [(&str, u8); 4] = [("n", b'\n'), ("r", b'\r'), ("0", 0), ("ff", 255)];
+
+/// Adds a piece that stood behind a `\`, if it begins as one may.
+fn add_escape(bytes: &mut Vec<u8>, piece: &str) -> bool {
+    for (letters, byte) in &ESCAPES {
+        if let Some(rest) = piece.strip_prefix(*letters) {
+            return bytes.push(*byte).is_ok() && bytes.extend_from_slice(rest.as_bytes()).is_ok();
         }
     }
-    Err(LineFault::Unread)
+    false
 }
 
-/// Adds a text to bytes so many times: `\n`, `\r`, `\0` and `\ff` are the bytes 10, 13, 0 and 255.
-pub fn add_text(bytes: &mut Vec<u8>, times: u32, text: &str) -> Result<(), LineFault> {
-    let mut piece = Vec::new(*bytes.allocator());
-    let (plain, escaped) = match text.split_once('\\') {
-        Some((plain, escaped)) => (plain, Some(escaped)),
-        None => (text, None),
-    };
-    piece.extend_from_slice(plain.as_bytes())?;
-    if let Some(escaped) = escaped {
-        for part in escaped.split('\\') {
-            add_escape(&mut piece, part)?;
+/// Adds a text to bytes, if it can be read: `\n`, `\r`, `\0` and `\ff` are the bytes 10, 13, 0 and 255.
+pub fn add_text(bytes: &mut Vec<u8>, text: &str) -> bool {
+    let mut pieces = text.split('\\');
+    let plain = pieces.next().unwrap_or("");
+    if bytes.extend_from_slice(plain.as_bytes()).is_err() {
+        return false;
+    }
+    for piece in pieces {
+        if !add_escape(bytes, piece) {
+            return false;
         }
     }
-    for _ in 0..times {
-        bytes.extend_from_slice(&piece)?;
+    true
+}
+
+/// Whether the record of a line is written as the line.
+fn is_written(answer: &mut Answer, record: &Record, line: &[u8]) -> bool {
+    let mut output = MemoryOutput::new(answer.alloc());
+    if write_line(record, &mut output).is_err() {
+        answer.fail(Fault::Memory);
     }
-    Ok(())
+    output.bytes() == line
 }
 
 /// What is told of a line: its first fault, or `ok` where its record is written as it was.
-pub fn told_of_line(answer: &mut String, line: &[u8]) -> Result<(), LineFault> {
-    let alloc = *answer.allocator();
-    let record = match read_line(line) {
-        Ok(record) => record,
-        Err(fault) => return Ok(write!(answer, "{} {fault}", fault.code())?),
-    };
-    let mut output = MemoryOutput::new(alloc);
-    if write_line(&record, &mut output).is_err() {
-        return Err(LineFault::Memory);
+pub fn tell_line(answer: &mut Answer, line: &[u8]) {
+    match read_line(line) {
+        Ok(record) => {
+            let is_same = is_written(answer, &record, line);
+            answer.put(if is_same { "ok" } else { "written otherwise" });
+        }
+        Err(fault) => answer.coded(fault.code(), &fault),
     }
-    let told = if output.bytes() == line {
-        "ok"
-    } else {
-        "written otherwise"
-    };
-    Ok(answer.push_str(told)?)
 }
 
 /// What is told of a text, as a line with its line feed.
-pub fn told_of_text(answer: &mut String, text: &str) -> Result<(), LineFault> {
-    let alloc = *answer.allocator();
-    let mut bytes = Vec::new(alloc);
-    add_text(&mut bytes, 1, text)?;
-    bytes.push(b'\n')?;
-    told_of_line(answer, &bytes)
+pub fn tell_text(answer: &mut Answer, text: &str) {
+    let mut bytes = Vec::new(answer.alloc());
+    if !add_text(&mut bytes, text) || bytes.push(b'\n').is_err() {
+        answer.fail(Fault::Unread);
+    }
+    tell_line(answer, &bytes);
 }
 
 /// The values of the call of a line, which is written as the line.
-pub fn values(answer: &mut String, line: &str) -> Result<(), LineFault> {
-    let alloc = *answer.allocator();
-    let record = record_of(alloc, line)?;
-    let bytes = bytes_of(alloc, line)?;
-    told_of_line(answer, &bytes)?;
-    if answer.as_str() == "ok" {
-        answer.clear();
-        add_values(answer, &record.call())?;
+pub fn tell_call(answer: &mut Answer, line: &str) {
+    match bytes_of(answer.alloc(), line) {
+        Ok(bytes) => tell_values_in(answer, &bytes),
+        Err(_) => answer.fail(Fault::Memory),
     }
-    Ok(())
+}
+
+fn tell_values_in(answer: &mut Answer, line: &[u8]) {
+    match read_line(line) {
+        Ok(record) if is_written(answer, &record, line) => tell_values(answer, record.as_call()),
+        _ => answer.fail(Fault::Unread),
+    }
 }
 
 /// The faults of a source, numbered from 0.
 const FAULTS: [SourceFault; 12] = [
-    SourceFault::Line(TextFault::EmptyField),
-    SourceFault::Line(TextFault::UnknownWord),
-    SourceFault::Line(TextFault::FieldCount),
-    SourceFault::Line(TextFault::FieldForm),
-    SourceFault::Line(TextFault::Wildcard),
-    SourceFault::Line(TextFault::TooLong),
-    SourceFault::Line(TextFault::NoLineFeed),
+    SourceFault::Line(LineFault::EmptyField),
+    SourceFault::Line(LineFault::UnknownWord),
+    SourceFault::Line(LineFault::FieldCount),
+    SourceFault::Line(LineFault::FieldForm),
+    SourceFault::Line(LineFault::Wildcard),
+    SourceFault::Line(LineFault::TooLong),
+    SourceFault::Line(LineFault::NoLineFeed),
     SourceFault::TextAfterFinalize,
     SourceFault::NoFinalize,
     SourceFault::ReadFailed,
@@ -108,10 +106,10 @@ const FAULTS: [SourceFault; 12] = [
 ];
 
 /// The code and words of a fault of a source.
-pub fn fault_words(answer: &mut String, words: &mut Words<'_>) -> Result<(), LineFault> {
-    match FAULTS.get(words.number()? as usize) {
-        Some(fault) => Ok(write!(answer, "{} {fault}", fault.code())?),
-        None => Err(LineFault::Missing),
+pub fn tell_fault(answer: &mut Answer, number: u32) {
+    match FAULTS.get(number as usize) {
+        Some(fault) => answer.coded(fault.code(), fault),
+        None => answer.fail(Fault::Missing),
     }
 }
 
@@ -127,94 +125,72 @@ fn input_of(text: &[u8], most: usize) -> MemoryInput<'_> {
     }
 }
 
-fn trace_text(alloc: Global, told: Result<u64, LintFault>) -> Result<String, AllocError> {
-    match told {
-        Ok(count) => format!(in alloc; "{count} calls"),
+/// What is told of the trace that an input gives.
+fn tell_trace_of(answer: &mut Answer, input: MemoryInput<'_>, wait: &impl Wait) {
+    match lint(&mut Source::new(input), wait) {
+        Ok(count) => {
+            answer.value("", &count);
+            answer.put(" calls");
+        }
         Err(told) => {
-            let fault = told.fault;
-            format!(in alloc; "call {} {} {fault}", told.call, fault.code())
+            answer.value("call ", &told.call);
+            answer.put(" ");
+            answer.coded(told.fault.code(), &told.fault);
         }
     }
 }
 
-/// Adds what is told of a text as a trace, by inputs that give pieces of any size.
-fn add_told(
-    alloc: Global,
-    alike: &mut Alike,
-    text: &[u8],
-    wait: &impl Wait,
-) -> Result<(), AllocError> {
-    for most in PIECES {
-        let told = lint(&mut Source::new(input_of(text, most)), wait);
-        alike.add(trace_text(alloc, told)?)?;
+/// What is told of a text as a trace, by inputs that give pieces of any size: all that differ.
+pub fn tell_trace(answer: &mut Answer, text: &[u8], wait: &impl Wait) {
+    let mut told = Answer::new(answer.alloc());
+    for most in &PIECES {
+        told.clear();
+        tell_trace_of(&mut told, input_of(text, *most), wait);
+        answer.other(&told);
     }
-    Ok(())
-}
-
-/// What is told of a text as a trace: all that differ.
-pub fn told_of_trace(answer: &mut String, text: &[u8], wait: &impl Wait) -> Result<(), LineFault> {
-    let alloc = *answer.allocator();
-    let mut alike = Alike::new(alloc);
-    add_told(alloc, &mut alike, text, wait)?;
-    Ok(answer.push_str(alike.text())?)
 }
 
 /// What is told of the first bytes of a text as a trace, for each of these counts of bytes: all that differ.
-pub fn told_of_fronts(
-    answer: &mut String,
-    text: &[u8],
-    words: &mut Words<'_>,
-    wait: &impl Wait,
-) -> Result<(), LineFault> {
-    let alloc = *answer.allocator();
-    let (first, last) = (words.number()?, words.number()?);
-    let mut alike = Alike::new(alloc);
+pub fn tell_fronts(answer: &mut Answer, text: &[u8], first: u32, last: u32, wait: &impl Wait) {
     for count in first..=last {
-        let front = text.get(..count as usize).ok_or(LineFault::Missing)?;
-        add_told(alloc, &mut alike, front, wait)?;
+        match text.get(..count as usize) {
+            Some(front) => tell_trace(answer, front, wait),
+            None => answer.fail(Fault::Missing),
+        }
     }
-    Ok(answer.push_str(alike.text())?)
 }
 
 /// The lines of the records that a source gives, and its end.
-fn records_text(
-    alloc: Global,
-    source: &mut Source<MemoryInput<'_>>,
-    count: usize,
-) -> Result<String, LineFault> {
-    let mut answer = String::new(alloc);
-    let mut separator = "";
+fn tell_records_of(answer: &mut Answer, source: &mut Source<MemoryInput<'_>>, count: u32) {
     for _ in 0..count {
-        write!(answer, "{separator}")?;
+        answer.separate(" / ");
         match source.next() {
-            Ok(Some(record)) => add_line(&mut answer, &record)?,
-            Ok(None) => answer.push_str("end")?,
-            Err(fault) => write!(answer, "{} {fault}", fault.code())?,
+            Ok(Some(record)) => answer.line(&record),
+            Ok(None) => answer.put("end"),
+            Err(fault) => answer.coded(fault.code(), &fault),
         }
-        separator = " / ";
     }
-    Ok(answer)
 }
 
 /// What a source of a text gives when it is asked so often, by inputs that give pieces of any size: all that
 /// differ.
-pub fn records(answer: &mut String, text: &[u8], words: &mut Words<'_>) -> Result<(), LineFault> {
-    let alloc = *answer.allocator();
-    let count = words.number()? as usize;
-    let mut alike = Alike::new(alloc);
-    for most in PIECES {
-        let mut source = Source::new(input_of(text, most));
-        alike.add(records_text(alloc, &mut source, count)?)?;
+pub fn tell_records(answer: &mut Answer, text: &[u8], count: u32) {
+    let mut told = Answer::new(answer.alloc());
+    for most in &PIECES {
+        told.clear();
+        tell_records_of(&mut told, &mut Source::new(input_of(text, *most)), count);
+        answer.other(&told);
     }
-    Ok(answer.push_str(alike.text())?)
 }
 
 /// What is told of a text as a head.
-pub fn told_of_head(answer: &mut String, text: &[u8]) -> Result<(), LineFault> {
-    let alloc = *answer.allocator();
-    match Head::read(alloc, text) {
-        Ok(head) => Ok(write!(answer, "ranks {}, comms {}", head.ranks(), head.comms())?),
-        Err(ReadFault::Text(fault)) => Ok(write!(answer, "{fault}")?),
-        Err(ReadFault::Memory) => Err(LineFault::Memory),
+pub fn tell_head(answer: &mut Answer, text: &[u8]) {
+    match Head::read(answer.alloc(), text) {
+        Ok(head) => {
+            answer.value("ranks ", &head.ranks());
+            answer.value(", comms ", &head.comms());
+        }
+        Err(ReadFault::Text(fault)) => answer.value("", &fault),
+        Err(ReadFault::Memory) => answer.fail(Fault::Memory),
     }
 }

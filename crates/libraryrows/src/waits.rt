@@ -1,46 +1,46 @@
 //! What the wait graph, the findings and the report answer.
 
-use crate::answer::{add_escaped, add_numbers};
-use crate::fault::LineFault;
-use crate::words::Words;
+use crate::answer::Answer;
+use crate::fault::Fault;
 use moves::analyser::Analyser;
 use moves::need::Need;
 use mpicall::memory::MemoryOutput;
 use mpicall::word::{Collective, Name, Operation, Word};
 use pairing::pairs::Pairs;
-use reports::report::{Format, ReportFault, write_report};
-use std::alloc::{AllocError, Global};
+use reports::report::{Format, write_report};
 use waitgraph::cause::Cause;
 use waitgraph::finding::{Finding, findings};
 use waitgraph::graph::Graph;
 use waitgraph::verdict::Verdict;
 
 /// Adds `RANK PLACE` for each call that is waited for, and `RANK none` for one that is lacking.
-fn add_needs(answer: &mut String, needs: &[Need]) -> Result<(), AllocError> {
-    let mut separator = "";
+fn tell_needs(answer: &mut Answer, needs: &[Need]) {
     for need in needs {
+        answer.separate(", ");
         match *need {
-            Need::At { rank, place } => write!(answer, "{separator}{rank} {place}")?,
-            Need::Lacking { rank } => write!(answer, "{separator}{rank} none")?,
+            Need::At { rank, place } => answer.pair("", rank, place),
+            Need::Lacking { rank } => {
+                answer.value("", &rank);
+                answer.put(" none");
+            }
         }
-        separator = ", ";
     }
-    Ok(())
 }
 
-fn add_causes(answer: &mut String, causes: &[Cause]) -> Result<(), AllocError> {
-    let mut separator = "";
+fn tell_causes(answer: &mut Answer, causes: &[Cause]) {
     for cause in causes {
+        answer.separate(", ");
         match cause {
             Cause::Cycle(ranks) => {
-                write!(answer, "{separator}cycle ")?;
-                add_numbers(answer, ranks)?;
+                answer.put("cycle ");
+                answer.numbers(ranks);
             }
-            Cause::Missing { rank, peer } => write!(answer, "{separator}missing {rank} {peer}")?,
+            Cause::Missing { rank, peer } => {
+                answer.value("missing ", rank);
+                answer.value(" ", peer);
+            }
         }
-        separator = ", ";
     }
-    Ok(())
 }
 
 fn verdict_text(verdict: Verdict) -> &'static str {
@@ -51,35 +51,60 @@ fn verdict_text(verdict: Verdict) -> &'static str {
     }
 }
 
-fn answer_of_graph(
-    answer: &mut String,
-    graph: &Graph,
-    asked: &str,
-    words: &mut Words<'_>,
-) -> Result<(), LineFault> {
-    match asked {
-        "verdict" => answer.push_str(verdict_text(graph.verdict()))?,
-        "stuck" => add_numbers(answer, graph.stuck())?,
-        "held" => add_numbers(answer, graph.held())?,
-        "unmet" => add_needs(answer, graph.unmet(words.rank()?))?,
-        _ => add_causes(answer, graph.causes())?,
-    }
-    Ok(())
+/// What is asked of a wait graph.
+#[derive(Clone, Copy)]
+pub enum GraphQuestion {
+    Verdict,
+    Stuck,
+    Held,
+    Unmet(u16),
+    Causes,
+    Report(Format),
 }
 
-/// Answers a question about the wait graph of a run.
-pub fn answer_of_waits(
-    answer: &mut String,
-    run: &Analyser,
-    asked: &str,
-    words: &mut Words<'_>,
-) -> Result<(), LineFault> {
-    let alloc = *answer.allocator();
-    if !run.is_closed() {
-        return Err(LineFault::Missing);
+/// The question that a word asks of a wait graph, with what stands behind it.
+pub fn question_in(word: &str, rest: &str) -> Option<GraphQuestion> {
+    match (word, rest) {
+        ("verdict", "") => Some(GraphQuestion::Verdict),
+        ("stuck", "") => Some(GraphQuestion::Stuck),
+        ("held", "") => Some(GraphQuestion::Held),
+        ("causes", "") => Some(GraphQuestion::Causes),
+        ("unmet", rank) => Some(GraphQuestion::Unmet(rank.parse::<u16>().ok()?)),
+        ("report", "text") => Some(GraphQuestion::Report(Format::Text)),
+        ("report", "json") => Some(GraphQuestion::Report(Format::Json)),
+        _ => None,
     }
-    let graph = Graph::of(alloc, run)?;
-    answer_of_graph(answer, &graph, asked, words)
+}
+
+fn tell_report(answer: &mut Answer, run: &Analyser, graph: &Graph, format: Format) {
+    let mut out = MemoryOutput::new(answer.alloc());
+    match write_report(answer.alloc(), run, graph, format, &mut out) {
+        Ok(()) => answer.escaped(out.bytes()),
+        Err(_) => answer.fail(Fault::Memory),
+    }
+}
+
+fn tell_of_graph(answer: &mut Answer, run: &Analyser, graph: &Graph, asked: GraphQuestion) {
+    match asked {
+        GraphQuestion::Verdict => answer.put(verdict_text(graph.verdict())),
+        GraphQuestion::Stuck => answer.numbers(graph.stuck()),
+        GraphQuestion::Held => answer.numbers(graph.held()),
+        GraphQuestion::Unmet(rank) => tell_needs(answer, graph.unmet(rank)),
+        GraphQuestion::Causes => tell_causes(answer, graph.causes()),
+        GraphQuestion::Report(format) => tell_report(answer, run, graph, format),
+    }
+}
+
+/// Answers a question about the wait graph of a run, with `\n` for each line feed of a report.
+pub fn tell_of_waits(answer: &mut Answer, run: &Analyser, asked: GraphQuestion) {
+    if !run.is_closed() {
+        answer.fail(Fault::Missing);
+        return;
+    }
+    match Graph::of(answer.alloc(), run) {
+        Ok(graph) => tell_of_graph(answer, run, &graph, asked),
+        Err(_) => answer.fail(Fault::Memory),
+    }
 }
 
 /// The word of a collective call that a finding may tell.
@@ -93,7 +118,13 @@ fn word_text(word: Word) -> &'static str {
     }
 }
 
-fn add_finding(answer: &mut String, finding: Finding) -> Result<(), AllocError> {
+/// Adds a member of a wave.
+fn tell_member(answer: &mut Answer, kind: &str, comm: u16, wave: u32, member: u16) {
+    answer.pair(kind, comm, wave);
+    answer.value(" ", &member);
+}
+
+fn tell_finding(answer: &mut Answer, finding: Finding) {
     match finding {
         Finding::Kind {
             comm,
@@ -102,8 +133,9 @@ fn add_finding(answer: &mut String, finding: Finding) -> Result<(), AllocError> 
             first,
             word,
         } => {
-            let (first, word) = (word_text(first), word_text(word));
-            write!(answer, "kind {comm} {wave} {member} {first} {word}")
+            tell_member(answer, "kind ", comm, wave, member);
+            answer.value(" ", &word_text(first));
+            answer.value(" ", &word_text(word));
         }
         Finding::Root {
             comm,
@@ -111,41 +143,31 @@ fn add_finding(answer: &mut String, finding: Finding) -> Result<(), AllocError> 
             member,
             first,
             root,
-        } => write!(answer, "root {comm} {wave} {member} {first} {root}"),
-        Finding::Unreceived { rank, place } => write!(answer, "unreceived {rank} {place}"),
-        Finding::Request { rank, place, req } => write!(answer, "request {rank} {place} {req}"),
-        Finding::Group { rank, place } => write!(answer, "group {rank} {place}"),
+        } => {
+            tell_member(answer, "root ", comm, wave, member);
+            answer.value(" ", &first);
+            answer.value(" ", &root);
+        }
+        Finding::Unreceived { rank, place } => answer.pair("unreceived ", rank, place),
+        Finding::Request { rank, place, req } => {
+            answer.pair("request ", rank, place);
+            answer.number(" ", req);
+        }
+        Finding::Group { rank, place } => answer.pair("group ", rank, place),
     }
 }
 
 /// What else is wrong with the calls.
-pub fn findings_of(answer: &mut String, pairs: &Pairs) -> Result<(), LineFault> {
-    let alloc = *answer.allocator();
-    for finding in findings(alloc, pairs)? {
-        answer.push_str(if answer.is_empty() { "" } else { ", " })?;
-        add_finding(answer, finding)?;
-    }
-    Ok(())
-}
-
-fn report_in(answer: &mut String, run: &Analyser, format: Format) -> Result<(), LineFault> {
-    let alloc = *answer.allocator();
-    if !run.is_closed() {
-        return Err(LineFault::Missing);
-    }
-    let graph = Graph::of(alloc, run)?;
-    let mut out = MemoryOutput::new(alloc);
-    match write_report(alloc, run, &graph, format, &mut out) {
-        Ok(()) => add_escaped(answer, out.bytes()),
-        Err(ReportFault::Memory | ReportFault::Write) => Err(LineFault::Memory),
+pub fn tell_findings(answer: &mut Answer, pairs: &Pairs) {
+    match findings(answer.alloc(), pairs) {
+        Ok(found) => tell_each(answer, &found),
+        Err(_) => answer.fail(Fault::Memory),
     }
 }
 
-/// The report of a run, with `\n` for each line feed.
-pub fn report(answer: &mut String, run: &Analyser, words: &mut Words<'_>) -> Result<(), LineFault> {
-    match words.word() {
-        "text" => report_in(answer, run, Format::Text),
-        "json" => report_in(answer, run, Format::Json),
-        _ => Err(LineFault::Unread),
+fn tell_each(answer: &mut Answer, found: &[Finding]) {
+    for finding in found {
+        answer.separate(", ");
+        tell_finding(answer, *finding);
     }
 }

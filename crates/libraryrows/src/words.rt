@@ -1,41 +1,40 @@
 //! The words of a line.
 
-use crate::fault::LineFault;
+/// The first word of a text, and what stands behind it. Words have one space between two.
+pub fn first_word(text: &str) -> (&str, &str) {
+    text.split_once(' ').unwrap_or((text, ""))
+}
 
-/// What is left of a line: words with one space between two.
+/// The numbers of a text.
 #[derive(Clone, Copy)]
-pub struct Words<'a>(pub &'a str);
+pub enum Numbers {
+    None,
+    One(u32),
+    Two(u32, u32),
+    Three(u32, u32, u32),
+}
 
-impl<'a> Words<'a> {
-    /// The next word; empty where none is left.
-    pub fn word(&mut self) -> &'a str {
-        let (word, left) = self.0.split_once(' ').unwrap_or((self.0, ""));
-        self.0 = left;
-        word
-    }
+/// The number that a word spells.
+pub fn number_in(word: &str) -> Option<u32> {
+    word.parse::<u32>().ok()
+}
 
-    /// The next word as a rank, a communicator or another number of 16 bits.
-    pub fn rank(&mut self) -> Result<u16, LineFault> {
-        match self.word().parse::<u16>() {
-            Ok(number) => Ok(number),
-            Err(_) => Err(LineFault::Unread),
-        }
+/// The numbers of a text that has three at most, and nothing else.
+pub fn numbers_in(text: &str) -> Option<Numbers> {
+    if text.is_empty() {
+        return Some(Numbers::None);
     }
+    let Some((first, rest)) = text.split_once(' ') else {
+        return Some(Numbers::One(number_in(text)?));
+    };
+    let first = number_in(first)?;
+    let Some((second, third)) = rest.split_once(' ') else {
+        return Some(Numbers::Two(first, number_in(rest)?));
+    };
+    Some(Numbers::Three(first, number_in(second)?, number_in(third)?))
+}
 
-    /// The next word as a place or another number of 32 bits.
-    pub fn number(&mut self) -> Result<u32, LineFault> {
-        match self.word().parse::<u32>() {
-            Ok(number) => Ok(number),
-            Err(_) => Err(LineFault::Unread),
-        }
-    }
-
-    /// Whether all words were taken.
-    pub fn end(&self) -> Result<(), LineFault> {
-        if self.0.is_empty() {
-            Ok(())
-        } else {
-            Err(LineFault::Unread)
-        }
-    }
+/// A number that names a rank or a communicator: the last of these, which no run has, where it is greater.
+pub fn short(number: u32) -> u16 {
+    u16::try_from(number).unwrap_or(u16::MAX)
 }
