@@ -1,5 +1,7 @@
 //! What the wait graph, the findings and the report answer.
 
+ghost use Rattle.waitgraph.specs.Graphs.{IsGraphOf};
+
 use crate::answer::Answer;
 use crate::fault::Fault;
 use moves::analyser::Analyser;
@@ -76,7 +78,9 @@ pub fn question_in(word: &str, rest: &str) -> Option<GraphQuestion> {
     }
 }
 
-fn tell_report(answer: &mut Answer, run: &Analyser, graph: &Graph, format: Format) {
+fn tell_report(answer: &mut Answer, run: &Analyser, graph: &Graph, format: Format)
+    requires { IsGraphOf run.now.reading run.now.groups run.now.recording graph.now }
+{
     let mut out = MemoryOutput::new(answer.alloc());
     match write_report(answer.alloc(), run, graph, format, &mut out) {
         Ok(()) => answer.escaped(out.bytes()),
@@ -84,7 +88,9 @@ fn tell_report(answer: &mut Answer, run: &Analyser, graph: &Graph, format: Forma
     }
 }
 
-fn tell_of_graph(answer: &mut Answer, run: &Analyser, graph: &Graph, asked: GraphQuestion) {
+fn tell_of_graph(answer: &mut Answer, run: &Analyser, graph: &Graph, asked: GraphQuestion)
+    requires { IsGraphOf run.now.reading run.now.groups run.now.recording graph.now }
+{
     match asked {
         GraphQuestion::Verdict => answer.put(verdict_text(graph.verdict())),
         GraphQuestion::Stuck => answer.numbers(graph.stuck()),
