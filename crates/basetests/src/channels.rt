@@ -1,145 +1,144 @@
-use crate::rings::{record, records};
+//! Feeds over a channel.
+
+ghost use Rattle.std.specs.Prelude.{IfSome};
+ghost use Rattle.rankfeed.specs.Channels.{SameFeed, SameTaker, IsReceiptOf};
+
+use crate::feeds::{Puts, Takes, by_threads, by_turns, letter_taken, named, plays};
 use mpicall::fault::SourceFault;
 use mpicall::record::Record;
-use rankfeed::answer::{Met, Took};
-use rankfeed::channel::{Feed, PutFault, Taker};
+use rankfeed::Took;
+use rankfeed::channel::{Feed, PutFault, Receipt, Taker};
+use std::alloc::{AllocError, Global};
 use std::sync::Wait;
-use std::test::Fail;
-use std::thread;
+use std::thread::Threads;
 
-#[test]
-fn a_feed_of_two_places(rt: HostRuntime) -> Result<(), Fail> {
-    let bsend = record(&rt, b"bsend 0 0 0\n");
-    let finalize = record(&rt, b"finalize\n");
-    let (mut feed, mut taker) = Feed::open(rt.alloc(), 3, 2)?;
-    assert!(rt; (feed.rank(), taker.rank()) == (3, 3));
-    assert!(rt; taker.try_take(&rt) == Took::Empty);
-    assert!(rt; feed.try_put(bsend, &rt) == Ok(()));
-    assert!(rt; feed.try_put(bsend, &rt) == Ok(()));
-    assert!(rt; feed.try_put(bsend, &rt) == Err(PutFault::Full(bsend)));
-    assert!(rt; taker.try_take(&rt) == Took::Record(bsend));
-    assert!(rt; !feed.is_done());
-    assert!(rt; feed.try_put(finalize, &rt) == Ok(()));
-    assert!(rt; feed.is_done());
-    assert!(rt; feed.try_put(finalize, &rt) == Err(PutFault::Closed(finalize)));
-    assert!(rt; feed.put(bsend, &rt) == Err(PutFault::Closed(bsend)));
-    Ok(())
-}
-
-#[test]
-fn a_receipt_tells_what_is_left(rt: HostRuntime) -> Result<(), Fail> {
-    let send = record(&rt, b"send 0 0 0\n");
-    let finalize = record(&rt, b"finalize\n");
-    let (mut feed, mut taker) = Feed::open(rt.alloc(), 0, 2)?;
-    assert!(rt; feed.try_put(send, &rt) == Ok(()));
-    assert!(rt; feed.put(finalize, &rt) == Ok(()));
-    assert!(rt; taker.try_take(&rt) == Took::Record(send));
-    assert!(rt; feed.is_done());
-    let receipt = feed.seal(&rt).expect(&rt, "a receipt");
-    assert!(rt; taker.meet(receipt, &rt) == Met { count: 2 });
-    assert!(rt; taker.try_take(&rt) == Took::Record(finalize));
-    assert!(rt; taker.try_take(&rt) == Took::Sealed);
-    assert!(rt; taker.try_take(&rt) == Took::Sealed);
-    Ok(())
-}
-
-#[test]
-fn an_open_ends_a_feed_as_a_finalize_does(rt: HostRuntime) -> Result<(), Fail> {
-    let finalize = record(&rt, b"finalize\n");
-    let open = record(&rt, b"open\n");
-    let (mut feed, mut taker) = Feed::open(rt.alloc(), 0, 2)?;
-    assert!(rt; feed.try_put(open, &rt) == Ok(()));
-    assert!(rt; feed.is_done());
-    assert!(rt; feed.try_put(finalize, &rt) == Err(PutFault::Closed(finalize)));
-    assert!(rt; feed.seal(&rt).is_ok());
-    assert!(rt; taker.try_take(&rt) == Took::Record(open));
-    assert!(rt; taker.try_take(&rt) == Took::Sealed);
-    Ok(())
-}
-
-#[test]
-fn a_torn_feed_and_ends_that_are_dropped(rt: HostRuntime) -> Result<(), Fail> {
-    let fault = SourceFault::ReadFailed;
-    let send = record(&rt, b"send 0 0 0\n");
-    let (feed, mut taker) = Feed::open(rt.alloc(), 0, 1)?;
-    let receipt = feed.tear(fault, &rt).expect(&rt, "a receipt");
-    assert!(rt; taker.try_take(&rt) == Took::Torn(fault));
-    assert!(rt; taker.meet(receipt, &rt) == Met { count: 0 });
-    assert!(rt; taker.try_take(&rt) == Took::Torn(fault));
-    let (mut feed, taker) = Feed::open(rt.alloc(), 0, 1)?;
-    drop(taker);
-    assert!(rt; feed.try_put(send, &rt) == Err(PutFault::Lost(send)));
-    assert!(rt; feed.put(send, &rt) == Err(PutFault::Lost(send)));
-    assert!(rt; feed.tear(fault, &rt).is_err());
-    let (feed, mut taker) = Feed::open(rt.alloc(), 0, 1)?;
-    drop(feed);
-    assert!(rt; taker.try_take(&rt) == Took::Empty);
-    Ok(())
-}
-
-// In one thread: takes before each record that would find no place, and before the end mark.
-fn by_turns(mut feed: Feed, mut taker: Taker, list: &[Record], wait: &impl Wait) -> bool {
-    let mut rest = list.iter();
-    for call in list {
-        if feed.try_put(*call, wait).is_err() {
-            let Some(first) = rest.next() else {
-                return false;
-            };
-            if taker.try_take(wait) != Took::Record(*first) || feed.try_put(*call, wait).is_err() {
-                return false;
-            }
+impl Puts for Feed {
+    fn puts<W: Wait>(&mut self, call: Record, may_wait: bool, wait: &W) -> char {
+        let put = if may_wait {
+            self.put(call, wait)
+        } else {
+            self.try_put(call, wait)
+        };
+        if put == Ok(()) {
+            '+'
+        } else if put == Err(PutFault::Full(call)) {
+            'F'
+        } else if put == Err(PutFault::Closed(call)) {
+            'C'
+        } else if put == Err(PutFault::Lost(call)) {
+            'L'
+        } else {
+            '?'
         }
     }
-    let Some(first) = rest.next() else {
-        return false;
+
+    fn is_ended(&self) -> bool {
+        self.is_done()
+    }
+
+    fn seals<W: Wait>(self, wait: &W) -> bool {
+        self.is_done() && self.seal(wait).is_ok()
+    }
+}
+
+impl Takes for Taker {
+    fn takes<W: Wait>(&mut self, wait: &W) -> Took {
+        self.try_take(wait)
+    }
+}
+
+/// Plays steps on a feed of two places, whose ends are those of rank 3.
+pub(crate) fn play<W: Wait>(alloc: Global, steps: &str, wait: &W) -> Result<bool, AllocError> {
+    let (feed, taker) = Feed::open(alloc, 3, 2)?;
+    let is_of_rank = (feed.rank() == 3) & (taker.rank() == 3);
+    Ok(plays(feed, taker, steps, wait) & is_of_rank)
+}
+
+/// Puts the record of a letter, if there is one.
+fn put_letter(feed: &mut Feed, letter: Option<char>, wait: &impl Wait) -> bool
+    ensures { SameFeed feed.old feed.new }
+{
+    match named(letter.unwrap_or('-')) {
+        Some(call) => feed.try_put(call, wait).is_ok(),
+        None => letter.is_none(),
+    }
+}
+
+/// Ends a feed with a fault, or else by a seal.
+fn ended(feed: Feed, fault: Option<SourceFault>, wait: &impl Wait) -> Option<Receipt>
+    ensures { IfSome result (λ receipt. IsReceiptOf feed receipt) }
+{
+    if let Some(fault) = fault {
+        return feed.tear(fault, wait).ok();
+    }
+    if feed.is_done() {
+        feed.seal(wait).ok()
+    } else {
+        None
+    }
+}
+
+/// Takes, if that is asked for.
+fn take_if(taker: &mut Taker, is_asked: bool, wait: &impl Wait) -> char
+    ensures { SameTaker taker.old taker.new }
+{
+    if is_asked {
+        letter_taken(taker.try_take(wait))
+    } else {
+        '-'
+    }
+}
+
+/// Puts the records of two letters, or of as many as there are, ends the feed with the fault or by a seal, takes
+/// once if that is asked for, and has the taker meet the receipt. Tells what was taken, how many items are left by
+/// the receipt, and what three takes give.
+pub(crate) fn left(
+    alloc: Global,
+    letters: &str,
+    fault: Option<SourceFault>,
+    takes_one: bool,
+    wait: &impl Wait,
+) -> Result<Option<(char, usize, [char; 3])>, AllocError> {
+    let mut letters = letters.chars();
+    let (first, second) = (letters.next(), letters.next());
+    let (mut feed, mut taker) = Feed::open(alloc, 0, 3)?;
+    let are_put = put_letter(&mut feed, first, wait) & put_letter(&mut feed, second, wait);
+    let Some(receipt) = ended(feed, fault, wait) else {
+        return Ok(None);
     };
-    if taker.try_take(wait) != Took::Record(*first) || !feed.is_done() || feed.seal(wait).is_err() {
-        return false;
-    }
-    rest.all(|call| taker.try_take(wait) == Took::Record(*call))
-        && taker.try_take(wait) == Took::Sealed
+    let taken = take_if(&mut taker, takes_one, wait);
+    let count = taker.meet(receipt, wait).count;
+    let behind = [
+        take_if(&mut taker, true, wait),
+        take_if(&mut taker, true, wait),
+        take_if(&mut taker, true, wait),
+    ];
+    Ok(are_put.then_some((taken, count, behind)))
 }
 
-fn put_all(mut feed: Feed, list: &[Record], wait: &impl Wait) -> bool {
-    list.iter().all(|call| feed.put(*call, wait).is_ok())
-        && feed.is_done()
-        && feed.seal(wait).is_ok()
+/// Whether a feed whose taker was dropped hands each record back and gives no receipt, and the taker of a feed that
+/// was dropped finds nothing.
+pub(crate) fn is_lost(alloc: Global, wait: &impl Wait) -> Result<bool, AllocError> {
+    let call = Record::finalize();
+    let (mut feed, taker) = Feed::open(alloc, 0, 1)?;
+    drop(taker);
+    let are_lost = (feed.try_put(call, wait) == Err(PutFault::Lost(call)))
+        & (feed.put(call, wait) == Err(PutFault::Lost(call)))
+        & feed.tear(SourceFault::ReadFailed, wait).is_err();
+    let (feed, mut taker) = Feed::open(alloc, 0, 1)?;
+    drop(feed);
+    Ok((taker.try_take(wait) == Took::Empty) & are_lost)
 }
 
-fn take_next(taker: &mut Taker, wait: &impl Wait) -> Took {
-    for _ in wait.forever() {
-        let took = taker.try_take(wait);
-        if took != Took::Empty {
-            return took;
-        }
-        thread::yield_now();
-    }
-    unreachable!()
-}
-
-fn take_all(mut taker: Taker, list: &[Record], wait: &impl Wait) -> bool {
-    list.iter()
-        .all(|call| take_next(&mut taker, wait) == Took::Record(*call))
-        && take_next(&mut taker, wait) == Took::Sealed
-}
-
-#[test]
-fn a_thousand_records_by_turns_and_between_threads(rt: HostRuntime) -> Result<(), Fail> {
-    let list = records(&rt, rt.alloc(), 1000)?;
-    let list = list.as_slice();
-    for capacity in [1, 2, 1024] {
-        let (feed, taker) = Feed::open(rt.alloc(), 0, capacity)?;
-        assert!(rt;
-            by_turns(feed, taker, list, &rt),
-            "{capacity} places, by turns"
-        );
-        let (feed, taker) = Feed::open(rt.alloc(), 0, capacity)?;
-        let both = thread::join(
-            &rt,
-            || put_all(feed, list, &rt),
-            || take_all(taker, list, &rt),
-        );
-        assert!(rt; both == (true, true), "{capacity} places, two threads");
-    }
-    Ok(())
+/// Whether a thousand records come through, by turns and between threads.
+/// One is taken before the end mark, which has no place of its own.
+pub(crate) fn passes<R: Threads + Wait + Sync>(
+    alloc: Global,
+    capacity: u16,
+    rt: &R,
+) -> Result<bool, AllocError> {
+    let (feed, taker) = Feed::open(alloc, 0, capacity.max(1))?;
+    let is_so = by_turns(feed, taker, 1, rt);
+    let (feed, taker) = Feed::open(alloc, 0, capacity.max(1))?;
+    Ok(by_threads(feed, taker, rt) & is_so)
 }

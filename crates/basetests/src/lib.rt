@@ -7,6 +7,8 @@
 #[cfg(test)]
 mod channels;
 #[cfg(test)]
+mod feeds;
+#[cfg(test)]
 mod linked_lists;
 #[cfg(test)]
 mod ranges;

@@ -16,10 +16,11 @@ fn room_that_was_made_takes_values(rt: HostRuntime) -> Result<(), Fail> {
     let list = lists.new_list()?;
     lists.reserve(2)?;
     let node = lists.push_reserved(list, 5);
-    assert!(rt; lists.spare() >= 1);
+    let has_room = lists.spare() >= 1;
     *lists.get_mut(node) = 7;
-    assert!(rt; *lists.get(node) == 7);
-    assert!(rt; (lists.pop_front(list), lists.work()) == (Some(7), 2));
+    let is_set = *lists.get(node) == 7;
+    let is_out = (lists.pop_front(list) == Some(7)) & (lists.work() == 2);
+    assert!(rt; has_room & is_set & is_out);
     Ok(())
 }
 
@@ -82,23 +83,33 @@ fn new_list(lists: &mut Lists<u32>) -> Option<ListId> {
 }
 
 impl Twins {
-    /// Whether both answer alike, of the lists and nodes that they gave.
-    fn are_same(&self) -> bool {
+    /// Whether both tell the same of the nodes that they gave.
+    fn have_same_nodes(&self) -> bool {
+        let mut is_so = true;
         for node in &self.nodes {
             if let Some(node) = node {
-                if !is_same_node(&self.one, &self.other, *node) {
-                    return false;
-                }
+                is_so &= is_same_node(&self.one, &self.other, *node);
             }
         }
+        is_so
+    }
+
+    /// Whether both tell the same of the lists that they gave.
+    fn have_same_lists(&self) -> bool {
+        let mut is_so = true;
         for list in &self.lists {
             if let Some(list) = list {
-                if !is_same_list(&self.one, &self.other, *list) {
-                    return false;
-                }
+                is_so &= is_same_list(&self.one, &self.other, *list);
             }
         }
-        self.one.list_count() == self.other.list_count()
+        is_so
+    }
+
+    /// Whether both answer alike, of the lists and nodes that they gave.
+    fn are_same(&self) -> bool {
+        self.have_same_nodes()
+            && self.have_same_lists()
+            && self.one.list_count() == self.other.list_count()
             && self.one.spare() == self.other.spare()
             && self.one.work() == self.other.work()
     }
@@ -142,33 +153,44 @@ impl Twins {
         };
         if node == other { Some(node) } else { None }
     }
+
+    /// Makes two lists in both. Whether both are the same behind each.
+    fn make_lists(&mut self) -> bool {
+        let mut is_so = true;
+        for place in 0..2usize {
+            let list = self.new_list();
+            is_so &= list.is_some() & self.are_same();
+            self.lists[place] = list;
+        }
+        is_so
+    }
+
+    /// Puts 40 values into both, by turns into the one list and the other. Whether both are the same behind each.
+    fn push_values(&mut self) -> bool {
+        let mut is_so = true;
+        for value in 0..40u32 {
+            if let Some(list) = self.lists[(value % 2) as usize] {
+                let node = self.push(list, value);
+                is_so &= node.is_some();
+                self.nodes[value as usize] = node;
+            }
+            is_so &= self.are_same();
+        }
+        is_so
+    }
 }
 
 /// The sweep of `bench/refuse` runs this with each request for memory refused in turn. The last call here is
 /// refused always.
 #[test]
-fn a_refused_call_changes_nothing(rt: HostRuntime) -> Result<(), Fail> {
+fn a_refused_call_changes_nothing(rt: HostRuntime) {
     let mut twins = Twins {
         one: Lists::new(rt.alloc()),
         other: Lists::new(rt.alloc()),
         lists: [None; 2],
         nodes: [None; 40],
     };
-    for place in 0..2usize {
-        let list = twins.new_list();
-        assert!(rt; list.is_some() && twins.are_same());
-        twins.lists[place] = list;
-    }
-    for value in 0..40u32 {
-        if let Some(list) = twins.lists[(value % 2) as usize] {
-            let node = twins.push(list, value);
-            assert!(rt; node.is_some());
-            twins.nodes[value as usize] = node;
-        }
-        assert!(rt; twins.are_same());
-    }
-    assert!(rt; twins.reserve(100));
-    assert!(rt; twins.one.reserve(usize::MAX).is_err());
-    assert!(rt; twins.are_same());
-    Ok(())
+    let is_so = twins.make_lists() & twins.push_values() & twins.reserve(100);
+    let is_refused = twins.one.reserve(usize::MAX).is_err();
+    assert!(rt; is_so & is_refused & twins.are_same());
 }

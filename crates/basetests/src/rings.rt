@@ -1,172 +1,166 @@
+//! Feeds over a ring.
+
+ghost use Rattle.std.specs.Prelude.{◌≡◌, IfSome};
+ghost use Rattle.rankfeed.specs.Rings.{feed_ring, receipt_ring, taker_ring};
+
+use crate::feeds::{Puts, Takes, by_threads, by_turns, letter_taken, named, plays};
 use mpicall::fault::SourceFault;
-use mpicall::line::read_line;
 use mpicall::record::Record;
-use rankfeed::{Came, Feed, Met, PutFault, Taker, Took};
-use std::alloc::Global;
-use std::process::Abort;
+use rankfeed::{Came, Feed, PutFault, Receipt, Taker, Took};
+use std::alloc::{AllocError, Global};
 use std::sync::Wait;
 use std::test::Fail;
-use std::thread;
+use std::thread::Threads;
 
-pub(crate) fn record(rt: &impl Abort, line: &[u8]) -> Record {
-    read_line(line).expect(rt, "a record's line")
-}
-
-// Sends that differ in their tags, and Finalize behind them.
-pub(crate) fn records(rt: &impl Abort, alloc: Global, sends: u32) -> Result<Vec<Record>, Fail> {
-    let mut list = Vec::new(alloc);
-    for tag in 0..sends {
-        let line = format!(in alloc; "send 0 1 {tag}\n")?;
-        list.push(record(rt, line.as_bytes()))?;
+impl Puts for Feed {
+    fn puts<W: Wait>(&mut self, call: Record, may_wait: bool, wait: &W) -> char {
+        let put = if may_wait {
+            self.put(call, wait)
+        } else {
+            self.try_put(call)
+        };
+        if put == Ok(()) {
+            '+'
+        } else if put == Err(PutFault::Full(call)) {
+            'F'
+        } else if put == Err(PutFault::Closed(call)) {
+            'C'
+        } else {
+            '?'
+        }
     }
-    list.push(record(rt, b"finalize\n"))?;
-    Ok(list)
+
+    fn is_ended(&self) -> bool {
+        self.is_done()
+    }
+
+    fn seals<W: Wait>(self, _wait: &W) -> bool {
+        self.is_done() && self.seal().is_ok()
+    }
 }
 
-#[test]
-fn a_feed_of_two_places(rt: HostRuntime) -> Result<(), Fail> {
-    let bsend = record(&rt, b"bsend 0 0 0\n");
-    let finalize = record(&rt, b"finalize\n");
-    let (mut feed, mut taker) = Feed::open(rt.alloc(), 3, 2)?;
-    assert!(rt; (feed.rank(), taker.rank()) == (3, 3));
-    assert!(rt; taker.try_take() == Took::Empty);
-    assert!(rt; feed.try_put(bsend) == Ok(()));
-    assert!(rt; feed.try_put(bsend) == Ok(()));
-    assert!(rt; feed.try_put(bsend) == Err(PutFault::Full(bsend)));
-    assert!(rt; taker.try_take() == Took::Record(bsend));
-    assert!(rt; !feed.is_done());
-    assert!(rt; feed.try_put(finalize) == Ok(()));
-    assert!(rt; feed.is_done());
-    assert!(rt; feed.try_put(finalize) == Err(PutFault::Closed(finalize)));
-    assert!(rt; feed.put(bsend, &rt) == Err(PutFault::Closed(bsend)));
-    Ok(())
+impl Takes for Taker {
+    fn takes<W: Wait>(&mut self, _wait: &W) -> Took {
+        self.try_take()
+    }
+}
+
+/// Plays steps on a feed of two places, whose ends are those of rank 3.
+pub(crate) fn play<W: Wait>(alloc: Global, steps: &str, wait: &W) -> Result<bool, AllocError> {
+    let (feed, taker) = Feed::open(alloc, 3, 2)?;
+    let is_of_rank = (feed.rank() == 3) & (taker.rank() == 3);
+    Ok(plays(feed, taker, steps, wait) & is_of_rank)
+}
+
+/// Puts the record of a letter, if there is one.
+fn put_letter(feed: &mut Feed, letter: Option<char>) -> bool
+    ensures { feed_ring feed.new ≡ feed_ring feed.old }
+{
+    match named(letter.unwrap_or('-')) {
+        Some(call) => feed.try_put(call).is_ok(),
+        None => letter.is_none(),
+    }
+}
+
+/// Ends a feed with a fault, or else by a seal.
+fn ended(feed: Feed, fault: Option<SourceFault>) -> Option<Receipt>
+    ensures { IfSome result (λ receipt. receipt_ring receipt ≡ feed_ring feed) }
+{
+    if let Some(fault) = fault {
+        return feed.tear(fault).ok();
+    }
+    if feed.is_done() {
+        feed.seal().ok()
+    } else {
+        None
+    }
+}
+
+/// Takes, if that is asked for.
+fn take_if(taker: &mut Taker, is_asked: bool) -> char
+    ensures { taker_ring taker.new ≡ taker_ring taker.old }
+{
+    if is_asked {
+        letter_taken(taker.try_take())
+    } else {
+        '-'
+    }
+}
+
+/// Puts the records of two letters, or of as many as there are, ends the feed with the fault or by a seal, takes
+/// once if that is asked for, and has the taker meet the receipt. Tells what was taken, how many items are left by
+/// the receipt, and what three takes give.
+pub(crate) fn left(
+    alloc: Global,
+    letters: &str,
+    fault: Option<SourceFault>,
+    takes_one: bool,
+) -> Result<Option<(char, usize, [char; 3])>, AllocError> {
+    let mut letters = letters.chars();
+    let (first, second) = (letters.next(), letters.next());
+    let (mut feed, mut taker) = Feed::open(alloc, 0, 3)?;
+    let are_put = put_letter(&mut feed, first) & put_letter(&mut feed, second);
+    let Some(receipt) = ended(feed, fault) else {
+        return Ok(None);
+    };
+    let taken = take_if(&mut taker, takes_one);
+    let count = taker.meet(receipt).count;
+    let behind = [
+        take_if(&mut taker, true),
+        take_if(&mut taker, true),
+        take_if(&mut taker, true),
+    ];
+    Ok(are_put.then_some((taken, count, behind)))
+}
+
+/// Whether a feed whose taker was dropped gives no receipt, and the taker of a feed that was dropped finds nothing.
+pub(crate) fn is_lost(alloc: Global) -> Result<bool, AllocError> {
+    let (feed, taker) = Feed::open(alloc, 0, 1)?;
+    drop(taker);
+    let is_unsealed = feed.tear(SourceFault::ReadFailed).is_err();
+    let (feed, mut taker) = Feed::open(alloc, 0, 1)?;
+    drop(feed);
+    Ok((taker.try_take() == Took::Empty) & is_unsealed)
+}
+
+/// Whether a thousand records come through, by turns and between threads. The end mark has a place of its own.
+pub(crate) fn passes<R: Threads + Wait + Sync>(
+    alloc: Global,
+    capacity: u16,
+    rt: &R,
+) -> Result<bool, AllocError> {
+    let (feed, taker) = Feed::open(alloc, 0, capacity.max(1))?;
+    let is_so = by_turns(feed, taker, 0, rt);
+    let (feed, taker) = Feed::open(alloc, 0, capacity.max(1))?;
+    Ok(by_threads(feed, taker, rt) & is_so)
+}
+
+/// The record at the front, which is passed.
+fn front_of(taker: &mut Taker) -> Option<Record> {
+    match taker.look() {
+        Came::Record => {
+            let front = *taker.front();
+            taker.pass();
+            Some(front)
+        }
+        _ => None,
+    }
 }
 
 #[test]
 fn a_record_stands_at_the_front(rt: HostRuntime) -> Result<(), Fail> {
-    let send = record(&rt, b"send 0 0 0\n");
-    let finalize = record(&rt, b"finalize\n");
+    let send = named('s').ok_or("a send")?;
+    let finalize = Record::finalize();
     let (mut feed, mut taker) = Feed::open(rt.alloc(), 0, 2)?;
-    assert!(rt; taker.look() == Came::Empty);
-    assert!(rt; feed.put_copy(&send, &rt));
-    assert!(rt; feed.put_copy(&finalize, &rt));
-    assert!(rt; !feed.put_copy(&send, &rt));
-    assert!(rt; taker.look() == Came::Record);
-    assert!(rt; *taker.front() == send);
-    taker.pass();
-    assert!(rt; taker.look() == Came::Record);
-    assert!(rt; *taker.front() == finalize);
-    Ok(())
-}
-
-#[test]
-fn a_receipt_tells_what_is_left(rt: HostRuntime) -> Result<(), Fail> {
-    let send = record(&rt, b"send 0 0 0\n");
-    let finalize = record(&rt, b"finalize\n");
-    let (mut feed, mut taker) = Feed::open(rt.alloc(), 0, 2)?;
-    assert!(rt; feed.try_put(send) == Ok(()));
-    assert!(rt; feed.put(finalize, &rt) == Ok(()));
-    assert!(rt; taker.try_take() == Took::Record(send));
-    assert!(rt; feed.is_done());
-    let receipt = feed.seal().expect(&rt, "a receipt");
-    assert!(rt; taker.meet(receipt) == Met { count: 2 });
-    assert!(rt; taker.try_take() == Took::Record(finalize));
-    assert!(rt; taker.try_take() == Took::Sealed);
-    assert!(rt; taker.try_take() == Took::Sealed);
-    Ok(())
-}
-
-#[test]
-fn an_open_ends_a_feed_as_a_finalize_does(rt: HostRuntime) -> Result<(), Fail> {
-    let send = record(&rt, b"send 0 0 0 8\n");
-    let open = record(&rt, b"open\n");
-    let (mut feed, mut taker) = Feed::open(rt.alloc(), 0, 3)?;
-    assert!(rt; feed.try_put(send) == Ok(()));
-    assert!(rt; !feed.is_done());
-    assert!(rt; feed.try_put(open) == Ok(()));
-    assert!(rt; feed.is_done());
-    assert!(rt; feed.try_put(open) == Err(PutFault::Closed(open)));
-    assert!(rt; feed.put(send, &rt) == Err(PutFault::Closed(send)));
-    assert!(rt; feed.is_done());
-    let receipt = feed.seal().expect(&rt, "a receipt");
-    assert!(rt; taker.meet(receipt) == Met { count: 3 });
-    assert!(rt; taker.try_take() == Took::Record(send));
-    assert!(rt; taker.try_take() == Took::Record(open));
-    assert!(rt; taker.try_take() == Took::Sealed);
-    Ok(())
-}
-
-#[test]
-fn a_torn_feed_and_ends_that_are_dropped(rt: HostRuntime) -> Result<(), Fail> {
-    let fault = SourceFault::ReadFailed;
-    let (feed, mut taker) = Feed::open(rt.alloc(), 0, 1)?;
-    let receipt = feed.tear(fault).expect(&rt, "a receipt");
-    assert!(rt; taker.try_take() == Took::Torn(fault));
-    assert!(rt; taker.meet(receipt) == Met { count: 0 });
-    assert!(rt; taker.try_take() == Took::Torn(fault));
-    let (feed, taker) = Feed::open(rt.alloc(), 0, 1)?;
-    drop(taker);
-    assert!(rt; feed.tear(fault).is_err());
-    let (feed, mut taker) = Feed::open(rt.alloc(), 0, 1)?;
-    drop(feed);
-    assert!(rt; taker.try_take() == Took::Empty);
-    Ok(())
-}
-
-// In one thread: takes where the feed is full, and the rest at the end.
-fn by_turns(mut feed: Feed, mut taker: Taker, list: &[Record]) -> bool {
-    let mut rest = list.iter();
-    for call in list {
-        if feed.try_put(*call).is_err() {
-            let Some(first) = rest.next() else {
-                return false;
-            };
-            if taker.try_take() != Took::Record(*first) || feed.try_put(*call).is_err() {
-                return false;
-            }
-        }
-    }
-    if !feed.is_done() || feed.seal().is_err() {
-        return false;
-    }
-    rest.all(|call| taker.try_take() == Took::Record(*call)) && taker.try_take() == Took::Sealed
-}
-
-fn put_all(mut feed: Feed, list: &[Record], wait: &impl Wait) -> bool {
-    list.iter().all(|call| feed.put(*call, wait).is_ok()) && feed.is_done() && feed.seal().is_ok()
-}
-
-fn take_next(taker: &mut Taker, wait: &impl Wait) -> Took {
-    for _ in wait.forever() {
-        let took = taker.try_take();
-        if took != Took::Empty {
-            return took;
-        }
-        thread::yield_now();
-    }
-    unreachable!()
-}
-
-fn take_all(mut taker: Taker, list: &[Record], wait: &impl Wait) -> bool {
-    list.iter()
-        .all(|call| take_next(&mut taker, wait) == Took::Record(*call))
-        && take_next(&mut taker, wait) == Took::Sealed
-}
-
-#[test]
-fn a_thousand_records_by_turns_and_between_threads(rt: HostRuntime) -> Result<(), Fail> {
-    let list = records(&rt, rt.alloc(), 1000)?;
-    let list = list.as_slice();
-    for capacity in [1, 2, 1024] {
-        let (feed, taker) = Feed::open(rt.alloc(), 0, capacity)?;
-        assert!(rt; by_turns(feed, taker, list), "{capacity} places, by turns");
-        let (feed, taker) = Feed::open(rt.alloc(), 0, capacity)?;
-        let both = thread::join(
-            &rt,
-            || put_all(feed, list, &rt),
-            || take_all(taker, list, &rt),
-        );
-        assert!(rt; both == (true, true), "{capacity} places, two threads");
-    }
+    let is_empty = taker.look() == Came::Empty;
+    let puts = [
+        feed.put_copy(&send, &rt),
+        feed.put_copy(&finalize, &rt),
+        feed.put_copy(&send, &rt),
+    ];
+    let fronts = [front_of(&mut taker), front_of(&mut taker)];
+    assert!(rt;
+        is_empty & (puts == [true, true, false]) & (fronts == [Some(send), Some(finalize)])
+    );
     Ok(())
 }

@@ -1,50 +1,50 @@
-use mpicall::call::{Call, Mode, Peer};
-use mpicall::device::Input;
+use mpicall::call::{Call, Peer};
+use mpicall::device::{Input, Output};
 use mpicall::fails_at::FailsAt;
 use mpicall::fault::{LineFault, SourceFault};
+use mpicall::line::read_line;
 use mpicall::lint::{LintFault, lint};
 use mpicall::memory::{MemoryInput, MemoryOutput};
 use mpicall::record::Record;
 use mpicall::source::Source;
 use mpicall::spelling::write_line;
-use std::process::Abort;
-use std::test::Fail;
+use std::sync::Wait;
 
-pub(crate) const TRACE: &[u8] = b"send 0 1 5\nrecv 255 63 2147483647\nfinalize\n";
+/// A trace. What `read_line` makes of its first and last line is told by rows of `libraryrows`.
+pub(crate) const TRACE: &str = "send 0 1 5\nrecv 255 63 2147483647\nfinalize\n";
 
-/// The calls of the trace.
-pub(crate) fn calls() -> [Call; 3] {
-    let dest = Peer::Rank(1);
-    let source = Peer::Rank(63);
-    [
-        Call::Send {
-            mode: Mode::Standard,
-            comm: 0,
-            dest,
-            tag: 5,
-            bytes: None,
-        },
-        Call::Recv {
-            comm: 255,
-            source,
-            tag: 2147483647,
-        },
-        Call::Finalize,
-    ]
+/// Whether its second line is read as it should be.
+pub(crate) fn is_second_read() -> bool {
+    let call = Call::Recv {
+        comm: 255,
+        source: Peer::Rank(63),
+        tag: 2147483647,
+    };
+    read_line(b"recv 255 63 2147483647\n").ok() == Record::new(call)
 }
 
-/// Asserts that a source gives the calls, and then this end, twice.
+/// Whether a source gives the calls of these lines, and then this end, twice.
 pub(crate) fn gives<I: Input>(
-    rt: &impl Abort,
     source: &mut Source<I>,
-    calls: &[Call],
+    lines: &str,
     end: Result<Option<Record>, SourceFault>,
-) {
-    for call in calls {
-        assert!(rt; source.next() == Ok(Record::new(*call)));
+) -> bool {
+    let mut is_so = true;
+    for line in lines.split_inclusive('\n') {
+        let call = read_line(line.as_bytes()).ok();
+        is_so &= (source.next() == Ok(call)) & call.is_some();
     }
-    assert!(rt; source.next() == end);
-    assert!(rt; source.next() == end);
+    is_so & (source.next() == end) & (source.next() == end)
+}
+
+/// The first lines of the trace.
+fn lines(count: u64) -> &'static str {
+    match count {
+        0 => "",
+        1 => "send 0 1 5\n",
+        2 => "send 0 1 5\nrecv 255 63 2147483647\n",
+        _ => TRACE,
+    }
 }
 
 /// How many calls are whole in the first bytes of the trace.
@@ -57,64 +57,82 @@ fn whole_calls(bytes: u64) -> u64 {
     }
 }
 
+/// What `lint` tells of the trace where one read fails, so many bytes a read.
+fn linted(most: usize, at: u64, wait: &impl Wait) -> Result<u64, LintFault> {
+    let input = FailsAt::new(MemoryInput::in_pieces(TRACE.as_bytes(), most.max(1)), at);
+    lint(&mut Source::new(input), wait)
+}
+
+/// Whether each failed read is told at its place, and none where so many reads are enough.
+fn tells_each_read(most: usize, reads: u64, wait: &impl Wait) -> bool {
+    let mut is_so = linted(most, reads, wait) == Ok(3);
+    for at in 0..reads {
+        let call = whole_calls(at.saturating_mul(most as u64));
+        let fault = SourceFault::ReadFailed;
+        is_so &= linted(most, at, wait) == Err(LintFault { call, fault });
+    }
+    is_so
+}
+
 #[test]
 fn a_failed_read_comes_behind_the_whole_lines(rt: HostRuntime) {
-    for (most, reads) in [(1, 44), (7, 8), (1000, 2)] {
-        assert!(rt; most > 0 && most < 1001);
-        for at in 0..reads {
-            let input = FailsAt::new(MemoryInput::in_pieces(TRACE, most), at);
-            let call = whole_calls(at.saturating_mul(most as u64));
-            let want = Err(LintFault {
-                call,
-                fault: SourceFault::ReadFailed,
-            });
-            assert!(rt; lint(&mut Source::new(input), &rt) == want, "at {at}");
-        }
-        let unmet = FailsAt::new(MemoryInput::in_pieces(TRACE, most), reads);
-        assert!(rt; lint(&mut Source::new(unmet), &rt) == Ok(3));
+    assert!(rt; tells_each_read(1, 44, &rt), "one byte a read");
+    assert!(rt; tells_each_read(7, 8, &rt), "seven bytes a read");
+    assert!(rt; tells_each_read(1000, 2, &rt), "all bytes a read");
+}
+
+/// The fault of the first call, in a text without a line feed, so many bytes a read, where the second read fails.
+fn fault_of_long(most: usize, wait: &impl Wait) -> Option<SourceFault> {
+    let input = FailsAt::new(MemoryInput::in_pieces(&[b'x'; 2000], most.max(1)), 1);
+    match lint(&mut Source::new(input), wait) {
+        Err(told) if told.call == 0 => Some(told.fault),
+        _ => None,
     }
 }
 
 /// The second read fails, and is asked for only where the first left a line open that may still be one.
 #[test]
 fn a_line_that_is_too_long_asks_for_no_read(rt: HostRuntime) {
-    for (most, fault) in [
-        (1024, SourceFault::ReadFailed),
-        (1025, SourceFault::Line(LineFault::TooLong)),
-    ] {
-        assert!(rt; most > 0);
-        let input = FailsAt::new(MemoryInput::in_pieces(&[b'x'; 2000], most), 1);
-        let told = lint(&mut Source::new(input), &rt);
-        assert!(rt; told == Err(LintFault { call: 0, fault }), "{most} a read");
-    }
+    let failed = SourceFault::ReadFailed;
+    let long = SourceFault::Line(LineFault::TooLong);
+    assert!(rt; fault_of_long(1024, &rt) == Some(failed));
+    assert!(rt; fault_of_long(1025, &rt) == Some(long));
+}
+
+/// Whether a source of this text gives the call of its line, and that text stands behind it, where each read but the
+/// first fails.
+fn holds_a_byte(text: &str, line: &str) -> bool {
+    let held = FailsAt::new(MemoryInput::new(text.as_bytes()), 1);
+    let end = Err(SourceFault::TextAfterFinalize);
+    gives(&mut Source::new(held), line, end)
 }
 
 /// Behind the end record a source asks its input only while it holds no byte.
 #[test]
 fn a_held_byte_behind_the_end_asks_for_no_read(rt: HostRuntime) {
-    let rows: [(&[u8], Call); 2] = [(b"finalize\nx", Call::Finalize), (b"open\nx", Call::Open)];
-    for (text, last) in rows {
-        let held = FailsAt::new(MemoryInput::new(text), 1);
-        let end = Err(SourceFault::TextAfterFinalize);
-        gives(&rt, &mut Source::new(held), &[last], end);
+    assert!(rt; holds_a_byte("finalize\nx", "finalize\n"));
+    assert!(rt; holds_a_byte("open\nx", "open\n"));
+}
+
+/// Writes the trace, line by line, up to a write that fails. Whether none did.
+fn write_trace<O: Output>(output: &mut O) -> bool {
+    for line in TRACE.split_inclusive('\n') {
+        let Ok(call) = read_line(line.as_bytes()) else {
+            return false;
+        };
+        if write_line(&call, output).is_err() {
+            return false;
+        }
     }
+    true
 }
 
 #[test]
-fn a_failed_write_leaves_a_beginning(rt: HostRuntime) -> Result<(), Fail> {
-    let ends = [0, 11, 34, 43];
+fn a_failed_write_leaves_a_beginning(rt: HostRuntime) {
     for at in 0..4 {
         let mut output = FailsAt::new(MemoryOutput::new(rt.alloc()), at);
-        let mut failed = false;
-        for call in calls() {
-            let entry = Record::new(call).ok_or("out of range")?;
-            if write_line(&entry, &mut output).is_err() {
-                failed = true;
-                break;
-            }
-        }
-        assert!(rt; failed == (at < 3), "at {at}");
-        assert!(rt; output.device().bytes() == &TRACE[..ends[at as usize]]);
+        let is_whole = write_trace(&mut output) == (at == 3);
+        let is_so = output.device().bytes() == lines(at).as_bytes();
+        assert!(rt; is_whole & is_so, "at {at}");
     }
-    Ok(())
 }

@@ -1,13 +1,12 @@
-use crate::sources::{TRACE, calls, gives};
-use mpicall::call::Call;
+use crate::sources::{TRACE, gives, is_second_read};
 use mpicall::counted::Counted;
 use mpicall::device::{DeviceFault, Input, Output};
 use mpicall::fault::SourceFault;
 use mpicall::record::Record;
 use mpicall::source::Source;
 use mpicall::spelling::write_line;
+use std::alloc::Global;
 use std::io;
-use std::test::Fail;
 
 /// A reader that gives so many bytes a read, and fails at one call.
 #[derive(Drop)]
@@ -57,58 +56,79 @@ impl<'a> io::Write for Writer<'a> {
     }
 }
 
-#[test]
-fn a_reader_of_std_is_an_input(rt: HostRuntime) {
-    let all = calls();
-    for (most, before, count) in [(1, 100, 3), (11, 1, 1), (1000, 1, 3), (0, 100, 0)] {
-        assert!(rt; count <= 3);
-        let end = match (most, before) {
-            (1, _) => Ok(None),
-            (0, _) => Err(SourceFault::NoFinalize),
-            _ => Err(SourceFault::ReadFailed),
-        };
-        let reader = Reader {
-            left: TRACE,
-            most,
-            before,
-        };
-        let mut source = Source::new(Counted::new(reader));
-        gives(&rt, &mut source, &all[..count], end);
+/// A reader of the trace.
+fn trace_reader(most: usize, before: usize) -> Reader<'static> {
+    Reader {
+        left: TRACE.as_bytes(),
+        most,
+        before,
     }
-    let mut input = Counted::new(Reader {
-        left: TRACE,
-        most: 11,
-        before: 1,
-    });
+}
+
+/// Whether a source over such a reader gives the calls of these lines, and then this end.
+fn reads(
+    most: usize,
+    before: usize,
+    lines: &str,
+    end: Result<Option<Record>, SourceFault>,
+) -> bool {
+    gives(
+        &mut Source::new(Counted::new(trace_reader(most, before))),
+        lines,
+        end,
+    )
+}
+
+/// Whether a read that fails is told and counted.
+fn counts_a_failed_read() -> bool {
+    let mut input = Counted::new(trace_reader(11, 1));
     let mut space = [0; 20];
-    assert!(rt; input.read_some(&mut space) == Ok(11));
-    assert!(rt; input.failures() == 0);
-    assert!(rt; input.read_some(&mut space) == Err(DeviceFault));
-    assert!(rt; input.failures() == 1);
+    let is_read = (input.read_some(&mut space) == Ok(11)) & (input.failures() == 0);
+    let is_told = (input.read_some(&mut space) == Err(DeviceFault)) & (input.failures() == 1);
+    is_read & is_told
 }
 
 #[test]
-fn a_writer_of_std_is_an_output(rt: HostRuntime) -> Result<(), Fail> {
-    let entry = Record::new(Call::Finalize).ok_or("in its ranges")?;
-    let rows: [(usize, usize, &[u8], u64); 4] = [
-        (1, 100, b"finalize\n", 0),
-        (100, 1, b"finalize\n", 0),
-        (4, 1, b"fina", 1),
-        (0, 100, b"", 1),
-    ];
-    for (most, before, want, failures) in rows {
-        let mut taken = Vec::new(rt.alloc());
-        let mut output = Counted::new(Writer {
-            taken: &mut taken,
-            most,
-            before,
-        });
-        let written = write_line(&entry, &mut output);
-        assert!(rt; written.is_err() == (failures > 0));
-        assert!(rt; output.failures() == failures);
-        assert!(rt; output.write_some(b"").is_err() == (before < 100));
-        drop(output);
-        assert!(rt; taken.as_slice() == want);
-    }
-    Ok(())
+fn a_reader_of_std_is_an_input(rt: HostRuntime) {
+    assert!(rt; reads(1, 100, TRACE, Ok(None)), "one byte a read");
+    assert!(rt;
+        reads(11, 1, "send 0 1 5\n", Err(SourceFault::ReadFailed)),
+        "the second read fails"
+    );
+    assert!(rt;
+        reads(1000, 1, TRACE, Err(SourceFault::ReadFailed)),
+        "the read behind the end fails"
+    );
+    assert!(rt; reads(0, 100, "", Err(SourceFault::NoFinalize)), "no bytes");
+    assert!(rt; is_second_read() & counts_a_failed_read());
+}
+
+/// Whether a line that is written to such a writer leaves these bytes, with so many failures counted, and an empty
+/// write fails as it should then.
+fn writes(alloc: Global, most: usize, before: usize, want: &[u8], failures: u64) -> bool {
+    let mut taken = Vec::new(alloc);
+    let mut output = Counted::new(Writer {
+        taken: &mut taken,
+        most,
+        before,
+    });
+    let is_told = write_line(&Record::finalize(), &mut output).is_err() == (failures > 0);
+    let is_counted = output.failures() == failures;
+    let is_over = output.write_some(b"").is_err() == (before < 100);
+    drop(output);
+    is_told & is_counted & is_over & (taken.as_slice() == want)
+}
+
+#[test]
+fn a_writer_of_std_is_an_output(rt: HostRuntime) {
+    assert!(rt;
+        writes(rt.alloc(), 1, 100, b"finalize\n", 0),
+        "one byte a write"
+    );
+    assert!(rt; writes(rt.alloc(), 100, 1, b"finalize\n", 0), "one write");
+    assert!(rt;
+        writes(rt.alloc(), 4, 1, b"fina", 1),
+        "the second write fails"
+    );
+    assert!(rt; writes(rt.alloc(), 0, 100, b"", 1), "no byte is taken");
 }
