@@ -21,7 +21,7 @@ use Rattle.mpicall.specs.declared.call.Peer.TheVariants.{Rank}
 use Rattle.mpigroup.specs.Groups.{Groups, ranks_of}
 use Rattle.mpigroup.specs.HeadText.{ranks_of_fields, read_head}
 use Rattle.pairing.specs.Faults.{fault_of as fault_of_call}
-use Rattle.pairing.specs.Recordings.{Lists}
+use Rattle.callnotes.specs.Recordings.{Lists}
 use Rattle.moves.specs.declared.reading.Reading.{Reading}
 use Rattle.moves.specs.declared.reading.Reading.TheVariants.{Strict}
 use Rattle.waitgraph.specs.Findings.{kind_found, kinds_of, root_found, roots_of, unreceived_at, unreceived_of, lost_at, lost_requests, group_at, wrong_groups_of, findings_of}

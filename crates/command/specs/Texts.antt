@@ -9,7 +9,7 @@ use Rattle.mpigroup.specs.HeadText.{read_head}
 use Rattle.waitgraph.specs.declared.verdict.Verdict.{Verdict}
 use Rattle.waitgraph.specs.Verdicts.{verdict_of}
 use Rattle.moves.specs.declared.reading.Reading.{Reading}
-use Rattle.pairing.specs.Recordings.{Lists, IsClosed}
+use Rattle.callnotes.specs.Recordings.{Lists, IsClosed}
 use Rattle.reports.specs.Reports.{report_of}
 use Rattle.reports.specs.declared.report.Format.{Format}
 use Rattle.gather.specs.Answers.{recording_of_traces}

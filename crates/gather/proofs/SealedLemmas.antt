@@ -6,7 +6,7 @@ use Rattle.mpicall.specs.Trace.{Trace, end_with_behind, ends_here, trace_of_line
 use Rattle.mpicall.specs.declared.call.Call.{Call}
 use Rattle.mpicall.specs.declared.fault.Ending.TheVariants.{Sealed}
 use Rattle.mpicall.specs.declared.fault.LineFault.{LineFault}
-use Rattle.pairing.specs.Recordings.{is_ended}
+use Rattle.callnotes.specs.Recordings.{is_ended}
 
 one_before : (call : Call) (calls : List Call) → is_ended calls ≡ true → is_ended (call ∷ calls) ≡ true
 one_before call [] ended = cc

@@ -3,7 +3,7 @@ use Rattle.moves.specs.declared.reading.Reading.{Reading}
 use Rattle.std.specs.Prelude.{◌≡◌, ℕ, ⊤, false, Some, None, Option, Result, Ok, Err, List}
 use Rattle.mpicall.specs.Trace.{Trace}
 use Rattle.mpigroup.specs.Groups.{Groups}
-use Rattle.pairing.specs.Recordings.{Lists, IsClosed}
+use Rattle.callnotes.specs.Recordings.{Lists, IsClosed}
 use Rattle.rankfeed.specs.declared.ring.Receipt.{Receipt}
 use Rattle.gather.specs.Answers.{refusal_of, recording_of_traces}
 use Rattle.gather.specs.Collected.{Kept, refusal_kept}

@@ -4,7 +4,7 @@ use Rattle.moves.specs.declared.reading.Reading.{Reading}
 use Rattle.std.specs.Prelude.{◌≡◌, ◌≢◌, ◌⊎◌, ℕ, ◌+◌, Bool, true, false, not, ◌&&◌, is_none, unwrap_or, if◌then◌else◌, Option, Some, None, List, [], ◌∷◌, ◌++◌, length, take, replicate, slice_get, slice_set}
 use Rattle.mpicall.specs.declared.call.Call.{Call}
 use Rattle.mpigroup.specs.Groups.{Groups, ranks_of, or_empty}
-use Rattle.pairing.specs.Recordings.{Lists, calls_of, appended}
+use Rattle.callnotes.specs.Recordings.{Lists, calls_of, appended}
 use Rattle.pairing.specs.Faults.{fault_of}
 use Rattle.pairing.specs.declared.fault.CallFault.{CallFault}
 use Rattle.rankfeed.specs.Items.{calls_among, end_mark_of}

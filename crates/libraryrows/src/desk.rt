@@ -17,12 +17,12 @@ use crate::texts::{
 use crate::waits::{question_in, tell_findings, tell_of_waits};
 use crate::words::{Numbers, first_word, number_in, numbers_in, short};
 use arenalist::lists::Lists;
+use callnotes::stored::StoredCall;
 use moves::analyser::Analyser;
 use moves::reading::Reading;
 use mpicall::record::Record;
 use mpigroup::head::Head;
 use pairing::pairs::Pairs;
-use pairing::stored::StoredCall;
 use std::alloc::{AllocError, Global};
 use std::sync::Wait;
 

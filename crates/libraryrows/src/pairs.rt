@@ -4,9 +4,9 @@ use crate::answer::Answer;
 use crate::calls::{calls_in, record_of};
 use crate::fault::Fault;
 use crate::words::{Numbers, first_word, numbers_in, short};
+use callnotes::envelope::Half;
 use mpicall::record::Record;
 use pairing::added::{Added, PairFault};
-use pairing::envelope::Half;
 use pairing::pairs::Pairs;
 
 /// Adds a rank's next call, tells why it is refused, if it is, and else answers what is told of it.

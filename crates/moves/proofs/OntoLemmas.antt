@@ -9,18 +9,18 @@ use Rattle.std.proofs.lemmas.Bool.{and_parts, false≢true}
 use Rattle.mpicall.specs.declared.call.Call.{Call}
 use Rattle.mpicall.specs.declared.call.Call.TheVariants.{Open}
 use Rattle.mpigroup.specs.Groups.{Groups, group_of, group_rank_of}
-use Rattle.pairing.specs.declared.envelope.Envelope.{Envelope}
-use Rattle.pairing.specs.declared.envelope.Half.{Half}
-use Rattle.pairing.specs.declared.envelope.Half.TheVariants.{Send as SendHalf, Recv as RecvHalf}
-use Rattle.pairing.specs.declared.envelope.Message.{Message}
-use Rattle.pairing.specs.Recordings.{Lists, calls_of}
-use Rattle.pairing.specs.Places.{places}
-use Rattle.pairing.specs.Envelopes.{message_of, other_half, envelope_by, envelope_of, rank_of_half, has_envelope}
+use Rattle.callnotes.specs.declared.envelope.Envelope.{Envelope}
+use Rattle.callnotes.specs.declared.envelope.Half.{Half}
+use Rattle.callnotes.specs.declared.envelope.Half.TheVariants.{Send as SendHalf, Recv as RecvHalf}
+use Rattle.callnotes.specs.declared.envelope.Message.{Message}
+use Rattle.callnotes.specs.Recordings.{Lists, calls_of}
+use Rattle.callnotes.specs.Places.{places}
+use Rattle.callnotes.specs.Envelopes.{message_of, other_half, envelope_by, envelope_of, rank_of_half, has_envelope, probed_message}
 use Rattle.pairing.specs.Partners.{number_of}
-use Rattle.pairing.specs.Probed.{probed_message, probed_envelope}
-use Rattle.pairing.specs.Requests.{starts, completes, started_in, started_before}
-use Rattle.pairing.specs.Waves.{does_join, wave_of}
-use Rattle.pairing.proofs.PartnerLemmas.{map_parts}
+use Rattle.pairing.specs.Probed.{probed_envelope}
+use Rattle.callnotes.specs.Requests.{starts, completes, started_in, started_before}
+use Rattle.callnotes.specs.Waves.{does_join, wave_of}
+use Rattle.callnotes.proofs.OptionLemmas.{map_parts}
 use Rattle.moves.specs.declared.need.Need.{Need}
 use Rattle.moves.specs.declared.need.Need.TheVariants.{At, Lacking}
 use Rattle.moves.specs.Needs.{world_of, half_need, half_needs, probe_need, probe_needs, member_need, wave_needs, sends_freely, operation_needs, operation_needs_at, request_needs, needs_of_call}

@@ -8,15 +8,16 @@ use Rattle.std.proofs.lemmas.List.{length-append}
 use Rattle.std.proofs.lemmas.Option.{none-some, same_Some, slice_get_within, get_or_from_slice_get, slice_get-get_or}
 use Rattle.std.proofs.lemmas.Bool.{cases_Bool, false≢true, eqb-true, eq-eqb}
 use Rattle.mpigroup.specs.Groups.{Groups, world_rank_of, group_rank_of}
-use Rattle.pairing.specs.declared.envelope.Envelope.{Envelope}
-use Rattle.pairing.specs.declared.envelope.Half.{Half}
-use Rattle.pairing.specs.declared.envelope.Message.{Message}
-use Rattle.pairing.specs.declared.envelope.Half.TheVariants.{Send as SendHalf, Recv as RecvHalf}
-use Rattle.pairing.specs.Recordings.{Lists, calls_of}
-use Rattle.pairing.specs.Envelopes.{message_of, envelope_by}
+use Rattle.callnotes.specs.declared.envelope.Envelope.{Envelope}
+use Rattle.callnotes.specs.declared.envelope.Half.{Half}
+use Rattle.callnotes.specs.declared.envelope.Message.{Message}
+use Rattle.callnotes.specs.declared.envelope.Half.TheVariants.{Send as SendHalf, Recv as RecvHalf}
+use Rattle.callnotes.specs.Recordings.{Lists, calls_of}
+use Rattle.callnotes.specs.Envelopes.{message_of, envelope_by}
 use Rattle.pairing.specs.Partners.{number_of, partner_of}
 use Rattle.pairing.specs.Probed.{probed_envelope, probed_envelope_at, probed_by, probed_of}
-use Rattle.pairing.proofs.PartnerLemmas.{and_then_parts, map_parts, numbered_parts, numbered_half}
+use Rattle.callnotes.proofs.OptionLemmas.{and_then_parts, map_parts}
+use Rattle.pairing.proofs.PartnerLemmas.{numbered_parts, numbered_half}
 use Rattle.pairing.proofs.ProbedLemmas.{prober}
 use Rattle.arenalist.specs.Numbers.{count, list_at}
 use Rattle.moves.specs.Waiting.{WaitLists, own_list, comm_list, woken, awaits, woken_at, woken_partner, sent_to, sees, prober_of, woken_prober, woken_comm, WaitsFor, HasLists}

@@ -3,18 +3,18 @@
 
 ghost use Rattle.std.specs.Prelude.{◌≡◌, ◌<◌, Some, true, nat_lt, length, slice_get, slice_index};
 ghost use Rattle.std.specs.List.{list_all};
-ghost use Rattle.pairing.specs.Limits.{most_calls};
-ghost use Rattle.pairing.specs.Recordings.{calls_of};
+ghost use Rattle.callnotes.specs.Limits.{most_calls};
+ghost use Rattle.callnotes.specs.Recordings.{calls_of};
 ghost use Rattle.moves.specs.Needs.{half_needs, probe_needs, is_met};
 ghost use Rattle.moves.specs.Waiting.{message_needs, AreWaves, IsNoException, TellsOperation, TellsRequest, TellsCompleted, TellsCall, TellsRank};
 
 use crate::need::{is_reached, stand_of};
 use crate::progress::Progress;
 use crate::reading::{Reading, sends_freely};
+use callnotes::envelope::Half;
+use callnotes::stored::StoredCall;
 use mpicall::does::Does;
-use pairing::envelope::Half;
 use pairing::pairs::Pairs;
-use pairing::stored::StoredCall;
 
 /// What a look at a rank tells.
 #[derive(Clone, Copy)]

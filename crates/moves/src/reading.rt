@@ -5,8 +5,8 @@ ghost use Rattle.std.specs.Prelude.{◌≡◌};
 ghost use Rattle.moves.specs.Readings.{is_eager};
 ghost use Rattle.moves.specs.Needs.{bytes_of, sends_freely};
 
+use callnotes::stored::StoredCall;
 use mpicall::call::Mode;
-use pairing::stored::StoredCall;
 
 /// Which sends in standard mode wait for their receive. Synchronous sends always do, and buffered ones never.
 #[derive(Clone, Copy, Debug, PartialEq, Eq)]

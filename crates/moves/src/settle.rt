@@ -1,9 +1,9 @@
 //! Ranks that move on until none can, by looks at those alone that something woke.
 
 ghost use Rattle.std.specs.Prelude.{◌≡◌, ◌<◌, ◌≤◌, true, false, None, length, slice_index, IfSome};
-ghost use Rattle.pairing.specs.Limits.{most_calls};
+ghost use Rattle.callnotes.specs.Limits.{most_calls};
 ghost use Rattle.pairing.specs.Partners.{partner_of};
-ghost use Rattle.pairing.specs.declared.envelope.Half.{Half as HalfValue};
+ghost use Rattle.callnotes.specs.declared.envelope.Half.{Half as HalfValue};
 ghost use Rattle.moves.specs.Runs.{moved, StandsNoLater};
 ghost use Rattle.moves.specs.Waiting.{comm_list, sent_to, sees, prober_of, woken_partner, woken_prober, woken_peers, woken_comm, HoldsBetweenLooks, IsNobody, IsInHand, IsSettled, IsReaching, HasArrived, touches_of, to_do};
 
@@ -12,8 +12,8 @@ use crate::need::stand_of;
 use crate::progress::Progress;
 use crate::reading::Reading;
 use crate::waiters::Waiters;
+use callnotes::envelope::Half;
 use mpicall::does::Does;
-use pairing::envelope::Half;
 use pairing::pairs::Pairs;
 
 /// Moves the rank on by one.

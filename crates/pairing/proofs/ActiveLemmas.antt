@@ -5,14 +5,14 @@ use Rattle.std.specs.Option.{is_some, option_or}
 use Rattle.std.proofs.lemmas.Bool.{cases_eq, cases_Bool, eq-eqb}
 use Rattle.std.proofs.lemmas.Grind.{common_steps}
 use Rattle.mpicall.specs.declared.call.Call.{Call}
-use Rattle.pairing.specs.Recordings.{Lists, calls_of, appended}
-use Rattle.pairing.specs.Requests.{does_start, does_complete, started_in, is_active, HasActive}
+use Rattle.callnotes.specs.Recordings.{Lists, calls_of, appended}
+use Rattle.callnotes.specs.Requests.{does_start, does_complete, started_in, is_active, HasActive}
 use Rattle.pairing.specs.Starts.{cell_in, place_at, place_in, has_place, IsActive}
 use Rattle.pairing.specs.declared.active.Request.{Request}
 use Rattle.pairing.specs.declared.active.Start.{Start}
 use Rattle.pairing.specs.declared.active.Active.{Active}
-use Rattle.pairing.proofs.RecordingLemmas.{calls_of-appended, calls_of-appended_other}
-use Rattle.pairing.proofs.RequestLemmas.{starts_it, completes_it, leaves_it}
+use Rattle.callnotes.proofs.RecordingLemmas.{calls_of-appended, calls_of-appended_other}
+use Rattle.callnotes.proofs.RequestLemmas.{starts_it, completes_it, leaves_it}
 
 -- what started a request once one more call is made
 pub started-push : (calls : List Call) (call : Call) (req : ℕ) → started_in (calls ++ call ∷ []) req ≡ (if does_start req call then Some (length calls) else if does_complete req call then None else started_in calls req)

@@ -10,26 +10,27 @@ use Rattle.arenalist.specs.Arena.{counted}
 use Rattle.mpicall.specs.declared.call.Call.{Call}
 use Rattle.mpigroup.specs.Groups.{Groups}
 use Rattle.mpigroup.proofs.ListLemmas.{get_end}
-use Rattle.pairing.specs.declared.envelope.Envelope.{Envelope}
-use Rattle.pairing.specs.declared.envelope.Half.{Half}
-use Rattle.pairing.specs.declared.envelope.Half.TheVariants.{Send as SendHalf, Recv as RecvHalf}
+use Rattle.callnotes.specs.declared.envelope.Envelope.{Envelope}
+use Rattle.callnotes.specs.declared.envelope.Half.{Half}
+use Rattle.callnotes.specs.declared.envelope.Half.TheVariants.{Send as SendHalf, Recv as RecvHalf}
 use Rattle.pairing.specs.declared.matches.Halves.{Halves}
 use Rattle.pairing.specs.declared.numbering.Numbered.{Numbered}
-use Rattle.pairing.specs.Envelopes.{other_half, envelope_of, same_envelope, rank_of_half, has_envelope}
+use Rattle.callnotes.specs.Envelopes.{other_half, envelope_of, same_envelope, rank_of_half, has_envelope}
 use Rattle.pairing.specs.Kept.{AreNoted, ArePartnered}
 use Rattle.pairing.specs.Matched.{halves_of, pending_of, Matching, Filing, filed_on, filed_halves, worked_if, worked, number_in, pending_at, pending_by, IsGrown, IsMatched, ArePaired, IsNext}
 use Rattle.pairing.specs.Work.{count_halves, halves_in, halves_from, work_of}
-use Rattle.pairing.specs.Notes.{Noted, notes_of, recording_of, with_note, kept_at}
-use Rattle.pairing.specs.Beside.{partner_in}
+use Rattle.callnotes.specs.Notes.{Noted, notes_of, recording_of, with_note, kept_at}
+use Rattle.callnotes.specs.Beside.{partner_in}
 use Rattle.pairing.specs.Partners.{envelope_at, places_of, number_of, numbered, partner_of}
-use Rattle.pairing.specs.Places.{places}
-use Rattle.pairing.specs.Recordings.{Lists, calls_of, appended}
+use Rattle.callnotes.specs.Places.{places}
+use Rattle.callnotes.specs.Recordings.{Lists, calls_of, appended}
 use Rattle.pairing.proofs.MeetingLemmas.{filed_other_half}
 use Rattle.pairing.proofs.NotedLemmas.{notes_of-same, notes_of-other}
-use Rattle.pairing.proofs.PartnerLemmas.{map_parts, own_rank, own_place, numbered_half, has_it, envelope_at_parts, partner_parts, HasHalf}
-use Rattle.pairing.proofs.PlaceLemmas.{slice_get-front}
-use Rattle.pairing.proofs.PlacesLemmas.{with_place, places_on, no_calls}
-use Rattle.pairing.proofs.RecordingLemmas.{calls_of-appended, calls_of-appended_other}
+use Rattle.callnotes.proofs.OptionLemmas.{map_parts}
+use Rattle.pairing.proofs.PartnerLemmas.{own_rank, own_place, numbered_half, has_it, envelope_at_parts, partner_parts, HasHalf}
+use Rattle.callnotes.proofs.PlaceLemmas.{slice_get-front}
+use Rattle.callnotes.proofs.PlacesLemmas.{with_place, places_on, no_calls}
+use Rattle.callnotes.proofs.RecordingLemmas.{calls_of-appended, calls_of-appended_other}
 
 -- the halves of an envelope are the places of their rank
 halves_by : (groups : Groups) (recording : Lists) (half : Half) (e : Envelope) (rank : ℕ) → rank_of_half groups half e ≡ Some rank → halves_of groups recording half e ≡ places_of groups recording rank half e

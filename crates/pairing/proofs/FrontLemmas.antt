@@ -3,7 +3,7 @@ use Rattle.std.proofs.Common.{◌≡◌, ℕ, zero, suc, ◌<◌, true, Option, 
 use Rattle.std.specs.List.{list_all}
 use Rattle.std.proofs.lemmas.List.{length-map}
 use Rattle.std.proofs.lemmas.Bool.{false≢true}
-use Rattle.pairing.specs.Requests.{started_in, is_active}
+use Rattle.callnotes.specs.Requests.{started_in, is_active}
 use Rattle.pairing.specs.Starts.{known_front}
 use Rattle.mpicall.specs.declared.call.Call.{Call}
 
@@ -37,11 +37,6 @@ all_known calls (req ∷ reqs) all = one_known calls req reqs (started_in calls 
     one_known : (calls : List Call) (req : ℕ) (reqs : List ℕ) (o : Option ℕ) → started_in calls req ≡ o → (list_all (is_active calls) reqs ≡ true → map Some (known_front (map (started_in calls) reqs)) ≡ map (started_in calls) reqs) → list_all (is_active calls) (req ∷ reqs) ≡ true → map Some (known_front (map (started_in calls) (req ∷ reqs))) ≡ map (started_in calls) (req ∷ reqs)
     one_known calls req reqs None e rest all = absurd (false≢true (rw e at all))
     one_known calls req reqs (Some start) e rest all = rw e (ap (λ (os : List (Option ℕ)). Some start ∷ os) (rest (rw e at all)))
-
--- two functions that agree make the same list
-pub same_map : (f g : ℕ → Option ℕ) (ys : List ℕ) → ((y : ℕ) → f y ≡ g y) → map f ys ≡ map g ys
-same_map f g [] agree = refl
-same_map f g (y ∷ ys) agree = rw (agree y) (ap (λ (os : List (Option ℕ)). g y ∷ os) (same_map f g ys agree))
 
 -- so each of them has its start
 pub starts_of_all : (calls : List Call) (reqs written : List ℕ) → list_all (is_active calls) reqs ≡ true → written ≡ known_front (map (started_in calls) reqs) → (length written ≡ length reqs) × (map Some written ≡ map (started_in calls) reqs)

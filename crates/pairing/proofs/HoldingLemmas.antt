@@ -7,14 +7,14 @@ use Rattle.std.proofs.lemmas.List.Folds.{list_any-append}
 use Rattle.std.proofs.lemmas.Bool.{false≢true, cases_eq, eq-eqb}
 use Rattle.std.proofs.lemmas.Grind.{common_steps}
 use Rattle.mpicall.specs.declared.call.Call.{Call}
-use Rattle.pairing.specs.Recordings.{Lists, calls_of, appended}
-use Rattle.pairing.specs.Communicators.{makes, does_make, made_at, NoneIsMade, HasMade}
+use Rattle.callnotes.specs.Recordings.{Lists, calls_of, appended}
+use Rattle.callnotes.specs.Communicators.{makes, does_make, made_at, NoneIsMade, HasMade}
 use Rattle.pairing.specs.Holdings.{is_same_holding, has_holding, IsHolding}
 use Rattle.pairing.specs.declared.held.Held.{Held}
 use Rattle.pairing.specs.declared.held.Holding.{Holding}
-use Rattle.pairing.proofs.PartnerLemmas.{and_then_parts}
-use Rattle.pairing.proofs.RequestLaws.{find_any, is_it}
-use Rattle.pairing.proofs.RecordingLemmas.{calls_of-appended, calls_of-appended_other}
+use Rattle.callnotes.proofs.OptionLemmas.{and_then_parts, is_it}
+use Rattle.pairing.proofs.RequestLaws.{find_any}
+use Rattle.callnotes.proofs.RecordingLemmas.{calls_of-appended, calls_of-appended_other}
 
 -- the list with one more call at its end
 any_push : (calls : List Call) (comm : ℕ) (call : Call) → list_any (does_make comm) (calls ++ call ∷ []) ≡ (list_any (does_make comm) calls || does_make comm call)

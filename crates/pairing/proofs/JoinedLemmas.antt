@@ -10,15 +10,15 @@ use Rattle.indexmap.specs.IndexSet.{insert_key}
 use Rattle.mpicall.specs.declared.call.Call.{Call}
 use Rattle.pairing.specs.declared.held.Holding.{Holding}
 use Rattle.pairing.specs.Joined.{Joinings, is_key, list_number, list_of, IsJoined, IsListFor}
-use Rattle.pairing.specs.Places.{places}
-use Rattle.pairing.specs.Recordings.{Lists, calls_of, appended}
-use Rattle.pairing.specs.Seats.{Seats, list_in, with_place_in}
-use Rattle.pairing.specs.Waves.{joins, does_join}
-use Rattle.pairing.proofs.NumberLemmas.{position_cases, number_stays, number_past, number_next}
-use Rattle.pairing.proofs.PartnerLemmas.{map_parts}
-use Rattle.pairing.proofs.PlacesLemmas.{with_place, places_on}
-use Rattle.pairing.proofs.RecordingLemmas.{calls_of-appended, calls_of-appended_other}
-use Rattle.pairing.proofs.SeatLemmas.{list_pushed, list_past, list_same, list_other}
+use Rattle.callnotes.specs.Places.{places}
+use Rattle.callnotes.specs.Recordings.{Lists, calls_of, appended}
+use Rattle.callnotes.specs.Seats.{Seats, list_in, with_place_in}
+use Rattle.callnotes.specs.Waves.{joins, does_join}
+use Rattle.callnotes.proofs.NumberLemmas.{position_cases, number_stays, number_past, number_next}
+use Rattle.callnotes.proofs.OptionLemmas.{map_parts}
+use Rattle.callnotes.proofs.PlacesLemmas.{with_place, places_on}
+use Rattle.callnotes.proofs.RecordingLemmas.{calls_of-appended, calls_of-appended_other}
+use Rattle.callnotes.proofs.SeatLemmas.{list_pushed, list_past, list_same, list_other}
 
 -- two keys have the same fields
 abbrev pub same_fields : Holding → Holding → Bool

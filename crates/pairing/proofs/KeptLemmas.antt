@@ -8,29 +8,30 @@ use Rattle.std.proofs.lemmas.Bool.{cases_Bool, cases_eq, cases_lt, eqb-true, lt-
 use Rattle.mpicall.specs.declared.call.Call.TheVariants.{Waitany}
 use Rattle.mpicall.specs.declared.call.Call.{Call}
 use Rattle.mpigroup.specs.Groups.{Groups, ranks_of, world_rank_of, group_rank_of}
-use Rattle.pairing.specs.declared.envelope.Envelope.{Envelope}
-use Rattle.pairing.specs.declared.envelope.Half.{Half}
-use Rattle.pairing.specs.Notes.{Noted, notes_of, completed_among, completed_starts, start_of, calls_in, recording_of, kept_at}
-use Rattle.pairing.specs.declared.envelope.Half.TheVariants.{Send as SendHalf, Recv as RecvHalf}
-use Rattle.pairing.specs.declared.envelope.Message.{Message}
+use Rattle.callnotes.specs.declared.envelope.Envelope.{Envelope}
+use Rattle.callnotes.specs.declared.envelope.Half.{Half}
+use Rattle.callnotes.specs.Notes.{Noted, notes_of, completed_among, completed_starts, start_of, calls_in, recording_of, kept_at}
+use Rattle.callnotes.specs.declared.envelope.Half.TheVariants.{Send as SendHalf, Recv as RecvHalf}
+use Rattle.callnotes.specs.declared.envelope.Message.{Message}
 use Rattle.pairing.specs.declared.matches.Halves.{Halves}
-use Rattle.pairing.specs.Beside.{partner_in, wave_in}
+use Rattle.callnotes.specs.Beside.{partner_in, wave_in}
 use Rattle.pairing.specs.Kept.{IsNoted, AreNoted, ArePartnered}
 use Rattle.pairing.specs.Matched.{halves_of, filed_halves, worked, ArePaired}
 use Rattle.pairing.proofs.FiledLemmas.{envelopes, filed_call, pending_to, partnered_to, paired_from, work_on}
-use Rattle.pairing.proofs.PartnerLemmas.{map_parts, partner_parts}
-use Rattle.pairing.specs.Recordings.{Lists, calls_of, appended, has_end, is_ended}
-use Rattle.pairing.specs.Places.{count_before}
-use Rattle.pairing.specs.Envelopes.{message_of, envelope_by, envelope_of, other_half, rank_of_half}
+use Rattle.callnotes.proofs.OptionLemmas.{map_parts}
+use Rattle.pairing.proofs.PartnerLemmas.{partner_parts}
+use Rattle.callnotes.specs.Recordings.{Lists, calls_of, appended, has_end, is_ended}
+use Rattle.callnotes.specs.Places.{count_before}
+use Rattle.callnotes.specs.Envelopes.{message_of, envelope_by, envelope_of, other_half, rank_of_half}
 use Rattle.pairing.specs.Partners.{partner_of}
-use Rattle.pairing.specs.Requests.{waits_for, completes, started_in, started_of}
-use Rattle.pairing.specs.Waves.{joins, does_join, wave_of}
+use Rattle.callnotes.specs.Requests.{waits_for, completes, started_in, started_of}
+use Rattle.callnotes.specs.Waves.{joins, does_join, wave_of}
 use Rattle.pairing.specs.Pairs.{completed_of}
 use Rattle.pairing.specs.Faults.{fault_of, IsLawfulList, IsLawful}
 use Rattle.pairing.specs.Tables.{AreOthers, AreTables, GoOnBy, IsKept}
 use Rattle.pairing.specs.declared.tables.Tables.{Tables}
 use Rattle.pairing.proofs.FaultLemmas.{lawful_push, lawful_end}
-use Rattle.pairing.proofs.RecordingLemmas.{calls_of-appended, calls_of-appended_other}
+use Rattle.callnotes.proofs.RecordingLemmas.{calls_of-appended, calls_of-appended_other}
 use Rattle.pairing.proofs.NotedLemmas.{calls_of-recorded, recording_of-more, are_noted-more}
 
 -- the call at a place is the one that is noted there

@@ -12,13 +12,13 @@ use Rattle.indexmap.specs.IndexSet.{insert_key}
 use Rattle.arenalist.specs.Arena.{contents, first_value, linked}
 use Rattle.arenalist.specs.Numbers.{list_at}
 use Rattle.arenalist.proofs.ContentsLemmas.{values, contents_at, contents_drop, contents_linked, first_content}
-use Rattle.pairing.specs.declared.envelope.Envelope.{Envelope}
-use Rattle.pairing.specs.declared.envelope.Half.{Half}
-use Rattle.pairing.specs.declared.envelope.Half.TheVariants.{Send as SendHalf, Recv as RecvHalf}
-use Rattle.pairing.specs.Envelopes.{other_half, same_envelope}
+use Rattle.callnotes.specs.declared.envelope.Envelope.{Envelope}
+use Rattle.callnotes.specs.declared.envelope.Half.{Half}
+use Rattle.callnotes.specs.declared.envelope.Half.TheVariants.{Send as SendHalf, Recv as RecvHalf}
+use Rattle.callnotes.specs.Envelopes.{other_half, same_envelope}
 use Rattle.pairing.specs.Matched.{Matching, HaveLists, number_in, list_no, pending_at, pending_by, met_if, met, HasPending, IsGrown}
-use Rattle.pairing.proofs.NumberLemmas.{position_at, position_cases, number_stays, number_past}
-use Rattle.pairing.proofs.PlaceLemmas.{slice_get_there}
+use Rattle.callnotes.proofs.NumberLemmas.{position_at, position_cases, number_stays, number_past}
+use Rattle.callnotes.proofs.PlaceLemmas.{slice_get_there}
 use Rattle.pairing.proofs.RequestLaws.{some_parts}
 use Rattle.pairing.proofs.PartnerLemmas.{same_envelope_true, same_envelope_refl}
 

@@ -8,22 +8,15 @@ use Rattle.std.proofs.lemmas.Option.{slice_get_within, none-some, same_Some, som
 use Rattle.std.proofs.lemmas.Bool.{and_parts, eqb-true, eq-eqb}
 use Rattle.mpicall.specs.declared.call.Call.{Call}
 use Rattle.mpigroup.specs.Groups.{Groups, group_of, world_rank_of, group_rank_of}
-use Rattle.pairing.specs.declared.envelope.Envelope.{Envelope}
-use Rattle.pairing.specs.declared.envelope.Half.{Half}
-use Rattle.pairing.specs.declared.envelope.Message.{Message}
-use Rattle.pairing.specs.declared.envelope.Half.TheVariants.{Send as SendHalf, Recv as RecvHalf}
-use Rattle.pairing.specs.Recordings.{Lists, calls_of, GoesOn}
-use Rattle.pairing.specs.Envelopes.{other_half, message_of, envelope_by, same_envelope, envelope_of, rank_of_half, has_envelope}
+use Rattle.callnotes.specs.declared.envelope.Envelope.{Envelope}
+use Rattle.callnotes.specs.declared.envelope.Half.{Half}
+use Rattle.callnotes.specs.declared.envelope.Message.{Message}
+use Rattle.callnotes.specs.declared.envelope.Half.TheVariants.{Send as SendHalf, Recv as RecvHalf}
+use Rattle.callnotes.specs.Recordings.{Lists, calls_of, GoesOn}
+use Rattle.callnotes.specs.Envelopes.{other_half, message_of, envelope_by, same_envelope, envelope_of, rank_of_half, has_envelope}
 use Rattle.pairing.specs.Partners.{envelope_at, places_of, number_of, numbered, partner_of, PartnersAreMutual, PartnersAreNotShared, PartnersStay, MessagesDoNotOvertake}
-use Rattle.pairing.proofs.PlaceLemmas.{nth_place, place_nth, places-append, slice_get-front, places_rise, before_less}
-
-pub and_then_parts : {A B : Type 0} (f : A → Option B) (o : Option A) (y : B) → option_and_then f o ≡ Some y → (x : A) × (o ≡ Some x) × (f x ≡ Some y)
-and_then_parts f None y h = absurd (none-some y h)
-and_then_parts f (Some x) y h = (x, refl, h)
-
-pub map_parts : {A B : Type 0} (f : A → B) (o : Option A) (y : B) → option_map f o ≡ Some y → (x : A) × (o ≡ Some x) × (f x ≡ y)
-map_parts f None y h = absurd (none-some y h)
-map_parts f (Some x) y h = (x, refl, same_Some (f x) y h)
+use Rattle.callnotes.proofs.OptionLemmas.{and_then_parts, map_parts}
+use Rattle.callnotes.proofs.PlaceLemmas.{nth_place, place_nth, places-append, slice_get-front, places_rise, before_less}
 
 map_pair : (rank other there : ℕ) (o : Option ℕ) → option_map {U = ℕ × ℕ} (λ place. (rank, place)) o ≡ Some (other, there) → (rank ≡ other) × (o ≡ Some there)
 map_pair rank other there None h = absurd (none-some (other, there) h)

@@ -8,16 +8,16 @@ use Rattle.std.proofs.lemmas.Option.{slice_get_within, slice_get_past, slice_get
 use Rattle.std.proofs.lemmas.Bool.{cases_eq, cases_lt}
 use Rattle.mpicall.specs.declared.call.Call.{Call}
 use Rattle.mpigroup.proofs.ListLemmas.{slice_get-set_same, slice_get-set_other}
-use Rattle.pairing.specs.declared.envelope.Half.{Half}
-use Rattle.pairing.specs.declared.envelope.Half.TheVariants.{Send as SendHalf, Recv as RecvHalf}
-use Rattle.pairing.specs.declared.beside.Beside.{Beside}
-use Rattle.pairing.specs.declared.beside.Beside.TheVariants.{Nothing, Wave, Sent, Received, Exchanged}
-use Rattle.pairing.specs.Beside.{partner_in, with_partner}
-use Rattle.pairing.specs.Envelopes.{other_half}
+use Rattle.callnotes.specs.declared.envelope.Half.{Half}
+use Rattle.callnotes.specs.declared.envelope.Half.TheVariants.{Send as SendHalf, Recv as RecvHalf}
+use Rattle.callnotes.specs.declared.beside.Beside.{Beside}
+use Rattle.callnotes.specs.declared.beside.Beside.TheVariants.{Nothing, Wave, Sent, Received, Exchanged}
+use Rattle.callnotes.specs.Beside.{partner_in, with_partner}
+use Rattle.callnotes.specs.Envelopes.{other_half}
 use Rattle.pairing.specs.Kept.{IsNoted, AreNoted}
-use Rattle.pairing.specs.Notes.{Noted, notes_of, calls_in, recording_of, note_with, kept_at, partnered_in, partnered}
-use Rattle.pairing.specs.Waves.{joins}
-use Rattle.pairing.proofs.NumberLemmas.{set_past}
+use Rattle.callnotes.specs.Notes.{Noted, notes_of, calls_in, recording_of, note_with, kept_at, partnered_in, partnered}
+use Rattle.callnotes.specs.Waves.{joins}
+use Rattle.callnotes.proofs.NumberLemmas.{set_past}
 
 -- the partner that is set is kept, and the other half's stays
 pub partner_set : (half : Half) (there : ℕ) (beside : Beside) → partner_in half (with_partner half there beside) ≡ Some there

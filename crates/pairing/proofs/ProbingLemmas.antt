@@ -10,17 +10,18 @@ use Rattle.std.proofs.lemmas.Grind.{common_steps}
 use Rattle.mpicall.specs.declared.call.Call.{Call}
 use Rattle.mpigroup.specs.Groups.{Groups}
 use Rattle.mpigroup.proofs.ListLemmas.{get_end, slice_get-set_same, slice_get-set_other}
-use Rattle.pairing.specs.declared.envelope.Envelope.{Envelope}
-use Rattle.pairing.specs.declared.envelope.Half.TheVariants.{Send as SendHalf, Recv as RecvHalf}
-use Rattle.pairing.specs.Recordings.{Lists, calls_of, appended}
-use Rattle.pairing.specs.Envelopes.{envelope_of, rank_of_half, has_envelope}
+use Rattle.callnotes.specs.declared.envelope.Envelope.{Envelope}
+use Rattle.callnotes.specs.declared.envelope.Half.TheVariants.{Send as SendHalf, Recv as RecvHalf}
+use Rattle.callnotes.specs.Recordings.{Lists, calls_of, appended}
+use Rattle.callnotes.specs.Envelopes.{envelope_of, rank_of_half, has_envelope}
 use Rattle.pairing.specs.Partners.{places_of, number_of}
 use Rattle.pairing.specs.Matched.{pending_of}
-use Rattle.pairing.specs.Places.{places, count_before}
-use Rattle.pairing.proofs.PlaceLemmas.{slice_get-front}
-use Rattle.pairing.proofs.PlacesLemmas.{places_on}
-use Rattle.pairing.proofs.PartnerLemmas.{and_then_parts, own_rank, has_it, same_envelope_true, same_envelope_refl}
-use Rattle.pairing.proofs.RecordingLemmas.{calls_of-appended, calls_of-appended_other}
+use Rattle.callnotes.specs.Places.{places, count_before}
+use Rattle.callnotes.proofs.PlaceLemmas.{slice_get-front}
+use Rattle.callnotes.proofs.PlacesLemmas.{places_on}
+use Rattle.callnotes.proofs.OptionLemmas.{and_then_parts}
+use Rattle.pairing.proofs.PartnerLemmas.{own_rank, has_it, same_envelope_true, same_envelope_refl}
+use Rattle.callnotes.proofs.RecordingLemmas.{calls_of-appended, calls_of-appended_other}
 use Rattle.pairing.specs.Probed.{probed_envelope, probed_envelope_at, probed_of, receive_behind, seen_from, HasProbe, HasProbesIf}
 use Rattle.pairing.specs.Probing.{is_same_envelope, unfilled_at, seat_for, Seating, seated, IsSeatOf, AreSeated, Sits, Follows, filled}
 use Rattle.pairing.specs.declared.numbering.Numbered.{Numbered}

@@ -10,18 +10,20 @@ use Rattle.mpicall.specs.declared.call.Call.{Call}
 use Rattle.mpicall.specs.declared.call.Call.TheVariants.{Send, Isend, Sendrecv}
 use Rattle.mpicall.specs.declared.call.Peer.TheVariants.{Rank}
 use Rattle.mpigroup.specs.Groups.{Groups, group_rank_of}
-use Rattle.pairing.specs.declared.envelope.Envelope.{Envelope}
-use Rattle.pairing.specs.declared.envelope.Half.TheVariants.{Send as SendHalf, Recv as RecvHalf}
-use Rattle.pairing.specs.declared.envelope.Message.{Message}
-use Rattle.pairing.specs.Envelopes.{message_of, envelope_by, envelope_of, rank_of_half}
-use Rattle.pairing.specs.Faults.{comm_of, is_member, IsLawful}
+use Rattle.callnotes.specs.declared.envelope.Envelope.{Envelope}
+use Rattle.callnotes.specs.declared.envelope.Half.TheVariants.{Send as SendHalf, Recv as RecvHalf}
+use Rattle.callnotes.specs.declared.envelope.Message.{Message}
+use Rattle.callnotes.specs.Envelopes.{message_of, envelope_by, envelope_of, rank_of_half}
+use Rattle.callnotes.specs.Communicators.{comm_of}
+use Rattle.pairing.specs.Faults.{is_member, IsLawful}
 use Rattle.pairing.specs.Matched.{halves_of, pending_of}
 use Rattle.pairing.specs.Partners.{places_of, number_of, numbered, envelope_at, partner_of, sent_at, EachIsReceived, HasUnreceived}
-use Rattle.pairing.specs.Recordings.{Lists, calls_of}
+use Rattle.callnotes.specs.Recordings.{Lists, calls_of}
 use Rattle.pairing.proofs.FaultLemmas.{fault_none}
 use Rattle.pairing.proofs.RequestLaws.{some_parts}
 use Rattle.pairing.proofs.MeetingLemmas.{drop_first}
-use Rattle.pairing.proofs.PartnerLemmas.{HasHalf, and_then_parts, own_rank, own_place, numbered_half, partner_from}
+use Rattle.pairing.proofs.PartnerLemmas.{HasHalf, own_rank, own_place, numbered_half, partner_from}
+use Rattle.callnotes.proofs.OptionLemmas.{and_then_parts}
 
 -- a call that sends a message names its communicator
 comm_of_sent : (call : Call) (m : Message) → message_of SendHalf call ≡ Some m → comm_of call ≡ Some m.comm

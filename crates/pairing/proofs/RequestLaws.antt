@@ -1,19 +1,19 @@
 -- Requests of lawful lists.
-use Rattle.std.proofs.Common.{inl, inr, ◌≡◌, ℕ, zero, suc, ◌+◌, ◌-◌, ◌<◌, ◌≤◌, ◌⊎◌, Bool, true, false, eqb, Option, Some, None, List, [], ◌∷◌, ◌++◌, if◌then◌else◌, length, take, drop, refl, sym, ap, subst, ◌∙◌, ⊎_elim, arith, length-take-le}
+use Rattle.std.proofs.Common.{inl, inr, ◌≡◌, ℕ, zero, suc, ◌+◌, ◌-◌, ◌<◌, ◌≤◌, ◌⊎◌, Bool, true, false, eqb, Option, Some, None, List, [], ◌∷◌, ◌++◌, if◌then◌else◌, length, take, refl, sym, ap, subst, ◌∙◌, ⊎_elim, arith, length-take-le}
 use Rattle.std.specs.List.{slice_get, list_any, list_all}
-use Rattle.std.specs.Option.{is_some, option_map_or}
+use Rattle.std.specs.Option.{is_some}
 use Rattle.std.proofs.lemmas.List.{take_more, take_all}
 use Rattle.std.proofs.lemmas.Option.{slice_get_within, none-some, same_Some, get_or_from_slice_get}
 use Rattle.std.proofs.lemmas.Bool.{false≢true, cases_Bool, eqb-true}
 use Rattle.mpicall.specs.declared.call.Call.{Call}
-use Rattle.pairing.specs.Recordings.{calls_of}
-use Rattle.pairing.specs.Places.{places}
-use Rattle.pairing.specs.Requests.{starts, waits_for, does_start, does_complete, is_among, last_of, unless_completed, started_in, is_active}
+use Rattle.callnotes.specs.Recordings.{calls_of}
+use Rattle.callnotes.specs.Requests.{starts, waits_for, does_start, does_complete, is_among, started_in, is_active}
 use Rattle.pairing.specs.Faults.{starts_afresh, IsLawfulList, EachWaitHasItsStarts, NoTwoStartsAreActive}
 use Rattle.mpigroup.specs.Groups.{Groups}
 use Rattle.pairing.proofs.ActiveLemmas.{started-push}
-use Rattle.pairing.proofs.PartnerLemmas.{and_then_parts}
-use Rattle.pairing.proofs.PlaceLemmas.{slice_get_there, nth_place}
+use Rattle.callnotes.proofs.OptionLemmas.{is_it}
+use Rattle.callnotes.proofs.PlaceLemmas.{slice_get_there}
+use Rattle.callnotes.proofs.RequestLemmas.{started}
 use Rattle.pairing.proofs.FaultLemmas.{fault_none, not_true}
 
 -- an element of a list's front, or of what is left of it, is one of the list
@@ -56,31 +56,6 @@ all_among test number (other ∷ others) all among =
     (λ (fails : test other ≡ false). absurd (false≢true (rw fails at all)))
     (cases_Bool (test other))
 
-unless_parts : (calls : List Call) (req place start : ℕ) → unless_completed calls req place ≡ Some start → place ≡ start
-unless_parts calls req place start h =
-    ⊎_elim
-    (λ (e : list_any (does_complete req) (drop (place + 1) calls) ≡ true). absurd (none-some start (rw e at h)))
-    (λ (e : list_any (does_complete req) (drop (place + 1) calls) ≡ false). same_Some place start (rw e at h))
-    (cases_Bool (list_any (does_complete req) (drop (place + 1) calls)))
-
--- what stands where an active request was started
-pub record Started (calls : List Call) (req start : ℕ) : Type 0 where
-  pub starter : Call
-  pub stands_there : slice_get calls start ≡ Some starter
-  pub starts_it : does_start req starter ≡ true
-
-pub started : (calls : List Call) (req start : ℕ) → started_in calls req ≡ Some start → Started calls req start
-started calls req start h =
-    let parts = and_then_parts (unless_completed calls req) (last_of (places (does_start req) calls)) start h in
-    let same = unless_parts calls req parts.0 start parts.2 in
-    let nth = nth_place 0 (does_start req) calls (length (places (does_start req) calls) - 1) parts.0 parts.1 in
-    let there : nth.index ≡ start = omega (arith, nth.place, same) in
-    record {
-      starter = nth.element;
-      stands_there = subst (λ (x : ℕ). slice_get calls x ≡ Some nth.element) there nth.stands_there;
-      starts_it = nth.passes;
-    }
-
 pub some_parts : {A : Type 0} (o : Option A) → is_some o ≡ true → (x : A) × (o ≡ Some x)
 some_parts None h = absurd (false≢true h)
 some_parts (Some x) h = (x, refl)
@@ -97,10 +72,6 @@ each_wait_has_its_starts groups recording rank place call req lawful here among 
       there.0,
       (start.starter, there.1, start.starts_it),
     )
-
-pub is_it : (req : ℕ) (o : Option ℕ) → option_map_or (λ started. eqb started req) o false ≡ true → o ≡ Some req
-is_it req None h = absurd (false≢true h)
-is_it req (Some started) h = ap (λ (m : ℕ). Some m) (eqb-true started req h)
 
 -- a request that may be started isn't active
 not_active : (calls : List Call) (req : ℕ) (restarter : Call) → starts_afresh calls restarter ≡ true → does_start req restarter ≡ true → is_active calls req ≡ false

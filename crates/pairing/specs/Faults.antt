@@ -15,21 +15,12 @@ use Rattle.mpicall.specs.declared.does.Does.TheVariants.{Exchanges, Joins, Alone
 use Rattle.mpicall.specs.declared.call.Call.{Call}
 use Rattle.mpicall.specs.declared.call.Call.TheVariants.{Dup, Split}
 use Rattle.mpigroup.specs.Groups.{Groups, size_of, group_rank_of}
-use Rattle.pairing.specs.Limits.{most_calls}
-use Rattle.pairing.specs.Recordings.{Lists, calls_of, has_end, is_ended, IsClosedList}
-use Rattle.pairing.specs.Requests.{starts, waits_for, does_start, does_complete, is_among, is_active, started_of}
-use Rattle.pairing.specs.Communicators.{holds}
+use Rattle.callnotes.specs.Limits.{most_calls}
+use Rattle.callnotes.specs.Recordings.{Lists, calls_of, has_end, is_ended, IsClosedList}
+use Rattle.callnotes.specs.Requests.{starts, waits_for, does_start, does_complete, is_among, is_active, started_of}
+use Rattle.callnotes.specs.Communicators.{comm_of, holds}
 use Rattle.pairing.specs.declared.fault.CallFault.{CallFault}
 use Rattle.pairing.specs.declared.fault.CallFault.TheVariants.{CallAfterFinalize, TooManyCalls, UnknownCommunicator, CommunicatorNotHeld, PeerOutOfGroup, RequestInUse, RequestRepeated, RequestNotActive, WrongNewCommunicator}
-
--- the communicator over which the call is made, if it names one
-abbrev pub comm_of : Call → Option ℕ
-comm_of call = by_what (does_of call)
-  where
-    by_what : Does → Option ℕ
-    by_what (Exchanges comm sent received probed) = Some comm
-    by_what (Joins comm root made) = Some comm
-    by_what Alone = None
 
 -- the communicator exists
 abbrev pub is_comm : Groups → ℕ → Bool

@@ -3,8 +3,8 @@ use Rattle.std.specs.Prelude.{◌≡◌, ◌<◌, ℕ, Bool, IsSome}
 use Rattle.std.specs.List.{list_any}
 use Rattle.mpicall.specs.declared.call.Call.{Call}
 use Rattle.indexmap.specs.IndexSet.{contains, spare}
-use Rattle.pairing.specs.Recordings.{Lists, calls_of}
-use Rattle.pairing.specs.Communicators.{makes, does_make}
+use Rattle.callnotes.specs.Recordings.{Lists, calls_of}
+use Rattle.callnotes.specs.Communicators.{makes, does_make}
 use Rattle.pairing.specs.declared.held.Holding.{Holding}
 use Rattle.pairing.specs.declared.held.Held.{Held}
 use Rattle.pairing.specs.contracts.held.HoldingPartialEq.TheImpl as holding_eq

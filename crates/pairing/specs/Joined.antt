@@ -4,10 +4,10 @@ use Rattle.std.specs.Prelude.{◌≡◌, ℕ, ◌+◌, ◌==◌, Bool, ◌&&◌,
 use Rattle.std.specs.Option.{option_map_or}
 use Rattle.mpicall.specs.declared.call.Call.{Call}
 use Rattle.pairing.specs.declared.held.Holding.{Holding}
-use Rattle.pairing.specs.Recordings.{Lists, calls_of}
-use Rattle.pairing.specs.Places.{places}
-use Rattle.pairing.specs.Waves.{joins, does_join}
-use Rattle.pairing.specs.Seats.{Seats, list_in, HasRoomIn}
+use Rattle.callnotes.specs.Recordings.{Lists, calls_of}
+use Rattle.callnotes.specs.Places.{places}
+use Rattle.callnotes.specs.Waves.{joins, does_join}
+use Rattle.callnotes.specs.Seats.{Seats, list_in, HasRoomIn}
 
 -- The lists: first those of the world, one for each of its ranks, and behind them one for each of the keys.
 pub record Joinings : Type 0 where

@@ -3,13 +3,13 @@
 use Rattle.std.specs.Prelude.{◌≡◌, ℕ, Some, option_map, List, map, length, take, slice_get}
 use Rattle.mpicall.specs.declared.call.Call.{Call}
 use Rattle.mpigroup.specs.Groups.{Groups}
-use Rattle.pairing.specs.declared.envelope.Half.{Half}
-use Rattle.pairing.specs.Beside.{wave_in}
-use Rattle.pairing.specs.Notes.{Noted, notes_of, calls_in, recording_of, kept_at}
+use Rattle.callnotes.specs.declared.envelope.Half.{Half}
+use Rattle.callnotes.specs.Beside.{wave_in}
+use Rattle.callnotes.specs.Notes.{Noted, notes_of, calls_in, recording_of, kept_at}
 use Rattle.pairing.specs.Partners.{partner_of}
-use Rattle.pairing.specs.Places.{places}
-use Rattle.pairing.specs.Requests.{waits_for, started_in}
-use Rattle.pairing.specs.Waves.{joins, does_join}
+use Rattle.callnotes.specs.Places.{places}
+use Rattle.callnotes.specs.Requests.{waits_for, started_in}
+use Rattle.callnotes.specs.Waves.{joins, does_join}
 
 -- What stands beside a call of the rank, made after those before: how many collectives of the same communicator
 -- the rank had called; and the places that started the requests which the call waits for.

@@ -6,15 +6,15 @@ use Rattle.arenalist.specs.Arena.{counted}
 use Rattle.arenalist.specs.Numbers.{list_at}
 use Rattle.mpicall.specs.declared.call.Call.{Call}
 use Rattle.mpigroup.specs.Groups.{Groups}
-use Rattle.pairing.specs.declared.envelope.Envelope.{Envelope}
-use Rattle.pairing.specs.declared.envelope.Half.{Half}
-use Rattle.pairing.specs.declared.envelope.Half.TheVariants.{Send as SendHalf, Recv as RecvHalf}
+use Rattle.callnotes.specs.declared.envelope.Envelope.{Envelope}
+use Rattle.callnotes.specs.declared.envelope.Half.{Half}
+use Rattle.callnotes.specs.declared.envelope.Half.TheVariants.{Send as SendHalf, Recv as RecvHalf}
 use Rattle.pairing.specs.declared.matches.Halves.{Halves}
 use Rattle.pairing.specs.declared.numbering.Numbered.{Numbered}
-use Rattle.pairing.specs.Recordings.{Lists}
-use Rattle.pairing.specs.Envelopes.{envelope_of, other_half, same_envelope, rank_of_half}
+use Rattle.callnotes.specs.Recordings.{Lists}
+use Rattle.callnotes.specs.Envelopes.{envelope_of, other_half, same_envelope, rank_of_half}
 use Rattle.pairing.specs.Partners.{places_of, envelope_at}
-use Rattle.pairing.specs.Notes.{Noted, recording_of, kept_at}
+use Rattle.callnotes.specs.Notes.{Noted, recording_of, kept_at}
 use Rattle.pairing.specs.Kept.{AreNoted}
 use Rattle.pairing.specs.Work.{work_of}
 

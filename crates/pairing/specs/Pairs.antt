@@ -1,20 +1,17 @@
 -- What `Pairs` keeps and what it tells of a call that it adds.
 use Rattle.std.specs.Prelude.{◌≡◌, ℕ, Option, Some, None, option_map, option_and_then, slice_get}
-use Rattle.mpicall.specs.declared.call.Mode.{Mode}
 use Rattle.mpicall.specs.declared.call.Call.{Call}
-use Rattle.mpicall.specs.declared.call.Call.TheVariants.{Send, Isend, Sendrecv, Coll}
-use Rattle.mpicall.specs.declared.call.Kind.{Kind}
 use Rattle.mpigroup.specs.Groups.{Groups}
-use Rattle.pairing.specs.declared.envelope.Half.TheVariants.{Send as SendHalf, Recv as RecvHalf}
+use Rattle.callnotes.specs.declared.envelope.Half.TheVariants.{Send as SendHalf, Recv as RecvHalf}
 use Rattle.pairing.specs.declared.added.Added.{Added}
 use Rattle.pairing.specs.declared.added.Joined.{Joined}
 use Rattle.pairing.specs.declared.added.PairFault.{PairFault}
 use Rattle.pairing.specs.declared.added.PairFault.TheVariants.{Refused, Memory}
 use Rattle.pairing.specs.declared.fault.CallFault.{CallFault}
-use Rattle.pairing.specs.Recordings.{Lists, calls_of, appended}
+use Rattle.callnotes.specs.Recordings.{Lists, calls_of, appended}
 use Rattle.pairing.specs.Partners.{partner_of}
-use Rattle.pairing.specs.Requests.{completes, started_before}
-use Rattle.pairing.specs.Waves.{wave_of, is_full}
+use Rattle.callnotes.specs.Requests.{completes, started_before}
+use Rattle.callnotes.specs.Waves.{wave_of, is_full}
 
 -- the groups of a run's communicators, and the calls of each rank that were added
 pub record Paired : Type 0 where
@@ -24,24 +21,6 @@ pub record Paired : Type 0 where
 -- the same with one more call of a rank
 abbrev pub with_call : Paired → ℕ → Call → Paired
 with_call pairs rank call = record { groups = pairs.groups; recording = appended pairs.recording rank call }
-
--- the mode of a call that sends, blocking or not
-abbrev pub mode_of : Call → Option Mode
-mode_of (Send mode comm dest tag bytes) = Some mode
-mode_of (Isend req mode comm dest tag bytes) = Some mode
-mode_of _ = None
-
--- how many bytes a call that sends tells of its message
-abbrev pub bytes_told : Call → Option ℕ
-bytes_told (Send mode comm dest tag bytes) = bytes
-bytes_told (Isend req mode comm dest tag bytes) = bytes
-bytes_told (Sendrecv comm dest send_tag source recv_tag bytes) = bytes
-bytes_told _ = None
-
--- the kind of a collective that isn't started alone
-abbrev pub kind_of : Call → Option Kind
-kind_of (Coll comm kind) = Some kind
-kind_of _ = None
 
 -- the wave that a call joins, and whether each member has its call of it
 abbrev pub joined_at : Paired → ℕ → ℕ → Option Joined

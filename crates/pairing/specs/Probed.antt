@@ -2,29 +2,16 @@
 -- and communicator would take at that point, and takes nothing itself. So a probe sees the send that the next
 -- receive of its envelope gets. It is no receive: a message has halves of sends and receives alone.
 use Rattle.std.specs.Prelude.{◌≡◌, ℕ, Bool, true, false, Option, Some, None, option_map, option_and_then, slice_get}
-use Rattle.mpicall.specs.Does.{does_of}
-use Rattle.mpicall.specs.declared.does.Does.{Does}
-use Rattle.mpicall.specs.declared.does.Does.TheVariants.{Exchanges}
 use Rattle.mpicall.specs.declared.call.Call.{Call}
 use Rattle.mpigroup.specs.Groups.{Groups, group_rank_of}
-use Rattle.pairing.specs.declared.envelope.Envelope.{Envelope}
-use Rattle.pairing.specs.declared.envelope.Half.TheVariants.{Send as SendHalf, Recv as RecvHalf}
-use Rattle.pairing.specs.declared.envelope.Message.{Message}
-use Rattle.pairing.specs.Recordings.{Lists, calls_of, GoesOn}
-use Rattle.pairing.specs.Envelopes.{message, envelope_by, rank_of_half}
+use Rattle.callnotes.specs.declared.envelope.Envelope.{Envelope}
+use Rattle.callnotes.specs.declared.envelope.Half.TheVariants.{Send as SendHalf, Recv as RecvHalf}
+use Rattle.callnotes.specs.Recordings.{Lists, calls_of, GoesOn}
+use Rattle.callnotes.specs.Envelopes.{probed_message, envelope_by, rank_of_half}
 use Rattle.pairing.specs.Partners.{number_of, numbered, places_of, partner_of}
 use Rattle.pairing.specs.Matched.{pending_of}
 
--- the message that a call probes for; none where it is no probe, and where its source is MPI_PROC_NULL, which
--- returns at once
-abbrev pub probed_message : Call → Option Message
-probed_message call = probed_by_what (does_of call)
-  where
-    probed_by_what : Does → Option Message
-    probed_by_what (Exchanges comm sent received probed) = option_and_then (message comm) probed
-    probed_by_what _ = None
-
--- the envelope of that message, by the rank that probes
+-- the envelope of the message that a call probes for, by the rank that probes
 abbrev pub probed_envelope : Groups → ℕ → Call → Option Envelope
 probed_envelope groups rank call =
     option_and_then (λ m. option_map (envelope_by RecvHalf m) (group_rank_of groups m.comm rank)) (probed_message call)

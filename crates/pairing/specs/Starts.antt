@@ -3,8 +3,8 @@ use Rattle.std.specs.Option.{option_or}
 use Rattle.std.specs.Prelude.{◌≡◌, ◌<◌, ◌+◌, ◌*◌, ◌%◌, ◌==◌, if◌then◌else◌, ℕ, Bool, Option, None, Some, IsSome, is_some, List, [], ◌∷◌, slice_index_or}
 use Rattle.mpicall.specs.declared.call.Call.{Call}
 use Rattle.indexmap.specs.IndexMap.{get, spare}
-use Rattle.pairing.specs.Recordings.{Lists, calls_of}
-use Rattle.pairing.specs.Requests.{starts, started_in}
+use Rattle.callnotes.specs.Recordings.{Lists, calls_of}
+use Rattle.callnotes.specs.Requests.{starts, started_in}
 use Rattle.pairing.specs.declared.active.TheConstants.{REQUEST_CELLS}
 use Rattle.pairing.specs.declared.active.Request.{Request}
 use Rattle.pairing.specs.declared.active.Start.{Start}

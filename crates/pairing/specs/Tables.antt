@@ -4,14 +4,14 @@ use Rattle.mpicall.specs.declared.call.Call.{Call}
 use Rattle.mpigroup.specs.Groups.{Groups, ranks_of}
 use Rattle.pairing.specs.declared.tables.Tables.{Tables}
 use Rattle.pairing.specs.declared.tables.Room.{Room}
-use Rattle.pairing.specs.Notes.{Noted, notes_of, with_note, calls_in, recording_of}
+use Rattle.callnotes.specs.Notes.{Noted, notes_of, with_note, calls_in, recording_of}
 use Rattle.pairing.specs.Kept.{IsNoted, AreNoted, ArePartnered}
-use Rattle.pairing.specs.Beside.{partner_in, wave_in}
-use Rattle.pairing.specs.declared.beside.Beside.{Beside}
-use Rattle.pairing.specs.declared.envelope.Half.{Half}
-use Rattle.pairing.specs.Recordings.{Lists}
-use Rattle.pairing.specs.Places.{places}
-use Rattle.pairing.specs.Waves.{joins, does_join}
+use Rattle.callnotes.specs.Beside.{partner_in, wave_in}
+use Rattle.callnotes.specs.declared.beside.Beside.{Beside}
+use Rattle.callnotes.specs.declared.envelope.Half.{Half}
+use Rattle.callnotes.specs.Recordings.{Lists}
+use Rattle.callnotes.specs.Places.{places}
+use Rattle.callnotes.specs.Waves.{joins, does_join}
 use Rattle.pairing.specs.Faults.{IsLawful}
 use Rattle.pairing.specs.Matched.{IsMatched, HasRoomFor}
 use Rattle.pairing.specs.Joined.{IsJoined, HasRoomToJoin}

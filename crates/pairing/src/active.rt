@@ -6,12 +6,12 @@ ghost use Rattle.std.specs.Hash as fed;
 ghost use Rattle.std.specs.Cmp.Rules.{hashing};
 ghost use Rattle.std.proofs.Common.{rules};
 ghost use Rattle.indexmap.specs.IndexMap.{spare};
-ghost use Rattle.pairing.specs.Recordings.{Lists, calls_of, appended};
-ghost use Rattle.pairing.specs.Requests.{started_in, is_among, is_active, does_start, HasActive};
+ghost use Rattle.callnotes.specs.Recordings.{Lists, calls_of, appended};
+ghost use Rattle.callnotes.specs.Requests.{started_in, is_among, is_active, does_start, HasActive};
 ghost use Rattle.pairing.specs.Starts.{cell_no, cell_in, place_at, place_in, has_place, known_front, IsActive, HasRoomToStart};
 
-use crate::next_call::NextCall;
-use crate::request::{completes, starts};
+use callnotes::next_call::NextCall;
+use callnotes::request::{completes, starts};
 use indexmap::IndexMap;
 use std::alloc::{AllocError, Global};
 use std::hash::{Hash, Hasher};

@@ -5,8 +5,8 @@ ghost use Rattle.std.specs.Option.{option_map_or};
 ghost use Rattle.pairing.specs.Codes.{code_of_call};
 ghost use Rattle.pairing.specs.Faults.{is_group_rank, is_peer, is_member, comm_exists, peers_exist, are_distinct, AnEndedLawfulListIsClosed, EachWaitHasItsStarts, NoTwoStartsAreActive};
 
-use crate::next_call::NextCall;
-use crate::request::is_among;
+use callnotes::next_call::NextCall;
+use callnotes::request::is_among;
 use mpicall::call::Peer;
 use mpicall::does::{Does, Side};
 use mpigroup::head::Head;

@@ -2,8 +2,8 @@
 
 ghost use Rattle.std.specs.Prelude.{◌≡◌, ◌<◌, length, IfNone};
 ghost use Rattle.std.specs.List.{list_all};
-ghost use Rattle.pairing.specs.Limits.{most_calls};
-ghost use Rattle.pairing.specs.Recordings.{Lists, calls_of, has_end};
+ghost use Rattle.callnotes.specs.Limits.{most_calls};
+ghost use Rattle.callnotes.specs.Recordings.{Lists, calls_of, has_end};
 ghost use Rattle.pairing.specs.Faults.{holds_comm, starts_afresh, waits_for_active, is_fresh_comm, makes_afresh, fault_of};
 ghost use Rattle.pairing.specs.Holdings.{IsHolding};
 ghost use Rattle.pairing.specs.Starts.{has_place, IsActive};
@@ -11,9 +11,9 @@ ghost use Rattle.pairing.specs.Starts.{has_place, IsActive};
 use crate::active::Active;
 use crate::fault::{CallFault, are_distinct, comm_exists, is_member, peers_exist};
 use crate::held::Held;
-use crate::limits::MOST_CALLS;
-use crate::next_call::NextCall;
-use crate::request::{starts, waits_for};
+use callnotes::limits::MOST_CALLS;
+use callnotes::next_call::NextCall;
+use callnotes::request::{starts, waits_for};
 use mpicall::call::Call;
 use mpigroup::head::Head;
 

@@ -4,11 +4,11 @@ ghost use Rattle.std.specs.Prelude.{◌≡◌, ◌+◌, ◌*◌, ◌^◌, ◌<�
 ghost use Rattle.std.specs.Hash as fed;
 ghost use Rattle.std.specs.Cmp.Rules.{hashing};
 ghost use Rattle.std.proofs.Common.{rules};
-ghost use Rattle.pairing.specs.Recordings.{Lists, calls_of, appended};
-ghost use Rattle.pairing.specs.Communicators.{holds, makes, NoneIsMade, HasMade};
+ghost use Rattle.callnotes.specs.Recordings.{Lists, calls_of, appended};
+ghost use Rattle.callnotes.specs.Communicators.{holds, makes, NoneIsMade, HasMade};
 ghost use Rattle.pairing.specs.Holdings.{has_holding, IsHolding, HasRoomToHold};
 
-use crate::next_call::NextCall;
+use callnotes::next_call::NextCall;
 use indexmap::IndexSet;
 use std::alloc::{AllocError, Global};
 use std::hash::{Hash, Hasher};

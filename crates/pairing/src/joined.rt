@@ -4,16 +4,16 @@ ghost use Rattle.std.specs.Prelude.{◌≡◌, ◌<◌, ◌≤◌, ℕ, Option, 
 ghost use Rattle.mpicall.specs.declared.call.Call.{Call};
 ghost use Rattle.mpigroup.specs.Groups.{Groups};
 ghost use Rattle.pairing.specs.Joined.{list_number, list_of, IsJoined, IsListFor, HasRoomToJoin};
-ghost use Rattle.pairing.specs.Limits.{most_calls};
-ghost use Rattle.pairing.specs.Places.{places};
-ghost use Rattle.pairing.specs.Recordings.{Lists, calls_of, appended};
-ghost use Rattle.pairing.specs.Seats.{HasRoomIn};
-ghost use Rattle.pairing.specs.Waves.{does_join, place_in_wave, member_of, is_full};
+ghost use Rattle.callnotes.specs.Limits.{most_calls};
+ghost use Rattle.callnotes.specs.Places.{places};
+ghost use Rattle.callnotes.specs.Recordings.{Lists, calls_of, appended};
+ghost use Rattle.callnotes.specs.Seats.{HasRoomIn};
+ghost use Rattle.callnotes.specs.Waves.{does_join, place_in_wave, member_of, is_full};
 
 use crate::held::Holding;
-use crate::limits::MOST_CALLS;
-use crate::next_call::NextCall;
-use crate::place_lists::PlaceLists;
+use callnotes::limits::MOST_CALLS;
+use callnotes::next_call::NextCall;
+use callnotes::place_lists::PlaceLists;
 use indexmap::IndexSet;
 use mpigroup::head::Head;
 use std::alloc::{AllocError, Global};

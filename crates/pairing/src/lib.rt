@@ -1,7 +1,7 @@
 //! What the calls of a run mean for one another: which send goes with which receive, which call started a
 //! request, which collectives belong together, and which calls a rank may not make.
 //!
-//! What it promises, as contracts that are proved, by definitions of `specs/`:
+//! What it promises, as contracts that are proved, by definitions of `specs/` and of `callnotes`:
 //!
 //! - `pairs::Pairs` has the calls of all ranks, added one by one. `add` refuses a call exactly where it has a
 //!   fault after its rank's calls before it (`Faults`), with the first one, or where memory is wanted, and
@@ -14,22 +14,21 @@
 //!   the next receive of its envelope takes. `has_unreceived`, `may_have_active` and `has_made` tell by the tables
 //!   alone where no message waits for its receive, no request is active and no communicator was made.
 //! - Laws, each on a function that does nothing: partners are mutual, no two sends have one receive, and
-//!   messages of one envelope do not overtake; a wave has at most one call of each rank; in a list without
-//!   faults each request that a wait names has its start, and no request is started while it is active;
-//!   partners, waves and what probes see stay as a recording goes on.
+//!   messages of one envelope do not overtake; in a list without faults each request that a wait names has its
+//!   start, and no request is started while it is active; partners and what probes see stay as a recording goes on.
 //!
-//! The definitions stand in `specs/`, to be read in the order of docs/DEFINITIONS.md. Nobody has to believe `Beside`,
-//! `Holdings`, `Joined`, `Kept`, `Matched`, `Notes`, `Packed`, `Probing`, `Seated`, `Seats`, `Slots`, `Starts` and
-//! `Tables`: they say how `Pairs` keeps its calls and its tables, and no public contract cites them.
+//! What a call means by itself, and how it is kept, is the matter of `callnotes`. The definitions stand in `specs/`,
+//! to be read in the order of docs/DEFINITIONS.md. Nobody has to believe `Holdings`, `Joined`, `Kept`, `Matched`,
+//! `Probing`, `Seated`, `Starts` and `Tables`: they say how `Pairs` keeps its tables, and no public contract cites
+//! them.
 //!
 //! No look-up takes memory or goes through a list of calls: that is seen in the code alone.
 //!
-//! A call takes 32 bytes with the partners of its halves or the number of its wave, and each request that a
-//! wait for several names 4 more; each collective has 4 in the table of waves. There each rank has a list for the
-//! world, and one for each other communicator on which it has called a collective, so that the table follows the
-//! run and not its head. A probe has an entry in a table of its own, which leads to its seat: there the place of
-//! the next receive is kept. Only the halves that have no partner yet stand in an arena of lists, and `work` tells
-//! what was done there: 1 for each half.
+//! Each collective has 4 bytes in the table of waves. There each rank has a list for the world, and one for each
+//! other communicator on which it has called a collective, so that the table follows the run and not its head. A
+//! probe has an entry in a table of its own, which leads to its seat: there the place of the next receive is kept.
+//! Only the halves that have no partner yet stand in an arena of lists, and `work` tells what was done there: 1 for
+//! each half.
 //!
 //! ```text
 //! let mut pairs = Pairs::new(alloc, head)?;
@@ -43,32 +42,16 @@
 
 mod active;
 pub mod added;
-mod beside;
-pub mod comm;
-pub mod envelope;
 pub mod fault;
 mod first_fault;
-mod growth;
 mod held;
 mod joined;
-pub mod limits;
 mod matches;
 mod meeting;
-mod next_call;
-mod note;
-mod notes;
 mod numbering;
-mod packed;
-mod packing;
 pub mod pairs;
 pub mod partner;
-mod place_lists;
 pub mod probed;
 mod probes;
 mod probing;
-mod rank_notes;
-pub mod request;
-mod slots;
-pub mod stored;
 mod tables;
-pub mod wave;

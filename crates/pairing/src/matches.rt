@@ -3,14 +3,14 @@
 
 ghost use Rattle.std.specs.Prelude.{◌≡◌, ◌+◌, ◌*◌, ◌<◌, ◌≤◌, ◌^◌, [], Some, length, slice_get, min, option_map, true, false, IfOk, IfSome, OnOk};
 ghost use Rattle.arenalist.specs.Arena.{counted};
-ghost use Rattle.pairing.specs.Envelopes.{other_half};
-ghost use Rattle.pairing.specs.declared.envelope.Envelope.{Envelope};
+ghost use Rattle.callnotes.specs.Envelopes.{other_half};
+ghost use Rattle.callnotes.specs.declared.envelope.Envelope.{Envelope};
 ghost use Rattle.pairing.specs.Matched.{list_no, number_in, pending_at, pending_by, met, HasNumber, HasPending, HasRoomFor, IsGrown};
 
-use crate::envelope::{Envelope, Half};
-use crate::next_call::NextCall;
 use crate::numbering::{Numbered, Numbering};
 use arenalist::lists::Lists;
+use callnotes::envelope::{Envelope, Half};
+use callnotes::next_call::NextCall;
 use mpigroup::head::Head;
 use std::alloc::{AllocError, Global};
 use std::marker::Model;

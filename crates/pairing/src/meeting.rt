@@ -2,15 +2,15 @@
 
 ghost use Rattle.std.specs.Prelude.{◌≡◌, ◌+◌, ◌≤◌, ◌<◌, Some, option_map, IfSome, is_some};
 ghost use Rattle.arenalist.specs.Arena.{counted};
-ghost use Rattle.pairing.specs.Envelopes.{other_half, rank_of_half};
-ghost use Rattle.pairing.specs.Notes.{recording_of, partnered};
+ghost use Rattle.callnotes.specs.Envelopes.{other_half, rank_of_half};
+ghost use Rattle.callnotes.specs.Notes.{recording_of, partnered};
 ghost use Rattle.pairing.specs.Matched.{Filing, filed_on, filed_halves, worked_if, worked, HasNumber, ArePaired, IsNext};
-ghost use Rattle.pairing.specs.declared.envelope.Half.TheVariants.{Send as SendHalf, Recv as RecvHalf};
+ghost use Rattle.callnotes.specs.declared.envelope.Half.TheVariants.{Send as SendHalf, Recv as RecvHalf};
 
-use crate::envelope::{Half, rank_of_half};
 use crate::matches::{Halves, Matches};
-use crate::notes::Notes;
 use crate::numbering::Numbered;
+use callnotes::envelope::{Half, rank_of_half};
+use callnotes::notes::Notes;
 use mpigroup::head::Head;
 
 /// Notes beside a half of the rank's call, and beside the half that it met, where the other stands.

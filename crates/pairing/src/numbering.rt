@@ -3,10 +3,10 @@
 ghost use Rattle.std.specs.Prelude.{◌≡◌, ◌<◌, [], length, Some, IfOk, IfSome, OnErr, OnOk};
 ghost use Rattle.std.specs.List.{IsDistinct};
 ghost use Rattle.indexmap.specs.IndexSet.{insert_key};
-ghost use Rattle.pairing.specs.Envelopes.{same_envelope};
+ghost use Rattle.callnotes.specs.Envelopes.{same_envelope};
 ghost use Rattle.pairing.specs.Matched.{number_in};
 
-use crate::envelope::Envelope;
+use callnotes::envelope::Envelope;
 use indexmap::IndexSet;
 use std::alloc::{AllocError, Global};
 use std::marker::Model;
@@ -40,7 +40,7 @@ impl Drop for Numbering {
 impl Model for Numbering {
     ghost use Rattle.std.specs.Prelude.{List};
     ghost use Rattle.pairing.specs.Matched.{AreKnown};
-    ghost use Rattle.pairing.specs.declared.envelope.Envelope.{Envelope as EnvelopeValue};
+    ghost use Rattle.callnotes.specs.declared.envelope.Envelope.{Envelope as EnvelopeValue};
 
     ghost Value = { List EnvelopeValue };
 

@@ -2,35 +2,35 @@
 
 ghost use Rattle.std.specs.Prelude.{◌≡◌, ◌<◌, ◌≤◌, ℕ, [], length, replicate, slice_get, option_map, None, Err, IfOk, IfErr, IfNone, IfSome, OnOk, OnErr, false, true};
 ghost use Rattle.mpigroup.specs.Groups.{ranks_of};
-ghost use Rattle.pairing.specs.Limits.{most_calls};
-ghost use Rattle.pairing.specs.Recordings.{Lists, calls_of, appended, is_ended, has_end};
+ghost use Rattle.callnotes.specs.Limits.{most_calls};
+ghost use Rattle.callnotes.specs.Recordings.{Lists, calls_of, appended, is_ended, has_end};
 ghost use Rattle.pairing.specs.Partners.{partner_of, EachIsReceived, HasUnreceived};
 ghost use Rattle.pairing.specs.Probed.{probed_of, seen_from, HasProbe, NoneIsProbed};
 ghost use Rattle.pairing.specs.Seated.{IsProbing};
-ghost use Rattle.pairing.specs.Communicators.{NoneIsMade, HasMade};
-ghost use Rattle.pairing.specs.Requests.{started_in, started_of, HasActive};
+ghost use Rattle.callnotes.specs.Communicators.{NoneIsMade, HasMade};
+ghost use Rattle.callnotes.specs.Requests.{started_in, started_of, HasActive};
 ghost use Rattle.pairing.specs.Joined.{IsListFor};
-ghost use Rattle.pairing.specs.Waves.{wave_of, member_of};
+ghost use Rattle.callnotes.specs.Waves.{wave_of, member_of};
 ghost use Rattle.pairing.specs.Faults.{fault_of, waits_for_active, IsLawful};
 ghost use Rattle.pairing.specs.Pairs.{with_call, joined_at, added_at, TellsFault, completed_of};
 ghost use Rattle.pairing.specs.Kept.{AreNoted, ArePartnered};
 ghost use Rattle.pairing.specs.Work.{work_of};
-ghost use Rattle.pairing.specs.Notes.{notes_of, recording_of, HasRoom};
+ghost use Rattle.callnotes.specs.Notes.{notes_of, recording_of, HasRoom};
 ghost use Rattle.pairing.specs.Tables.{AreTables, HaveRoom, GoOnBy, IsKept};
 ghost use Rattle.pairing.specs.declared.added.PairFault.TheVariants.{Refused};
 
 use crate::added::{Added, Joined, PairFault};
-use crate::envelope::{Envelope, Half, rank_of_half};
 use crate::fault::CallFault;
 use crate::first_fault::first_fault;
 use crate::meeting::meet_halves;
-use crate::next_call::NextCall;
-use crate::notes::Notes;
 use crate::probes::received_by;
 use crate::probing::Probing;
-use crate::request::waits_for;
-use crate::stored::StoredCall;
 use crate::tables::{Room, Tables};
+use callnotes::envelope::{Envelope, Half, rank_of_half};
+use callnotes::next_call::NextCall;
+use callnotes::notes::Notes;
+use callnotes::request::waits_for;
+use callnotes::stored::StoredCall;
 use mpicall::limits::MOST_REQUESTS;
 use mpicall::record::Record;
 use mpigroup::head::Head;
@@ -60,7 +60,7 @@ impl Drop for Pairs {
 
 impl Model for Pairs {
     ghost use Rattle.pairing.specs.Seated.{IsProbing};
-    ghost use Rattle.pairing.specs.Notes.{recording_of};
+    ghost use Rattle.callnotes.specs.Notes.{recording_of};
     ghost use Rattle.pairing.specs.Pairs.{Paired};
     ghost use Rattle.pairing.specs.Tables.{IsKept};
 

@@ -7,36 +7,18 @@
 
 ghost use Rattle.std.specs.Prelude.{◌≡◌, ◌<◌, ◌^◌, ℕ, [], length, replicate, Option, None, Some, OnOk, IfSome, slice_get, slice_set, option_map, option_and_then, is_some};
 ghost use Rattle.mpigroup.specs.Groups.{Groups, group_rank_of};
-ghost use Rattle.mpicall.specs.Does.{does_of};
-ghost use Rattle.mpicall.specs.declared.call.Call.{Call as CallValue};
-ghost use Rattle.pairing.specs.declared.envelope.Half.TheVariants.{Recv as RecvHalf};
-ghost use Rattle.pairing.specs.Envelopes.{envelope_by};
-ghost use Rattle.pairing.specs.Recordings.{Lists};
-ghost use Rattle.pairing.specs.Probed.{probed_message, probed_envelope, HasProbesIf};
+ghost use Rattle.callnotes.specs.declared.envelope.Half.TheVariants.{Recv as RecvHalf};
+ghost use Rattle.callnotes.specs.Envelopes.{envelope_by};
+ghost use Rattle.callnotes.specs.Recordings.{Lists};
+ghost use Rattle.pairing.specs.Probed.{probed_envelope, HasProbesIf};
 ghost use Rattle.pairing.specs.Probing.{seat_for, Seating, AreSeated, HasRoomToSit, Sits, Follows};
 
-use crate::envelope::{Envelope, Half, Message, envelope_by, message_with};
-use crate::next_call::NextCall;
 use crate::numbering::Numbered;
+use callnotes::envelope::{Envelope, Half, Message, envelope_by};
+use callnotes::next_call::NextCall;
 use indexmap::IndexMap;
-use mpicall::does::Does;
 use mpigroup::head::Head;
 use std::alloc::{AllocError, Global};
-
-/// The message that a call which does this probes for.
-#[inline(always)]
-pub(crate) fn probed_by(does: &Does) -> Option<Message>
-    ensures { (call : CallValue) → does_of call ≡ does.now → result ≡ probed_message call }
-{
-    match *does {
-        Does::Exchanges {
-            comm,
-            probed: Some(side),
-            ..
-        } => message_with(comm, side),
-        _ => None,
-    }
-}
 
 /// The envelope of a message that the rank receives, by what its call says of it. None where the rank is not
 /// in the communicator's group.

@@ -3,20 +3,20 @@
 ghost use Rattle.std.specs.Prelude.{◌≡◌, ◌<◌, ◌≤◌, ℕ, [], length, replicate, IfOk, IfSome};
 ghost use Rattle.mpicall.specs.declared.call.Call.{Call};
 ghost use Rattle.mpigroup.specs.Groups.{Groups};
-ghost use Rattle.pairing.specs.Limits.{most_calls};
-ghost use Rattle.pairing.specs.Recordings.{Lists, calls_of, appended};
-ghost use Rattle.pairing.specs.Seats.{HasRoomIn};
+ghost use Rattle.callnotes.specs.Limits.{most_calls};
+ghost use Rattle.callnotes.specs.Recordings.{Lists, calls_of, appended};
+ghost use Rattle.callnotes.specs.Seats.{HasRoomIn};
 ghost use Rattle.pairing.specs.Holdings.{HasRoomToHold};
 ghost use Rattle.pairing.specs.Joined.{IsListFor};
 ghost use Rattle.pairing.specs.Starts.{HasRoomToStart};
 ghost use Rattle.pairing.specs.Tables.{AreOthers, AreTables, HaveRoom, IsBeside};
 
 use crate::active::Active;
-use crate::beside::Beside;
 use crate::held::Held;
 use crate::joined::Waves;
 use crate::matches::{Halves, Matches};
-use crate::next_call::NextCall;
+use callnotes::beside::Beside;
+use callnotes::next_call::NextCall;
 use mpigroup::head::Head;
 use std::alloc::{AllocError, Global};
 

@@ -6,7 +6,7 @@ use Rattle.std.proofs.lemmas.Bool.Decides.{nat_tests}
 use Rattle.std.proofs.lemmas.List.{map-append, take_more}
 use Rattle.mpicall.specs.Spelling.{line_feed}
 use Rattle.mpigroup.specs.Groups.{Groups}
-use Rattle.pairing.specs.Recordings.{Lists}
+use Rattle.callnotes.specs.Recordings.{Lists}
 use Rattle.serde_json.specs.Data.{Data, string, array, Members, member, no_members}
 use Rattle.serde_json.specs.View.{items_of}
 use Rattle.serde_json.specs.Written.{comma_if, compact_text, items_text, members_text}

@@ -7,7 +7,7 @@ use Rattle.serde_json.specs.View.{items_of}
 use Rattle.serde_json.specs.Written.{compact_text}
 use Rattle.mpicall.specs.Spelling.{space, line_feed}
 use Rattle.mpigroup.specs.Groups.{Groups}
-use Rattle.pairing.specs.Recordings.{Lists}
+use Rattle.callnotes.specs.Recordings.{Lists}
 use Rattle.moves.specs.Stands.{stands_of}
 use Rattle.waitgraph.specs.Verdicts.{verdict_of}
 use Rattle.moves.specs.declared.need.Need.{Need}

@@ -3,7 +3,7 @@ use Rattle.std.specs.Prelude.{◌≡◌, ℕ, Option, List}
 use Rattle.mpicall.specs.Device.{one_more, AppendsBeginning}
 use Rattle.moves.specs.declared.reading.Reading.{Reading}
 use Rattle.mpigroup.specs.Groups.{Groups}
-use Rattle.pairing.specs.Recordings.{Lists}
+use Rattle.callnotes.specs.Recordings.{Lists}
 use Rattle.reports.specs.JsonReport.{json_report}
 use Rattle.reports.specs.TextReport.{text_report}
 use Rattle.reports.specs.declared.report.Format.{Format}

@@ -16,7 +16,7 @@ use Rattle.mpicall.specs.declared.source.Source.{Source}
 use Rattle.mpigroup.specs.Groups.{Groups, ranks_of}
 use Rattle.pairing.specs.Faults.{fault_of}
 use Rattle.pairing.specs.declared.fault.CallFault.{CallFault}
-use Rattle.pairing.specs.Recordings.{Lists, calls_of, is_ended, IsClosed}
+use Rattle.callnotes.specs.Recordings.{Lists, calls_of, is_ended, IsClosed}
 use Rattle.rankfeed.specs.Items.{calls_among, end_mark_of, end_the_list, item_ends_list, last_behind}
 use Rattle.rankfeed.specs.Rings.{FeedName, feed_ring, receipt_ring, sent_by, sent_whole}
 use Rattle.mpicall.specs.declared.fault.Ending.{Ending}

@@ -10,7 +10,7 @@ use Rattle.mpicall.specs.Trace.{Trace}
 use Rattle.mpicall.specs.declared.call.Call.{Call}
 use Rattle.mpicall.specs.declared.fault.SourceFault.{SourceFault}
 use Rattle.mpicall.specs.declared.source.Source.{Source}
-use Rattle.pairing.specs.Recordings.{is_ended}
+use Rattle.callnotes.specs.Recordings.{is_ended}
 use Rattle.mpigroup.proofs.ListLemmas.{slice_get-set_same, slice_get-set_other}
 use Rattle.rankfeed.specs.Items.{calls_among, end_mark_of, end_the_list, item_ends_list, last_behind, mark_in}
 use Rattle.mpicall.specs.declared.fault.Ending.{Ending}

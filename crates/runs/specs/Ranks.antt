@@ -6,7 +6,7 @@ use Rattle.mpicall.specs.Trace.{Trace}
 use Rattle.mpicall.specs.Device.{one_more, AppendsBeginning}
 use Rattle.mpicall.specs.declared.call.Call.{Call}
 use Rattle.mpigroup.specs.Groups.{Groups, ranks_of}
-use Rattle.pairing.specs.Recordings.{Lists, calls_of, IsClosed}
+use Rattle.callnotes.specs.Recordings.{Lists, calls_of, IsClosed}
 use Rattle.gather.specs.Answers.{fault_of_rank}
 use Rattle.runs.specs.Told.{is_from_outside}
 use Rattle.gather.specs.declared.fault.Refusal.{Refusal}

@@ -3,7 +3,7 @@ use Rattle.std.specs.Prelude.{◌≡◌, ℕ, Bool, true, false, Option, Some, N
 use Rattle.mpicall.specs.Source.{coming, ended}
 use Rattle.mpicall.specs.Trace.{Trace}
 use Rattle.mpicall.specs.declared.source.Source.{Source}
-use Rattle.pairing.specs.Recordings.{is_ended}
+use Rattle.callnotes.specs.Recordings.{is_ended}
 use Rattle.rankfeed.specs.Items.{calls_among, end_the_list, end_mark_of}
 use Rattle.mpicall.specs.declared.fault.Ending.TheVariants.{Sealed}
 use Rattle.rankfeed.specs.declared.item.Item.{Item}

@@ -6,7 +6,7 @@ use Rattle.mpicall.specs.declared.source.Source.{Source}
 use Rattle.mpicall.specs.Trace.{Trace}
 use Rattle.mpicall.specs.Device.{one_more, AppendsBeginning}
 use Rattle.mpigroup.specs.Groups.{Groups}
-use Rattle.pairing.specs.Recordings.{Lists}
+use Rattle.callnotes.specs.Recordings.{Lists}
 use Rattle.waitgraph.specs.Verdicts.{verdict_of}
 use Rattle.waitgraph.specs.declared.verdict.Verdict.{Verdict}
 use Rattle.reports.specs.Reports.{report_of}

@@ -2,10 +2,10 @@
 
 use crate::kept::Kept;
 use crate::opened::head_again;
+use callnotes::envelope::Half;
 use mpicall::line::read_line;
 use mpicall::record::Record;
 use pairing::added::{Added, PairFault};
-use pairing::envelope::Half;
 use pairing::pairs::Pairs;
 use std::alloc::Global;
 use std::test::Fail;

@@ -12,12 +12,12 @@ use Rattle.mpicall.specs.declared.call.Call.TheVariants.{Coll}
 use Rattle.mpicall.specs.declared.call.Kind.{Kind}
 use Rattle.mpicall.specs.Spelling.{root_of, word_of_call}
 use Rattle.mpicall.specs.Word.{text_of}
-use Rattle.pairing.specs.Pairs.{kind_of}
+use Rattle.callnotes.specs.Kinds.{kind_of}
 use Rattle.waitgraph.specs.declared.finding.wave.Compared.{Compared}
 use Rattle.waitgraph.specs.declared.finding.wave.Compared.TheVariants.{Kinds, Roots}
 use Rattle.waitgraph.specs.Comparisons.{comparison_of}
 use Rattle.mpigroup.specs.Groups.{Groups, group_of}
-use Rattle.pairing.specs.Recordings.{Lists}
+use Rattle.callnotes.specs.Recordings.{Lists}
 use Rattle.waitgraph.specs.Findings.{Comparison, kind_found, root_found, roots_found, found_of_member, found_in_comm, found_in_waves, waves_in, kinds_of, roots_of, is_wrong_group}
 
 same_text : (text : List ℕ) → bytes_eq text text ≡ true

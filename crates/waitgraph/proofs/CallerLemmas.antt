@@ -7,9 +7,9 @@ use Rattle.std.proofs.lemmas.Option.{slice_get_past}
 use Rattle.mpicall.specs.declared.call.Call.{Call}
 use Rattle.mpigroup.specs.Groups.{Groups, world_rank_of}
 use Rattle.mpigroup.proofs.ListLemmas.{none_there}
-use Rattle.pairing.specs.Recordings.{Lists, calls_of}
-use Rattle.pairing.specs.Places.{places}
-use Rattle.pairing.specs.Waves.{does_join, place_in_wave, member_of}
+use Rattle.callnotes.specs.Recordings.{Lists, calls_of}
+use Rattle.callnotes.specs.Places.{places}
+use Rattle.callnotes.specs.Waves.{does_join, place_in_wave, member_of}
 use Rattle.waitgraph.specs.Places.{call_in_wave, call_of_member}
 use Rattle.waitgraph.specs.Findings.{Comparison, compared, found_of_member, found_in_wave}
 use Rattle.waitgraph.specs.declared.finding.Finding.{Finding}

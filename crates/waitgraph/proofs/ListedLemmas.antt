@@ -4,7 +4,7 @@ use Rattle.std.specs.Prelude.{if◌then◌else◌, nat_le, option_map, option_an
 use Rattle.std.specs.List.{slice_get, list_all, filter_map, cons_option, range_with_len}
 use Rattle.std.proofs.lemmas.Option.{none-some, same_Some}
 use Rattle.std.proofs.lemmas.Bool.{cases_lt}
-use Rattle.pairing.proofs.PlaceLemmas.{slice_get-front}
+use Rattle.callnotes.proofs.PlaceLemmas.{slice_get-front}
 use Rattle.waitgraph.specs.Causes.{CauseView, CycleOf, MissingOf, Walks, onward_in, next_in, lacks_in, way_home, cycle_by, cycle_at, missing_at, causes_in, ComesTo}
 use Rattle.waitgraph.proofs.AmongLemmas.{Among, in_among, among_both, among_given, among_range}
 use Rattle.waitgraph.proofs.WalkLaws.{IsWaiting, told_by_way, lacks_is_waiting, next_is_waiting}

@@ -8,15 +8,15 @@ use Rattle.std.proofs.lemmas.Option.{none-some, same_Some, slice_get_within}
 use Rattle.mpicall.specs.declared.call.Call.{Call}
 use Rattle.mpicall.specs.declared.call.Call.TheVariants.{Dup, Split}
 use Rattle.mpigroup.specs.Groups.{Groups}
-use Rattle.pairing.specs.declared.envelope.Half.TheVariants.{Send as SendHalf}
-use Rattle.pairing.specs.declared.envelope.Message.{Message}
-use Rattle.pairing.specs.Communicators.{makes, NoneIsMade}
+use Rattle.callnotes.specs.declared.envelope.Half.TheVariants.{Send as SendHalf}
+use Rattle.callnotes.specs.declared.envelope.Message.{Message}
+use Rattle.callnotes.specs.Communicators.{makes, NoneIsMade}
 use Rattle.pairing.specs.Faults.{IsLawful}
 use Rattle.pairing.specs.Partners.{partner_of, sent_at, EachIsReceived}
-use Rattle.pairing.specs.Recordings.{Lists, calls_of}
-use Rattle.pairing.specs.Requests.{starts, does_start, does_complete, started_in, started_before}
-use Rattle.pairing.specs.Waves.{wave_of}
-use Rattle.pairing.proofs.PartnerLemmas.{and_then_parts}
+use Rattle.callnotes.specs.Recordings.{Lists, calls_of}
+use Rattle.callnotes.specs.Requests.{starts, does_start, does_complete, started_in, started_before}
+use Rattle.callnotes.specs.Waves.{wave_of}
+use Rattle.callnotes.proofs.OptionLemmas.{and_then_parts}
 use Rattle.pairing.proofs.RequestLaws.{start_is_completed, completed_is_over}
 use Rattle.waitgraph.specs.declared.finding.Finding.{Finding}
 use Rattle.waitgraph.specs.Places.{call_at, over_places, over_ranks}

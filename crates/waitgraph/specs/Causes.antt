@@ -5,7 +5,7 @@ use Rattle.moves.specs.declared.reading.Reading.{Reading}
 use Rattle.std.specs.Prelude.{◌≡◌, ℕ, zero, suc, ◌+◌, ◌-◌, ◌<◌, ◌≤◌, ◌==◌, true, nat_le, if◌then◌else◌, Option, Some, None, option_map, option_and_then, List, [], ◌∷◌, ◌++◌, length, map, slice_get}
 use Rattle.std.specs.List.{list_all, filter_map, range_with_len}
 use Rattle.mpigroup.specs.Groups.{Groups}
-use Rattle.pairing.specs.Recordings.{Lists, IsClosed}
+use Rattle.callnotes.specs.Recordings.{Lists, IsClosed}
 use Rattle.moves.specs.Runs.{State}
 use Rattle.moves.specs.Stands.{stands_of}
 use Rattle.waitgraph.specs.Held.{opened_of, standings_at, is_held}

@@ -10,14 +10,14 @@ use Rattle.mpicall.specs.Spelling.{word_of_call, root_of}
 use Rattle.mpicall.specs.Word.{text_of}
 use Rattle.mpigroup.specs.Groups.{Groups, group_of, world_rank_of}
 use Rattle.mpigroup.specs.Splits.{Choices, colour_group}
-use Rattle.pairing.specs.declared.envelope.Half.TheVariants.{Send as SendHalf}
-use Rattle.pairing.specs.Recordings.{Lists, calls_of}
-use Rattle.pairing.specs.Places.{places}
-use Rattle.pairing.specs.Envelopes.{message_of}
+use Rattle.callnotes.specs.declared.envelope.Half.TheVariants.{Send as SendHalf}
+use Rattle.callnotes.specs.Recordings.{Lists, calls_of}
+use Rattle.callnotes.specs.Places.{places}
+use Rattle.callnotes.specs.Envelopes.{message_of}
 use Rattle.pairing.specs.Partners.{partner_of}
-use Rattle.pairing.specs.Requests.{starts, does_complete, started_before}
-use Rattle.pairing.specs.Communicators.{does_make}
-use Rattle.pairing.specs.Waves.{does_join, wave_of}
+use Rattle.callnotes.specs.Requests.{starts, does_complete, started_before}
+use Rattle.callnotes.specs.Communicators.{does_make}
+use Rattle.callnotes.specs.Waves.{does_join, wave_of}
 use Rattle.waitgraph.specs.Held.{is_left_open}
 use Rattle.waitgraph.specs.Places.{call_at, call_of_member, over_ranks}
 use Rattle.waitgraph.specs.declared.finding.Finding.{Finding}

@@ -2,7 +2,7 @@
 use Rattle.moves.specs.declared.reading.Reading.{Reading}
 use Rattle.std.specs.Prelude.{◌≡◌, ℕ, Bool, List}
 use Rattle.mpigroup.specs.Groups.{Groups}
-use Rattle.pairing.specs.Recordings.{Lists}
+use Rattle.callnotes.specs.Recordings.{Lists}
 use Rattle.waitgraph.specs.Causes.{CauseView, causes_of}
 use Rattle.waitgraph.specs.Held.{held_of, is_some_left_open}
 use Rattle.waitgraph.specs.Waits.{Waits, needs_in}

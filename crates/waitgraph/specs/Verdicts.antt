@@ -4,7 +4,7 @@
 use Rattle.moves.specs.declared.reading.Reading.{Reading}
 use Rattle.std.specs.Prelude.{◌≡◌, ◌↔◌, ℕ, ◌<◌, Bool, true, false, List, [], ◌∷◌, length}
 use Rattle.mpigroup.specs.Groups.{Groups}
-use Rattle.pairing.specs.Recordings.{Lists, IsClosed}
+use Rattle.callnotes.specs.Recordings.{Lists, IsClosed}
 use Rattle.waitgraph.specs.Stuck.{is_stuck}
 use Rattle.waitgraph.specs.Held.{held_of, is_held, is_some_left_open}
 use Rattle.waitgraph.specs.declared.verdict.Verdict.{Verdict}

@@ -3,8 +3,8 @@
 ghost use Rattle.std.specs.Prelude.{◌≡◌, ◌≤◌, length};
 ghost use Rattle.std.specs.Option.{option_map_or};
 ghost use Rattle.mpigroup.specs.Groups.{world_rank_of};
-ghost use Rattle.pairing.specs.Limits.{most_calls};
-ghost use Rattle.pairing.specs.Recordings.{calls_of};
+ghost use Rattle.callnotes.specs.Limits.{most_calls};
+ghost use Rattle.callnotes.specs.Recordings.{calls_of};
 ghost use Rattle.waitgraph.specs.Findings.{waves_in};
 
 use pairing::pairs::Pairs;

@@ -5,10 +5,10 @@ ghost use Rattle.std.specs.List.{list_any};
 ghost use Rattle.waitgraph.specs.Held.{is_left_open, left_open_in, leaves_open, standing_at, standings_at};
 
 use crate::extent::calls;
+use callnotes::stored::StoredCall;
 use moves::need::stand_of;
 use mpicall::call::Call;
 use pairing::pairs::Pairs;
-use pairing::stored::StoredCall;
 use std::alloc::{AllocError, Global};
 
 /// Where a rank of a run comes to stand.

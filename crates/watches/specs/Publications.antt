@@ -4,7 +4,7 @@ use Rattle.std.specs.Prelude.{◌≡◌, ◌⊎◌, ℕ, ◌==◌, Bool, true, f
 use Rattle.logbook.specs.Pages.{Book, Cell, Named, Step, View}
 use Rattle.mpigroup.specs.Groups.{Groups}
 use Rattle.mpigroup.specs.declared.limits.TheConstants.{MOST_RANKS}
-use Rattle.pairing.specs.Recordings.{Lists}
+use Rattle.callnotes.specs.Recordings.{Lists}
 use Rattle.watches.specs.Stands.{is_no_lower, is_further, IsPassed}
 use Rattle.watches.specs.declared.stands.Stands.{Stands}
 

@@ -2,8 +2,8 @@
 
 ghost use Rattle.std.specs.Prelude.{◌≡◌, ◌++◌, ◌==◌, Some, false, option_and_then, OnOk};
 ghost use Rattle.std.specs.Option.{option_map_or};
-ghost use Rattle.pairing.specs.Recordings.{calls_of};
-ghost use Rattle.pairing.specs.Requests.{starts, started_in};
+ghost use Rattle.callnotes.specs.Recordings.{calls_of};
+ghost use Rattle.callnotes.specs.Requests.{starts, started_in};
 ghost use Rattle.waitgraph.specs.Places.{call_at, over_places};
 ghost use Rattle.waitgraph.specs.Findings.{is_lost, lost_at, lost_requests};
 

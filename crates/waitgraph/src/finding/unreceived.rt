@@ -1,14 +1,14 @@
 //! Messages that are sent and that nobody receives, nor can any more.
 
 ghost use Rattle.std.specs.Prelude.{◌≡◌, ◌++◌, is_some, option_and_then, OnOk};
-ghost use Rattle.pairing.specs.Envelopes.{message_of};
+ghost use Rattle.callnotes.specs.Envelopes.{message_of};
 ghost use Rattle.waitgraph.specs.Places.{call_at, over_places};
 ghost use Rattle.waitgraph.specs.Findings.{is_unreceived, may_yet_receive, receiver_of, unreceived_at, unreceived_of};
 
 use crate::extent::{calls, ranks};
 use crate::finding::Finding;
 use crate::standing::is_left_open;
-use pairing::envelope::Half;
+use callnotes::envelope::Half;
 use pairing::pairs::Pairs;
 use std::alloc::AllocError;
 

@@ -3,7 +3,7 @@
 ghost use Rattle.std.specs.Prelude.{◌≡◌, ◌<◌, ◌-◌, ◌++◌, ℕ, [], length, flat_map, is_some, option_to_list, IsTrue, IfOk, OnOk};
 ghost use Rattle.std.specs.List.{filter, range_with_len};
 ghost use Rattle.mpigroup.specs.Groups.{group_of};
-ghost use Rattle.pairing.specs.Waves.{member_of};
+ghost use Rattle.callnotes.specs.Waves.{member_of};
 ghost use Rattle.waitgraph.specs.Places.{call_of_member};
 ghost use Rattle.waitgraph.specs.Findings.{found_of_member, found_in_comm, found_in_waves};
 ghost use Rattle.waitgraph.specs.Comparisons.{comparison_of};
@@ -13,11 +13,11 @@ use crate::extent::{comms, waves};
 use crate::finding::Finding;
 use crate::finding::kind::kind_found;
 use crate::finding::root::root_found;
+use callnotes::stored::StoredCall;
 use moves::need::members;
 use mpicall::call::Call;
 use mpicall::record::Record;
 use pairing::pairs::Pairs;
-use pairing::stored::StoredCall;
 use std::alloc::{AllocError, Global};
 
 /// What of two calls is compared.

@@ -1,9 +1,9 @@
 -- Who has no message wakes nobody by one.
 use Rattle.std.proofs.Common.{◌≡◌, ℕ, Option, None, refl}
 use Rattle.mpigroup.specs.Groups.{Groups}
-use Rattle.pairing.specs.Recordings.{Lists}
+use Rattle.callnotes.specs.Recordings.{Lists}
 use Rattle.pairing.specs.Partners.{partner_of}
-use Rattle.pairing.specs.declared.envelope.Half.TheVariants.{Send as SendHalf, Recv as RecvHalf}
+use Rattle.callnotes.specs.declared.envelope.Half.TheVariants.{Send as SendHalf, Recv as RecvHalf}
 use Rattle.moves.specs.Waiting.{WaitLists, sent_to, woken_peers}
 use Rattle.moves.proofs.settle.wake_peers.Goals as goal
 

@@ -3,12 +3,12 @@ use Rattle.std.proofs.Common.{◌≡◌, ◌∙◌, ◌≤◌, ℕ, List, [], le
 use Rattle.std.proofs.lemmas.Bool.{eqb-true}
 use Rattle.std.proofs.lemmas.List.{nil_from_length}
 use Rattle.mpicall.specs.declared.call.Call.{Call}
-use Rattle.pairing.specs.Limits.{most_calls}
-use Rattle.pairing.specs.Recordings.{calls_of}
-use Rattle.pairing.specs.Places.{places}
-use Rattle.pairing.specs.Waves.{does_join}
-use Rattle.pairing.specs.Requests.{waits_for, started_in}
-use Rattle.pairing.specs.Notes.{recording_of}
+use Rattle.callnotes.specs.Limits.{most_calls}
+use Rattle.callnotes.specs.Recordings.{calls_of}
+use Rattle.callnotes.specs.Places.{places}
+use Rattle.callnotes.specs.Waves.{does_join}
+use Rattle.callnotes.specs.Requests.{waits_for, started_in}
+use Rattle.callnotes.specs.Notes.{recording_of}
 use Rattle.pairing.proofs.KeptLemmas.{count_noted}
 use Rattle.pairing.proofs.NotedLemmas.{calls_of-recorded}
 use Rattle.pairing.proofs.pairs.note_call.Goals as goal

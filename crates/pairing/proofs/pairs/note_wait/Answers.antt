@@ -1,15 +1,15 @@
 -- The places that are noted are those of the calls that started the requests.
 use Rattle.std.proofs.Common.{◌≡◌, ◌∙◌, ◌≤◌, List, length, take, map, refl, ap, subst, arith}
 use Rattle.mpicall.specs.declared.call.Call.{Call}
-use Rattle.pairing.specs.Limits.{most_calls}
-use Rattle.pairing.specs.Recordings.{calls_of}
-use Rattle.pairing.specs.Places.{places}
-use Rattle.pairing.specs.Waves.{does_join}
-use Rattle.pairing.specs.Requests.{waits_for, started_in}
-use Rattle.pairing.specs.Notes.{recording_of, AreStarts}
+use Rattle.callnotes.specs.Limits.{most_calls}
+use Rattle.callnotes.specs.Recordings.{calls_of}
+use Rattle.callnotes.specs.Places.{places}
+use Rattle.callnotes.specs.Waves.{does_join}
+use Rattle.callnotes.specs.Requests.{waits_for, started_in}
+use Rattle.callnotes.specs.Notes.{recording_of, AreStarts}
 use Rattle.pairing.proofs.KeptLemmas.{count_noted}
 use Rattle.pairing.proofs.NotedLemmas.{calls_of-recorded}
-use Rattle.pairing.proofs.StartLemmas.{are_starts}
+use Rattle.callnotes.proofs.StartLemmas.{are_starts}
 use Rattle.pairing.proofs.pairs.note_wait.Goals as goal
 
 pub note-requires-clause-starts : goal.note-requires-clause-starts

@@ -1,5 +1,5 @@
 use Rattle.std.proofs.Common.{◌≡◌, Some, sym, ◌∙◌}
-use Rattle.pairing.specs.Notes.{recording_of}
+use Rattle.callnotes.specs.Notes.{recording_of}
 use Rattle.pairing.specs.Probed.{probed_envelope, probed_envelope_at}
 use Rattle.pairing.specs.Seated.{seat_in}
 use Rattle.pairing.proofs.KeptLemmas.{its_call}

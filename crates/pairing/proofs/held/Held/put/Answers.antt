@@ -1,5 +1,5 @@
 use Rattle.std.proofs.Common.{◌≡◌, Some, None}
-use Rattle.pairing.specs.Communicators.{makes}
+use Rattle.callnotes.specs.Communicators.{makes}
 use Rattle.pairing.proofs.HoldingLemmas.{held_more, held_same}
 use Rattle.pairing.proofs.held.Held.put.Goals as goal
 

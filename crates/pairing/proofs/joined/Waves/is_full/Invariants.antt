@@ -3,8 +3,8 @@ use Rattle.std.specs.List.{list_all}
 use Rattle.std.specs.Option.{is_some}
 use Rattle.mpigroup.specs.Groups.{group_of}
 use Rattle.pairing.specs.Joined.{IsJoined}
-use Rattle.pairing.specs.Recordings.{Lists}
-use Rattle.pairing.specs.Waves.{place_in_wave}
+use Rattle.callnotes.specs.Recordings.{Lists}
+use Rattle.callnotes.specs.Waves.{place_in_wave}
 use Rattle.pairing.proofs.joined.Waves.is_full.Given as goal
 
 -- each member so far has its call

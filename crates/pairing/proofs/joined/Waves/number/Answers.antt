@@ -1,11 +1,11 @@
 use Rattle.std.proofs.Common.{◌≡◌, ◌∙◌, ℕ, Option, List, [], length, ap, sym, arith}
 use Rattle.std.specs.Option.{option_map_or}
-use Rattle.pairing.specs.Places.{places}
-use Rattle.pairing.specs.Recordings.{calls_of}
+use Rattle.callnotes.specs.Places.{places}
+use Rattle.callnotes.specs.Recordings.{calls_of}
 use Rattle.pairing.specs.Joined.{Joinings}
-use Rattle.pairing.specs.Seats.{list_in}
-use Rattle.pairing.specs.Waves.{does_join}
-use Rattle.pairing.proofs.PlacesLemmas.{places_most}
+use Rattle.callnotes.specs.Seats.{list_in}
+use Rattle.callnotes.specs.Waves.{does_join}
+use Rattle.callnotes.proofs.PlacesLemmas.{places_most}
 use Rattle.pairing.proofs.joined.Waves.number.Goals as goal
 
 pub returns : goal.returns

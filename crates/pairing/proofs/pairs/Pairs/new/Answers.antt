@@ -1,8 +1,8 @@
 -- Without notes nothing is wrong.
 use Rattle.std.proofs.Common.{ℕ, ap, sym, subst, ◌∙◌, List, [], replicate}
 use Rattle.mpigroup.specs.Groups.{ranks_of}
-use Rattle.pairing.specs.Recordings.{Lists}
-use Rattle.pairing.specs.Notes.{Noted, recording_of}
+use Rattle.callnotes.specs.Recordings.{Lists}
+use Rattle.callnotes.specs.Notes.{Noted, recording_of}
 use Rattle.pairing.specs.Seated.{IsProbing}
 use Rattle.pairing.proofs.KeptLemmas.{nothing_kept, recording_of-none}
 use Rattle.pairing.proofs.pairs.Pairs.new.Goals as goal

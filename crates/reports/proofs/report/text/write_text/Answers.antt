@@ -3,7 +3,7 @@ use Rattle.std.proofs.Common.{◌≡◌, ℕ, Bool, List, [], ◌∷◌, ◌++�
 use Rattle.std.proofs.KnownBytes.{Appends-nil}
 use Rattle.moves.specs.declared.reading.Reading.{Reading}
 use Rattle.mpigroup.specs.Groups.{Groups}
-use Rattle.pairing.specs.Recordings.{Lists}
+use Rattle.callnotes.specs.Recordings.{Lists}
 use Rattle.waitgraph.specs.Causes.{causes_of, view_of}
 use Rattle.waitgraph.specs.Findings.{findings_of}
 use Rattle.waitgraph.specs.Held.{held_of, is_some_left_open}

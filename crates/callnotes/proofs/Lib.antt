@@ -1,0 +1,11 @@
+pub mod OptionLemmas
+pub mod PlaceLemmas
+pub mod PlacesLemmas
+pub mod RecordingLemmas
+pub mod RequestLemmas
+pub mod WaveLemmas
+pub mod NoteLemmas
+pub mod PackedLemmas
+pub mod StartLemmas
+pub mod NumberLemmas
+pub mod SeatLemmas

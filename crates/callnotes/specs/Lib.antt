@@ -1,0 +1,13 @@
+pub mod Limits
+pub mod Recordings
+pub mod Places
+pub mod Envelopes
+pub mod Kinds
+pub mod Requests
+pub mod Waves
+pub mod Communicators
+pub mod Beside
+pub mod Notes
+pub mod Slots
+pub mod Packed
+pub mod Seats

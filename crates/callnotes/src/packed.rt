@@ -1,0 +1,297 @@
+//! Calls stored compactly: a call with what is kept beside it takes 32 bytes, and each request that a wait for
+//! several names 4 more.
+
+ghost use Rattle.std.specs.Prelude.{◌≡◌, List, ℕ};
+ghost use Rattle.mpicall.specs.Does.{does_of};
+ghost use Rattle.mpicall.specs.Ending.{ends_list};
+ghost use Rattle.callnotes.specs.Envelopes.{message_of, probed_message};
+ghost use Rattle.callnotes.specs.Requests.{starts};
+ghost use Rattle.callnotes.specs.Waves.{joins};
+ghost use Rattle.callnotes.specs.Kinds.{bytes_told, kind_of, mode_of};
+ghost use Rattle.callnotes.specs.Packed.{request_of, plain_of, unpack};
+ghost use Rattle.callnotes.specs.declared.packed.Entry.{Entry};
+
+use crate::beside::Beside;
+use crate::envelope::{Half, Message, message_by, probed_by};
+use crate::slots::{PackedBytes, PackedPeer};
+use mpicall::call::{Call, Kind, Mode};
+use mpicall::does::Does;
+use mpicall::laid::Laid;
+use mpicall::word::{Name, root_of};
+use std::mem::size_of;
+
+/// A call: an operation or a wait has a variant of its own, as in `Call`, and any other call that of its layout,
+/// with its name. A wait has the places that started its requests, and their numbers
+/// are read from the calls there. A wait for several says where these places stand in a list of its rank:
+/// `count` of them from `first` on.
+#[derive(Clone, Copy)]
+pub(crate) enum Packed {
+    Send {
+        mode: Mode,
+        comm: u16,
+        dest: PackedPeer,
+        tag: u32,
+        bytes: PackedBytes,
+    },
+    Recv {
+        comm: u16,
+        source: PackedPeer,
+        tag: u32,
+    },
+    Isend {
+        mode: Mode,
+        comm: u16,
+        dest: PackedPeer,
+        req: u32,
+        tag: u32,
+        bytes: PackedBytes,
+    },
+    Irecv {
+        req: u32,
+        comm: u16,
+        source: PackedPeer,
+        tag: u32,
+    },
+    Wait {
+        start: u32,
+    },
+    Waitall {
+        first: u32,
+        count: u8,
+    },
+    Waitany {
+        chosen: u8,
+        first: u32,
+        count: u8,
+    },
+    Coll {
+        comm: u16,
+        kind: Kind,
+    },
+    Icoll {
+        req: u32,
+        comm: u16,
+        kind: Kind,
+    },
+    Nothing {
+        name: Name,
+    },
+    Message {
+        name: Name,
+        comm: u16,
+        source: PackedPeer,
+        tag: u32,
+    },
+    Exchange {
+        name: Name,
+        comm: u16,
+        dest: PackedPeer,
+        source: PackedPeer,
+        send_tag: u32,
+        recv_tag: u32,
+        bytes: PackedBytes,
+    },
+    Copy {
+        name: Name,
+        comm: u16,
+        new: u16,
+    },
+    Split {
+        name: Name,
+        comm: u16,
+        colour: Option<u32>,
+        key: i32,
+        new: Option<u16>,
+    },
+}
+
+/// A call, and what is kept beside it.
+#[derive(Clone, Copy)]
+pub(crate) struct Entry {
+    pub call: Packed,
+    pub beside: Beside,
+}
+
+const _: () = prove!(size_of::<Entry>() <= 32);
+
+impl Packed {
+    /// The call of a name and what stands behind it; None for an operation and a wait.
+    #[inline(always)]
+    pub(crate) fn plain(&self) -> Option<Call>
+        ensures { result ≡ plain_of self.now }
+    {
+        let call = match *self {
+            Packed::Nothing { name } => name.call(Laid::Nothing),
+            Packed::Message {
+                name,
+                comm,
+                source,
+                tag,
+            } => name.call(Laid::Message {
+                comm,
+                source: source.peer(),
+                tag,
+            }),
+            Packed::Exchange {
+                name,
+                comm,
+                dest,
+                source,
+                send_tag,
+                recv_tag,
+                bytes,
+            } => name.call(Laid::Exchange {
+                comm,
+                dest: dest.peer(),
+                send_tag,
+                source: source.peer(),
+                recv_tag,
+                bytes: bytes.bytes(),
+            }),
+            Packed::Copy { name, comm, new } => name.call(Laid::Copy { comm, new }),
+            Packed::Split {
+                name,
+                comm,
+                colour,
+                key,
+                new,
+            } => name.call(Laid::Split {
+                comm,
+                colour,
+                key,
+                new,
+            }),
+            _ => return None,
+        };
+        Some(call)
+    }
+
+    /// What the call does over its communicator.
+    #[inline(always)]
+    pub(crate) fn does(&self) -> Does
+        ensures { (entries : List Entry) (starts : List ℕ) → result ≡ does_of (unpack entries starts self.now) }
+    {
+        match *self {
+            Packed::Send {
+                comm,
+                dest,
+                tag,
+                ..
+            }
+            | Packed::Isend {
+                comm,
+                dest,
+                tag,
+                ..
+            } => Does::sends(comm, dest.peer(), tag),
+            Packed::Recv { comm, source, tag }
+            | Packed::Irecv {
+                comm,
+                source,
+                tag,
+                ..
+            } => Does::receives(comm, source.peer(), tag),
+            Packed::Coll { comm, kind } | Packed::Icoll { comm, kind, .. } => Does::Joins {
+                comm,
+                root: root_of(kind),
+                made: None,
+            },
+            _ => match self.plain() {
+                Some(call) => call.does(),
+                None => Does::Alone,
+            },
+        }
+    }
+
+    /// The message that a half of the call sends or receives. None where the call has no such half, and
+    /// where its peer is MPI_PROC_NULL.
+    #[inline(always)]
+    pub(crate) fn message(&self, half: Half) -> Option<Message>
+        ensures { (entries : List Entry) (starts : List ℕ) → result ≡ message_of half (unpack entries starts self.now) }
+    {
+        message_by(half, &self.does())
+    }
+
+    /// The message that the call probes for. None where it is no probe, and where its source is
+    /// MPI_PROC_NULL.
+    pub(crate) fn probed(&self) -> Option<Message>
+        ensures { (entries : List Entry) (starts : List ℕ) → result ≡ probed_message (unpack entries starts self.now) }
+    {
+        probed_by(&self.does())
+    }
+
+    /// The mode of a call that sends, blocking or not; None for every other call, MPI_Sendrecv too.
+    pub(crate) fn mode(&self) -> Option<Mode>
+        ensures { (entries : List Entry) (starts : List ℕ) → result ≡ mode_of (unpack entries starts self.now) }
+    {
+        match *self {
+            Packed::Send { mode, .. } | Packed::Isend { mode, .. } => Some(mode),
+            _ => None,
+        }
+    }
+
+    /// How many bytes a call that sends tells of its message; None where it tells none, and for every other
+    /// call.
+    pub(crate) fn bytes(&self) -> Option<u32>
+        ensures { (entries : List Entry) (starts : List ℕ) → result ≡ bytes_told (unpack entries starts self.now) }
+    {
+        match *self {
+            Packed::Send { bytes, .. }
+            | Packed::Isend { bytes, .. }
+            | Packed::Exchange {
+                name: Name::Sendrecv,
+                bytes,
+                ..
+            } => bytes.bytes(),
+            _ => None,
+        }
+    }
+
+    /// The kind of a collective that isn't started alone; None for every other call.
+    pub(crate) fn kind(&self) -> Option<Kind>
+        ensures { (entries : List Entry) (starts : List ℕ) → result ≡ kind_of (unpack entries starts self.now) }
+    {
+        match *self {
+            Packed::Coll { kind, .. } => Some(kind),
+            _ => None,
+        }
+    }
+
+    /// The request that the call starts, if it starts one.
+    pub(crate) fn starts(&self) -> Option<u32>
+        ensures value { result ≡ request_of self.now }
+        ensures call { (entries : List Entry) (places : List ℕ) → result ≡ starts (unpack entries places self.now) }
+    {
+        match *self {
+            Packed::Isend { req, .. } | Packed::Irecv { req, .. } | Packed::Icoll { req, .. } => {
+                Some(req)
+            }
+            _ => None,
+        }
+    }
+
+    /// The communicator whose members all make the call, if there is one.
+    pub(crate) fn joins(&self) -> Option<u16>
+        ensures { (entries : List Entry) (starts : List ℕ) → result ≡ joins (unpack entries starts self.now) }
+    {
+        match *self {
+            Packed::Coll { comm, .. } | Packed::Icoll { comm, .. } => Some(comm),
+            _ => match self.does() {
+                Does::Joins { comm, .. } => Some(comm),
+                _ => None,
+            },
+        }
+    }
+
+    /// Whether no call of the rank comes behind this one.
+    pub(crate) fn ends_list(&self) -> bool
+        ensures { (entries : List Entry) (starts : List ℕ) → result ≡ ends_list (unpack entries starts self.now) }
+    {
+        matches!(
+            *self,
+            Packed::Nothing {
+                name: Name::Finalize | Name::Open
+            }
+        )
+    }
+}
