@@ -24,7 +24,7 @@ use Rattle.pairing.specs.Faults.{fault_of as fault_of_call}
 use Rattle.callnotes.specs.Recordings.{Lists}
 use Rattle.moves.specs.declared.reading.Reading.{Reading}
 use Rattle.moves.specs.declared.reading.Reading.TheVariants.{Strict}
-use Rattle.waitgraph.specs.Findings.{kind_found, kinds_of, root_found, roots_of, unreceived_at, unreceived_of, lost_at, lost_requests, group_at, wrong_groups_of, findings_of}
+use Rattle.findings.specs.Findings.{kind_found, kinds_of, root_found, roots_of, unreceived_at, unreceived_of, lost_at, lost_requests, group_at, wrong_groups_of, findings_of}
 use Rattle.waitgraph.specs.Stuck.{unmet_at}
 use Rattle.waitgraph.specs.Verdicts.{verdict_of}
 use Rattle.waitgraph.specs.declared.verdict.Verdict.TheVariants.{Hang}

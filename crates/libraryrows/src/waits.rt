@@ -4,6 +4,7 @@ ghost use Rattle.waitgraph.specs.Graphs.{IsGraphOf};
 
 use crate::answer::Answer;
 use crate::fault::Fault;
+use findings::finding::{Finding, findings};
 use moves::analyser::Analyser;
 use moves::need::Need;
 use mpicall::memory::MemoryOutput;
@@ -11,7 +12,6 @@ use mpicall::word::{Collective, Name, Operation, Word};
 use pairing::pairs::Pairs;
 use reports::report::{Format, write_report};
 use waitgraph::cause::Cause;
-use waitgraph::finding::{Finding, findings};
 use waitgraph::graph::Graph;
 use waitgraph::verdict::Verdict;
 

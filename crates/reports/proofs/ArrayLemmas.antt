@@ -11,7 +11,7 @@ use Rattle.serde_json.specs.Data.{Data, string, array, Members, member, no_membe
 use Rattle.serde_json.specs.View.{items_of}
 use Rattle.serde_json.specs.Written.{comma_if, compact_text, items_text, members_text}
 use Rattle.waitgraph.specs.Causes.{causes_of}
-use Rattle.waitgraph.specs.Findings.{findings_of}
+use Rattle.findings.specs.Findings.{findings_of}
 use Rattle.waitgraph.specs.Stuck.{stuck_of}
 use Rattle.waitgraph.specs.Verdicts.{verdict_of}
 use Rattle.reports.specs.ArrayTexts.{values_text, elements_text, key_text}

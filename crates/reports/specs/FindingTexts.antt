@@ -2,8 +2,8 @@
 use Rattle.std.specs.Prelude.{ℕ, List, [], ◌∷◌, codes}
 use Rattle.std.specs.Fmt.{decimal}
 use Rattle.mpicall.specs.Word.{text_of}
-use Rattle.waitgraph.specs.declared.finding.Finding.{Finding}
-use Rattle.waitgraph.specs.declared.finding.Finding.TheVariants.{Kind, Root, Unreceived, Request, Group}
+use Rattle.findings.specs.declared.finding.Finding.{Finding}
+use Rattle.findings.specs.declared.finding.Finding.TheVariants.{Kind, Root, Unreceived, Request, Group}
 
 -- the fields of a finding: communicator, wave and group rank, and then what group rank 0 and the member
 -- call, or which roots they name; or rank and place, and the request

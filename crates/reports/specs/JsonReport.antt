@@ -13,11 +13,11 @@ use Rattle.waitgraph.specs.Verdicts.{verdict_of}
 use Rattle.moves.specs.declared.need.Need.{Need}
 use Rattle.moves.specs.declared.need.Need.TheVariants.{At, Lacking}
 use Rattle.waitgraph.specs.Causes.{CauseView, CycleOf, MissingOf, causes_of}
-use Rattle.waitgraph.specs.Findings.{findings_of}
+use Rattle.findings.specs.Findings.{findings_of}
 use Rattle.reports.specs.FindingTexts.{finding_fields}
 use Rattle.waitgraph.specs.Stuck.{stuck_of, unmet_of}
 use Rattle.reports.specs.TextReport.{present_fields, verdict_text}
-use Rattle.waitgraph.specs.declared.finding.Finding.{Finding}
+use Rattle.findings.specs.declared.finding.Finding.{Finding}
 
 -- a number
 abbrev pub numeral : ℕ → Data

@@ -15,11 +15,11 @@ use Rattle.moves.specs.declared.need.Need.TheVariants.{At, Lacking}
 use Rattle.waitgraph.specs.declared.verdict.Verdict.{Verdict}
 use Rattle.waitgraph.specs.declared.verdict.Verdict.TheVariants.{Free, Hang, Unfinished}
 use Rattle.waitgraph.specs.Causes.{CauseView, CycleOf, MissingOf, causes_of}
-use Rattle.waitgraph.specs.Findings.{findings_of}
+use Rattle.findings.specs.Findings.{findings_of}
 use Rattle.reports.specs.FindingTexts.{finding_fields}
-use Rattle.waitgraph.specs.Places.{call_at}
+use Rattle.findings.specs.Places.{call_at}
 use Rattle.waitgraph.specs.Stuck.{stuck_of, unmet_of}
-use Rattle.waitgraph.specs.declared.finding.Finding.{Finding}
+use Rattle.findings.specs.declared.finding.Finding.{Finding}
 
 -- a line: its fields with one space between them, and a line feed
 abbrev pub line : List (List ℕ) → List ℕ

@@ -1,11 +1,8 @@
-pub mod FindingLemmas
-pub mod WaveLemmas
 pub mod OrderLemmas
 pub mod AddingLemmas
 pub mod AmongLemmas
 pub mod SortLemmas
 pub mod KeptLemmas
-pub mod CallerLemmas
 pub mod RangeLemmas
 pub mod UnmetLemmas
 pub mod WalkLemmas
@@ -19,7 +16,5 @@ pub mod ListedLemmas
 pub mod CalledLemmas
 pub mod StuckLemmas
 pub mod WalkingLemmas
-pub mod AlikeLemmas
-pub mod NothingLemmas
 pub mod VerdictLemmas
 pub mod StaysLemmas

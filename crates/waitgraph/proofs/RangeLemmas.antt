@@ -1,19 +1,11 @@
 -- What is taken of the ranks one by one.
-use Rattle.std.proofs.Common.{◌≡◌, ℕ, ◌+◌, ◌-◌, ◌≤◌, Option, Some, None, List, [], ◌∷◌, ◌++◌, refl, ap, ◌∙◌, arith, map, ◌<◌, append_assoc}
+use Rattle.std.proofs.Common.{◌≡◌, ℕ, ◌+◌, ◌≤◌, Option, Some, None, List, [], ◌∷◌, ◌++◌, refl, ap, ◌∙◌, arith, map, ◌<◌, append_assoc}
 use Rattle.std.specs.List.{filter_map, cons_option, range_with_len, slice_get}
 use Rattle.std.specs.Option.{option_to_list}
 use Rattle.std.proofs.lemmas.List.Elements.{filter_map-append}
 use Rattle.std.proofs.lemmas.Option.{slice_get-get_or, slice_get_past}
 use Rattle.std.proofs.lemmas.List.FromFn.{length-map-range_with_len, get_or-map-range_with_len}
-use Rattle.mpigroup.proofs.ListLemmas.{range_more, from_zero}
-
--- one number more
-pub range_next : (a n j : ℕ) → a + n ≡ j → range_with_len a (n + 1) ≡ range_with_len a n ++ j ∷ []
-range_next a n j e = range_more a n ∙ ap (λ (last : ℕ). range_with_len a n ++ last ∷ []) e
-
--- one more of the numbers from 1 on
-pub from_one : (n : ℕ) → 1 ≤ n → range_with_len 1 (n + 1 - 1) ≡ range_with_len 1 (n - 1) ++ n ∷ []
-from_one n least = let e : n + 1 - 1 ≡ n - 1 + 1 = omega arith in rw e (range_next 1 (n - 1) n (omega (arith, least)))
+use Rattle.mpigroup.proofs.ListLemmas.{from_zero}
 
 one_option : {X : Type 0} (o : Option X) → cons_option o [] ≡ option_to_list o
 one_option None = refl

@@ -20,6 +20,7 @@ use Rattle.moves.specs.Needs.{needs_of, is_met, may_pass, can_move}
 use Rattle.moves.specs.Stands.{stands_of, is_at_end, lowest_run_over}
 use Rattle.moves.proofs.RunLemmas.{reached_ranks}
 use Rattle.moves.proofs.StandLemmas.{EndsThere, end_there, every_maximal_run_ends_at_the_stands, no_call_behind_the_end_is_reached}
+use Rattle.findings.proofs.RankLemmas.{calls_past}
 use Rattle.waitgraph.specs.Stuck.{is_stuck, unmet_at, unmet_of, StuckRanksWaitForStuckRanks}
 use Rattle.waitgraph.proofs.AmongLemmas.{Among, in_among, among_all, one_fails}
 use Rattle.waitgraph.proofs.UnmetLemmas.{unmet_from, unmet_all}
@@ -121,15 +122,6 @@ needs_before reading groups recording rank is_rank present =
   where
     not_all : (groups : Groups) (recording : Lists) (rank : ℕ) (call : Call) (all : Bool) → slice_get (calls_of recording rank) (slice_index (stands_of reading groups recording) rank) ≡ Some call → ends_list call ≡ false → (may_pass (slice_get (calls_of recording rank) (slice_index (stands_of reading groups recording) rank)) && all) ≡ false → all ≡ false
     not_all groups recording rank call all present not_finalize h = rw (present, not_finalize) at h
-
-pub calls_past : (recording : Lists) (rank place : ℕ) → place < length (calls_of recording rank) → rank < length recording
-calls_past recording rank place within =
-    ⊎_elim
-    (λ (is_rank : rank < length recording). is_rank)
-    (λ (past : length recording ≤ rank).
-    let none : length (calls_of recording rank) ≡ 0 = rw (slice_get_past recording rank past) refl in
-    absurd (omega arith))
-    (cases_lt rank (length recording))
 
 -- for whom a rank waits stands before its end
 pub record IsAwaited (reading : Reading) (groups : Groups) (recording : Lists) (peer : ℕ) : Type 0 where

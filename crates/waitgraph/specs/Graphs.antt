@@ -6,9 +6,9 @@ use Rattle.callnotes.specs.Recordings.{Lists}
 use Rattle.waitgraph.specs.Causes.{CauseView, causes_of}
 use Rattle.waitgraph.specs.Held.{held_of, is_some_left_open}
 use Rattle.waitgraph.specs.Waits.{Waits, needs_in}
-use Rattle.waitgraph.specs.Findings.{findings_of}
+use Rattle.findings.specs.Findings.{findings_of}
 use Rattle.waitgraph.specs.Stuck.{stuck_of, unmet_of}
-use Rattle.waitgraph.specs.declared.finding.Finding.{Finding}
+use Rattle.findings.specs.declared.finding.Finding.{Finding}
 
 -- the stuck ranks, the held ones, whether some list was left open, the unmet needs of each rank, the causes and the
 -- findings

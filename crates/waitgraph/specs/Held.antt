@@ -1,28 +1,19 @@
 -- Over recordings: lists that were left open, where the ranks of a run stand, and the held ranks.
 use Rattle.moves.specs.declared.reading.Reading.{Reading}
-use Rattle.std.specs.Prelude.{ℕ, ◌-◌, Bool, true, false, Option, Some, List, length, map, slice_get, slice_index}
+use Rattle.std.specs.Prelude.{ℕ, Bool, Option, Some, List, length, map, slice_get, slice_index}
 use Rattle.std.specs.List.{filter, list_any, range_with_len}
-use Rattle.std.specs.Option.{option_map_or}
 use Rattle.mpicall.specs.declared.call.Call.{Call}
 use Rattle.mpicall.specs.declared.call.Call.TheVariants.{Finalize, Open}
 use Rattle.mpigroup.specs.Groups.{Groups}
 use Rattle.callnotes.specs.Recordings.{Lists, calls_of}
 use Rattle.moves.specs.Runs.{State}
 use Rattle.moves.specs.Stands.{stands_of}
+use Rattle.findings.specs.LeftOpen.{is_left_open}
 use Rattle.waitgraph.specs.Least.{Set}
 use Rattle.waitgraph.specs.Loose.{set_of, are_held}
 use Rattle.waitgraph.specs.Waits.{waits_at}
 use Rattle.waitgraph.specs.declared.standing.Standing.{Standing}
 use Rattle.waitgraph.specs.declared.standing.Standing.TheVariants.{AtFinalize, AtOpen, Stuck}
-
--- the call says that its rank's list was left open
-abbrev pub leaves_open : Call → Bool
-leaves_open Open = true
-leaves_open _ = false
-
--- the last call of the rank's list says so
-abbrev pub is_left_open : Lists → ℕ → Bool
-is_left_open recording rank = option_map_or leaves_open (slice_get (calls_of recording rank) (length (calls_of recording rank) - 1)) false
 
 -- of each rank, whether its list was left open
 abbrev pub left_open_in : Lists → List Bool

@@ -1,13 +1,9 @@
-pub mod Places
 pub mod Stuck
 pub mod Waits
 pub mod Spans
 pub mod Least
 pub mod Loose
 pub mod Held
-pub mod Findings
-pub mod Comparisons
-pub mod Makings
 pub mod Causes
 pub mod Graphs
 pub mod Verdicts

@@ -5,7 +5,8 @@ use Rattle.mpicall.specs.declared.call.Call.{Call}
 use Rattle.mpigroup.specs.Groups.{Groups}
 use Rattle.callnotes.specs.Recordings.{Lists, calls_of}
 use Rattle.moves.specs.Stands.{stands_of}
-use Rattle.waitgraph.specs.Held.{is_left_open, held_of}
+use Rattle.findings.specs.LeftOpen.{is_left_open}
+use Rattle.waitgraph.specs.Held.{held_of}
 
 -- the rank's calls before its open; all of them where its list ended
 abbrev pub calls_before_open : Lists → ℕ → List Call

@@ -10,17 +10,17 @@ ghost use Rattle.waitgraph.specs.Held.{held_at, held_of, is_some_left_open, open
 ghost use Rattle.waitgraph.specs.Loose.{are_held};
 ghost use Rattle.waitgraph.specs.Stays.{StayPut};
 ghost use Rattle.waitgraph.specs.Waits.{waits_at, needs_in};
-ghost use Rattle.waitgraph.specs.Findings.{findings_of};
+ghost use Rattle.findings.specs.Findings.{findings_of};
 ghost use Rattle.waitgraph.specs.Verdicts.{verdict_by};
 
 use crate::cause::Cause;
-use crate::finding::{Finding, findings};
 use crate::loose::{held, loose, walks_in};
 use crate::standing::{Standing, is_some, left_open_in, standings_at};
 use crate::unmet::unmet_at;
 use crate::verdict::Verdict;
 use crate::waits::Waits;
 use crate::walk::causes_in;
+use findings::finding::{Finding, findings};
 use moves::analyser::Analyser;
 use moves::need::{Need, stand_of};
 use moves::reading::Reading;

@@ -10,14 +10,13 @@
 //! - Each held rank stands where it does, whatever calls stand in the place of an `open` (`Stays`).
 //! - `Graph::verdict` answers the verdict: `Hang` exactly if some rank is held, else `Unfinished` if some list
 //!   was left open (`Verdicts`). Where none was, exactly the stuck ranks are held.
-//! - Its findings are what else is wrong with the recording, over all calls, reached or not (`Findings`).
+//! - Its findings are what else is wrong with the recording, as the crate `findings` defines them.
 //! - Laws, each on a function that does nothing: the unmet needs are those needs of the present call that
 //!   aren't met and no others; each stuck rank has one, no other rank has, and who is waited for at a place is
 //!   stuck too; the loose ranks are the least set that has each rank which it makes loose; the walk from each
 //!   held rank comes to a listed cause, each listed cause is the end of such a walk, and none is listed twice.
 //!
-//! Nobody has to believe `Comparisons`, `Makings` and `Spans`: they say how findings are looked for and needs
-//! are kept, and no public contract cites them.
+//! Nobody has to believe `Spans`: it says how needs are kept, and no public contract cites it.
 //!
 //! ```text
 //! // rank 0: send 0 1 0 / recv 0 1 0 / finalize      rank 1: send 0 0 0 / recv 0 0 0 / finalize
@@ -29,8 +28,6 @@
 #![tactic(auto)]
 
 pub mod cause;
-mod extent;
-pub mod finding;
 pub mod graph;
 pub mod loose;
 pub mod onward;

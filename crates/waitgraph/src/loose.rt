@@ -225,7 +225,7 @@ fn onward_of(
 }
 
 /// How the walk goes on from each rank.
-#[tactic(auto, using(crate::proofs::FindingLemmas::one_mapped))]
+#[tactic(auto, using(findings::proofs::FindingLemmas::one_mapped))]
 pub(crate) fn walks_in(
     alloc: Global,
     opened: &[bool],

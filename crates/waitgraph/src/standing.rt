@@ -2,12 +2,10 @@
 
 ghost use Rattle.std.specs.Prelude.{◌≡◌, ◌<◌, IfOk, length};
 ghost use Rattle.std.specs.List.{list_any};
-ghost use Rattle.waitgraph.specs.Held.{is_left_open, left_open_in, leaves_open, standing_at, standings_at};
+ghost use Rattle.waitgraph.specs.Held.{left_open_in, standing_at, standings_at};
 
-use crate::extent::calls;
-use callnotes::stored::StoredCall;
+use findings::left_open::{is_left_open, leaves_open};
 use moves::need::stand_of;
-use mpicall::call::Call;
 use pairing::pairs::Pairs;
 use std::alloc::{AllocError, Global};
 
@@ -22,29 +20,8 @@ pub enum Standing {
     Stuck,
 }
 
-/// Whether the call says that its rank's list was left open.
-fn leaves_open(call: &StoredCall<'_>) -> bool
-    ensures { result ≡ leaves_open call.now }
-{
-    matches!(call.record().as_call(), Call::Open)
-}
-
-/// Whether the rank's list was left open.
-pub(crate) fn is_left_open(pairs: &Pairs, rank: u16) -> bool
-    ensures { result ≡ is_left_open pairs.now.recording rank }
-{
-    let count = calls(pairs, rank);
-    if count == 0 {
-        return false;
-    }
-    match pairs.call(rank, count - 1) {
-        Some(call) => leaves_open(&call),
-        None => false,
-    }
-}
-
 /// Of each rank, whether its list was left open.
-#[tactic(auto, using(crate::proofs::FindingLemmas::one_mapped))]
+#[tactic(auto, using(findings::proofs::FindingLemmas::one_mapped))]
 pub(crate) fn left_open_in(alloc: Global, pairs: &Pairs) -> Result<Vec<bool>, AllocError>
     ensures { IfOk result (λ marks. marks.items ≡ left_open_in pairs.now.recording) }
 {

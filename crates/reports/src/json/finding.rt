@@ -10,10 +10,10 @@ ghost use Rattle.reports.specs.JsonReport.{finding_data};
 
 use crate::json::element::push_element;
 use crate::word::push_word;
+use findings::finding::Finding;
 use mpicall::word::Word;
 use serde_json::Value;
 use std::alloc::{AllocError, Global};
-use waitgraph::finding::Finding;
 
 fn kind_text(
     alloc: Global,

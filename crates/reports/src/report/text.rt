@@ -9,17 +9,17 @@ ghost use Rattle.waitgraph.specs.Causes.{CycleOf, MissingOf, view_of};
 ghost use Rattle.reports.specs.FindingTexts.{finding_fields};
 ghost use Rattle.waitgraph.specs.Graphs.{IsGraphOf};
 ghost use Rattle.reports.specs.Printing.{with_fields, PrintsAll, Prints};
-ghost use Rattle.waitgraph.specs.Places.{call_at};
+ghost use Rattle.findings.specs.Places.{call_at};
 ghost use Rattle.reports.specs.TextReport.{cause_line, finding_line, need_fields, rank_lines, text_report, unmet_line, verdict_line};
 
 use crate::report::page::{PAGE_BYTES, Page, ROOM_BYTES};
 use crate::report::printer::Printer;
 use crate::stand::stand_of;
+use findings::finding::Finding;
 use moves::analyser::Analyser;
 use moves::need::Need;
 use mpicall::device::{DeviceFault, Output};
 use waitgraph::cause::Cause;
-use waitgraph::finding::Finding;
 use waitgraph::graph::Graph;
 use waitgraph::verdict::Verdict;
 

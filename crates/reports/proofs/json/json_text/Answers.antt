@@ -3,11 +3,11 @@ use Rattle.std.specs.Prelude.{codes}
 use Rattle.serde_json.specs.Data.{string}
 use Rattle.serde_json.specs.Written.{compact_text}
 use Rattle.waitgraph.specs.Causes.{CauseView, causes_of}
-use Rattle.waitgraph.specs.Findings.{findings_of}
+use Rattle.findings.specs.Findings.{findings_of}
 use Rattle.waitgraph.specs.Held.{held_of}
 use Rattle.waitgraph.specs.Stuck.{stuck_of}
 use Rattle.waitgraph.specs.Verdicts.{verdict_by, verdict_of}
-use Rattle.waitgraph.specs.declared.finding.Finding.{Finding}
+use Rattle.findings.specs.declared.finding.Finding.{Finding}
 use Rattle.waitgraph.specs.declared.verdict.Verdict.{Verdict}
 use Rattle.reports.specs.ArrayTexts.{elements_text, key_text}
 use Rattle.reports.specs.JsonReport.{each, cause_data, finding_data, rank_data}

@@ -1,6 +1,6 @@
 use Rattle.std.proofs.Common.{◌≡◌, map}
 use Rattle.std.specs.List.{range_with_len}
-use Rattle.waitgraph.specs.Held.{is_left_open}
+use Rattle.findings.specs.LeftOpen.{is_left_open}
 use Rattle.waitgraph.proofs.standing.left_open_in.Given as goal
 
 -- whether the lists of the ranks so far were left open

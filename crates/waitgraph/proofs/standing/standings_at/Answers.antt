@@ -2,7 +2,7 @@ use Rattle.std.proofs.Common.{List, length, ap, ◌∙◌, arith}
 use Rattle.std.proofs.lemmas.List.FromFn.{length-map-range_with_len}
 use Rattle.waitgraph.specs.Held.{standing_at}
 use Rattle.waitgraph.specs.declared.standing.Standing.{Standing}
-use Rattle.waitgraph.proofs.FindingLemmas.{one_mapped}
+use Rattle.findings.proofs.FindingLemmas.{one_mapped}
 use Rattle.waitgraph.proofs.standing.standings_at.Goals as goal
 
 pub loop-rank-preserved : goal.loop-rank-preserved

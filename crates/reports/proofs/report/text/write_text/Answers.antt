@@ -5,12 +5,12 @@ use Rattle.moves.specs.declared.reading.Reading.{Reading}
 use Rattle.mpigroup.specs.Groups.{Groups}
 use Rattle.callnotes.specs.Recordings.{Lists}
 use Rattle.waitgraph.specs.Causes.{causes_of, view_of}
-use Rattle.waitgraph.specs.Findings.{findings_of}
+use Rattle.findings.specs.Findings.{findings_of}
 use Rattle.waitgraph.specs.Held.{held_of, is_some_left_open}
 use Rattle.waitgraph.specs.Stuck.{stuck_of}
 use Rattle.waitgraph.specs.Verdicts.{verdict_by}
 use Rattle.waitgraph.specs.declared.cause.Cause.{Cause}
-use Rattle.waitgraph.specs.declared.finding.Finding.{Finding}
+use Rattle.findings.specs.declared.finding.Finding.{Finding}
 use Rattle.reports.specs.Printing.{IsPrinted, PrintsAll}
 use Rattle.reports.specs.TextReport.{cause_line, finding_line, rank_lines, text_report, verdict_line}
 use Rattle.reports.proofs.report.text.write_text.Goals as goal

@@ -1,0 +1,5 @@
+pub mod Places
+pub mod LeftOpen
+pub mod Findings
+pub mod Comparisons
+pub mod Makings

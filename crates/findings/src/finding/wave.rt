@@ -1,0 +1,243 @@
+//! The calls of the members in each wave, compared with the first member's.
+
+ghost use Rattle.std.specs.Prelude.{◌≡◌, ◌<◌, ◌-◌, ◌++◌, ℕ, [], length, flat_map, is_some, option_to_list, IsTrue, IfOk, OnOk};
+ghost use Rattle.std.specs.List.{filter, range_with_len};
+ghost use Rattle.mpigroup.specs.Groups.{group_of};
+ghost use Rattle.callnotes.specs.Waves.{member_of};
+ghost use Rattle.findings.specs.Places.{call_of_member};
+ghost use Rattle.findings.specs.Findings.{found_of_member, found_in_comm, found_in_waves};
+ghost use Rattle.findings.specs.Comparisons.{comparison_of};
+ghost use Rattle.findings.specs.declared.finding.wave.Compared.{Compared};
+
+use crate::extent::{comms, waves};
+use crate::finding::Finding;
+use crate::finding::kind::kind_found;
+use crate::finding::root::root_found;
+use callnotes::stored::StoredCall;
+use moves::need::members;
+use mpicall::call::Call;
+use mpicall::record::Record;
+use pairing::pairs::Pairs;
+use std::alloc::{AllocError, Global};
+
+/// What of two calls is compared.
+#[derive(Clone, Copy)]
+pub(crate) enum Compared {
+    Kinds,
+    Roots,
+}
+
+/// What the comparison finds of a member's call.
+fn difference(
+    compared: Compared,
+    comm: u16,
+    wave: u32,
+    member: u16,
+    first: &Call,
+    call: &Call,
+) -> Option<Finding>
+    ensures { option_to_list result ≡ comparison_of compared comm wave member first.now call.now }
+{
+    match compared {
+        Compared::Kinds => kind_found(comm, wave, member, first, call),
+        Compared::Roots => root_found(comm, wave, member, first, call),
+    }
+}
+
+/// The call in a wave of the member with rank `g` in the communicator's group, seen in place.
+fn stored_of_member(pairs: &Pairs, comm: u16, wave: u32, g: u16) -> Option<StoredCall<'_>>
+    ensures { result ≡ call_of_member pairs.now.groups pairs.now.recording comm wave g }
+{
+    let rank = pairs.head().world_rank(comm, g)?;
+    let place = pairs.member(comm, wave, g)?;
+    pairs.call(rank, place)
+}
+
+/// The same as a record.
+pub(crate) fn call_of_member(pairs: &Pairs, comm: u16, wave: u32, g: u16) -> Option<Record>
+    ensures { result ≡ call_of_member pairs.now.groups pairs.now.recording comm wave g }
+{
+    Some(stored_of_member(pairs, comm, wave, g)?.record())
+}
+
+/// Whether both are the same collective, with the same root if it has one. Then nothing is found of them.
+#[tactic(auto, using(crate::proofs::AlikeLemmas::alike))]
+fn are_alike(first: &StoredCall<'_>, call: &StoredCall<'_>) -> bool
+    ensures { IsTrue result → (compared : Compared) (comm wave member : ℕ) →
+        comparison_of compared comm wave member first.now call.now ≡ [] }
+{
+    match (first.kind(), call.kind()) {
+        (Some(kind), Some(other)) => kind == other,
+        _ => false,
+    }
+}
+
+/// Whether the calls of a member and of the first one in the wave are both there, and alike.
+fn is_member_alike(pairs: &Pairs, comm: u16, wave: u32, g: u16) -> bool
+    ensures { IsTrue result → (compared : Compared) →
+        found_of_member (comparison_of compared) pairs.now.groups pairs.now.recording comm wave g ≡ [] }
+{
+    let first = stored_of_member(pairs, comm, wave, 0);
+    match (first, stored_of_member(pairs, comm, wave, g)) {
+        (Some(first), Some(call)) => are_alike(&first, &call),
+        _ => false,
+    }
+}
+
+/// The same in each of the first waves.
+fn is_alike_in_waves(pairs: &Pairs, comm: u16, waves: u32, g: u16) -> bool
+    ensures { IsTrue result → (compared : Compared) (wave : ℕ) → wave < waves →
+        found_of_member (comparison_of compared) pairs.now.groups pairs.now.recording comm wave g ≡ [] }
+{
+    for wave in 0..waves {
+        if !is_member_alike(pairs, comm, wave, g) {
+            return false;
+        }
+    }
+    true
+}
+
+/// The same of each member, in all waves.
+fn are_alike_in_comm(pairs: &Pairs, comm: u16) -> bool
+    ensures { IsTrue result → (compared : Compared) →
+        found_in_comm (comparison_of compared) pairs.now.groups pairs.now.recording comm ≡ [] }
+{
+    let waves = waves(pairs, comm);
+    for g in 1..members(pairs, comm) {
+        if !is_alike_in_waves(pairs, comm, waves, g) {
+            return false;
+        }
+    }
+    true
+}
+
+/// Whether each member's call is there and alike to the first member's in all waves, so that no comparison
+/// finds anything. It goes member by member, since calls of one rank lie side by side.
+#[tactic(auto, using(crate::proofs::AlikeLemmas::nothing_in_waves))]
+pub(crate) fn are_all_alike(pairs: &Pairs) -> bool
+    ensures { IsTrue result → (compared : Compared) →
+        found_in_waves (comparison_of compared) pairs.now.groups pairs.now.recording ≡ [] }
+{
+    for comm in 0..comms(pairs) {
+        if !are_alike_in_comm(pairs, comm) {
+            return false;
+        }
+    }
+    true
+}
+
+/// The other members of a communicator, by their ranks in its group.
+fn other_members(alloc: Global, pairs: &Pairs, comm: u16) -> Result<Vec<u16>, AllocError>
+    ensures { IfOk result (λ others. others.items ≡ range_with_len 1 (length (group_of pairs.now.groups comm) - 1)) }
+{
+    let mut others = Vec::new(alloc);
+    for g in 1..members(pairs, comm) {
+        others.push(g)?;
+    }
+    Ok(others)
+}
+
+/// Keeps those members that have a call in the wave. Who has none there has none in the waves behind it.
+fn keep_callers(others: &mut Vec<u16>, pairs: &Pairs, comm: u16, wave: u32)
+    ensures { others.new.items ≡ filter (λ g. is_some (member_of pairs.now.groups pairs.now.recording comm wave g)) others.old.items }
+{
+    others.retain(|g| pairs.member(comm, wave, *g).is_some());
+}
+
+/// What is found of a member, beside the first one's call in the wave.
+fn found_of_member(
+    pairs: &Pairs,
+    compared: Compared,
+    comm: u16,
+    wave: u32,
+    first: &Option<StoredCall<'_>>,
+    g: u16,
+) -> Option<Finding>
+    requires { first.now ≡ call_of_member pairs.now.groups pairs.now.recording comm wave 0 }
+    ensures { option_to_list result ≡ found_of_member (comparison_of compared) pairs.now.groups pairs.now.recording comm wave g }
+{
+    let call = stored_of_member(pairs, comm, wave, g)?;
+    match first {
+        Some(first) if !are_alike(first, &call) => {
+            let (first, call) = (first.record(), call.record());
+            difference(compared, comm, wave, g, first.as_call(), call.as_call())
+        }
+        _ => None,
+    }
+}
+
+fn add_of_member(
+    findings: &mut Vec<Finding>,
+    pairs: &Pairs,
+    compared: Compared,
+    comm: u16,
+    wave: u32,
+    first: &Option<StoredCall<'_>>,
+    g: u16,
+) -> Result<(), AllocError>
+    requires { first.now ≡ call_of_member pairs.now.groups pairs.now.recording comm wave 0 }
+    ensures { OnOk result (findings.new.items
+        ≡ findings.old.items ++ found_of_member (comparison_of compared) pairs.now.groups pairs.now.recording comm wave g) }
+{
+    match found_of_member(pairs, compared, comm, wave, first, g) {
+        Some(finding) => {
+            findings.push(finding)?;
+            Ok(())
+        }
+        None => Ok(()),
+    }
+}
+
+/// Adds what is found of these members in a wave.
+fn add_in_wave(
+    findings: &mut Vec<Finding>,
+    pairs: &Pairs,
+    compared: Compared,
+    comm: u16,
+    wave: u32,
+    others: &[u16],
+) -> Result<(), AllocError>
+    ensures { OnOk result (findings.new.items
+        ≡ findings.old.items ++ flat_map (found_of_member (comparison_of compared) pairs.now.groups pairs.now.recording comm wave) others.now) }
+{
+    let first = stored_of_member(pairs, comm, wave, 0);
+    for g in others {
+        add_of_member(findings, pairs, compared, comm, wave, &first, *g)?;
+    }
+    Ok(())
+}
+
+/// Adds what is found in the waves of a communicator. A member whose calls are over is asked no more, so that the
+/// cost follows the calls that there are.
+fn add_in_comm(
+    findings: &mut Vec<Finding>,
+    pairs: &Pairs,
+    compared: Compared,
+    comm: u16,
+) -> Result<(), AllocError>
+    ensures { OnOk result (findings.new.items
+        ≡ findings.old.items ++ found_in_comm (comparison_of compared) pairs.now.groups pairs.now.recording comm) }
+{
+    let mut others = other_members(*findings.allocator(), pairs, comm)?;
+    for wave in 0..waves(pairs, comm) {
+        keep_callers(&mut others, pairs, comm, wave);
+        add_in_wave(findings, pairs, compared, comm, wave, &others)?;
+    }
+    Ok(())
+}
+
+/// Adds what the comparison finds, by communicator, wave and member.
+#[tactic(auto, using(crate::proofs::FindingLemmas::one_more))]
+pub(crate) fn add_in_waves(
+    findings: &mut Vec<Finding>,
+    pairs: &Pairs,
+    compared: Compared,
+) -> Result<(), AllocError>
+    ensures { OnOk result (findings.new.items
+        ≡ findings.old.items ++ found_in_waves (comparison_of compared) pairs.now.groups pairs.now.recording) }
+{
+    for comm in 0..comms(pairs) {
+        add_in_comm(findings, pairs, compared, comm)?;
+    }
+    Ok(())
+}

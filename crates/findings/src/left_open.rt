@@ -1,0 +1,30 @@
+//! Which lists were left open, so that further calls may yet come.
+
+ghost use Rattle.std.specs.Prelude.{◌≡◌};
+ghost use Rattle.findings.specs.LeftOpen.{is_left_open, leaves_open};
+
+use crate::extent::calls;
+use callnotes::stored::StoredCall;
+use mpicall::call::Call;
+use pairing::pairs::Pairs;
+
+/// Whether the call says that its rank's list was left open.
+pub fn leaves_open(call: &StoredCall<'_>) -> bool
+    ensures { result ≡ leaves_open call.now }
+{
+    matches!(call.record().as_call(), Call::Open)
+}
+
+/// Whether the rank's list was left open.
+pub fn is_left_open(pairs: &Pairs, rank: u16) -> bool
+    ensures { result ≡ is_left_open pairs.now.recording rank }
+{
+    let count = calls(pairs, rank);
+    if count == 0 {
+        return false;
+    }
+    match pairs.call(rank, count - 1) {
+        Some(call) => leaves_open(&call),
+        None => false,
+    }
+}

@@ -1,9 +1,0 @@
-use Rattle.std.proofs.Common.{◌≡◌, ◌<◌, ◌≤◌, ℕ, []}
-use Rattle.waitgraph.specs.declared.finding.wave.Compared.{Compared}
-use Rattle.waitgraph.specs.Comparisons.{comparison_of}
-use Rattle.waitgraph.specs.Findings.{found_of_member}
-use Rattle.waitgraph.proofs.finding.wave.are_alike_in_comm.Given as goal
-
--- nothing is found so far
-abbrev pub invariant-loop-g : goal.invariant-loop-g
-invariant-loop-g l = (compared : Compared) (g wave : ℕ) → 1 ≤ g → g < l.g → wave < l.waves → found_of_member (comparison_of compared) l.pairs.groups l.pairs.recording l.comm wave g ≡ []
