@@ -6,7 +6,7 @@ ghost use Rattle.std.specs.List.{list_all};
 ghost use Rattle.callnotes.specs.Limits.{most_calls};
 ghost use Rattle.callnotes.specs.Recordings.{calls_of};
 ghost use Rattle.moves.specs.Needs.{half_needs, probe_needs, is_met};
-ghost use Rattle.moves.specs.Waiting.{message_needs, AreWaves, IsNoException, TellsOperation, TellsRequest, TellsCompleted, TellsCall, TellsRank};
+ghost use Rattle.moves.specs.Waiting.{message_needs, open_wave, AreWaves, IsNoException, TellsOperation, TellsRequest, TellsCompleted, TellsCall, TellsRank};
 
 use crate::need::{is_reached, stand_of};
 use crate::progress::Progress;
@@ -59,7 +59,8 @@ fn is_probe_met(pairs: &Pairs, stands: &[u32], rank: u16, place: u32, call: &Sto
     }
 }
 
-/// Whether each message of the call has what it needs.
+/// Whether each message of the call has what it needs. The partner is asked for first: a send whose receive is reached
+/// goes by every reading.
 fn are_messages_met(
     reading: Reading,
     pairs: &Pairs,
@@ -73,12 +74,31 @@ fn are_messages_met(
     if !matches!(call.does(), Does::Exchanges { .. }) {
         return true;
     }
-    (sends_freely(reading, call) || is_half_met(pairs, stands, rank, place, Half::Send, call))
+    (is_half_met(pairs, stands, rank, place, Half::Send, call) || sends_freely(reading, call))
         && is_half_met(pairs, stands, rank, place, Half::Recv, call)
         && is_probe_met(pairs, stands, rank, place, call)
 }
 
+/// The communicator of the wave that the call joins, where that wave is not complete.
+#[inline(always)]
+fn open_wave(
+    pairs: &Pairs,
+    progress: &Progress,
+    rank: u16,
+    place: u32,
+    call: &StoredCall<'_>,
+) -> Option<u16>
+    requires { slice_get (calls_of pairs.now.recording rank) place ≡ Some call.now }
+    ensures { result ≡ open_wave pairs.now.groups pairs.now.recording progress.now rank place }
+{
+    match call.does() {
+        Does::Joins { .. } => progress.open_wave(pairs, rank, place),
+        _ => None,
+    }
+}
+
 /// What is told of the operation of the call at the place.
+#[inline(always)]
 fn look_at_operation(
     reading: Reading,
     pairs: &Pairs,
@@ -95,7 +115,7 @@ fn look_at_operation(
     if !are_messages_met(reading, pairs, stands, rank, place, call) {
         return Look::Partner { place };
     }
-    match progress.open_wave(pairs, rank, place) {
+    match open_wave(pairs, progress, rank, place, call) {
         Some(comm) => Look::Wave { comm },
         None => Look::Moves,
     }
