@@ -14,8 +14,9 @@ use std::fs::File;
 use std::io::{self, Read};
 use std::process::ExitCode;
 
-const GREATEST_COMM: u16 = 255;
-const GREATEST_RANK: u16 = 63;
+const GREATEST_COMM: u16 = 4095;
+const GREATEST_RANK: u16 = 1023;
+const MOST_BYTES: u32 = 2_147_483_647;
 const GREATEST_TAG: u32 = 2_147_483_647;
 const GREATEST_REQUEST: u32 = 2_147_483_647;
 const GREATEST_COLOUR: u32 = 2_147_483_647;
@@ -85,11 +86,12 @@ impl Reqs {
 
 #[derive(Clone, Copy, Debug)]
 enum Call {
-    Send { mode: Mode, comm: u16, dest: Peer, tag: u32 },
+    Send { mode: Mode, comm: u16, dest: Peer, tag: u32, bytes: Option<u32> },
     Recv { comm: u16, source: Peer, tag: u32 },
-    Isend { req: u32, mode: Mode, comm: u16, dest: Peer, tag: u32 },
+    Isend { req: u32, mode: Mode, comm: u16, dest: Peer, tag: u32, bytes: Option<u32> },
     Irecv { req: u32, comm: u16, source: Peer, tag: u32 },
-    Sendrecv { comm: u16, dest: Peer, send_tag: u32, source: Peer, recv_tag: u32 },
+    Sendrecv { comm: u16, dest: Peer, send_tag: u32, source: Peer, recv_tag: u32, bytes: Option<u32> },
+    Probe { comm: u16, source: Peer, tag: u32 },
     Wait { req: u32 },
     Waitall { reqs: Reqs },
     Waitany { chosen: u8, reqs: Reqs },
@@ -98,6 +100,7 @@ enum Call {
     Dup { comm: u16, new: u16 },
     Split { comm: u16, colour: Option<u32>, key: i32, new: Option<u16> },
     Finalize,
+    Open,
 }
 
 /// A call whose fields lie in their ranges.
@@ -182,12 +185,14 @@ enum Word {
     Blocking(Operation),
     Started(Operation),
     Sendrecv,
+    Probe,
     Wait,
     Waitall,
     Waitany,
     Dup,
     Split,
     Finalize,
+    Open,
 }
 
 fn collective_of(field: &[u8]) -> Option<Collective> {
@@ -226,9 +231,11 @@ fn other_of(field: &[u8]) -> Option<Word> {
         b"wait" => Word::Wait,
         b"waitany" => Word::Waitany,
         b"sendrecv" => Word::Sendrecv,
+        b"probe" => Word::Probe,
         b"dup" => Word::Dup,
         b"split" => Word::Split,
         b"finalize" => Word::Finalize,
+        b"open" => Word::Open,
         _ => return None,
     })
 }
@@ -341,6 +348,22 @@ impl<'a> Fields<'a> {
         Some((self.next_comm()?, self.next_peer()?, self.next_tag()?))
     }
 
+    /// The bytes that a send tells, where there is a field more.
+    fn next_bytes(&mut self) -> Option<Option<u32>> {
+        match self.next() {
+            None => Some(None),
+            Some(field) => Some(Some(read_number(MOST_BYTES, field)?)),
+        }
+    }
+
+    /// The same for a send of a mode: standard ones alone may tell bytes.
+    fn next_bytes_of(&mut self, mode: Mode) -> Option<Option<u32>> {
+        match mode {
+            Mode::Standard => self.next_bytes(),
+            _ => Some(None),
+        }
+    }
+
     /// The kind of a collective, whose root is the next field if it has one.
     fn next_kind(&mut self, collective: Collective) -> Option<Kind> {
         Some(match collective {
@@ -392,8 +415,9 @@ fn read_blocking(operation: Operation, mut fields: Fields<'_>, into: &mut Call) 
     match operation {
         Operation::Send(mode) => {
             let (comm, dest, tag) = fields.next_message()?;
+            let bytes = fields.next_bytes_of(mode)?;
             fields.end()?;
-            *into = Call::Send { mode, comm, dest, tag };
+            *into = Call::Send { mode, comm, dest, tag, bytes };
         }
         Operation::Recv => {
             let (comm, source, tag) = fields.next_message()?;
@@ -415,8 +439,9 @@ fn read_started(operation: Operation, mut fields: Fields<'_>, into: &mut Call) -
     match operation {
         Operation::Send(mode) => {
             let (comm, dest, tag) = fields.next_message()?;
+            let bytes = fields.next_bytes_of(mode)?;
             fields.end()?;
-            *into = Call::Isend { req, mode, comm, dest, tag };
+            *into = Call::Isend { req, mode, comm, dest, tag, bytes };
         }
         Operation::Recv => {
             let (comm, source, tag) = fields.next_message()?;
@@ -437,8 +462,16 @@ fn read_sendrecv(mut fields: Fields<'_>, into: &mut Call) -> Option<()> {
     let (comm, dest, send_tag) = fields.next_message()?;
     let source = fields.next_peer()?;
     let recv_tag = fields.next_tag()?;
+    let bytes = fields.next_bytes()?;
     fields.end()?;
-    *into = Call::Sendrecv { comm, dest, send_tag, source, recv_tag };
+    *into = Call::Sendrecv { comm, dest, send_tag, source, recv_tag, bytes };
+    Some(())
+}
+
+fn read_probe(mut fields: Fields<'_>, into: &mut Call) -> Option<()> {
+    let (comm, source, tag) = fields.next_message()?;
+    fields.end()?;
+    *into = Call::Probe { comm, source, tag };
     Some(())
 }
 
@@ -483,9 +516,10 @@ fn read_split(mut fields: Fields<'_>, into: &mut Call) -> Option<()> {
     Some(())
 }
 
-fn read_finalize(fields: Fields<'_>, into: &mut Call) -> Option<()> {
+/// Reads an end record, which has no fields.
+fn read_end_record(call: Call, fields: Fields<'_>, into: &mut Call) -> Option<()> {
     fields.end()?;
-    *into = Call::Finalize;
+    *into = call;
     Some(())
 }
 
@@ -498,9 +532,11 @@ fn read_behind(word: Word, fields: Fields<'_>, into: &mut Call) -> Option<()> {
         Word::Wait => read_wait(fields, into),
         Word::Waitany => read_waitany(fields, into),
         Word::Sendrecv => read_sendrecv(fields, into),
+        Word::Probe => read_probe(fields, into),
         Word::Dup => read_dup(fields, into),
         Word::Split => read_split(fields, into),
-        Word::Finalize => read_finalize(fields, into),
+        Word::Finalize => read_end_record(Call::Finalize, fields, into),
+        Word::Open => read_end_record(Call::Open, fields, into),
     }
 }
 
@@ -510,9 +546,10 @@ fn read_fields(mut fields: Fields<'_>, into: &mut Call) -> Option<()> {
     read_behind(word, fields, into)
 }
 
-/// How many fields an operation takes.
-fn field_count(operation: Operation) -> usize {
+/// How many fields an operation takes, where there are so many.
+fn field_count(operation: Operation, count: usize) -> usize {
     match operation {
+        Operation::Send(Mode::Standard) if count == 4 => 4,
         Operation::Send(_) | Operation::Recv => 3,
         Operation::Coll(
             Collective::Bcast | Collective::Gather | Collective::Scatter | Collective::Reduce,
@@ -523,22 +560,23 @@ fn field_count(operation: Operation) -> usize {
 
 fn takes_count(word: Word, count: usize) -> bool {
     match word {
-        Word::Blocking(operation) => count == field_count(operation),
-        Word::Started(operation) => count == 1 + field_count(operation),
-        Word::Sendrecv => count == 5,
+        Word::Blocking(operation) => count == field_count(operation, count),
+        Word::Started(operation) => count >= 1 && count == 1 + field_count(operation, count - 1),
+        Word::Sendrecv => count == 5 || count == 6,
+        Word::Probe => count == 3,
         Word::Wait => count == 1,
         Word::Waitall => (1..=MOST_REQUESTS).contains(&count),
         Word::Waitany => (2..=MOST_REQUESTS + 1).contains(&count),
         Word::Dup => count == 2,
         Word::Split => count == 4,
-        Word::Finalize => count == 0,
+        Word::Finalize | Word::Open => count == 0,
     }
 }
 
 /// How many fields stand before the source of a receive.
 fn source_place(word: Word) -> Option<usize> {
     match word {
-        Word::Blocking(Operation::Recv) => Some(1),
+        Word::Blocking(Operation::Recv) | Word::Probe => Some(1),
         Word::Started(Operation::Recv) => Some(2),
         Word::Sendrecv => Some(3),
         _ => None,
@@ -652,7 +690,7 @@ impl Window {
 #[derive(Clone, Copy)]
 enum Stage {
     Reading,
-    Finalized,
+    Ended,
     Done,
     Failed(SourceFault),
 }
@@ -673,7 +711,7 @@ impl<I: Read> Source<I> {
     fn next_into(&mut self, into: &mut Record) -> Result<bool, SourceFault> {
         match self.stage {
             Stage::Reading => self.read_record(into).map(|()| true),
-            Stage::Finalized => self.read_end().map(|()| false),
+            Stage::Ended => self.read_end().map(|()| false),
             Stage::Done => Ok(false),
             Stage::Failed(fault) => Err(fault),
         }
@@ -694,13 +732,13 @@ impl<I: Read> Source<I> {
             return self.fail(SourceFault::Line(fault));
         }
         self.window.start += len;
-        if let Call::Finalize = into.call {
-            self.stage = Stage::Finalized;
+        if let Call::Finalize | Call::Open = into.call {
+            self.stage = Stage::Ended;
         }
         Ok(())
     }
 
-    /// Looks for bytes behind `finalize`.
+    /// Looks for bytes behind the end record.
     fn read_end(&mut self) -> Result<(), SourceFault> {
         match self.window.has_more(&mut self.input) {
             Ok(false) => {
@@ -729,7 +767,7 @@ fn lint<I: Read>(source: &mut Source<I>) -> Result<u64, (u64, SourceFault)> {
 /// The sum of a record's tags and requests.
 fn number_of(record: &Record) -> u64 {
     match &record.call {
-        Call::Send { tag, .. } | Call::Recv { tag, .. } => u64::from(*tag),
+        Call::Send { tag, .. } | Call::Recv { tag, .. } | Call::Probe { tag, .. } => u64::from(*tag),
         Call::Isend { req, tag, .. } | Call::Irecv { req, tag, .. } => u64::from(*req) + u64::from(*tag),
         Call::Sendrecv { send_tag, recv_tag, .. } => u64::from(*send_tag) + u64::from(*recv_tag),
         Call::Wait { req } | Call::Icoll { req, .. } => u64::from(*req),
