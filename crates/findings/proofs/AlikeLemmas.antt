@@ -12,7 +12,7 @@ use Rattle.mpicall.specs.declared.call.Call.TheVariants.{Coll}
 use Rattle.mpicall.specs.declared.call.Kind.{Kind}
 use Rattle.mpicall.specs.Spelling.{root_of, word_of_call}
 use Rattle.mpicall.specs.Word.{text_of}
-use Rattle.pairing.specs.Pairs.{kind_of}
+use Rattle.callnotes.specs.Kinds.{kind_of}
 use Rattle.findings.specs.declared.finding.wave.Compared.{Compared}
 use Rattle.findings.specs.declared.finding.wave.Compared.TheVariants.{Kinds, Roots}
 use Rattle.findings.specs.Comparisons.{comparison_of}
