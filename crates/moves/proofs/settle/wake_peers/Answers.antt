@@ -1,5 +1,5 @@
 -- Who has no message wakes nobody by one.
-use Rattle.std.proofs.Common.{◌≡◌, ℕ, Option, None, refl}
+use Rattle.std.proofs.Common.{◌≡◌, ℕ, None, refl}
 use Rattle.mpigroup.specs.Groups.{Groups}
 use Rattle.callnotes.specs.Recordings.{Lists}
 use Rattle.pairing.specs.Partners.{partner_of}
