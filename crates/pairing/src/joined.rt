@@ -61,11 +61,12 @@ impl Waves {
         ensures { IfOk result (λ waves. (ranks : ℕ) → IsJoined (replicate ranks []) waves) }
     {
         let ranks = head.ranks();
+        let lists = PlaceLists::new(alloc, ranks)?;
         Ok(Waves {
             alloc,
             ranks,
             joined: IndexSet::new(alloc),
-            lists: PlaceLists::new(alloc, ranks)?,
+            lists,
         })
     }
 

@@ -63,9 +63,10 @@ impl Numbering {
     pub(crate) fn new(alloc: Global) -> Result<Numbering, AllocError>
         ensures { IfOk result (λ numbering. numbering ≡ []) }
     {
+        let cells = vec![in alloc; None; ENVELOPE_CELLS]?;
         Ok(Numbering {
             envelopes: IndexSet::new(alloc),
-            cells: vec![in alloc; None; ENVELOPE_CELLS]?,
+            cells,
         })
     }
 
