@@ -179,7 +179,7 @@ fn what_a_close_answers(rt: HostRuntime) -> Result<(), Fail> {
         SourceFault,
         Option<u16>,
         (usize, Result<Verdict, CloseFault>),
-    ); 7] = [
+    ); 8] = [
         (&BUFFERED, none, None, (6, Ok(Verdict::Free))),
         (&HEAD_TO_HEAD, none, None, (6, Ok(Verdict::Hang))),
         (
@@ -198,6 +198,12 @@ fn what_a_close_answers(rt: HostRuntime) -> Result<(), Fail> {
         ),
         (
             &[(0, b"finalize\n")],
+            not_started,
+            None,
+            (1, refused(1, 0, RankFault::OfSource(not_started))),
+        ),
+        (
+            &[(0, b"open\n")],
             not_started,
             None,
             (1, refused(1, 0, RankFault::OfSource(not_started))),

@@ -31,6 +31,12 @@ const TEXTS: [&[u8]; 2] = [
     b"bsend 0 0 0\nrecv 0 0 0\nfinalize\n",
 ];
 
+/// The same of a run that was cut off.
+const CUT_OFF: [&[u8]; 2] = [
+    b"bsend 0 1 0\nprobe 0 1 0\nopen\n",
+    b"bsend 0 0 0\nprobe 0 0 0\nopen\n",
+];
+
 /// The sources of these texts.
 fn sources_of(
     alloc: Global,
@@ -82,14 +88,15 @@ where
     Ok((answer, out))
 }
 
-/// What a run over the two texts answers, and what it writes.
+/// What a run over two texts answers, and what it writes.
 fn answer<G: Gate + Sync, R: Threads + Wait + Sync>(
     alloc: Global,
+    texts: &[&'static [u8]],
     gate: &G,
     rt: &R,
     by: ReadBy,
 ) -> Result<(Result<Verdict, RunFault>, MemoryOutput), Fail> {
-    let sources = sources_of(alloc, &TEXTS)?;
+    let sources = sources_of(alloc, texts)?;
     answer_of(alloc, sources, gate, rt, by)
 }
 
@@ -124,7 +131,7 @@ fn the_ranks_are_read_at_once(rt: HostRuntime) -> Result<(), Fail> {
         first: AtomicBool::new(false),
         second: AtomicBool::new(false),
     };
-    let (answer, out) = answer(rt.alloc(), &gate, &rt, IN_THREADS)?;
+    let (answer, out) = answer(rt.alloc(), &TEXTS, &gate, &rt, IN_THREADS)?;
     assert_eq!(rt; answer, Ok(Verdict::Free));
     assert_eq!(rt; out.bytes(), b"verdict free\n".as_slice());
     Ok(())
@@ -143,13 +150,17 @@ impl Gate for StopsAt {
 /// At each of its questions: one for each of the three records, and one for the end behind them.
 #[test]
 fn a_gate_stops_a_rank(rt: HostRuntime) -> Result<(), Fail> {
-    stops_at_each_question(&rt, IN_THREADS)?;
-    stops_at_each_question(&rt, ReadBy::Turns)
+    for texts in [TEXTS, CUT_OFF] {
+        stops_at_each_question(&rt, &texts, IN_THREADS)?;
+        stops_at_each_question(&rt, &texts, ReadBy::Turns)?;
+    }
+    Ok(())
 }
 
 /// Asserts that the place at which a gate stops a rank is told, for each place.
 fn stops_at_each_question<R: Abort + AllocGlobal + Threads + Wait + Sync>(
     rt: &R,
+    texts: &[&'static [u8]],
     by: ReadBy,
 ) -> Result<(), Fail> {
     for (rank, line) in [
@@ -162,7 +173,7 @@ fn stops_at_each_question<R: Abort + AllocGlobal + Threads + Wait + Sync>(
         (1, 2),
         (1, 3),
     ] {
-        let (answer, out) = answer(rt.alloc(), &StopsAt(rank, line), rt, by)?;
+        let (answer, out) = answer(rt.alloc(), texts, &StopsAt(rank, line), rt, by)?;
         let refusal = Refusal {
             rank,
             call: line,
@@ -232,8 +243,10 @@ fn a_read_fails_behind_a_line(rt: HostRuntime) -> Result<(), Fail> {
     let whole: Given<'_> = (TEXTS[1], 0, NEVER);
     let wildcard: Given<'_> = (b"recv 0 any 7\nrecv 0 0 0\nfinalize\n", 0, NEVER);
     let no_peer: Given<'_> = (b"send 0 9 0\nrecv 0 1 0\nfinalize\n", 11, 1);
-    let rows: [(Given<'_>, Given<'_>, u32, RankFault); 3] = [
+    let cut_off: Given<'_> = (CUT_OFF[0], 12, 1);
+    let rows: [(Given<'_>, Given<'_>, u32, RankFault); 4] = [
         (first, whole, 1, failed),
+        (cut_off, whole, 1, failed),
         // The other rank's fault is hidden.
         (first, wildcard, 1, failed),
         // The line itself has a fault, which comes before that of the read.
@@ -381,7 +394,7 @@ fn no_thread_starts(rt: HostRuntime) -> Result<(), Fail> {
     let by = ReadBy::Threads {
         stack_size: Some(usize::MAX),
     };
-    let (answer, out) = answer(rt.alloc(), &OpenGate, &rt, by)?;
+    let (answer, out) = answer(rt.alloc(), &TEXTS, &OpenGate, &rt, by)?;
     let refusal = Refusal {
         rank: 0,
         call: 0,
