@@ -8,7 +8,7 @@ use Rattle.command.specs.Faults.{status_of_fault}
 use Rattle.command.specs.FaultTexts.{line_of_fault}
 use Rattle.command.specs.Outputs.{Written, Nothing, Whole, Broken, Becomes, FailsToWrite, LeavesAtFault, Tries, Writes}
 use Rattle.command.specs.declared.fault.Fault.{Fault}
-use Rattle.command.specs.declared.fault.Fault.TheVariants.{Refused, Memory, Write}
+use Rattle.command.specs.declared.fault.Fault.TheVariants.{Memory, Write}
 use Rattle.command.specs.declared.program.Complaint.{Complaint}
 use Rattle.command.specs.declared.program.Complaint.TheVariants as complaint
 use Rattle.command.specs.declared.status.Status.{Status}

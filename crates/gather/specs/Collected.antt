@@ -1,7 +1,7 @@
 -- What a collector keeps of the ranks' records, which come from their feeds in any order: for each rank the
 -- records before its first fault, and that fault.
 use Rattle.moves.specs.declared.reading.Reading.{Reading}
-use Rattle.std.specs.Prelude.{◌≡◌, ◌≢◌, ◌⊎◌, ℕ, ◌+◌, Bool, true, false, not, ◌&&◌, is_none, unwrap_or, if◌then◌else◌, Option, Some, None, List, [], ◌∷◌, ◌++◌, length, take, replicate, slice_get, slice_set}
+use Rattle.std.specs.Prelude.{◌≡◌, ◌≢◌, ◌⊎◌, ℕ, ◌+◌, Bool, true, false, not, ◌&&◌, is_none, unwrap_or, if◌then◌else◌, Option, Some, None, List, [], ◌∷◌, length, take, replicate, slice_get, slice_set}
 use Rattle.mpicall.specs.declared.call.Call.{Call}
 use Rattle.mpigroup.specs.Groups.{Groups, ranks_of, or_empty}
 use Rattle.callnotes.specs.Recordings.{Lists, calls_of, appended}

@@ -11,12 +11,12 @@ use Rattle.mpicall.specs.Argument.{Argument, Number, PeerOf, Colour, Key, New, s
 use Rattle.mpicall.specs.Spelling.{space, fields_of, word_of_call, arguments_of}
 use Rattle.mpicall.specs.Word.{collective_text, operation_text, text_of}
 use Rattle.mpicall.specs.declared.call.Call.{Call}
-use Rattle.mpicall.specs.declared.call.Mode.TheVariants.{Standard, Synchronous, Buffered}
+use Rattle.mpicall.specs.declared.call.Mode.TheVariants.{Standard}
 use Rattle.mpicall.specs.declared.call.Peer.TheVariants.{Rank, Null}
 use Rattle.mpicall.specs.declared.word.Collective.{Collective}
-use Rattle.mpicall.specs.declared.word.Collective.TheVariants.{Barrier, Bcast, Gather, Scatter, Reduce, Allgather, Alltoall, Allreduce, Scan, Exscan}
+use Rattle.mpicall.specs.declared.word.Collective.TheVariants.{Barrier}
 use Rattle.mpicall.specs.declared.word.Operation.{Operation}
-use Rattle.mpicall.specs.declared.word.Operation.TheVariants.{Send, Recv, Coll}
+use Rattle.mpicall.specs.declared.word.Operation.TheVariants.{Send, Coll}
 use Rattle.mpicall.specs.declared.word.Word.{Word}
 use Rattle.mpicall.specs.declared.word.Word.TheVariants.{Blocking, Started, Named}
 use Rattle.mpicall.specs.declared.word.Name.TheVariants.{Waitall}

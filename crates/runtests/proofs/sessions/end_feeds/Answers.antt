@@ -1,7 +1,7 @@
-use Rattle.std.proofs.Common.{rules, ◌≡◌, length, map, [], sym, ap, ◌∙◌, subst, arith}
+use Rattle.std.proofs.Common.{rules, length, map, sym, ap, ◌∙◌, subst, arith}
 use Rattle.std.specs.Vec.Iter.{into_iter_items}
 use Rattle.std.proofs.lemmas.List.{nil_from_length}
-use Rattle.rankfeed.specs.Rings.{FeedName, feed_ring}
+use Rattle.rankfeed.specs.Rings.{feed_ring}
 use Rattle.runtests.proofs.ReceiptLemmas.{ReceiptsTo, one_receipt_more, all_receipts}
 use Rattle.runtests.proofs.sessions.end_feeds.Goals as goal
 

@@ -1,4 +1,4 @@
-use Rattle.std.proofs.Common.{◌≡◌, ap, ◌∙◌}
+use Rattle.std.proofs.Common.{ap, ◌∙◌}
 use Rattle.std.proofs.Math.Seq.{map-set_same}
 use Rattle.rankfeed.specs.Rings.{feed_ring}
 use Rattle.runtests.proofs.sessions.put_at.Goals as goal
