@@ -12,6 +12,7 @@ use std::marker::Model;
 const MOST_CELLS: usize = u32::MAX as usize;
 
 /// Links the cell between the head of a ring and the last before it.
+#[inline(always)]
 fn link(nexts: &mut Vec<u32>, prevs: &mut Vec<u32>, head: u32, cell: u32)
     requires same { length nexts.old.items ≡ length prevs.old.items }
     requires head { head < length nexts.old.items }
@@ -28,6 +29,7 @@ fn link(nexts: &mut Vec<u32>, prevs: &mut Vec<u32>, head: u32, cell: u32)
 }
 
 /// Links the neighbours of the cell to one another.
+#[inline(always)]
 fn unlink(nexts: &mut Vec<u32>, prevs: &mut Vec<u32>, cell: u32)
     requires same { length nexts.old.items ≡ length prevs.old.items }
     requires cell { cell < length nexts.old.items }
@@ -119,6 +121,7 @@ impl Links {
         }
     }
 
+    #[inline(always)]
     pub(crate) fn list_count(&self) -> usize
         ensures { result ≡ length self.now.lists }
     {
@@ -126,6 +129,7 @@ impl Links {
     }
 
     /// The number of a list, in 32 bits.
+    #[inline(always)]
     pub(crate) fn list(&self, number: usize) -> u32
         requires { number < length self.now.lists }
         ensures { result ≡ number }
@@ -176,6 +180,7 @@ impl Links {
     }
 
     /// Links a cell that is in no list at the back of a list.
+    #[inline(always)]
     pub(crate) fn link(&mut self, list: u32, cell: u32)
         requires list { list < length self.old.lists }
         requires cell { cell < self.old.cells }
@@ -190,6 +195,7 @@ impl Links {
     }
 
     /// Takes a cell out of its list.
+    #[inline(always)]
     pub(crate) fn unlink(&mut self, cell: u32)
         requires { 0 < in_all cell self.old.lists }
         ensures heads { self.new.heads ≡ self.old.heads }
@@ -201,6 +207,7 @@ impl Links {
     }
 
     /// The first cell of a list.
+    #[inline(always)]
     pub(crate) fn first(&self, list: u32) -> Option<u32>
         requires { list < length self.now.lists }
         ensures { result ≡ first_of (list_at self.now.lists list) }

@@ -113,6 +113,7 @@ impl<T> Lists<T> {
     }
 
     /// Makes spare nodes where there are fewer than so many.
+    #[inline(always)]
     pub fn reserve(&mut self, nodes: usize) -> Result<(), AllocError>
         ensures lists { self.new.lists ≡ self.old.lists }
         ensures spare { OnOk result (self.new.spare ≡ max self.old.spare nodes) }
@@ -149,6 +150,7 @@ impl<T> Lists<T> {
     }
 
     /// The first node of a list.
+    #[inline(always)]
     pub fn first(&self, list: ListId) -> Option<Node>
         requires { list < length self.now.lists }
         ensures node { result ≡ first_node (list_at self.now.lists list) }
@@ -173,6 +175,7 @@ impl<T> Lists<T> {
     }
 
     /// How many lists there are. Their numbers are those below.
+    #[inline(always)]
     pub fn list_count(&self) -> usize
         ensures { result ≡ length self.now.lists }
     {
@@ -180,6 +183,7 @@ impl<T> Lists<T> {
     }
 
     /// The list of that number.
+    #[inline(always)]
     pub fn list(&self, number: usize) -> ListId
         requires { number < length self.now.lists }
         ensures { result ≡ number }
@@ -225,6 +229,7 @@ impl<T> Lists<T> {
     }
 
     /// Takes a node out of its list, and answers its value. The node is spare then.
+    #[inline(always)]
     pub fn unlink(&mut self, node: Node) -> T
         requires { IsLinked self.old.lists node }
         ensures value { value_at self.old.lists node ≡ Some result }
@@ -240,6 +245,7 @@ impl<T> Lists<T> {
     }
 
     /// Takes the first node out of a list, and answers its value.
+    #[inline(always)]
     pub fn pop_front(&mut self, list: ListId) -> Option<T>
         requires { list < length self.old.lists }
         ensures value { result ≡ first_value (list_at self.old.lists list) }
@@ -288,6 +294,7 @@ impl<T> Lists<T> {
 
 impl<T: Drop> Lists<T> {
     /// Puts a value at the back of a list, in a spare node, and answers the node.
+    #[inline(always)]
     pub fn push_reserved(&mut self, list: ListId, value: T) -> Node
         requires list { list < length self.old.lists }
         requires room { 0 < self.old.spare }

@@ -17,7 +17,9 @@ use Rattle.mpicall.specs.declared.laid.Laid.TheVariants as laid
 use Rattle.mpicall.specs.declared.word.Name.{Name}
 use Rattle.mpicall.specs.declared.word.Name.TheVariants as name
 use Rattle.callnotes.specs.declared.packed.Packed.{Packed}
-use Rattle.callnotes.specs.declared.packed.Packed.TheVariants.{Send, Wait, Waitall, Waitany, Nothing, Message, Exchange, Copy, Split}
+use Rattle.callnotes.specs.declared.packed.Packed.TheVariants.{Send, Recv, Wait, Waitall, Waitany, Nothing, Message, Exchange, Copy, Split}
+use Rattle.mpicall.specs.declared.call.Peer.TheVariants.{Rank, Null}
+use Rattle.callnotes.specs.Often.{kind_no}
 use Rattle.callnotes.specs.declared.packed.Entry.{Entry}
 use Rattle.std.specs.Option.{option_map, option_map_or}
 use Rattle.std.specs.List.{slice_get}
@@ -28,7 +30,7 @@ use Rattle.callnotes.specs.Beside.{with_partner}
 use Rattle.callnotes.specs.Limits.{most_calls}
 use Rattle.callnotes.specs.Requests.{starts as starts_of, waits_for, completes as completes_of}
 use Rattle.callnotes.specs.Notes.{Noted, listed, calls_in, note_with, partnered_in, request_among, AreStarts, completed_among}
-use Rattle.callnotes.specs.Packed.{request_of, request_at, req_at, reqs_at, part, unpack, unpack_starts, end_of, noted, noted_of, StartRequests, IsStored, AreStored, listed_starts}
+use Rattle.callnotes.specs.Packed.{request_of, kind_no_of, request_at, req_at, reqs_at, part, unpack, unpack_starts, end_of, noted, noted_of, StartRequests, IsStored, AreStored, listed_starts}
 use Rattle.callnotes.proofs.OptionLemmas.{same_map}
 
 -- a part of a list stays as the list goes on
@@ -116,14 +118,26 @@ pub record IsApart (call : Call) : Type 0 where
   pub waits : waits_for call ≡ []
   pub completes : completes_of call ≡ []
   pub among : completed_among call [] ≡ []
+  pub kind : kind_no call ≡ 0
 
 pub laid_apart : (it : Laid) (n : Name) → IsApart (call_by n it)
-laid_apart laid.Nothing name.Waitall = record { starts = refl; waits = refl; completes = refl; among = refl }
-laid_apart (laid.Message comm source tag) name.Waitall = record { starts = refl; waits = refl; completes = refl; among = refl }
-laid_apart (laid.Exchange comm dest send_tag source recv_tag bytes) name.Waitall = record { starts = refl; waits = refl; completes = refl; among = refl }
-laid_apart (laid.Copy comm new) name.Waitall = record { starts = refl; waits = refl; completes = refl; among = refl }
-laid_apart (laid.Split comm colour key new) name.Waitall = record { starts = refl; waits = refl; completes = refl; among = refl }
-laid_apart _ _ = record { starts = refl; waits = refl; completes = refl; among = refl }
+laid_apart laid.Nothing name.Waitall = record { starts = refl; waits = refl; completes = refl; among = refl; kind = refl }
+laid_apart (laid.Message comm source tag) name.Waitall = record { starts = refl; waits = refl; completes = refl; among = refl; kind = refl }
+laid_apart (laid.Exchange comm dest send_tag source recv_tag bytes) name.Waitall = record { starts = refl; waits = refl; completes = refl; among = refl; kind = refl }
+laid_apart (laid.Copy comm new) name.Waitall = record { starts = refl; waits = refl; completes = refl; among = refl; kind = refl }
+laid_apart (laid.Split comm colour key new) name.Waitall = record { starts = refl; waits = refl; completes = refl; among = refl; kind = refl }
+laid_apart _ _ = record { starts = refl; waits = refl; completes = refl; among = refl; kind = refl }
+
+-- the kind of an entry is that of its call
+pub kind_unpacked : (entries : List Entry) (starts : List ℕ) (packed : Packed) → kind_no (unpack entries starts packed) ≡ kind_no_of packed
+kind_unpacked entries starts (Recv comm (Rank source) tag) = refl
+kind_unpacked entries starts (Recv comm Null tag) = refl
+kind_unpacked entries starts (Nothing name) = (laid_apart laid.Nothing name).kind
+kind_unpacked entries starts (Message name comm source tag) = (laid_apart (laid.Message comm source tag) name).kind
+kind_unpacked entries starts (Exchange name comm dest source send_tag recv_tag bytes) = (laid_apart (laid.Exchange comm dest send_tag source recv_tag bytes) name).kind
+kind_unpacked entries starts (Copy name comm new) = (laid_apart (laid.Copy comm new) name).kind
+kind_unpacked entries starts (Split name comm colour key new) = (laid_apart (laid.Split comm colour key new) name).kind
+kind_unpacked entries starts _ = refl
 
 -- the request that an entry starts is that of its call
 request_unpacked : (entries : List Entry) (starts : List ℕ) (packed : Packed) → starts_of (unpack entries starts packed) ≡ request_of packed

@@ -3,6 +3,7 @@ pub mod Recordings
 pub mod Places
 pub mod Envelopes
 pub mod Kinds
+pub mod Often
 pub mod Requests
 pub mod Waves
 pub mod Communicators

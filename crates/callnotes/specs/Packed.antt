@@ -7,6 +7,7 @@ use Rattle.mpicall.specs.declared.limits.TheConstants.{MOST_REQUESTS}
 use Rattle.mpicall.specs.Laid.{call_by}
 use Rattle.mpicall.specs.Limits.{in_ranges}
 use Rattle.mpicall.specs.declared.call.Call.{Call}
+use Rattle.mpicall.specs.declared.call.Peer.TheVariants.{Rank}
 use Rattle.mpicall.specs.declared.call.Call.TheVariants as made
 use Rattle.mpicall.specs.declared.laid.Laid.TheVariants as laid
 use Rattle.callnotes.specs.declared.packed.Packed.{Packed}
@@ -22,6 +23,17 @@ request_of (Isend mode comm dest req tag bytes) = Some req
 request_of (Irecv req comm source tag) = Some req
 request_of (Icoll req comm kind) = Some req
 request_of _ = None
+
+-- the number of the kind of a stored call
+abbrev pub kind_no_of : Packed → ℕ
+kind_no_of (Send mode comm dest tag bytes) = 1
+kind_no_of (Recv comm (Rank source) tag) = 2
+kind_no_of (Isend mode comm dest req tag bytes) = 3
+kind_no_of (Irecv req comm source tag) = 4
+kind_no_of (Coll comm kind) = 5
+kind_no_of (Wait start) = 6
+kind_no_of (Waitall first count) = 7
+kind_no_of _ = 0
 
 -- the request that the rank's call at the place starts
 abbrev pub request_at : List Entry → ℕ → Option ℕ

@@ -18,6 +18,7 @@ pub enum Beside {
 
 impl Beside {
     /// The place of the partner that is kept for a half.
+    #[inline(always)]
     pub(crate) fn partner(&self, half: Half) -> Option<u32>
         ensures { result ≡ partner_in half self.now }
     {
@@ -29,6 +30,7 @@ impl Beside {
     }
 
     /// The number of the wave that is kept; 0 where none is.
+    #[inline(always)]
     pub(crate) fn wave(&self) -> u32
         ensures { result ≡ wave_in self.now }
     {
@@ -39,6 +41,7 @@ impl Beside {
     }
 
     /// The same with the place of a half's partner.
+    #[inline(always)]
     pub(crate) fn with_partner(self, half: Half, there: u32) -> Beside
         ensures { result ≡ with_partner half there self }
     {

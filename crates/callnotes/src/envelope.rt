@@ -131,6 +131,7 @@ pub(crate) fn probed_by(does: &Does) -> Option<Message>
 }
 
 /// The envelope of a message by the half that the member with that rank in the group has of it.
+#[inline(always)]
 pub fn envelope_by(half: Half, message: Message, own: u16) -> Envelope
     ensures { result ≡ envelope_by half message own }
 {
@@ -170,6 +171,7 @@ pub fn envelope_of(head: &Head, rank: u16, half: Half, call: &Record) -> Option<
 }
 
 /// The rank of the world whose calls have that half of the envelope's messages, if there is one.
+#[inline(always)]
 pub fn rank_of_half(head: &Head, half: Half, envelope: &Envelope) -> Option<u16>
     ensures { result ≡ rank_of_half head.now half envelope.now }
 {

@@ -9,13 +9,14 @@
 //! - `next_call::NextCall` is a call with what it does, found out once. `envelope` tells messages and their
 //!   envelopes (`Envelopes`), `request` requests (`Requests`), `comm` communicators (`Communicators`) and `wave`
 //!   which wave a call joins (`Waves`).
+//! - `often` numbers the kinds of calls that come often, for which the crates above have paths of their own.
 //! - `place_lists::PlaceLists` has lists of places by numbers.
 //! - Laws of waves, each on a function that does nothing: a wave has at most one call of each rank, and waves stay as
 //!   a recording goes on.
 //!
 //! The definitions stand in `specs/`, to be read in the order of docs/DEFINITIONS.md. Nobody has to believe `Beside`,
-//! `Notes`, `Packed`, `Seats` and `Slots`: they say how calls are kept, and no contract of a crate above whose
-//! caller is a user of the library cites them.
+//! `Notes`, `Often`, `Packed`, `Seats` and `Slots`: they say how calls are kept and which path they take, and no
+//! contract of a crate above whose caller is a user of the library cites them.
 //!
 //! A call takes 32 bytes with the partners of its halves or the number of its wave, and each request that a wait for
 //! several names 4 more. No look-up takes memory or goes through a list of calls: that is seen in the code alone.
@@ -36,6 +37,7 @@ pub mod limits;
 pub mod next_call;
 pub mod note;
 pub mod notes;
+pub mod often;
 mod packed;
 mod packing;
 pub mod place_lists;

@@ -8,6 +8,7 @@ ghost use Rattle.callnotes.specs.Beside.{partner_in, wave_in};
 ghost use Rattle.callnotes.specs.Requests.{starts, completes};
 ghost use Rattle.callnotes.specs.Waves.{joins};
 ghost use Rattle.callnotes.specs.Kinds.{bytes_told, kind_of, mode_of};
+ghost use Rattle.callnotes.specs.Often.{kind_no};
 ghost use Rattle.callnotes.specs.Notes.{completed_starts, start_of};
 ghost use Rattle.callnotes.specs.Packed.{IsStored, req_at, noted_of};
 
@@ -49,6 +50,7 @@ impl<'a> Model for Note<'a> {
 
 impl<'a> Note<'a> {
     /// The note of an entry, with the lists of its rank.
+    #[inline(always)]
     pub(crate) fn of(entry: &'a Entry, entries: &'a [Entry], starts: &'a [u32]) -> Note<'a>
         requires { IsStored entries.now starts.now entry.now }
         ensures { result ≡ noted_of entries.now starts.now entry.now }
@@ -86,6 +88,7 @@ impl<'a> Note<'a> {
 
     /// The message that the call probes for. None where it is no probe, and where its source is
     /// MPI_PROC_NULL.
+    #[inline(always)]
     pub fn probed(&self) -> Option<Message>
         ensures { result ≡ probed_message self.now.call }
     {
@@ -93,6 +96,7 @@ impl<'a> Note<'a> {
     }
 
     /// The mode of a call that sends, blocking or not; None for every other call, MPI_Sendrecv too.
+    #[inline(always)]
     pub(crate) fn mode(&self) -> Option<Mode>
         ensures { result ≡ mode_of self.now.call }
     {
@@ -101,6 +105,7 @@ impl<'a> Note<'a> {
 
     /// How many bytes a call that sends tells of its message; None where it tells none, and for every other
     /// call.
+    #[inline(always)]
     pub(crate) fn bytes(&self) -> Option<u32>
         ensures { result ≡ bytes_told self.now.call }
     {
@@ -114,7 +119,16 @@ impl<'a> Note<'a> {
         self.entry.call.kind()
     }
 
+    /// The number of the call's kind.
+    #[inline(always)]
+    pub(crate) fn kind_no(&self) -> u8
+        ensures { result ≡ kind_no self.now.call }
+    {
+        self.entry.call.kind_no()
+    }
+
     /// The request that the call starts, if it starts one.
+    #[inline(always)]
     pub(crate) fn starts_request(&self) -> Option<u32>
         ensures { result ≡ starts self.now.call }
     {
@@ -122,6 +136,7 @@ impl<'a> Note<'a> {
     }
 
     /// The communicator whose members all make the call, if there is one.
+    #[inline(always)]
     pub fn joins(&self) -> Option<u16>
         ensures { result ≡ joins self.now.call }
     {
@@ -129,6 +144,7 @@ impl<'a> Note<'a> {
     }
 
     /// Whether no call of the rank comes behind this one.
+    #[inline(always)]
     pub fn ends_list(&self) -> bool
         ensures { result ≡ ends_list self.now.call }
     {
@@ -136,6 +152,7 @@ impl<'a> Note<'a> {
     }
 
     /// The place of a half's partner that is kept beside the call.
+    #[inline(always)]
     pub fn partner(&self, half: Half) -> Option<u32>
         ensures { result ≡ partner_in half self.now.beside }
     {
@@ -143,6 +160,7 @@ impl<'a> Note<'a> {
     }
 
     /// How many collectives of its communicator its rank made before, where the call is one.
+    #[inline(always)]
     pub fn joined(&self) -> u32
         ensures { result ≡ wave_in self.now.beside }
     {
@@ -150,6 +168,7 @@ impl<'a> Note<'a> {
     }
 
     /// The places that started the requests which the call names, in its order; none where it is no wait.
+    #[inline(always)]
     fn starts(&self) -> &[u32]
         ensures { result.now ≡ self.now.starts }
     {
@@ -157,6 +176,7 @@ impl<'a> Note<'a> {
     }
 
     /// The places that started the requests which the call completes.
+    #[inline(always)]
     fn completed_starts(&self) -> &[u32]
         ensures value { result.now ≡ completed_starts self.now }
         ensures count { length result.now ≡ length (completes self.now.call) }
@@ -172,6 +192,7 @@ impl<'a> Note<'a> {
     }
 
     /// How many requests the call completes.
+    #[inline(always)]
     pub(crate) fn completed_count(&self) -> usize
         ensures { result ≡ length (completes self.now.call) }
     {
@@ -188,6 +209,7 @@ impl<'a> Note<'a> {
     }
 
     /// The place that started the request with that index among those that the call completes.
+    #[inline(always)]
     pub fn completed_start(&self, index: usize) -> Option<u32>
         ensures { result ≡ slice_get (completed_starts self.now) index }
     {

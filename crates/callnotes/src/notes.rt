@@ -53,6 +53,7 @@ impl Notes {
     }
 
     /// How many ranks there are.
+    #[inline(always)]
     pub fn ranks(&self) -> u16
         ensures { result ≡ length self.now.lists }
     {
@@ -60,6 +61,7 @@ impl Notes {
     }
 
     /// How many calls of a rank were noted; 0 where there is no such rank.
+    #[inline(always)]
     pub fn count(&self, rank: u16) -> usize
         ensures value { result ≡ length (notes_of self.now.lists rank) }
         ensures most { result ≤ most_calls }
@@ -71,6 +73,7 @@ impl Notes {
     }
 
     /// Makes all room that noting the rank's call takes.
+    #[inline(always)]
     pub fn reserve(&mut self, rank: u16, call: &Record) -> Result<(), AllocError>
         requires { rank < length self.old.lists }
         ensures lists { self.new.lists ≡ self.old.lists }
@@ -82,6 +85,7 @@ impl Notes {
 
     /// Notes the rank's next call, with what is kept beside it and the places that started the requests which
     /// it names: one for each, in its order. This takes no memory.
+    #[inline(always)]
     pub fn note(&mut self, rank: u16, call: &Record, beside: Beside, starts: &[u32])
         requires is_rank { rank < length self.old.lists }
         requires room { HasRoom self.old rank call.now }
@@ -94,6 +98,7 @@ impl Notes {
     }
 
     /// Keeps the place of a half's partner beside the rank's call at the place, if one stands there.
+    #[inline(always)]
     pub fn set_partner(&mut self, rank: u16, place: u32, half: Half, there: u32)
         ensures { self.new.lists ≡ partnered self.old.lists rank place half there }
     {

@@ -1,20 +1,23 @@
 //! Calls stored compactly: a call with what is kept beside it takes 32 bytes, and each request that a wait for
 //! several names 4 more.
 
-ghost use Rattle.std.specs.Prelude.{◌≡◌, List, ℕ};
+ghost use Rattle.std.specs.Prelude.{◌≡◌, List, ℕ, unwrap_or};
+ghost use Rattle.mpicall.specs.declared.call.Call.TheVariants.{Finalize};
 ghost use Rattle.mpicall.specs.Does.{does_of};
 ghost use Rattle.mpicall.specs.Ending.{ends_list};
 ghost use Rattle.callnotes.specs.Envelopes.{message_of, probed_message};
 ghost use Rattle.callnotes.specs.Requests.{starts};
 ghost use Rattle.callnotes.specs.Waves.{joins};
 ghost use Rattle.callnotes.specs.Kinds.{bytes_told, kind_of, mode_of};
+ghost use Rattle.callnotes.specs.Often.{kind_no};
 ghost use Rattle.callnotes.specs.Packed.{request_of, plain_of, unpack};
 ghost use Rattle.callnotes.specs.declared.packed.Entry.{Entry};
 
 use crate::beside::Beside;
 use crate::envelope::{Half, Message, message_by, probed_by};
+use crate::often::{ANY, COLL, IRECV, ISEND, RECV, SEND, WAIT, WAITALL};
 use crate::slots::{PackedBytes, PackedPeer};
-use mpicall::call::{Call, Kind, Mode};
+use mpicall::call::{Call, Kind, Mode, Peer};
 use mpicall::does::Does;
 use mpicall::laid::Laid;
 use mpicall::word::{Name, root_of};
@@ -166,6 +169,16 @@ impl Packed {
         Some(call)
     }
 
+    /// What a call of a name does over its communicator; nothing for every other call.
+    fn plain_does(&self) -> Does
+        ensures { result ≡ does_of (unwrap_or (plain_of self.now) Finalize) }
+    {
+        match self.plain() {
+            Some(call) => call.does(),
+            None => Does::Alone,
+        }
+    }
+
     /// What the call does over its communicator.
     #[inline(always)]
     pub(crate) fn does(&self) -> Does
@@ -196,9 +209,22 @@ impl Packed {
                 root: root_of(kind),
                 made: None,
             },
-            _ => match self.plain() {
-                Some(call) => call.does(),
-                None => Does::Alone,
+            Packed::Wait { .. } | Packed::Waitall { .. } | Packed::Waitany { .. } => Does::Alone,
+            // Taken apart and put together, so that what the other arms answer needs no place in memory.
+            _ => match self.plain_does() {
+                Does::Exchanges {
+                    comm,
+                    sent,
+                    received,
+                    probed,
+                } => Does::Exchanges {
+                    comm,
+                    sent,
+                    received,
+                    probed,
+                },
+                Does::Joins { comm, root, made } => Does::Joins { comm, root, made },
+                Does::Alone => Does::Alone,
             },
         }
     }
@@ -214,6 +240,7 @@ impl Packed {
 
     /// The message that the call probes for. None where it is no probe, and where its source is
     /// MPI_PROC_NULL.
+    #[inline(always)]
     pub(crate) fn probed(&self) -> Option<Message>
         ensures { (entries : List Entry) (starts : List ℕ) → result ≡ probed_message (unpack entries starts self.now) }
     {
@@ -221,6 +248,7 @@ impl Packed {
     }
 
     /// The mode of a call that sends, blocking or not; None for every other call, MPI_Sendrecv too.
+    #[inline(always)]
     pub(crate) fn mode(&self) -> Option<Mode>
         ensures { (entries : List Entry) (starts : List ℕ) → result ≡ mode_of (unpack entries starts self.now) }
     {
@@ -232,6 +260,7 @@ impl Packed {
 
     /// How many bytes a call that sends tells of its message; None where it tells none, and for every other
     /// call.
+    #[inline(always)]
     pub(crate) fn bytes(&self) -> Option<u32>
         ensures { (entries : List Entry) (starts : List ℕ) → result ≡ bytes_told (unpack entries starts self.now) }
     {
@@ -248,6 +277,7 @@ impl Packed {
     }
 
     /// The kind of a collective that isn't started alone; None for every other call.
+    #[inline(always)]
     pub(crate) fn kind(&self) -> Option<Kind>
         ensures { (entries : List Entry) (starts : List ℕ) → result ≡ kind_of (unpack entries starts self.now) }
     {
@@ -257,7 +287,29 @@ impl Packed {
         }
     }
 
+    /// The number of the call's kind.
+    #[inline(always)]
+    #[tactic(auto, using(crate::proofs::PackedLemmas::kind_unpacked))]
+    pub(crate) fn kind_no(&self) -> u8
+        ensures { (entries : List Entry) (starts : List ℕ) → result ≡ kind_no (unpack entries starts self.now) }
+    {
+        match *self {
+            Packed::Send { .. } => SEND,
+            Packed::Recv { source, .. } => match source.peer() {
+                Peer::Rank(_) => RECV,
+                Peer::Null => ANY,
+            },
+            Packed::Isend { .. } => ISEND,
+            Packed::Irecv { .. } => IRECV,
+            Packed::Coll { .. } => COLL,
+            Packed::Wait { .. } => WAIT,
+            Packed::Waitall { .. } => WAITALL,
+            _ => ANY,
+        }
+    }
+
     /// The request that the call starts, if it starts one.
+    #[inline(always)]
     pub(crate) fn starts(&self) -> Option<u32>
         ensures value { result ≡ request_of self.now }
         ensures call { (entries : List Entry) (places : List ℕ) → result ≡ starts (unpack entries places self.now) }
@@ -271,6 +323,7 @@ impl Packed {
     }
 
     /// The communicator whose members all make the call, if there is one.
+    #[inline(always)]
     pub(crate) fn joins(&self) -> Option<u16>
         ensures { (entries : List Entry) (starts : List ℕ) → result ≡ joins (unpack entries starts self.now) }
     {
@@ -284,6 +337,7 @@ impl Packed {
     }
 
     /// Whether no call of the rank comes behind this one.
+    #[inline(always)]
     pub(crate) fn ends_list(&self) -> bool
         ensures { (entries : List Entry) (starts : List ℕ) → result ≡ ends_list (unpack entries starts self.now) }
     {

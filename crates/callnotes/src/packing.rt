@@ -20,6 +20,7 @@ use mpicall::word::Name;
 use std::slice::from_ref;
 
 /// The requests of a wait that may name several.
+#[inline(always)]
 pub(crate) fn listed(call: &Call) -> &[u32]
     ensures value { result.now ≡ listed call.now }
     ensures most { length result.now ≤ MOST_REQUESTS }
@@ -31,6 +32,7 @@ pub(crate) fn listed(call: &Call) -> &[u32]
 }
 
 /// The starts of a wait that may name several requests.
+#[inline(always)]
 pub(crate) fn listed_starts<'a>(call: &Call, starts: &'a [u32]) -> &'a [u32]
     ensures { result.now ≡ listed_starts call.now starts.now }
 {
@@ -96,6 +98,7 @@ fn pack_laid(name: Name, laid: Laid) -> Packed
 
 /// The call packed. The places that started the requests which it names are given, and those that are listed
 /// come to stand from `first` on.
+#[inline(always)]
 pub(crate) fn pack(call: &Call, first: u32, starts: &[u32]) -> Packed
     requires starts { length starts.now ≡ length (waits_for call.now) }
     requires ranges { IsTrue (in_ranges call.now) }
@@ -171,6 +174,7 @@ pub(crate) fn pack(call: &Call, first: u32, starts: &[u32]) -> Packed
 }
 
 /// The places that started the requests which a wait names, in its order; none where the call is no wait.
+#[inline(always)]
 pub(crate) fn unpack_starts<'a>(packed: &'a Packed, starts: &'a [u32]) -> &'a [u32]
     requires { end_of packed.now ≤ length starts.now }
     ensures { result.now ≡ unpack_starts starts.now packed.now }
@@ -185,6 +189,7 @@ pub(crate) fn unpack_starts<'a>(packed: &'a Packed, starts: &'a [u32]) -> &'a [u
 }
 
 /// So many of the places, from the first on.
+#[inline(always)]
 fn part(places: &[u32], first: u32, count: u8) -> &[u32]
     requires { first + count ≤ length places.now }
     ensures { result.now ≡ part places.now first count }

@@ -37,6 +37,7 @@ impl PlaceList {
     }
 
     /// Makes room for one more place.
+    #[inline(always)]
     fn reserve(&mut self) -> Result<(), AllocError>
         ensures places { self.new.places ≡ self.old.places }
         ensures room { OnOk result (length self.new.places < self.new.room) }
@@ -46,6 +47,7 @@ impl PlaceList {
     }
 
     /// Adds a place, for which there is room.
+    #[inline(always)]
     fn push_reserved(&mut self, place: u32)
         requires { length self.old.places < self.old.room }
         ensures { self.new.places ≡ self.old.places ++ place ∷ [] }
@@ -54,6 +56,7 @@ impl PlaceList {
     }
 
     /// How many places there are.
+    #[inline(always)]
     fn len(&self) -> usize
         ensures { result ≡ length self.now.places }
     {
@@ -61,6 +64,7 @@ impl PlaceList {
     }
 
     /// The place with a number, counted from 0.
+    #[inline(always)]
     fn get(&self, number: usize) -> Option<u32>
         ensures { result ≡ slice_get self.now.places number }
     {
@@ -99,6 +103,7 @@ impl PlaceLists {
     }
 
     /// How many lists there are.
+    #[inline(always)]
     pub fn len(&self) -> usize
         ensures { result ≡ length self.now.places }
     {
@@ -115,6 +120,7 @@ impl PlaceLists {
     }
 
     /// Makes room for one more place in the list of that number.
+    #[inline(always)]
     pub fn reserve(&mut self, index: usize) -> Result<(), AllocError>
         requires { index < length self.old.places }
         ensures places { self.new.places ≡ self.old.places }
@@ -125,6 +131,7 @@ impl PlaceLists {
     }
 
     /// Adds a place to the list of that number, which has room for it.
+    #[inline(always)]
     pub fn push_reserved(&mut self, index: usize, place: u32)
         requires { HasRoomIn self.old index }
         ensures { self.new.places ≡ with_place_in self.old.places index place }
@@ -134,6 +141,7 @@ impl PlaceLists {
     }
 
     /// How many places the list of that number has; 0 where there is no such list.
+    #[inline(always)]
     pub fn count(&self, index: usize) -> usize
         ensures { result ≡ length (list_in self.now.places index) }
     {
@@ -144,6 +152,7 @@ impl PlaceLists {
     }
 
     /// The place with a number in the list of that index.
+    #[inline(always)]
     pub fn get(&self, index: usize, number: usize) -> Option<u32>
         ensures { result ≡ slice_get (list_in self.now.places index) number }
     {

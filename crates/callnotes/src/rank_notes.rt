@@ -76,6 +76,7 @@ impl RankNotes {
     }
 
     /// How many calls were noted.
+    #[inline(always)]
     pub(crate) fn count(&self) -> usize
         ensures value { result ≡ length self.now.calls }
         ensures most { result ≤ most_calls }
@@ -84,6 +85,7 @@ impl RankNotes {
     }
 
     /// Makes all room that noting the call takes.
+    #[inline(always)]
     pub(crate) fn reserve(&mut self, call: &Record) -> Result<(), AllocError>
         ensures calls { self.new.calls ≡ self.old.calls }
         ensures ok { OnOk result (Holds self.new.room call.now) }
@@ -96,6 +98,7 @@ impl RankNotes {
 
     /// Notes the rank's next call, with what is kept beside it and the places that started the requests which
     /// it names.
+    #[inline(always)]
     pub(crate) fn note(&mut self, call: &Record, beside: Beside, starts: &[u32])
         requires room { Holds self.old.room call.now }
         requires starts { AreStarts (calls_in self.old.calls) call.now starts.now }
@@ -112,6 +115,7 @@ impl RankNotes {
     }
 
     /// Keeps the place of a half's partner beside the call at the place, if one stands there.
+    #[inline(always)]
     pub(crate) fn set_partner(&mut self, place: u32, half: Half, there: u32)
         ensures { self.new.calls ≡ partnered_in self.old.calls place half there }
     {

@@ -8,6 +8,7 @@ use mpicall::call::Call;
 use std::slice::from_ref;
 
 /// The request that the call starts, if it starts one.
+#[inline(always)]
 pub fn starts(call: &Call) -> Option<u32>
     ensures { result ≡ starts call.now }
 {
@@ -18,6 +19,7 @@ pub fn starts(call: &Call) -> Option<u32>
 }
 
 /// The requests that a wait names, in its order; none where the call is no wait.
+#[inline(always)]
 pub fn waits_for(call: &Call) -> &[u32]
     ensures value { result.now ≡ waits_for call.now }
     ensures most { length result.now ≤ MOST_REQUESTS }
@@ -31,6 +33,7 @@ pub fn waits_for(call: &Call) -> &[u32]
 
 /// The requests that a wait completes, in its order: of those that MPI_Waitany names the recorded one
 /// alone.
+#[inline(always)]
 pub fn completes(call: &Call) -> &[u32]
     ensures { result.now ≡ completes call.now }
 {

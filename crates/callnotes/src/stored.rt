@@ -6,6 +6,7 @@ ghost use Rattle.mpicall.specs.Ending.{ends_list};
 ghost use Rattle.callnotes.specs.Envelopes.{message_of, probed_message};
 ghost use Rattle.callnotes.specs.Requests.{starts, completes};
 ghost use Rattle.callnotes.specs.Waves.{joins};
+ghost use Rattle.callnotes.specs.Often.{kind_no};
 ghost use Rattle.callnotes.specs.Kinds.{bytes_told, kind_of, mode_of};
 
 use crate::envelope::{Half, Message};
@@ -31,6 +32,7 @@ impl<'a> Model for StoredCall<'a> {
 
 impl<'a> StoredCall<'a> {
     /// The call that is noted there.
+    #[inline(always)]
     pub fn of(note: Note<'a>) -> StoredCall<'a>
         ensures { result ≡ note.entry.call }
     {
@@ -63,6 +65,7 @@ impl<'a> StoredCall<'a> {
 
     /// The message that the call probes for. None where it is no probe, and where its source is
     /// MPI_PROC_NULL.
+    #[inline(always)]
     pub fn probed(&self) -> Option<Message>
         ensures { result ≡ probed_message self.now }
     {
@@ -91,7 +94,16 @@ impl<'a> StoredCall<'a> {
         self.note.kind()
     }
 
+    /// The number of the call's kind.
+    #[inline(always)]
+    pub fn kind_no(&self) -> u8
+        ensures { result ≡ kind_no self.now }
+    {
+        self.note.kind_no()
+    }
+
     /// The request that the call starts, if it starts one.
+    #[inline(always)]
     pub fn starts(&self) -> Option<u32>
         ensures { result ≡ starts self.now }
     {
@@ -99,6 +111,7 @@ impl<'a> StoredCall<'a> {
     }
 
     /// The communicator whose members all make the call, if there is one.
+    #[inline(always)]
     pub fn joins(&self) -> Option<u16>
         ensures { result ≡ joins self.now }
     {
@@ -106,6 +119,7 @@ impl<'a> StoredCall<'a> {
     }
 
     /// How many requests the call completes.
+    #[inline(always)]
     pub fn completed_count(&self) -> usize
         ensures { result ≡ length (completes self.now) }
     {
@@ -120,6 +134,7 @@ impl<'a> StoredCall<'a> {
     }
 
     /// Whether no call of the rank comes behind this one.
+    #[inline(always)]
     pub fn ends_list(&self) -> bool
         ensures { result ≡ ends_list self.now }
     {

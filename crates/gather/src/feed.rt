@@ -23,6 +23,7 @@ use rankfeed::{Ending, Feed, Receipt, Unsealed};
 use std::sync::Wait;
 
 /// The end mark behind records that a source has no more of: whether the last of them ended the list.
+#[inline(always)]
 fn end_of(done: bool) -> Ending
     ensures { result ≡ end_behind done }
 {
@@ -49,6 +50,7 @@ fn end_with(feed: Feed, end: Ending) -> Result<Receipt, Unsealed>
 /// Reads the next record of a rank's source into one place, for those that read many. Where the records end, it
 /// answers the end mark that is to come behind them. `done` says whether the last record so far ended the list.
 /// The gate is asked first, by the number of the calls before.
+#[inline(always)]
 pub fn next_of<I: Input, G: Gate>(
     rank: u16,
     source: &mut Source<I>,

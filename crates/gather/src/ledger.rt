@@ -76,6 +76,7 @@ impl Ledger {
     }
 
     /// The number of ranks.
+    #[inline(always)]
     pub fn ranks(&self) -> u16
         ensures ranks { result ≡ length self.now.recording }
         ensures faults { length self.now.faults ≡ length self.now.recording }
@@ -85,6 +86,7 @@ impl Ledger {
     }
 
     /// Whether a rank's records are still accepted.
+    #[inline(always)]
     fn is_open(&self, rank: u16) -> bool
         requires { rank < length self.now.recording }
         ensures { result ≡ is_accepting self.now rank }
@@ -102,6 +104,7 @@ impl Ledger {
     }
 
     /// Takes the next record of a rank.
+    #[inline(always)]
     pub fn enter(&mut self, rank: u16, call: &Record) -> Stepped
         requires { rank < length self.old.recording }
         ensures { EntersRecord rank call.now self.old result self.new }

@@ -63,6 +63,7 @@ impl Model for Analyser {
 }
 
 /// The place of the next call of a rank.
+#[inline(always)]
 fn next_place(pairs: &Pairs, rank: u16) -> u32
     ensures value { result ≡ length (calls_of pairs.now.recording rank) }
     ensures most { result ≤ most_calls }
@@ -113,6 +114,7 @@ impl Analyser {
     /// Takes the next call of a rank, and moves the ranks on until none can move. The call is refused
     /// exactly where it has a fault after its rank's calls so far, with the first one, or for want of
     /// memory; and then all is as it was. Once the call is accepted, the rest takes no memory.
+    #[inline(always)]
     pub fn offer(&mut self, rank: u16, call: &Record) -> Result<(), OfferFault>
         requires is_rank { rank < length self.old.recording }
         ensures reading { self.new.reading ≡ self.old.reading }
@@ -168,6 +170,7 @@ impl Analyser {
     }
 
     /// The head of the run.
+    #[inline(always)]
     pub fn head(&self) -> &Head
         ensures value { result.now ≡ self.now.groups }
         ensures ranks { length self.now.recording ≡ ranks_of self.now.groups }

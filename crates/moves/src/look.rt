@@ -12,6 +12,7 @@ use crate::need::{is_reached, stand_of};
 use crate::progress::Progress;
 use crate::reading::{Reading, sends_freely};
 use callnotes::envelope::Half;
+use callnotes::often::{COLL, IRECV, ISEND, RECV, SEND, WAIT, WAITALL};
 use callnotes::stored::StoredCall;
 use mpicall::does::Does;
 use pairing::pairs::Pairs;
@@ -61,6 +62,7 @@ fn is_probe_met(pairs: &Pairs, stands: &[u32], rank: u16, place: u32, call: &Sto
 
 /// Whether each message of the call has what it needs. The partner is asked for first: a send whose receive is reached
 /// goes by every reading.
+#[inline(always)]
 fn are_messages_met(
     reading: Reading,
     pairs: &Pairs,
@@ -121,7 +123,47 @@ fn look_at_operation(
     }
 }
 
+/// The same of any call.
+#[inline(never)]
+fn look_at_any_operation(
+    reading: Reading,
+    pairs: &Pairs,
+    stands: &[u32],
+    progress: &Progress,
+    rank: u16,
+    place: u32,
+    call: &StoredCall<'_>,
+) -> Look
+    requires waves { AreWaves pairs.now.groups pairs.now.recording stands.now progress.now IsNoException }
+    requires call { slice_get (calls_of pairs.now.recording rank) place ≡ Some call.now }
+    ensures { TellsOperation reading pairs.now.groups pairs.now.recording stands.now progress.now rank place result }
+{
+    look_at_operation(reading, pairs, stands, progress, rank, place, call)
+}
+
+/// The same. There is one such function for each kind of call that comes often, built for it alone.
+fn look_at_operation_of<const KIND: u8>(
+    reading: Reading,
+    pairs: &Pairs,
+    stands: &[u32],
+    progress: &Progress,
+    rank: u16,
+    place: u32,
+    call: &StoredCall<'_>,
+) -> Look
+    requires waves { AreWaves pairs.now.groups pairs.now.recording stands.now progress.now IsNoException }
+    requires call { slice_get (calls_of pairs.now.recording rank) place ≡ Some call.now }
+    ensures { TellsOperation reading pairs.now.groups pairs.now.recording stands.now progress.now rank place result }
+{
+    if call.kind_no() == KIND {
+        look_at_operation(reading, pairs, stands, progress, rank, place, call)
+    } else {
+        look_at_any_operation(reading, pairs, stands, progress, rank, place, call)
+    }
+}
+
 /// The same of the call that started a request.
+#[inline(never)]
 fn look_at_start(
     reading: Reading,
     pairs: &Pairs,
@@ -133,9 +175,17 @@ fn look_at_start(
     requires { AreWaves pairs.now.groups pairs.now.recording stands.now progress.now IsNoException }
     ensures { TellsOperation reading pairs.now.groups pairs.now.recording stands.now progress.now rank start result }
 {
-    match pairs.call(rank, start) {
-        Some(call) => look_at_operation(reading, pairs, stands, progress, rank, start, &call),
-        None => Look::Moves,
+    let Some(call) = pairs.call(rank, start) else {
+        return Look::Moves;
+    };
+    match call.kind_no() {
+        ISEND => look_at_operation_of::<ISEND>(
+            reading, pairs, stands, progress, rank, start, &call,
+        ),
+        IRECV => look_at_operation_of::<IRECV>(
+            reading, pairs, stands, progress, rank, start, &call,
+        ),
+        _ => look_at_any_operation(reading, pairs, stands, progress, rank, start, &call),
     }
 }
 
@@ -159,6 +209,7 @@ fn look_at_request(
 }
 
 /// What is told of the requests that the call at the place completes.
+#[inline(always)]
 fn look_at_requests(
     reading: Reading,
     pairs: &Pairs,
@@ -182,7 +233,8 @@ fn look_at_requests(
 }
 
 /// What is told of the call at the place: a call that starts a request needs nothing.
-fn look_at_call(
+#[inline(never)]
+fn look_at_any_call(
     reading: Reading,
     pairs: &Pairs,
     stands: &[u32],
@@ -198,12 +250,64 @@ fn look_at_call(
     if call.starts().is_some() {
         return Look::Moves;
     }
-    match look_at_operation(reading, pairs, stands, progress, rank, place, call) {
+    match look_at_any_operation(reading, pairs, stands, progress, rank, place, call) {
         Look::Moves => look_at_requests(reading, pairs, stands, progress, rank, place, call),
         look => look,
     }
 }
 
+/// The same. There is one such function for each kind of call that comes often, built for it alone.
+fn look_at_call_of<const KIND: u8>(
+    reading: Reading,
+    pairs: &Pairs,
+    stands: &[u32],
+    progress: &Progress,
+    rank: u16,
+    place: u32,
+    call: &StoredCall<'_>,
+) -> Look
+    requires waves { AreWaves pairs.now.groups pairs.now.recording stands.now progress.now IsNoException }
+    requires call { slice_get (calls_of pairs.now.recording rank) place ≡ Some call.now }
+    ensures { TellsCall reading pairs.now.groups pairs.now.recording stands.now progress.now rank place call.now result }
+{
+    if call.kind_no() != KIND {
+        return look_at_any_call(reading, pairs, stands, progress, rank, place, call);
+    }
+    if call.starts().is_some() {
+        return Look::Moves;
+    }
+    match look_at_operation_of::<KIND>(reading, pairs, stands, progress, rank, place, call) {
+        Look::Moves => look_at_requests(reading, pairs, stands, progress, rank, place, call),
+        look => look,
+    }
+}
+
+/// The same, by the function of the call's kind.
+#[inline(always)]
+fn look_at_call(
+    reading: Reading,
+    pairs: &Pairs,
+    stands: &[u32],
+    progress: &Progress,
+    rank: u16,
+    place: u32,
+    call: &StoredCall<'_>,
+) -> Look
+    requires waves { AreWaves pairs.now.groups pairs.now.recording stands.now progress.now IsNoException }
+    requires call { slice_get (calls_of pairs.now.recording rank) place ≡ Some call.now }
+    ensures { TellsCall reading pairs.now.groups pairs.now.recording stands.now progress.now rank place call.now result }
+{
+    match call.kind_no() {
+        SEND => look_at_call_of::<SEND>(reading, pairs, stands, progress, rank, place, call),
+        RECV => look_at_call_of::<RECV>(reading, pairs, stands, progress, rank, place, call),
+        COLL => look_at_call_of::<COLL>(reading, pairs, stands, progress, rank, place, call),
+        WAIT => look_at_call_of::<WAIT>(reading, pairs, stands, progress, rank, place, call),
+        WAITALL => look_at_call_of::<WAITALL>(reading, pairs, stands, progress, rank, place, call),
+        _ => look_at_any_call(reading, pairs, stands, progress, rank, place, call),
+    }
+}
+
+#[inline(always)]
 fn has_call(pairs: &Pairs, rank: u16, place: u32) -> bool
     ensures value { result ≡ nat_lt place (length (calls_of pairs.now.recording rank)) }
     ensures room { result ≡ true → place < most_calls }
@@ -215,6 +319,7 @@ fn has_call(pairs: &Pairs, rank: u16, place: u32) -> bool
 }
 
 /// What is told of a rank where it stands.
+#[inline(always)]
 pub(crate) fn look_at(
     reading: Reading,
     pairs: &Pairs,

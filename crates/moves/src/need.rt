@@ -17,6 +17,7 @@ pub enum Need {
 }
 
 /// How many members a communicator has.
+#[inline(always)]
 pub fn members(pairs: &Pairs, comm: u16) -> u16
     ensures { result ≡ length (group_of pairs.now.groups comm) }
 {
@@ -24,6 +25,7 @@ pub fn members(pairs: &Pairs, comm: u16) -> u16
 }
 
 /// Where a rank stands; 0 where there is no such rank.
+#[inline(always)]
 pub fn stand_of(stands: &[u32], rank: u16) -> u32
     ensures { result ≡ slice_index stands.now rank }
 {
@@ -34,6 +36,7 @@ pub fn stand_of(stands: &[u32], rank: u16) -> u32
 }
 
 /// Whether the need is met at the stands: its call is reached.
+#[inline(always)]
 pub fn is_met(stands: &[u32], need: &Need) -> bool
     ensures { result ≡ is_met stands.now need.now }
 {

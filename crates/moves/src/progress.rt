@@ -34,6 +34,7 @@ impl Drop for Progress {
 }
 
 /// Whether a member, by its rank in the group and its rank of the world, has reached its call of the wave.
+#[inline(always)]
 fn is_member_met(pairs: &Pairs, stands: &[u32], comm: u16, wave: u32, g: u16, member: u16) -> bool
     requires { world_rank_of pairs.now.groups comm g ≡ Some member }
     ensures { result ≡ is_met stands.now (member_need pairs.now.recording comm wave member) }
@@ -85,18 +86,21 @@ impl Progress {
         })
     }
 
+    #[inline(always)]
     fn complete(&self, comm: u16) -> u32
         ensures { result ≡ complete_of self.now comm }
     {
         self.complete.get(usize::from(comm)).copied().unwrap_or(0)
     }
 
+    #[inline(always)]
     fn met(&self, comm: u16) -> u16
         ensures { result ≡ met_of self.now comm }
     {
         self.met.get(usize::from(comm)).copied().unwrap_or(0)
     }
 
+    #[inline(always)]
     fn is_open(&self, pairs: &Pairs, comm: u16, wave: u32) -> bool
         ensures { result ≡ is_open pairs.now.groups self.now comm wave }
     {
@@ -105,6 +109,7 @@ impl Progress {
 
     /// Whether the wave is the next one of its communicator to be complete, and the rank the next member
     /// whose call is wanting.
+    #[inline(always)]
     fn is_wanting(&self, head: &Head, comm: u16, wave: u32, rank: u16) -> bool
         ensures { (result ≡ true) ↔ ((complete_of self.now comm ≡ wave) × (world_rank_of head.now comm (met_of self.now comm) ≡ Some rank)) }
     {
@@ -112,6 +117,7 @@ impl Progress {
     }
 
     /// The communicator of the wave that the call at the place joins, where that wave is not complete.
+    #[inline(always)]
     pub(crate) fn open_wave(&self, pairs: &Pairs, rank: u16, place: u32) -> Option<u16>
         ensures { result ≡ open_wave pairs.now.groups pairs.now.recording self.now rank place }
     {
@@ -121,15 +127,18 @@ impl Progress {
         }
     }
 
-    /// Notes that the rank has reached its call at the place, and answers the communicator whose next wave is
-    /// complete by it, if one is.
+    /// Notes that the rank has reached its call at the place, which joins that wave, if one; answers the communicator
+    /// whose next wave is complete by it, if one is.
+    #[inline(always)]
     pub(crate) fn reach(
         &mut self,
         pairs: &Pairs,
         stands: &[u32],
         rank: u16,
         place: u32,
+        joined: Option<(u16, u32)>,
     ) -> Option<u16>
+        requires joined { joined ≡ wave_of pairs.now.recording rank place }
         requires waves { AreWaves pairs.now.groups pairs.now.recording stands.now self.old (λ comm member. (member ≡ rank) × (wave_of pairs.now.recording rank place ≡ Some (comm, complete_of self.old comm))) }
         requires is_there { place ≡ slice_index stands.now rank }
         requires few { place ≤ most_calls }
@@ -141,7 +150,31 @@ impl Progress {
         ensures changes { self.new.changes ≤ self.old.changes + 1 }
         ensures none { wave_of pairs.now.recording rank place ≡ None → self.new.changes ≡ self.old.changes }
     {
-        let (comm, wave) = pairs.wave_of(rank, place)?;
+        let (comm, wave) = joined?;
+        self.reach_wave(pairs, stands, rank, place, comm, wave)
+    }
+
+    /// The same for a call that joins this wave.
+    fn reach_wave(
+        &mut self,
+        pairs: &Pairs,
+        stands: &[u32],
+        rank: u16,
+        place: u32,
+        comm: u16,
+        wave: u32,
+    ) -> Option<u16>
+        requires joins { wave_of pairs.now.recording rank place ≡ Some (comm, wave) }
+        requires waves { AreWaves pairs.now.groups pairs.now.recording stands.now self.old (λ c member. (member ≡ rank) × (wave_of pairs.now.recording rank place ≡ Some (c, complete_of self.old c))) }
+        requires is_there { place ≡ slice_index stands.now rank }
+        requires few { place ≤ most_calls }
+        ensures waves { AreWaves pairs.now.groups pairs.now.recording stands.now self.new IsNoException }
+        ensures others { (c : ℕ) → result ≢ Some c → complete_of self.new c ≡ complete_of self.old c }
+        ensures comm { IfSome result (λ c. c < length pairs.now.groups) }
+        ensures one { (c : ℕ) → result ≡ Some c → complete_of self.new c ≡ complete_of self.old c + 1 }
+        ensures counts { self.old.changes ≤ self.new.changes }
+        ensures changes { self.new.changes ≤ self.old.changes + 1 }
+    {
         if !self.is_wanting(pairs.head(), comm, wave, rank) {
             return None;
         }

@@ -18,6 +18,7 @@ pub enum Reading {
 }
 
 /// Whether a message of so many bytes goes before its receive is reached; one that tells none doesn't.
+#[inline(always)]
 pub fn is_eager(reading: Reading, bytes: Option<u32>) -> bool
     ensures { result ≡ is_eager reading bytes }
 {
@@ -38,6 +39,7 @@ fn bytes_of(call: &StoredCall<'_>) -> Option<u32>
 }
 
 /// Whether what the call sends needs nothing: it is buffered, or the reading lets it go at once.
+#[inline(always)]
 pub fn sends_freely(reading: Reading, call: &StoredCall<'_>) -> bool
     ensures { result ≡ sends_freely reading call.now }
 {

@@ -1,6 +1,9 @@
 //! Ranks that move on until none can, by looks at those alone that something woke.
 
-ghost use Rattle.std.specs.Prelude.{◌≡◌, ◌<◌, ◌≤◌, true, false, None, length, slice_index, IfSome};
+ghost use Rattle.std.specs.Prelude.{◌≡◌, ◌<◌, ◌≤◌, true, false, None, length, slice_get, slice_index, IfSome};
+ghost use Rattle.std.specs.Option.{option_map_or};
+ghost use Rattle.callnotes.specs.Often.{kind_no};
+ghost use Rattle.callnotes.specs.Recordings.{calls_of};
 ghost use Rattle.callnotes.specs.Limits.{most_calls};
 ghost use Rattle.pairing.specs.Partners.{partner_of};
 ghost use Rattle.callnotes.specs.declared.envelope.Half.{Half as HalfValue};
@@ -13,10 +16,12 @@ use crate::progress::Progress;
 use crate::reading::Reading;
 use crate::waiters::Waiters;
 use callnotes::envelope::Half;
+use callnotes::often::{COLL, IRECV, ISEND, NONE, RECV, SEND, WAIT, WAITALL};
 use mpicall::does::Does;
 use pairing::pairs::Pairs;
 
 /// Moves the rank on by one.
+#[inline(always)]
 fn move_on(stands: &mut Vec<u32>, rank: u16)
     requires is_rank { rank < length stands.old.items }
     requires room { slice_index stands.old.items rank < most_calls }
@@ -25,12 +30,12 @@ fn move_on(stands: &mut Vec<u32>, rank: u16)
     stands[usize::from(rank)] += 1;
 }
 
-/// Wakes the rank that waits for the call at the place as the partner of its own, if one does.
+/// Wakes the rank that waits for a call as the partner of its own, which is told by its rank and its place, if one does.
 #[inline(always)]
-fn wake_partner(pairs: &Pairs, waiters: &mut Waiters, rank: u16, place: u32, half: Half)
-    ensures { waiters.new ≡ woken_partner waiters.old (partner_of pairs.now.groups pairs.now.recording rank place half) }
+fn wake_partner(waiters: &mut Waiters, partner: Option<(u16, u32)>)
+    ensures { waiters.new ≡ woken_partner waiters.old partner }
 {
-    if let Some((other, there)) = pairs.partner(rank, place, half) {
+    if let Some((other, there)) = partner {
         waiters.wake_rank(other, there);
     }
 }
@@ -69,6 +74,7 @@ fn prober_of(pairs: &Pairs, waiters: &Waiters, rank: u16, place: u32) -> Option<
 
 /// Wakes the rank that waits at a probe which sees the call at the place, if one does. Nobody is searched: it is
 /// the rank that the call sends to.
+#[inline(always)]
 fn wake_prober(pairs: &Pairs, waiters: &mut Waiters, rank: u16, place: u32)
     ensures { waiters.new ≡ woken_prober pairs.now.groups pairs.now.recording rank place waiters.old }
 {
@@ -92,17 +98,21 @@ fn exchanges(pairs: &Pairs, rank: u16, place: u32) -> bool
 }
 
 /// Wakes the ranks that wait for a message of the call at the place.
+#[inline(always)]
 fn wake_peers(pairs: &Pairs, waiters: &mut Waiters, rank: u16, place: u32)
     ensures { waiters.new ≡ woken_peers pairs.now.groups pairs.now.recording rank place waiters.old }
 {
     if exchanges(pairs, rank, place) {
-        wake_partner(pairs, waiters, rank, place, Half::Send);
-        wake_partner(pairs, waiters, rank, place, Half::Recv);
+        let send = pairs.partner(rank, place, Half::Send);
+        let recv = pairs.partner(rank, place, Half::Recv);
+        wake_partner(waiters, send);
+        wake_partner(waiters, recv);
         wake_prober(pairs, waiters, rank, place);
     }
 }
 
 /// Wakes the ranks that wait for the waves of the communicator, if it is one.
+#[inline(always)]
 fn wake_members(waiters: &mut Waiters, comm: Option<u16>)
     requires { IfSome comm (λ comm. comm_list (length waiters.old.awaited) comm < length waiters.old.lists) }
     ensures { waiters.new ≡ woken_comm waiters.old comm }
@@ -113,6 +123,79 @@ fn wake_members(waiters: &mut Waiters, comm: Option<u16>)
 }
 
 /// Wakes all that wait for the call at the place, which its rank has just reached. That rank is in hand then.
+#[inline(always)]
+fn reach_call(
+    reading: Reading,
+    pairs: &Pairs,
+    stands: &[u32],
+    progress: &mut Progress,
+    waiters: &mut Waiters,
+    rank: u16,
+    place: u32,
+)
+    requires { IsReaching reading pairs.now.groups pairs.now.recording stands.now progress.old waiters.old rank place }
+    ensures in_hand { IsInHand reading pairs.now.groups pairs.now.recording stands.now progress.new waiters.new rank }
+    ensures counts { touches_of progress.old waiters.old ≤ touches_of progress.new waiters.new }
+{
+    let joined = pairs.wave_of(rank, place);
+    wake_peers(pairs, waiters, rank, place);
+    let complete = progress.reach(pairs, stands, rank, place, joined);
+    wake_members(waiters, complete);
+}
+
+/// The same of any call.
+#[inline(never)]
+fn reach_any(
+    reading: Reading,
+    pairs: &Pairs,
+    stands: &[u32],
+    progress: &mut Progress,
+    waiters: &mut Waiters,
+    rank: u16,
+    place: u32,
+)
+    requires { IsReaching reading pairs.now.groups pairs.now.recording stands.now progress.old waiters.old rank place }
+    ensures in_hand { IsInHand reading pairs.now.groups pairs.now.recording stands.now progress.new waiters.new rank }
+    ensures counts { touches_of progress.old waiters.old ≤ touches_of progress.new waiters.new }
+{
+    reach_call(reading, pairs, stands, progress, waiters, rank, place);
+}
+
+/// The number of the kind of the call at the place; `NONE` where there is no call.
+#[inline(always)]
+fn kind_at(pairs: &Pairs, rank: u16, place: u32) -> u8
+    ensures { result ≡ option_map_or kind_no (slice_get (calls_of pairs.now.recording rank) place) 8 }
+{
+    match pairs.call(rank, place) {
+        Some(call) => call.kind_no(),
+        None => NONE,
+    }
+}
+
+/// The same. There is one such function for each kind of call that comes often, built for it alone, and one for no
+/// call.
+fn reach_of<const KIND: u8>(
+    reading: Reading,
+    pairs: &Pairs,
+    stands: &[u32],
+    progress: &mut Progress,
+    waiters: &mut Waiters,
+    rank: u16,
+    place: u32,
+)
+    requires { IsReaching reading pairs.now.groups pairs.now.recording stands.now progress.old waiters.old rank place }
+    ensures in_hand { IsInHand reading pairs.now.groups pairs.now.recording stands.now progress.new waiters.new rank }
+    ensures counts { touches_of progress.old waiters.old ≤ touches_of progress.new waiters.new }
+{
+    if kind_at(pairs, rank, place) == KIND {
+        reach_call(reading, pairs, stands, progress, waiters, rank, place);
+    } else {
+        reach_any(reading, pairs, stands, progress, waiters, rank, place);
+    }
+}
+
+/// The same, by the function of the call's kind.
+#[inline(always)]
 fn reach(
     reading: Reading,
     pairs: &Pairs,
@@ -126,13 +209,22 @@ fn reach(
     ensures in_hand { IsInHand reading pairs.now.groups pairs.now.recording stands.now progress.new waiters.new rank }
     ensures counts { touches_of progress.old waiters.old ≤ touches_of progress.new waiters.new }
 {
-    wake_peers(pairs, waiters, rank, place);
-    let complete = progress.reach(pairs, stands, rank, place);
-    wake_members(waiters, complete);
+    match kind_at(pairs, rank, place) {
+        SEND => reach_of::<SEND>(reading, pairs, stands, progress, waiters, rank, place),
+        RECV => reach_of::<RECV>(reading, pairs, stands, progress, waiters, rank, place),
+        ISEND => reach_of::<ISEND>(reading, pairs, stands, progress, waiters, rank, place),
+        IRECV => reach_of::<IRECV>(reading, pairs, stands, progress, waiters, rank, place),
+        COLL => reach_of::<COLL>(reading, pairs, stands, progress, waiters, rank, place),
+        WAIT => reach_of::<WAIT>(reading, pairs, stands, progress, waiters, rank, place),
+        WAITALL => reach_of::<WAITALL>(reading, pairs, stands, progress, waiters, rank, place),
+        NONE => reach_of::<NONE>(reading, pairs, stands, progress, waiters, rank, place),
+        _ => reach_any(reading, pairs, stands, progress, waiters, rank, place),
+    }
 }
 
 /// Looks at the rank in hand, and answers whether it still is: it moves on by one, or is linked where it
 /// waits, or is let go where it rests.
+#[inline(always)]
 fn settle_one(
     reading: Reading,
     pairs: &Pairs,
@@ -206,6 +298,7 @@ fn settle(
 
 /// Moves the ranks on once a rank's call has arrived at the place, at its list's end: only where the rank
 /// stands there is any rank woken.
+#[inline(always)]
 pub(crate) fn arrive(
     reading: Reading,
     pairs: &Pairs,

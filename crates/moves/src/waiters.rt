@@ -74,6 +74,7 @@ impl Waiters {
     }
 
     /// Takes the next rank to look at off the worklist.
+    #[inline(always)]
     pub(crate) fn next(&mut self) -> Option<u16>
         requires { 0 < length self.old.lists }
         ensures value { result ≡ slice_get (list_at self.old.lists 0) 0 }
@@ -87,6 +88,7 @@ impl Waiters {
     }
 
     /// Puts a rank into a list, where there is room.
+    #[inline(always)]
     #[tactic(auto, using(arenalist::proofs::ContentsLemmas::contents_linked))]
     fn put(&mut self, list: usize, rank: u16)
         requires list { list < length self.old.lists }
@@ -97,6 +99,7 @@ impl Waiters {
     }
 
     /// The place of the operation for whose partner the rank waits, or waited last, or of the probe at which it does.
+    #[inline(always)]
     pub(crate) fn awaited(&self, rank: u16) -> Option<u32>
         ensures { result ≡ slice_get self.now.awaited rank }
     {
@@ -105,6 +108,7 @@ impl Waiters {
 
     /// Links a rank where it waits for the partner of its operation at the place, or for the send that its probe
     /// there sees.
+    #[inline(always)]
     pub(crate) fn wait_for_partner(&mut self, rank: u16, place: u32)
         requires is_rank { rank < length self.old.awaited }
         requires room { 0 < self.old.spare }
@@ -115,6 +119,7 @@ impl Waiters {
     }
 
     /// Links a rank where it waits for a wave of the communicator.
+    #[inline(always)]
     pub(crate) fn wait_for_wave(&mut self, rank: u16, comm: u16)
         requires list { comm_list (length self.old.awaited) comm < length self.old.lists }
         requires room { 0 < self.old.spare }
@@ -136,6 +141,7 @@ impl Waiters {
 
     /// Wakes a rank if it waits for the partner of its operation at the place, or for the send that its probe there
     /// sees.
+    #[inline(always)]
     pub(crate) fn wake_rank(&mut self, rank: u16, place: u32)
         ensures { self.new ≡ woken_at self.old (rank, place) }
     {
@@ -145,6 +151,7 @@ impl Waiters {
     }
 
     /// Wakes the ranks that wait for the waves of a communicator.
+    #[inline(always)]
     pub(crate) fn wake_comm(&mut self, comm: u16)
         requires { comm_list (length self.old.awaited) comm < length self.old.lists }
         ensures { self.new ≡ woken self.old (comm_list (length self.old.awaited) comm) }

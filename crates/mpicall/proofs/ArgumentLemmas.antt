@@ -1,5 +1,5 @@
 -- The field of an argument is read as that argument, and what is read as an argument was spelled so.
-use Rattle.std.proofs.Common.{◌≡◌, ℕ, ◌+◌, ◌<◌, ◌≤◌, ◌^◌, ◌≢◌, ℤ, pos, negsuc, Bool, true, false, List, [], ◌∷◌, length, get_or, sym, ap, ◌∙◌, refl, arith, Option, Some, None, cond, nat_le, nat_lt, ◌==◌, codes, option_map, suc, zero}
+use Rattle.std.proofs.Common.{◌≡◌, ℕ, ◌+◌, ◌<◌, ◌≤◌, ◌^◌, ◌≢◌, ℤ, pos, negsuc, Bool, true, false, List, [], ◌∷◌, length, get_or, sym, ap, ◌∙◌, refl, arith, Option, Some, None, cond, nat_le, nat_lt, ◌==◌, codes, option_map, suc, zero, subst}
 use Rattle.std.specs.Fmt.{decimal, signed_decimal}
 use Rattle.std.specs.Int.{IsInRange}
 use Rattle.std.specs.List.{list_all}
@@ -11,10 +11,12 @@ use Rattle.std.proofs.lemmas.Bool.Decides.{nat_tests}
 use Rattle.std.proofs.lemmas.List.Elements.{All-from_get_or}
 use Rattle.std.proofs.lemmas.List.Sums.{list_all-from_AllPass}
 use Rattle.std.proofs.lemmas.Bool.{false_from_ne_true}
+use Rattle.std.proofs.lemmas.Option.{same_Some}
 use Rattle.mpicall.proofs.DecimalLemmas.{number-decimal, number-of-decimal}
 use Rattle.mpicall.specs.Number.{number_up_to, signed_of, negative, negative_of, minus}
 use Rattle.mpicall.specs.Argument.{Argument, Number, PeerOf, Colour, Key, New, Form, NumberUpTo, PeerForm, ColourForm, KeyForm, NewForm, spell, is_in_range, none_or_up_to, key_in_range, peer_in_range, form_of, read_argument, read_number_or, read_peer, number_or, peer_field}
 use Rattle.mpicall.specs.Line.{is_any}
+use Rattle.mpicall.specs.Reading.{next_argument, with_behind}
 use Rattle.mpicall.specs.declared.limits.TheConstants.{GREATEST_KEY, GREATEST_RANK, GREATEST_COMM, GREATEST_COLOUR}
 use Rattle.mpicall.specs.declared.call.Peer.{Peer}
 use Rattle.mpicall.specs.declared.call.Peer.TheVariants.{Rank, Null}
@@ -240,3 +242,32 @@ argument_spelled KeyForm field a small e =
 argument_spelled NewForm field a small e =
     let some = map_some New (read_number_or (codes "none") GREATEST_COMM field) a e in
     rw some.2 (or_cases (bytes_eq field (codes "none")) (codes "none") field GREATEST_COMM some.0 refl (bytes_eq-Decides field (codes "none")).0 some.1)
+
+-- A number that may be a rank is read as a peer too.
+
+rank_read : (field : List ℕ) (n : ℕ) → number_up_to GREATEST_RANK field ≡ Some n → read_peer field ≡ Some (Rank n)
+rank_read field n e =
+    let is = number_spelled GREATEST_RANK n field refl e in
+    let low = le_from n GREATEST_RANK is.1 in
+    let other : bytes_eq field (codes "null") ≡ false = subst (λ (f : List ℕ). bytes_eq f (codes "null") ≡ false) (sym is.0) (not_text n (codes "null") (omega (arith, low)) (omega arith)) in
+    rw other (rw e refl)
+
+number_taken : (o : Option ℕ) (fields behind : List (List ℕ)) (greatest n : ℕ) → with_behind fields (option_map (Number greatest) o) ≡ Some (Number greatest n, behind) → (o ≡ Some n) × (fields ≡ behind)
+number_taken None fields behind greatest n e = cc
+number_taken (Some m) fields behind greatest n e =
+    let pair : (Number greatest m, fields) ≡ (Number greatest n, behind) = same_Some (Number greatest m, fields) (Number greatest n, behind) e in
+    let first : Number greatest m ≡ Number greatest n = ap (λ (p : Argument × List (List ℕ)). p.0) pair in
+    (cc, ap (λ (p : Argument × List (List ℕ)). p.1) pair)
+
+-- the field of a number that was taken
+pub number_split : (fields behind : List (List ℕ)) (greatest n : ℕ) → next_argument (NumberUpTo greatest) fields ≡ Some (Number greatest n, behind) → (field : List ℕ) × (fields ≡ field ∷ behind) × (number_up_to greatest field ≡ Some n)
+number_split [] behind greatest n e = cc
+number_split (field ∷ fields) behind greatest n e =
+    let parts = number_taken (number_up_to greatest field) fields behind greatest n e in
+    (field, rw parts.1 refl, parts.0)
+
+pub peer_by_number : (fields behind : List (List ℕ)) (n : ℕ) → next_argument (NumberUpTo GREATEST_RANK) fields ≡ Some (Number GREATEST_RANK n, behind) → next_argument PeerForm fields ≡ Some (PeerOf (Rank n), behind)
+peer_by_number [] behind n e = cc
+peer_by_number (field ∷ fields) behind n e =
+    let parts = number_taken (number_up_to GREATEST_RANK field) fields behind GREATEST_RANK n e in
+    rw (rank_read field n parts.0) (rw parts.1 refl)

@@ -1,6 +1,7 @@
 -- How the first space cuts a body into its first field and the rest.
-use Rattle.std.proofs.Common.{◌≡◌, ℕ, ◌+◌, ◌-◌, ◌<◌, ◌≤◌, Bool, true, false, List, [], ◌∷◌, length, take, drop, refl, arith, rules, Some, None, cond, ltb, length-drop}
+use Rattle.std.proofs.Common.{◌≡◌, ◌==◌, Option, ℕ, ◌+◌, ◌-◌, ◌<◌, ◌≤◌, Bool, true, false, List, [], ◌∷◌, length, take, drop, refl, arith, rules, Some, None, cond, ltb, length-drop}
 use Rattle.std.specs.List.{slice_split, position, position_or_len}
+use Rattle.mpicall.specs.Lines.{is_empty, split_fields}
 use Rattle.std.proofs.lemmas.List.{take_all}
 use Rattle.std.proofs.lemmas.List.Quantifiers.{position-Some}
 use Rattle.std.proofs.lemmas.List.Sums.{position_or_len_is, fails_before_first}
@@ -27,5 +28,13 @@ pub split_without_space : (p : ℕ → Bool) (xs : List ℕ) → position p xs �
 split_without_space p xs is =
     let none : length xs ≤ position_or_len p xs = none_passes (ltb (position_or_len p xs) (length xs)) (position_or_len p xs) (length xs) refl is in
     slice_split_none p xs (All-from_get_or (λ x. p x ≡ false) xs 0 (λ k h. fails_before_first p xs k 0 (omega arith)))
+
+split_as : (p : ℕ → Bool) (xs : List ℕ) (o : Option ℕ) → position p xs ≡ o → is_empty (slice_split p xs) ≡ false
+split_as p xs (Some at) e = rw (split_at_first_space p xs at e) refl
+split_as p xs None e = rw (split_without_space p xs e) refl
+
+-- some bytes have a field at least
+pub some_field : (bytes : List ℕ) → is_empty (split_fields bytes) ≡ false
+some_field bytes = split_as (λ byte. byte == 32) bytes (position (λ byte. byte == 32) bytes) refl
 
 pub ruleset field_steps = (split_at_first_space, split_without_space)

@@ -1,5 +1,6 @@
 pub mod NumberLemmas
 pub mod FieldLemmas
+pub mod FrontLemmas
 pub mod DecimalLemmas
 pub mod DeviceLemmas
 pub mod SpellingLemmas

@@ -1,4 +1,5 @@
 pub mod Number
+pub mod Front
 pub mod Argument
 pub mod Word
 pub mod Laid

@@ -7,8 +7,7 @@ ghost use Rattle.mpicall.specs.declared.word.Word.TheVariants.{Named};
 
 use crate::call::Call;
 use crate::fields::Fields;
-use crate::limits::{GREATEST_REQUEST, MOST_REQUESTS};
-use crate::number::read_number;
+use crate::limits::MOST_REQUESTS;
 use crate::reading::{
     next_number, next_request, read_blocking, read_laid, read_started, read_wait,
 };
@@ -20,11 +19,11 @@ fn read_requests(mut fields: Fields<'_>) -> Option<Reqs>
     ensures { MatchOption result (requests_fit fields.entry ≡ false) (λ reqs. SpellsRequests fields.entry reqs) }
 {
     let mut reqs = Reqs::of_one(next_request(&mut fields)?);
-    while let Some(field) = fields.next_field() {
+    while !fields.are_over() {
         if reqs.is_full() {
             return None;
         }
-        reqs.push(read_number(GREATEST_REQUEST, field)?);
+        reqs.push(next_request(&mut fields)?);
     }
     Some(reqs)
 }

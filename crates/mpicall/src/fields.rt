@@ -1,10 +1,13 @@
 //! The fields of a line's body: what lies between its single spaces.
 
-ghost use Rattle.std.specs.Prelude.{◌≡◌, [], ◌∷◌, ◌==◌, position, MatchOption};
+ghost use Rattle.std.specs.Prelude.{◌≡◌, ◌≤◌, [], ◌∷◌, ◌==◌, Some, position, IfSome, MatchOption};
 ghost use Rattle.std.specs.List.{list_any};
 ghost use Rattle.mpicall.specs.Spelling.{space};
-ghost use Rattle.mpicall.specs.Lines.{split_fields, is_blank};
+ghost use Rattle.mpicall.specs.Lines.{split_fields, is_blank, is_empty};
+ghost use Rattle.mpicall.specs.Argument.{NumberUpTo, Number};
+ghost use Rattle.mpicall.specs.Reading.{next_argument};
 
+use crate::number::{has_leading_zero, read_front};
 use std::marker::Model;
 
 /// The fields that are still to come; contracts see their list.
@@ -23,6 +26,7 @@ impl<'a> Model for Fields<'a> {
 }
 
 /// Where the first space of some bytes stands, if they have one.
+#[inline(always)]
 fn space_at(bytes: &[u8]) -> Option<usize>
     ensures { result ≡ position (λ byte. byte == space) bytes.now }
 {
@@ -44,7 +48,20 @@ impl<'a> Fields<'a> {
         Fields { rest: self.rest }
     }
 
+    /// Whether all have come.
+    #[inline(always)]
+    #[tactic(auto, using(crate::proofs::FieldLemmas::some_field))]
+    pub(crate) fn are_over(&self) -> bool
+        ensures { result ≡ is_empty self.now }
+    {
+        match self.rest {
+            Some(_) => false,
+            None => true,
+        }
+    }
+
     /// The next field, which may have no bytes; None once all have come.
+    #[inline(always)]
     #[tactic(auto, using(crate::proofs::FieldLemmas::field_steps))]
     pub fn next_field(&mut self) -> Option<&'a [u8]>
         ensures { MatchOption result ((self.old ≡ []) × (self.new ≡ [])) (λ field. self.old ≡ field.now ∷ self.new) }
@@ -60,5 +77,25 @@ impl<'a> Fields<'a> {
                 Some(&rest[..at])
             }
         }
+    }
+
+    /// The next field as a number, where it is a canonical one of at most `limit`. Else the fields stay as they are.
+    #[inline(always)]
+    pub(crate) fn next_canonical(&mut self, limit: u32) -> Option<u32>
+        ensures value { MatchOption result (self.new ≡ self.old)
+            (λ n. next_argument (NumberUpTo limit) self.old ≡ Some (Number limit n, self.new)) }
+        ensures within { IfSome result (λ n. n ≤ limit) }
+    {
+        let rest = self.rest?;
+        let front = read_front(limit, rest)?;
+        if front.count == 0 || has_leading_zero(&rest[..front.count]) {
+            return None;
+        }
+        if front.count < rest.len() {
+            self.rest = Some(&rest[front.count + 1..]);
+        } else {
+            self.rest = None;
+        }
+        Some(front.number)
     }
 }

@@ -28,8 +28,8 @@
 //! The definitions stand in `specs/`: `Number`, `Argument`, `Word`, `Laid` and `Spelling` say how a call is
 //! spelled, `Limits` which calls are records, `Ending` which of them end a list, `Does` what they do over their
 //! communicators, `Lines` and `Line` what is wrong with a line, `Trace` what the bytes of a source are, and
-//! `Device`, `Source` and `Lint` what a function does. Nobody has to believe `Draft`, `Window`, `Stage` and
-//! `Cells`, which only proofs and private functions use, nor `Reading`: `Trace` cites it, and
+//! `Device`, `Source` and `Lint` what a function does. Nobody has to believe `Draft`, `Front`, `Window`, `Stage`
+//! and `Cells`, which only proofs and private functions use, nor `Reading`: `Trace` cites it, and
 //! `source::each_text_has_one_trace` says what that comes to without it.
 //!
 //! ```text

@@ -2,12 +2,14 @@
 
 ghost use Rattle.std.specs.Prelude.{◌≡◌, ◌&&◌, ◌≤◌, nat_le, Some, None, IfSome, if◌then◌else◌};
 ghost use Rattle.std.specs.Str.{all_ascii_digits};
+ghost use Rattle.mpicall.specs.Front.{IsFront};
 ghost use Rattle.mpicall.specs.Number.{has_leading_zero, is_canonical, number_up_to, value_of, negative, signed_of};
 
 use crate::limits::GREATEST_KEY;
 
 /// Whether a field has a `0` before further bytes.
-fn has_leading_zero(field: &[u8]) -> bool
+#[inline(always)]
+pub(crate) fn has_leading_zero(field: &[u8]) -> bool
     ensures { result ≡ has_leading_zero field.now }
 {
     field.len() > 1 && field[0] == b'0'
@@ -34,6 +36,7 @@ pub fn is_canonical(field: &[u8]) -> bool
 }
 
 /// The number that digits write, if it is at most `limit`.
+#[inline(always)]
 #[tactic(auto, using(crate::proofs::NumberLemmas::number_steps))]
 fn read_digits(limit: u32, field: &[u8]) -> Option<u32>
     ensures value { result
@@ -56,6 +59,7 @@ fn read_digits(limit: u32, field: &[u8]) -> Option<u32>
 }
 
 /// The number that a field spells, if it is a canonical one of at most `limit`.
+#[inline(always)]
 #[tactic(auto, unfolding(crate::specs::Number::is_canonical, crate::specs::Number::number_up_to))]
 pub fn read_number(limit: u32, field: &[u8]) -> Option<u32>
     ensures value { result ≡ number_up_to limit field.now }
@@ -65,6 +69,40 @@ pub fn read_number(limit: u32, field: &[u8]) -> Option<u32>
         return None;
     }
     read_digits(limit, field)
+}
+
+/// Decimal digits at the front of some bytes: how many there are, and the number that they write.
+#[derive(Clone, Copy)]
+pub(crate) struct Front {
+    pub count: usize,
+    pub number: u32,
+}
+
+/// The digits before the first space of some bytes, or all of them where there is no space. None where another byte
+/// comes first, or where they write a number above `limit`.
+#[inline(always)]
+pub(crate) fn read_front(limit: u32, bytes: &[u8]) -> Option<Front>
+    ensures { IfSome result (λ front. IsFront limit bytes.now front.count front.number) }
+{
+    let mut number = 0;
+    for at in 0..bytes.len() {
+        let byte = bytes[at];
+        if byte == b' ' {
+            return Some(Front { count: at, number });
+        }
+        if !byte.is_ascii_digit() {
+            return None;
+        }
+        let next = u64::from(number) * 10 + u64::from(byte - b'0');
+        if next > u64::from(limit) {
+            return None;
+        }
+        number = next as u32;
+    }
+    Some(Front {
+        count: bytes.len(),
+        number,
+    })
 }
 
 /// The negative of a number other than 0.

@@ -23,8 +23,9 @@ use crate::limits::{
 use crate::number::{read_number, read_signed};
 use crate::word::{Collective, Layout, Name, Operation, layout_of};
 
-/// The next field, where it is a number up to `greatest`.
-pub(crate) fn next_number(greatest: u32, fields: &mut Fields<'_>) -> Option<u32>
+/// The same, by a look at the field and then at its digits.
+#[inline(never)]
+fn read_other_number(greatest: u32, fields: &mut Fields<'_>) -> Option<u32>
     ensures value { MatchOption result
         (next_argument (NumberUpTo greatest) fields.old ≡ None)
         (λ n. next_argument (NumberUpTo greatest) fields.old ≡ Some (Number greatest n, fields.new)) }
@@ -34,6 +35,21 @@ pub(crate) fn next_number(greatest: u32, fields: &mut Fields<'_>) -> Option<u32>
     read_number(greatest, field)
 }
 
+/// The next field, where it is a number up to `greatest`. A canonical one is read in one pass.
+#[inline(always)]
+pub(crate) fn next_number(greatest: u32, fields: &mut Fields<'_>) -> Option<u32>
+    ensures value { MatchOption result
+        (next_argument (NumberUpTo greatest) fields.old ≡ None)
+        (λ n. next_argument (NumberUpTo greatest) fields.old ≡ Some (Number greatest n, fields.new)) }
+    ensures within { IfSome result (λ n. n ≤ greatest) }
+{
+    if let Some(number) = fields.next_canonical(greatest) {
+        return Some(number);
+    }
+    read_other_number(greatest, fields)
+}
+
+#[inline(always)]
 fn next_comm(fields: &mut Fields<'_>) -> Option<u16>
     ensures { MatchOption result
         (next_argument comm_form fields.old ≡ None)
@@ -42,6 +58,7 @@ fn next_comm(fields: &mut Fields<'_>) -> Option<u16>
     Some(next_number(u32::from(GREATEST_COMM), fields)? as u16)
 }
 
+#[inline(always)]
 fn next_tag(fields: &mut Fields<'_>) -> Option<u32>
     ensures { MatchOption result
         (next_argument tag_form fields.old ≡ None)
@@ -50,6 +67,7 @@ fn next_tag(fields: &mut Fields<'_>) -> Option<u32>
     next_number(GREATEST_TAG, fields)
 }
 
+#[inline(always)]
 pub(crate) fn next_request(fields: &mut Fields<'_>) -> Option<u32>
     ensures { MatchOption result
         (next_argument request_form fields.old ≡ None)
@@ -58,6 +76,7 @@ pub(crate) fn next_request(fields: &mut Fields<'_>) -> Option<u32>
     next_number(GREATEST_REQUEST, fields)
 }
 
+#[inline(always)]
 fn next_root(fields: &mut Fields<'_>) -> Option<u16>
     ensures { MatchOption result
         (next_argument root_form fields.old ≡ None)
@@ -66,7 +85,9 @@ fn next_root(fields: &mut Fields<'_>) -> Option<u16>
     Some(next_number(u32::from(GREATEST_RANK), fields)? as u16)
 }
 
-fn next_peer(fields: &mut Fields<'_>) -> Option<Peer>
+/// A peer, by a look at the field and then at its digits.
+#[inline(never)]
+fn next_other_peer(fields: &mut Fields<'_>) -> Option<Peer>
     ensures { MatchOption result
         (next_argument PeerForm fields.old ≡ None)
         (λ peer. next_argument PeerForm fields.old ≡ Some (PeerOf peer, fields.new)) }
@@ -77,6 +98,18 @@ fn next_peer(fields: &mut Fields<'_>) -> Option<Peer>
     }
     let rank = read_number(u32::from(GREATEST_RANK), field)?;
     Some(Peer::Rank(rank as u16))
+}
+
+#[inline(always)]
+fn next_peer(fields: &mut Fields<'_>) -> Option<Peer>
+    ensures { MatchOption result
+        (next_argument PeerForm fields.old ≡ None)
+        (λ peer. next_argument PeerForm fields.old ≡ Some (PeerOf peer, fields.new)) }
+{
+    if let Some(rank) = fields.next_canonical(u32::from(GREATEST_RANK)) {
+        return Some(Peer::Rank(rank as u16));
+    }
+    next_other_peer(fields)
 }
 
 fn next_colour(fields: &mut Fields<'_>) -> Option<Option<u32>>
@@ -116,6 +149,7 @@ fn next_new(fields: &mut Fields<'_>) -> Option<Option<u16>>
 }
 
 /// A communicator, a peer and a tag, as each message has them.
+#[inline(always)]
 fn next_message(fields: &mut Fields<'_>) -> Option<(u16, Peer, u32)>
     ensures { MatchOption result
         (take_arguments (comm_form ∷ PeerForm ∷ tag_form ∷ []) fields.old ≡ None)
@@ -177,6 +211,7 @@ fn next_kind(collective: Collective, fields: &mut Fields<'_>) -> Option<Kind>
 }
 
 /// No more, where all the fields have come.
+#[inline(always)]
 fn end_of(fields: &mut Fields<'_>) -> Option<()>
     ensures { MatchOption result (is_empty fields.old ≡ false) (λ _. fields.old ≡ []) }
 {

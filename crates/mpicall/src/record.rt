@@ -18,8 +18,8 @@ use crate::limits::{
     GREATEST_BYTES, GREATEST_COLOUR, GREATEST_COMM, GREATEST_RANK, GREATEST_REQUEST, GREATEST_TAG,
 };
 use crate::word::root_of;
-use std::fmt;
 use std::marker::Model;
+use std::{fmt, slice};
 
 /// A call all of whose fields lie in their ranges, so that it has one spelling in a trace.
 #[derive(Clone, Copy, PartialEq, Eq)]
@@ -230,6 +230,59 @@ impl Record {
         ensures in_ranges { IsTrue (in_ranges result.now) }
     {
         &self.call
+    }
+
+    /// Copies the record into a place: a short one field by field, since most of a record's bytes are for waits that
+    /// name many requests.
+    #[inline(always)]
+    pub(crate) fn write(&self, into: &mut Record)
+        ensures { into.new ≡ self.now }
+    {
+        match self.call {
+            Call::Send {
+                mode,
+                comm,
+                dest,
+                tag,
+                bytes,
+            } => into.call = Call::Send {
+                mode,
+                comm,
+                dest,
+                tag,
+                bytes,
+            },
+            Call::Recv { comm, source, tag } => into.call = Call::Recv { comm, source, tag },
+            Call::Isend {
+                req,
+                mode,
+                comm,
+                dest,
+                tag,
+                bytes,
+            } => into.call = Call::Isend {
+                req,
+                mode,
+                comm,
+                dest,
+                tag,
+                bytes,
+            },
+            Call::Irecv {
+                req,
+                comm,
+                source,
+                tag,
+            } => into.call = Call::Irecv {
+                req,
+                comm,
+                source,
+                tag,
+            },
+            Call::Wait { req } => into.call = Call::Wait { req },
+            Call::Coll { comm, kind } => into.call = Call::Coll { comm, kind },
+            _ => slice::from_mut(into).copy_from_slice(slice::from_ref(self)),
+        }
     }
 
     /// Whether no call of the rank comes behind this one.

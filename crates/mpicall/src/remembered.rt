@@ -8,7 +8,6 @@ ghost use Rattle.mpicall.specs.declared.remembered.TheConstants.{MOST_KEPT_BYTES
 use crate::fault::LineFault;
 use crate::line::read_into;
 use crate::record::Record;
-use std::slice;
 
 /// How many lines are kept.
 const MOST_KEPT: usize = 24;
@@ -77,14 +76,6 @@ impl KnownLine {
     {
         &self.bytes[..usize::from(self.len)]
     }
-
-    /// Copies the record into a place, as a slice of one, which takes one copy.
-    #[inline(always)]
-    fn write(&self, into: &mut Record)
-        ensures { into.new ≡ self.now.known }
-    {
-        slice::from_mut(into).copy_from_slice(slice::from_ref(&self.known));
-    }
 }
 
 impl Remembered {
@@ -123,7 +114,7 @@ impl Remembered {
             return None;
         }
         let len = line.len();
-        kept.write(into);
+        kept.known.write(into);
         self.last = at;
         self.missed = self.missed.saturating_sub(1);
         Some(len)
@@ -142,7 +133,7 @@ impl Remembered {
         if kept.line() != line {
             return false;
         }
-        kept.write(into);
+        kept.known.write(into);
         self.note(at);
         true
     }

@@ -86,6 +86,7 @@ impl Head {
     }
 
     /// How many ranks the run has, 1 to [`MOST_RANKS`].
+    #[inline(always)]
     pub fn ranks(&self) -> u16
         ensures value { result ≡ ranks_of self.now }
         ensures least { 1 ≤ result }
@@ -120,6 +121,7 @@ impl Head {
     }
 
     /// How many members a communicator has; None where there is no such communicator.
+    #[inline(always)]
     pub fn size(&self, comm: u16) -> Option<u16>
         ensures { result ≡ size_of self.now comm }
     {
@@ -130,6 +132,7 @@ impl Head {
     }
 
     /// The rank in the communicator's group of a rank of the world; None where it is no member.
+    #[inline(always)]
     pub fn group_rank(&self, comm: u16, world: u16) -> Option<u16>
         ensures { result ≡ group_rank_of self.now comm world }
     {
@@ -144,6 +147,7 @@ impl Head {
     }
 
     /// The world rank of a member of the communicator's group; None where there is no such member.
+    #[inline(always)]
     pub fn world_rank(&self, comm: u16, g: u16) -> Option<u16>
         ensures { result ≡ world_rank_of self.now comm g }
     {

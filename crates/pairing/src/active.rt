@@ -11,7 +11,6 @@ ghost use Rattle.callnotes.specs.Requests.{started_in, is_among, is_active, does
 ghost use Rattle.pairing.specs.Starts.{cell_no, cell_in, place_at, place_in, has_place, known_front, IsActive, HasRoomToStart};
 
 use callnotes::next_call::NextCall;
-use callnotes::request::{completes, starts};
 use indexmap::IndexMap;
 use std::alloc::{AllocError, Global};
 use std::hash::{Hash, Hasher};
@@ -74,17 +73,19 @@ impl Active {
     }
 
     /// Makes room for what the call starts, if it starts something. The table says the same after it.
+    #[inline(always)]
     pub(crate) fn reserve(&mut self, call: &NextCall<'_>) -> Result<(), AllocError>
         ensures kept { (recording : Lists) → IsActive recording self.old → IsActive recording self.new }
         ensures ok { OnOk result (HasRoomToStart self.new call.now) }
     {
-        match starts(call.as_call()) {
+        match call.starts() {
             Some(_) => self.others.reserve(1),
             None => Ok(()),
         }
     }
 
     /// Empties the rank's cell of the request, if that stands there.
+    #[inline(always)]
     fn empty(&mut self, rank: u16, req: u32)
         ensures cells { (r q : ℕ) → place_at q (cell_in self.new r q) ≡ (if r == rank && req == q then None else place_at q (cell_in self.old r q)) }
         ensures others { self.new.others ≡ self.old.others }
@@ -100,6 +101,7 @@ impl Active {
     }
 
     /// Takes out the rank's request, if it is there.
+    #[inline(always)]
     fn remove(&mut self, rank: u16, req: u32)
         ensures taken { (r q : ℕ) → place_in self.new r q ≡ (if r == rank && req == q then None else place_in self.old r q) }
         ensures room { spare self.old.others ≤ spare self.new.others }
@@ -111,6 +113,7 @@ impl Active {
     }
 
     /// Puts the rank's request into its cell, and answers whether no other stands there.
+    #[inline(always)]
     fn fill(&mut self, rank: u16, req: u32, place: u32) -> bool
         ensures filled { result ≡ true → (r q : ℕ) → place_at q (cell_in self.new r q) ≡ (if r == rank && req == q then Some place else place_at q (cell_in self.old r q)) }
         ensures taken { result ≡ false → (place_at req (cell_in self.old rank req) ≡ None) × (self.new ≡ self.old) }
@@ -130,6 +133,7 @@ impl Active {
     }
 
     /// Puts in the rank's request, which the call at the place starts.
+    #[inline(always)]
     fn insert(&mut self, rank: u16, req: u32, place: u32)
         requires { 0 < spare self.old.others }
         ensures { (r q : ℕ) → place_in self.new r q ≡ (if r == rank && req == q then Some place else place_in self.old r q) }
@@ -140,6 +144,7 @@ impl Active {
     }
 
     /// Takes out those requests of the rank that are among the numbers.
+    #[inline(always)]
     fn complete(&mut self, rank: u16, reqs: &[u32])
         ensures taken { (r req : ℕ) → place_in self.new r req ≡ (if r == rank && is_among req reqs.now then None else place_in self.old r req) }
         ensures room { spare self.old.others ≤ spare self.new.others }
@@ -150,27 +155,30 @@ impl Active {
     }
 
     /// Puts in the request that the call at the place starts, if it starts one.
+    #[inline(always)]
     fn start(&mut self, rank: u16, place: u32, call: &NextCall<'_>)
         requires { HasRoomToStart self.old call.now }
         ensures { (r req : ℕ) → place_in self.new r req ≡ (if r == rank && does_start req call.now then Some place else place_in self.old r req) }
     {
-        if let Some(req) = starts(call.as_call()) {
+        if let Some(req) = call.starts() {
             self.insert(rank, req, place);
         }
     }
 
     /// Puts in the request that the rank's next call starts, and takes out those that it completes. It
     /// takes no memory.
+    #[inline(always)]
     pub(crate) fn put(&mut self, rank: u16, place: u32, call: &NextCall<'_>)
         requires { HasRoomToStart self.old call.now }
         ensures { (recording : Lists) → IsActive recording self.old → rank < length recording →
             place ≡ length (calls_of recording rank) → IsActive (appended recording rank call.now) self.new }
     {
-        self.complete(rank, completes(call.as_call()));
+        self.complete(rank, call.completes());
         self.start(rank, place, call);
     }
 
     /// The place that started the rank's request as it stands, if it is active.
+    #[inline(always)]
     pub(crate) fn start_of(&self, rank: u16, req: u32) -> Option<u32>
         ensures place { result ≡ place_in self.now rank req }
         ensures value { (recording : Lists) → IsActive recording self.now → result ≡ started_in (calls_of recording rank) req }

@@ -55,6 +55,7 @@ impl CallFault {
 }
 
 /// Whether the number is a rank of the communicator's group.
+#[inline(always)]
 fn is_group_rank(head: &Head, comm: u16, rank: u16) -> bool
     ensures { result ≡ is_group_rank head.now comm rank }
 {
@@ -65,6 +66,7 @@ fn is_group_rank(head: &Head, comm: u16, rank: u16) -> bool
 }
 
 /// Whether the peer is null, or a rank of the communicator's group.
+#[inline(always)]
 fn is_peer(head: &Head, comm: u16, peer: Peer) -> bool
     ensures { result ≡ is_peer head.now comm peer }
 {
@@ -75,6 +77,7 @@ fn is_peer(head: &Head, comm: u16, peer: Peer) -> bool
 }
 
 /// Whether a call says nothing of a message's other end, or its peer is null or a rank of the communicator's group.
+#[inline(always)]
 fn is_side(head: &Head, comm: u16, side: Option<Side>) -> bool
     ensures { result ≡ option_map_or (λ side. is_peer head.now comm side.peer) side true }
 {
@@ -85,6 +88,7 @@ fn is_side(head: &Head, comm: u16, side: Option<Side>) -> bool
 }
 
 /// Whether a call has no root, or a rank of the communicator's group as root.
+#[inline(always)]
 fn is_root(head: &Head, comm: u16, root: Option<u16>) -> bool
     ensures { result ≡ option_map_or (is_group_rank head.now comm) root true }
 {
@@ -95,6 +99,7 @@ fn is_root(head: &Head, comm: u16, root: Option<u16>) -> bool
 }
 
 /// Whether the rank of the world is in the communicator's group.
+#[inline(always)]
 pub(crate) fn is_member(head: &Head, rank: u16, comm: u16) -> bool
     ensures { result ≡ is_member head.now rank comm }
 {
@@ -102,6 +107,7 @@ pub(crate) fn is_member(head: &Head, rank: u16, comm: u16) -> bool
 }
 
 /// Whether the communicator that the call names exists.
+#[inline(always)]
 pub(crate) fn comm_exists(head: &Head, call: &NextCall<'_>) -> bool
     ensures { result ≡ comm_exists head.now call.now }
 {
@@ -112,6 +118,7 @@ pub(crate) fn comm_exists(head: &Head, call: &NextCall<'_>) -> bool
 }
 
 /// Whether each peer and root that the call names is a rank of its communicator's group.
+#[inline(always)]
 pub(crate) fn peers_exist(head: &Head, call: &NextCall<'_>) -> bool
     ensures { result ≡ peers_exist head.now call.now }
 {

@@ -13,11 +13,11 @@ use crate::fault::{CallFault, are_distinct, comm_exists, is_member, peers_exist}
 use crate::held::Held;
 use callnotes::limits::MOST_CALLS;
 use callnotes::next_call::NextCall;
-use callnotes::request::{starts, waits_for};
 use mpicall::call::Call;
 use mpigroup::head::Head;
 
 /// Whether the rank is in the group of the communicator that the call names, and holds it.
+#[inline(always)]
 fn holds_comm(head: &Head, held: &Held, rank: u16, call: &NextCall<'_>) -> bool
     ensures { (recording : Lists) → IsHolding recording held.now → result ≡ holds_comm head.now rank (calls_of recording rank) call.now }
 {
@@ -28,31 +28,40 @@ fn holds_comm(head: &Head, held: &Held, rank: u16, call: &NextCall<'_>) -> bool
 }
 
 /// Whether the request that the call starts isn't active before.
+#[inline(always)]
 fn starts_afresh(active: &Active, rank: u16, call: &NextCall<'_>) -> bool
     ensures { (recording : Lists) → IsActive recording active.now → result ≡ starts_afresh (calls_of recording rank) call.now }
 {
-    match starts(call.as_call()) {
+    match call.starts() {
         Some(req) => active.start_of(rank, req).is_none(),
         None => true,
     }
 }
 
 /// Whether each of the rank's requests of these numbers is in the table.
+#[inline(always)]
 fn are_in(active: &Active, rank: u16, reqs: &[u32]) -> bool
     ensures { result ≡ list_all (has_place active.now rank) reqs.now }
 {
-    reqs.iter().all(|req| active.start_of(rank, *req).is_some())
+    for req in reqs {
+        if active.start_of(rank, *req).is_none() {
+            return false;
+        }
+    }
+    true
 }
 
 /// Whether each request that the wait names is active.
+#[inline(always)]
 fn waits_for_active(active: &Active, rank: u16, call: &NextCall<'_>) -> bool
     ensures { (recording : Lists) → IsActive recording active.now → result ≡ waits_for_active (calls_of recording rank) call.now }
 {
-    are_in(active, rank, waits_for(call.as_call()))
+    are_in(active, rank, call.waits_for())
 }
 
 /// Whether the rank may come to hold the communicator: not the world, with the rank in its group, and not
 /// held before.
+#[inline(always)]
 fn is_fresh_comm(head: &Head, held: &Held, rank: u16, comm: u16) -> bool
     ensures { (recording : Lists) → IsHolding recording held.now → result ≡ is_fresh_comm head.now rank (calls_of recording rank) comm }
 {
@@ -60,6 +69,7 @@ fn is_fresh_comm(head: &Head, held: &Held, rank: u16, comm: u16) -> bool
 }
 
 /// Whether what the call makes is such a communicator; a split makes one just where it has a colour.
+#[inline(always)]
 fn makes_afresh(head: &Head, held: &Held, rank: u16, call: &NextCall<'_>) -> bool
     ensures { (recording : Lists) → IsHolding recording held.now → result ≡ makes_afresh head.now rank (calls_of recording rank) call.now }
 {
@@ -78,6 +88,7 @@ fn makes_afresh(head: &Head, held: &Held, rank: u16, call: &NextCall<'_>) -> boo
 /// no fault, and then there is room for it in a recording. `held` and `active` are the tables of the calls
 /// before, `count` says how many of those are the rank's own, and `is_over` whether one of these ended its
 /// list.
+#[inline(always)]
 #[tactic(auto, unfolding(crate::specs::Faults::fault_of))]
 pub(crate) fn first_fault(
     head: &Head,
@@ -105,7 +116,7 @@ pub(crate) fn first_fault(
         Some(CallFault::PeerOutOfGroup)
     } else if !starts_afresh(active, rank, call) {
         Some(CallFault::RequestInUse)
-    } else if !are_distinct(waits_for(call.as_call())) {
+    } else if !are_distinct(call.waits_for()) {
         Some(CallFault::RequestRepeated)
     } else if !waits_for_active(active, rank, call) {
         Some(CallFault::RequestNotActive)

@@ -49,6 +49,7 @@ impl Held {
     }
 
     /// Makes room for what the call makes, if it makes something. The table says the same after it.
+    #[inline(always)]
     pub(crate) fn reserve(&mut self, call: &NextCall<'_>) -> Result<(), AllocError>
         ensures kept { (recording : Lists) → IsHolding recording self.old → IsHolding recording self.new }
         ensures ok { OnOk result (HasRoomToHold self.new call.now) }
@@ -60,6 +61,7 @@ impl Held {
     }
 
     /// Puts in what the rank's next call makes, if it makes something. It takes no memory.
+    #[inline(always)]
     pub(crate) fn put(&mut self, rank: u16, call: &NextCall<'_>)
         requires { HasRoomToHold self.old call.now }
         ensures { (recording : Lists) → IsHolding recording self.old → rank < length recording →
@@ -71,6 +73,7 @@ impl Held {
     }
 
     /// Whether the rank holds the communicator: each holds the world.
+    #[inline(always)]
     pub(crate) fn holds(&self, rank: u16, comm: u16) -> bool
         ensures { (recording : Lists) → IsHolding recording self.now → result ≡ holds (calls_of recording rank) comm }
     {

@@ -100,6 +100,7 @@ impl Waves {
     }
 
     /// Makes room for one more place of the rank under the communicator, and answers the number of their list.
+    #[inline(always)]
     fn reserve_at(&mut self, rank: u16, comm: u16) -> Result<usize, AllocError>
         ensures lists { (r c : ℕ) → list_of self.new r c ≡ list_of self.old r c }
         ensures number { IfOk result (λ list. list_number self.new rank comm ≡ Some list) }
@@ -115,6 +116,7 @@ impl Waves {
 
     /// Makes room for the wave that a rank's call joins, and answers the number of its list; None where it
     /// joins none. All places stay.
+    #[inline(always)]
     pub(crate) fn reserve(
         &mut self,
         rank: u16,
@@ -130,6 +132,7 @@ impl Waves {
     }
 
     /// Puts in a rank's next call, for whose wave the list has room.
+    #[inline(always)]
     pub(crate) fn put(&mut self, list: Option<usize>, place: u32)
         requires { IfSome list (HasRoomIn self.old.lists) }
         ensures { (recording : Lists) (rank : ℕ) (call : Call) → IsListFor rank call self.old list → IsJoined recording self.old →
@@ -141,6 +144,7 @@ impl Waves {
     }
 
     /// How many waves the list has.
+    #[inline(always)]
     pub(crate) fn number(&self, list: usize) -> u32
         ensures { (recording : Lists) (rank comm : ℕ) → IsJoined recording self.now → list_number self.now rank comm ≡ Some list →
             length (calls_of recording rank) ≤ most_calls → result ≡ length (places (does_join comm) (calls_of recording rank)) }
@@ -150,6 +154,7 @@ impl Waves {
     }
 
     /// The place of the rank's call in a wave of the communicator; None where it has none yet.
+    #[inline(always)]
     pub(crate) fn place_in_wave(&self, comm: u16, wave: u32, rank: u16) -> Option<u32>
         ensures { (recording : Lists) → IsJoined recording self.now → result ≡ place_in_wave recording comm wave rank }
     {
@@ -159,6 +164,7 @@ impl Waves {
 
     /// The place of a wave's call of the member with rank `g` in the communicator's group; None where it
     /// has none yet.
+    #[inline(always)]
     pub(crate) fn member_of(&self, head: &Head, comm: u16, wave: u32, g: u16) -> Option<u32>
         ensures { (recording : Lists) → IsJoined recording self.now → result ≡ member_of head.now recording comm wave g }
     {

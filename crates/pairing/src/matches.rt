@@ -23,6 +23,7 @@ pub(crate) struct Halves {
 }
 
 /// The number of the list of an envelope's half.
+#[inline(always)]
 fn list_no(half: Half, number: usize) -> usize
     requires { 2 * number + 1 < 2 ^ 64 }
     ensures { result ≡ list_no half number }
@@ -118,6 +119,7 @@ impl Matches {
     }
 
     /// The number of an envelope, which has one from then on.
+    #[inline(always)]
     fn number(&mut self, envelope: Envelope) -> Result<usize, AllocError>
         ensures grown { IsGrown self.old self.new }
         ensures number { IfOk result (λ number. number_in self.new.keys envelope ≡ Some number) }
@@ -148,6 +150,7 @@ impl Matches {
     }
 
     /// Makes room for the halves of a rank's call, and answers them. Nothing else changes.
+    #[inline(always)]
     pub(crate) fn reserve(
         &mut self,
         head: &Head,
@@ -165,6 +168,7 @@ impl Matches {
 
     /// Takes the first of the envelope's pending other halves off its list, and answers its place; where there
     /// is none, the half's own place is put into its list.
+    #[inline(always)]
     pub(crate) fn meet(&mut self, half: Half, number: usize, place: u32) -> Option<u32>
         requires number { number < length self.old.keys }
         requires room { 0 < self.old.spare }

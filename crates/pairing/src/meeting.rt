@@ -14,6 +14,7 @@ use callnotes::notes::Notes;
 use mpigroup::head::Head;
 
 /// Notes beside a half of the rank's call, and beside the half that it met, where the other stands.
+#[inline(always)]
 fn note_partners(
     head: &Head,
     notes: &mut Notes,
@@ -34,6 +35,7 @@ fn note_partners(
 }
 
 /// A half of the rank's noted call meets the first pending other half of its envelope, or is pending itself.
+#[inline(always)]
 fn meet_own(
     head: &Head,
     notes: &mut Notes,
@@ -85,6 +87,7 @@ fn meet_half(
 }
 
 /// The halves of the rank's noted call meet those that are pending.
+#[inline(always)]
 pub(crate) fn meet_halves(
     head: &Head,
     notes: &mut Notes,

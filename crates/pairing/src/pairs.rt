@@ -1,11 +1,12 @@
 //! Calls of all ranks, added one by one, with what each means for the others.
 
-ghost use Rattle.std.specs.Prelude.{◌≡◌, ◌<◌, ◌≤◌, ℕ, [], length, replicate, slice_get, option_map, None, Err, IfOk, IfErr, IfNone, IfSome, OnOk, OnErr, false, true};
+ghost use Rattle.std.specs.Prelude.{◌≡◌, ◌≢◌, ◌<◌, ◌≤◌, ℕ, [], length, replicate, slice_get, option_map, None, Err, IfOk, IfErr, IfNone, IfSome, OnOk, OnErr, false, true};
 ghost use Rattle.mpigroup.specs.Groups.{ranks_of};
 ghost use Rattle.callnotes.specs.Limits.{most_calls};
 ghost use Rattle.callnotes.specs.Recordings.{Lists, calls_of, appended, is_ended, has_end};
 ghost use Rattle.pairing.specs.Partners.{partner_of, EachIsReceived, HasUnreceived};
 ghost use Rattle.pairing.specs.Probed.{probed_of, seen_from, HasProbe, NoneIsProbed};
+ghost use Rattle.callnotes.specs.Often.{kind_no};
 ghost use Rattle.pairing.specs.Seated.{IsProbing};
 ghost use Rattle.callnotes.specs.Communicators.{NoneIsMade, HasMade};
 ghost use Rattle.callnotes.specs.Requests.{started_in, started_of, HasActive};
@@ -29,6 +30,7 @@ use crate::tables::{Room, Tables};
 use callnotes::envelope::{Envelope, Half, rank_of_half};
 use callnotes::next_call::NextCall;
 use callnotes::notes::Notes;
+use callnotes::often::{ANY, COLL, IRECV, ISEND, RECV, SEND, WAIT, WAITALL, kind_no};
 use callnotes::request::waits_for;
 use callnotes::stored::StoredCall;
 use mpicall::limits::MOST_REQUESTS;
@@ -72,6 +74,7 @@ impl Model for Pairs {
 }
 
 /// Whether the last call of a rank ends its list.
+#[inline(always)]
 fn is_over(notes: &Notes, rank: u16) -> bool
     ensures { result ≡ is_ended (calls_of (recording_of notes.now.lists) rank) }
 {
@@ -86,6 +89,7 @@ fn is_over(notes: &Notes, rank: u16) -> bool
 }
 
 /// The first fault of the rank's next call.
+#[inline(always)]
 fn next_fault(
     head: &Head,
     notes: &Notes,
@@ -111,6 +115,7 @@ fn next_fault(
 }
 
 /// Makes all the room that the rank's next call takes. All is said as before.
+#[inline(always)]
 fn reserve(
     head: &Head,
     notes: &mut Notes,
@@ -134,7 +139,7 @@ fn note_wait(
     notes: &mut Notes,
     tables: &Tables,
     rank: u16,
-    call: &NextCall<'_>,
+    call: &Record,
     list: Option<usize>,
 )
     requires is_rank { rank < length notes.old.lists }
@@ -151,10 +156,11 @@ fn note_wait(
     let count = tables
         .active
         .starts_of(rank, waits_for(call.as_call()), &mut starts);
-    notes.note(rank, call.record(), beside, &starts[..count]);
+    notes.note(rank, call, beside, &starts[..count]);
 }
 
 /// Notes the rank's next call, whose wave has that list, with what the tables of the calls before it say of it.
+#[inline(always)]
 fn note_call(
     head: &Head,
     notes: &mut Notes,
@@ -171,14 +177,15 @@ fn note_call(
     requires active { waits_for_active (calls_of (recording_of notes.old.lists) rank) call.now ≡ true }
     ensures { GoOnBy notes.old.lists notes.new.lists rank call.now }
 {
-    if waits_for(call.as_call()).is_empty() {
+    if call.waits_for().is_empty() {
         notes.note(rank, call.record(), tables.beside(list), &[]);
     } else {
-        note_wait(head, notes, tables, rank, call, list);
+        note_wait(head, notes, tables, rank, call.record(), list);
     }
 }
 
 /// Puts in the rank's next call, which has no fault, at its place. It takes no memory.
+#[inline(always)]
 fn put(
     head: &Head,
     notes: &mut Notes,
@@ -304,6 +311,7 @@ fn started_of(notes: &Notes, rank: u16, place: u32, req: u32) -> Option<u32>
 }
 
 /// The place that started the request with that index among those that a wait completes.
+#[inline(always)]
 #[tactic(auto, using(crate::proofs::KeptLemmas::completed_noted, crate::proofs::KeptLemmas::none_completed_past))]
 fn completed_of(notes: &Notes, rank: u16, place: u32, index: usize) -> Option<u32>
     requires { AreNoted notes.now.lists }
@@ -330,9 +338,15 @@ impl Pairs {
         })
     }
 
-    /// Adds the next call of a rank, which comes to stand at `place`. It is refused exactly where it has a
-    /// fault, with the first one, or for want of memory; and then all is as it was.
-    pub fn admit(&mut self, rank: u16, place: u32, call: &Record) -> Result<(), PairFault>
+    /// Adds the next call of a rank by the rules of `admit`. There is one such function for each kind of call that
+    /// comes often, built for it alone: the compiler knows there what such a call does.
+    fn admit_kind<const KIND: u8>(
+        &mut self,
+        rank: u16,
+        place: u32,
+        call: &Record,
+    ) -> Result<(), PairFault>
+        requires kind { KIND ≢ 0 → kind_no call.now ≡ KIND }
         requires is_rank { rank < length self.old.recording }
         requires is_next { place ≡ length (calls_of self.old.recording rank) }
         ensures ok { OnOk result (self.new ≡ with_call self.old rank call.now) }
@@ -342,6 +356,9 @@ impl Pairs {
     {
         // The ranks are few, so the calls are, and each probe's seat has a number of 32 bits.
         let _ranks = self.head.ranks();
+        if KIND != ANY && kind_no(call.as_call()) != KIND {
+            unreachable!();
+        }
         let call = &NextCall::of(call);
         if let Some(fault) = next_fault(&self.head, &self.notes, &self.tables, rank, call) {
             return Err(PairFault::Refused(fault));
@@ -368,6 +385,28 @@ impl Pairs {
         }
     }
 
+    /// Adds the next call of a rank, which comes to stand at `place`. It is refused exactly where it has a
+    /// fault, with the first one, or for want of memory; and then all is as it was.
+    pub fn admit(&mut self, rank: u16, place: u32, call: &Record) -> Result<(), PairFault>
+        requires is_rank { rank < length self.old.recording }
+        requires is_next { place ≡ length (calls_of self.old.recording rank) }
+        ensures ok { OnOk result (self.new ≡ with_call self.old rank call.now) }
+        ensures refused { IfSome (fault_of self.old.groups rank (calls_of self.old.recording rank) call.now) (λ fault. result ≡ Err (Refused fault)) }
+        ensures fault { IfErr result (TellsFault (fault_of self.old.groups rank (calls_of self.old.recording rank) call.now)) }
+        ensures err { OnErr result (self.new ≡ self.old) }
+    {
+        match kind_no(call.as_call()) {
+            SEND => self.admit_kind::<SEND>(rank, place, call),
+            RECV => self.admit_kind::<RECV>(rank, place, call),
+            ISEND => self.admit_kind::<ISEND>(rank, place, call),
+            IRECV => self.admit_kind::<IRECV>(rank, place, call),
+            COLL => self.admit_kind::<COLL>(rank, place, call),
+            WAIT => self.admit_kind::<WAIT>(rank, place, call),
+            WAITALL => self.admit_kind::<WAITALL>(rank, place, call),
+            _ => self.admit_kind::<ANY>(rank, place, call),
+        }
+    }
+
     /// Adds the next call of a rank by the same rules, and tells the partners that it has and the wave that
     /// it joins.
     pub fn add(&mut self, rank: u16, place: u32, call: &Record) -> Result<Added, PairFault>
@@ -386,6 +425,7 @@ impl Pairs {
     }
 
     /// The head of the run.
+    #[inline(always)]
     pub fn head(&self) -> &Head
         ensures value { result.now ≡ self.now.groups }
         ensures ranks { length self.now.recording ≡ ranks_of self.now.groups }
@@ -395,6 +435,7 @@ impl Pairs {
     }
 
     /// How many calls of a rank were added; None where there is no such rank.
+    #[inline(always)]
     pub fn accepted(&self, rank: u16) -> Option<u32>
         ensures value { result ≡ option_map length (slice_get self.now.recording rank) }
         ensures most { IfSome result (λ count. count ≤ most_calls) }
@@ -443,6 +484,7 @@ impl Pairs {
 
     /// Whether there is a probe among the calls, whose source is not MPI_PROC_NULL. Where this answers false,
     /// `probed` answers None everywhere.
+    #[inline(always)]
     pub fn has_probes(&self) -> bool
         ensures none { result ≡ false → NoneIsProbed self.now.groups self.now.recording }
         ensures some { result ≡ true → HasProbe self.now.groups self.now.recording }
@@ -476,6 +518,7 @@ impl Pairs {
 
     /// The place of a wave's call of the member with rank `g` in the communicator's group; None where it
     /// has none yet.
+    #[inline(always)]
     pub fn member(&self, comm: u16, wave: u32, g: u16) -> Option<u32>
         ensures { result ≡ member_of self.now.groups self.now.recording comm wave g }
     {
@@ -492,6 +535,7 @@ impl Pairs {
 
     /// The place that started the request with that index, from 0, among those that the wait at `place`
     /// completes.
+    #[inline(always)]
     pub fn completed(&self, rank: u16, place: u32, index: usize) -> Option<u32>
         ensures { result ≡ completed_of self.now.recording rank place index }
     {

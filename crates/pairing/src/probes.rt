@@ -22,6 +22,7 @@ use std::alloc::{AllocError, Global};
 
 /// The envelope of a message that the rank receives, by what its call says of it. None where the rank is not
 /// in the communicator's group.
+#[inline(always)]
 pub(crate) fn received_by(head: &Head, rank: u16, message: Message) -> Option<Envelope>
     ensures { result ≡ option_map (envelope_by RecvHalf message) (group_rank_of head.now message.comm rank) }
 {
@@ -30,6 +31,7 @@ pub(crate) fn received_by(head: &Head, rank: u16, message: Message) -> Option<En
 }
 
 /// The envelope of the message that the rank's call probes for.
+#[inline(always)]
 pub(crate) fn probed_envelope(head: &Head, rank: u16, call: &NextCall<'_>) -> Option<Envelope>
     ensures { result ≡ probed_envelope head.now rank call.now }
 {
@@ -58,6 +60,7 @@ impl Probes {
     }
 
     /// Whether some probe has a seat.
+    #[inline(always)]
     pub(crate) fn has_probes(&self) -> bool
         ensures { (groups : Groups) (recording : Lists) (seating : Seating) → AreSeated groups recording seating self.now → HasProbesIf result groups recording }
     {
@@ -109,6 +112,7 @@ impl Probes {
     }
 
     /// The same for the half of a call that may receive nothing.
+    #[inline(always)]
     pub(crate) fn receive(&mut self, half: &Option<Numbered>, place: u32)
         ensures none { half.now ≡ None → self.new ≡ self.old }
         ensures some { IfSome half.now (λ own. Follows self.old self.new own.envelope place) }

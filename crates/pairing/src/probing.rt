@@ -51,6 +51,7 @@ impl Probing {
     }
 
     /// Whether there are probes.
+    #[inline(always)]
     pub(crate) fn has_probes(&self) -> bool
         ensures none { (groups : Groups) (recording : Lists) → IsProbing groups recording self.now → result ≡ false → NoneIsProbed groups recording }
         ensures some { (groups : Groups) (recording : Lists) → IsProbing groups recording self.now → result ≡ true → HasProbe groups recording }
@@ -75,6 +76,7 @@ impl Probing {
     }
 
     /// Makes room for the call, if it is a probe. The table says the same after it.
+    #[inline(always)]
     pub(crate) fn reserve(&mut self, call: &NextCall<'_>) -> Result<(), AllocError>
         ensures kept { (groups : Groups) (recording : Lists) → IsProbing groups recording self.old → IsProbing groups recording self.new }
         ensures ok { OnOk result (HasRoomToProbe self.new call.now) }
@@ -98,6 +100,7 @@ impl Probing {
     }
 
     /// Puts in the rank's next call, at its place, with the halves that it has. It takes no memory.
+    #[inline(always)]
     pub(crate) fn put(
         &mut self,
         head: &Head,

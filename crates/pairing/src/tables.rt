@@ -61,6 +61,7 @@ impl Tables {
     }
 
     /// Makes all the room that the rank's next call takes. The tables say the same after it.
+    #[inline(always)]
     pub(crate) fn reserve(
         &mut self,
         head: &Head,
@@ -79,6 +80,7 @@ impl Tables {
 
     /// Puts in the rank's next call, at its place, where its wave has that list. Its halves stay as they are. It
     /// takes no memory.
+    #[inline(always)]
     pub(crate) fn put(&mut self, rank: u16, place: u32, call: &NextCall<'_>, list: Option<usize>)
         requires is_list { IsListFor rank call.now self.old.waves list }
         requires joined { IfSome list (HasRoomIn self.old.waves.lists) }
@@ -94,6 +96,7 @@ impl Tables {
     }
 
     /// What is kept beside a rank's next call, whose wave has that list, as long as its halves have no partners.
+    #[inline(always)]
     pub(crate) fn beside(&self, list: Option<usize>) -> Beside
         ensures { (groups : Groups) (recording : Lists) (rank : ℕ) (call : Call) → AreTables groups recording self.now →
             IsListFor rank call self.now.waves list → length (calls_of recording rank) ≤ most_calls → IsBeside (calls_of recording rank) call result }

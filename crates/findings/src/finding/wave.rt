@@ -45,6 +45,7 @@ fn difference(
 }
 
 /// The call in a wave of the member with rank `g` in the communicator's group, seen in place.
+#[inline(always)]
 fn stored_of_member(pairs: &Pairs, comm: u16, wave: u32, g: u16) -> Option<StoredCall<'_>>
     ensures { result ≡ call_of_member pairs.now.groups pairs.now.recording comm wave g }
 {
@@ -61,6 +62,7 @@ pub(crate) fn call_of_member(pairs: &Pairs, comm: u16, wave: u32, g: u16) -> Opt
 }
 
 /// Whether both are the same collective, with the same root if it has one. Then nothing is found of them.
+#[inline(always)]
 #[tactic(auto, using(crate::proofs::AlikeLemmas::alike))]
 fn are_alike(first: &StoredCall<'_>, call: &StoredCall<'_>) -> bool
     ensures { IsTrue result → (compared : Compared) (comm wave member : ℕ) →
@@ -73,6 +75,7 @@ fn are_alike(first: &StoredCall<'_>, call: &StoredCall<'_>) -> bool
 }
 
 /// Whether the calls of a member and of the first one in the wave are both there, and alike.
+#[inline(always)]
 fn is_member_alike(pairs: &Pairs, comm: u16, wave: u32, g: u16) -> bool
     ensures { IsTrue result → (compared : Compared) →
         found_of_member (comparison_of compared) pairs.now.groups pairs.now.recording comm wave g ≡ [] }

@@ -3,8 +3,8 @@ use Rattle.std.proofs.Common.{length}
 use Rattle.mpicall.proofs.BodyLemmas.{SoFar}
 use Rattle.mpicall.proofs.body.read_requests.Given as goal
 
-abbrev pub invariant-loop-field : goal.invariant-loop-field
-invariant-loop-field l = SoFar l.fn.fields l.reqs l.fields
+abbrev pub invariant-loop-fields : goal.invariant-loop-fields
+invariant-loop-fields l = SoFar l.fn.fields l.reqs l.fields
 
-abbrev pub decreases-loop-field : goal.decreases-loop-field
-decreases-loop-field l = length l.fields
+abbrev pub decreases-loop-fields : goal.decreases-loop-fields
+decreases-loop-fields l = length l.fields

@@ -16,7 +16,7 @@ use Rattle.pairing.proofs.pairs.note_call.Goals as goal
 pub returns-then-is_empty : goal.returns-then-is_empty
 returns-then-is_empty c =
     let recorded = calls_of-recorded c.args.notes.now.lists c.args.rank in
-    let reqs : c.waits_for.result.now ≡ waits_for c.args.call.now = c.waits_for.ensures.value ∙ ap (λ (call : Call). waits_for call) c.as_call.ensures in
+    let reqs : c.waits_for.result.now ≡ waits_for c.args.call.now = c.waits_for.ensures.value in
     let few : length (calls_of (recording_of c.args.notes.now.lists) c.args.rank) ≤ most_calls = omega (arith, count_noted c.args.notes.now.lists c.args.rank, c.requires.few) in
     let beside = c.beside.ensures c.args.head.now (recording_of c.args.notes.now.lists) c.args.rank c.args.call.now c.requires.tables c.requires.is_list few in
     let none : waits_for c.args.call.now ≡ [] = sym reqs ∙ nil_from_length c.waits_for.result.now (eqb-true (length c.waits_for.result.now) 0 (sym c.if-is_empty.ensures)) in

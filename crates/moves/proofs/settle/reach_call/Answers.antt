@@ -8,7 +8,7 @@ use Rattle.callnotes.specs.declared.envelope.Half.TheVariants.{Send as SendHalf,
 use Rattle.moves.specs.Waiting.{WaitLists, woken_partner, woken_peers, woken_comm, comm_list}
 use Rattle.moves.proofs.WakeLemmas.{all_woken, one_by_one}
 use Rattle.moves.proofs.SettleLemmas.{partners_room, reach_hand, reach_counts}
-use Rattle.moves.proofs.settle.reach.Goals as goal
+use Rattle.moves.proofs.settle.reach_call.Goals as goal
 
 -- a communicator that may be told is one of the groups
 known : (comms : ℕ) (done : Option ℕ) → IfSome done (λ comm. comm < comms) → (comm : ℕ) → done ≡ Some comm → comm < comms

@@ -5,25 +5,25 @@ use Rattle.mpigroup.specs.declared.limits.TheConstants.{MOST_RANKS}
 use Rattle.callnotes.specs.Notes.{recording_of}
 use Rattle.pairing.proofs.CallCountLemmas.{few_seats}
 use Rattle.pairing.proofs.KeptLemmas.{kept_still, ranks_noted}
-use Rattle.pairing.proofs.pairs.Pairs.admit.Goals as goal
+use Rattle.pairing.proofs.pairs.Pairs.admit_kind.Goals as goal
 
 pub invariant_of-self-in-Err : goal.invariant_of-self-in-Err
-invariant_of-self-in-Err c = (
+invariant_of-self-in-Err g c = (
   kept_still _ c.self.inside.notes.lists _ c.self.inside.tables _ c.self.invariant.0 c.reserve-2.ensures.notes c.reserve-2.ensures.tables,
   rw c.reserve-2.ensures.notes (c.reserve.ensures.kept c.self.inside.head (recording_of c.self.inside.notes.lists) c.self.invariant.1),
 )
 
 pub put-requires-clause-kept : goal.put-requires-clause-kept
-put-requires-clause-kept c = kept_still _ c.self.inside.notes.lists _ c.self.inside.tables _ c.self.invariant.0 c.reserve-2.ensures.notes c.reserve-2.ensures.tables
+put-requires-clause-kept g c = kept_still _ c.self.inside.notes.lists _ c.self.inside.tables _ c.self.invariant.0 c.reserve-2.ensures.notes c.reserve-2.ensures.tables
 
 pub invariant_of-self : goal.invariant_of-self
-invariant_of-self c = (
+invariant_of-self g c = (
   c.self.invariant.0,
   c.reserve.ensures.kept c.self.inside.head (recording_of c.self.inside.notes.lists) c.self.invariant.1,
 )
 
 pub put-requires-in-Ok-clause-few : goal.put-requires-in-Ok-clause-few
-put-requires-in-Ok-clause-few c =
+put-requires-in-Ok-clause-few g c =
     let recording = recording_of c.self.inside.notes.lists in
     let kept = c.self.invariant.0 in
     let are = c.reserve.ensures.kept c.self.inside.head recording c.self.invariant.1 in

@@ -1,0 +1,46 @@
+//! The kinds of calls that come often, for each of which there are paths of its own in the crates above.
+
+ghost use Rattle.std.specs.Prelude.{◌≡◌};
+ghost use Rattle.callnotes.specs.Often.{kind_no};
+
+use mpicall::call::{Call, Peer};
+
+/// Any call.
+pub const ANY: u8 = 0;
+/// A send that isn't started alone.
+pub const SEND: u8 = 1;
+/// A receive from a rank that isn't started alone.
+pub const RECV: u8 = 2;
+/// A send that is started.
+pub const ISEND: u8 = 3;
+/// A receive that is started.
+pub const IRECV: u8 = 4;
+/// A collective that isn't started alone.
+pub const COLL: u8 = 5;
+/// A wait for one request.
+pub const WAIT: u8 = 6;
+/// A wait for all of several requests.
+pub const WAITALL: u8 = 7;
+
+/// No call.
+pub const NONE: u8 = 8;
+
+/// The number of the call's kind; that of any call where its kind has no path of its own.
+#[inline(always)]
+pub fn kind_no(call: &Call) -> u8
+    ensures { result ≡ kind_no call.now }
+{
+    match call {
+        Call::Send { .. } => SEND,
+        Call::Recv {
+            source: Peer::Rank(_),
+            ..
+        } => RECV,
+        Call::Isend { .. } => ISEND,
+        Call::Irecv { .. } => IRECV,
+        Call::Coll { .. } => COLL,
+        Call::Wait { .. } => WAIT,
+        Call::Waitall { .. } => WAITALL,
+        _ => ANY,
+    }
+}
