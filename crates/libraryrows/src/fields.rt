@@ -199,7 +199,7 @@ pub fn tell_values(answer: &mut Answer, call: &Call) {
     }
 }
 
-/// A send of so many bytes to rank 0, which starts request 0 where it is asked for one.
+/// A send of so many bytes to rank 0. Where a request is asked for, it starts the one numbered 0.
 fn sized_send(mode: Mode, is_started: bool, bytes: Option<u32>) -> Call {
     let (comm, dest, tag, req) = (0, Peer::Rank(0), 0, 0);
     if is_started {
