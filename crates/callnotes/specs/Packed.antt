@@ -10,6 +10,7 @@ use Rattle.mpicall.specs.declared.call.Call.{Call}
 use Rattle.mpicall.specs.declared.call.Peer.TheVariants.{Rank}
 use Rattle.mpicall.specs.declared.call.Call.TheVariants as made
 use Rattle.mpicall.specs.declared.laid.Laid.TheVariants as laid
+use Rattle.callnotes.specs.declared.often.TheConstants.{ANY, SEND, RECV, ISEND, IRECV, COLL, WAIT, WAITALL}
 use Rattle.callnotes.specs.declared.packed.Packed.{Packed}
 use Rattle.callnotes.specs.declared.packed.Packed.TheVariants.{Send, Recv, Isend, Irecv, Wait, Waitall, Waitany, Coll, Icoll, Nothing, Message, Exchange, Copy, Split}
 use Rattle.callnotes.specs.declared.packed.Entry.{Entry}
@@ -26,14 +27,14 @@ request_of _ = None
 
 -- the number of the kind of a stored call
 abbrev pub kind_no_of : Packed → ℕ
-kind_no_of (Send mode comm dest tag bytes) = 1
-kind_no_of (Recv comm (Rank source) tag) = 2
-kind_no_of (Isend mode comm dest req tag bytes) = 3
-kind_no_of (Irecv req comm source tag) = 4
-kind_no_of (Coll comm kind) = 5
-kind_no_of (Wait start) = 6
-kind_no_of (Waitall first count) = 7
-kind_no_of _ = 0
+kind_no_of (Send mode comm dest tag bytes) = SEND
+kind_no_of (Recv comm (Rank source) tag) = RECV
+kind_no_of (Isend mode comm dest req tag bytes) = ISEND
+kind_no_of (Irecv req comm source tag) = IRECV
+kind_no_of (Coll comm kind) = COLL
+kind_no_of (Wait start) = WAIT
+kind_no_of (Waitall first count) = WAITALL
+kind_no_of _ = ANY
 
 -- the request that the rank's call at the place starts
 abbrev pub request_at : List Entry → ℕ → Option ℕ

@@ -123,7 +123,7 @@ fn look_at_operation(
     }
 }
 
-/// The same of any call.
+/// What is told of the operation of any call at the place: the slow way, for calls that come seldom.
 #[inline(never)]
 fn look_at_any_operation(
     reading: Reading,
@@ -141,7 +141,8 @@ fn look_at_any_operation(
     look_at_operation(reading, pairs, stands, progress, rank, place, call)
 }
 
-/// The same. There is one such function for each kind of call that comes often, built for it alone.
+/// What is told of the operation of a call of this kind at the place. There is one such function for each kind that
+/// comes often, built for it alone; another kind of call goes the slow way.
 fn look_at_operation_of<const KIND: u8>(
     reading: Reading,
     pairs: &Pairs,
@@ -162,7 +163,7 @@ fn look_at_operation_of<const KIND: u8>(
     }
 }
 
-/// The same of the call that started a request.
+/// What is told of the operation of the call that started a request.
 #[inline(never)]
 fn look_at_start(
     reading: Reading,
@@ -189,7 +190,7 @@ fn look_at_start(
     }
 }
 
-/// The same of the request with that index among those that the call at the place completes.
+/// What is told of the request with that index among those that the call at the place completes.
 fn look_at_request(
     reading: Reading,
     pairs: &Pairs,
@@ -232,7 +233,7 @@ fn look_at_requests(
     Look::Moves
 }
 
-/// What is told of the call at the place: a call that starts a request needs nothing.
+/// What is told of any call at the place: the slow way. A call that starts a request needs nothing.
 #[inline(never)]
 fn look_at_any_call(
     reading: Reading,
@@ -256,7 +257,8 @@ fn look_at_any_call(
     }
 }
 
-/// The same. There is one such function for each kind of call that comes often, built for it alone.
+/// What is told of a call of this kind at the place. There is one such function for each kind that comes often, built
+/// for it alone; another kind of call goes the slow way.
 fn look_at_call_of<const KIND: u8>(
     reading: Reading,
     pairs: &Pairs,
@@ -282,7 +284,7 @@ fn look_at_call_of<const KIND: u8>(
     }
 }
 
-/// The same, by the function of the call's kind.
+/// What is told of the call at the place, by the function of its kind. A call that starts a request needs nothing.
 #[inline(always)]
 fn look_at_call(
     reading: Reading,
@@ -298,6 +300,7 @@ fn look_at_call(
     ensures { TellsCall reading pairs.now.groups pairs.now.recording stands.now progress.now rank place call.now result }
 {
     match call.kind_no() {
+        ISEND | IRECV if call.starts().is_some() => Look::Moves,
         SEND => look_at_call_of::<SEND>(reading, pairs, stands, progress, rank, place, call),
         RECV => look_at_call_of::<RECV>(reading, pairs, stands, progress, rank, place, call),
         COLL => look_at_call_of::<COLL>(reading, pairs, stands, progress, rank, place, call),

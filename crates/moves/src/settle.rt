@@ -1,8 +1,6 @@
 //! Ranks that move on until none can, by looks at those alone that something woke.
 
 ghost use Rattle.std.specs.Prelude.{◌≡◌, ◌<◌, ◌≤◌, true, false, None, length, slice_get, slice_index, IfSome};
-ghost use Rattle.std.specs.Option.{option_map_or};
-ghost use Rattle.callnotes.specs.Often.{kind_no};
 ghost use Rattle.callnotes.specs.Recordings.{calls_of};
 ghost use Rattle.callnotes.specs.Limits.{most_calls};
 ghost use Rattle.pairing.specs.Partners.{partner_of};
@@ -143,7 +141,7 @@ fn reach_call(
     wake_members(waiters, complete);
 }
 
-/// The same of any call.
+/// Wakes all that wait for any call at the place: the slow way, for calls that come seldom.
 #[inline(never)]
 fn reach_any(
     reading: Reading,
@@ -163,17 +161,15 @@ fn reach_any(
 
 /// The number of the kind of the call at the place; `NONE` where there is no call.
 #[inline(always)]
-fn kind_at(pairs: &Pairs, rank: u16, place: u32) -> u8
-    ensures { result ≡ option_map_or kind_no (slice_get (calls_of pairs.now.recording rank) place) 8 }
-{
+fn kind_at(pairs: &Pairs, rank: u16, place: u32) -> u8 {
     match pairs.call(rank, place) {
         Some(call) => call.kind_no(),
         None => NONE,
     }
 }
 
-/// The same. There is one such function for each kind of call that comes often, built for it alone, and one for no
-/// call.
+/// Wakes all that wait for a call of this kind at the place. There is one such function for each kind that comes often,
+/// built for it alone, and one for no call; another kind of call goes the slow way.
 fn reach_of<const KIND: u8>(
     reading: Reading,
     pairs: &Pairs,
@@ -194,7 +190,7 @@ fn reach_of<const KIND: u8>(
     }
 }
 
-/// The same, by the function of the call's kind.
+/// Wakes all that wait for the call at the place, by the function of its kind.
 #[inline(always)]
 fn reach(
     reading: Reading,

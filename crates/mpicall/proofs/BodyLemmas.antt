@@ -1,6 +1,6 @@
 -- What the readers of the fields behind a word say of these fields.
 use Rattle.std.proofs.Common.{◌≡◌, ℕ, ◌+◌, ◌-◌, ◌<◌, ◌≤◌, Bool, true, false, List, [], ◌∷◌, ◌++◌, length, sym, ap, ◌∙◌, refl, arith, Option, Some, None, option_map, ◌&&◌, ◌==◌, map, is_some, nat_le, cond, length-append, append_assoc, suc}
-use Rattle.std.specs.Prelude.{if◌then◌else◌}
+use Rattle.std.specs.Prelude.{if◌then◌else◌, MatchOption}
 use Rattle.std.specs.Fmt.{decimal}
 use Rattle.std.specs.List.{list_all}
 use Rattle.std.proofs.lemmas.Bool.Decides.{nat_tests}
@@ -244,3 +244,9 @@ unfolding fits_line
 line_reads text fields all w true old new is found reads =
     (is ∙ whole text fields w new (word_has text w found) reads.0 reads.1, reads.2)
 line_reads text fields all w false old new is found reads = (rw (is, found) reads.0, reads.1)
+
+-- a first field that is a word of the format, or none
+pub word_fits : (text : List ℕ) (fields all : List (List ℕ)) (word : Option Word) → all ≡ text ∷ fields → word ≡ word_of text → MatchOption word (fits_line all ≡ false) (λ w. all ≡ text_of w ∷ fields)
+unfolding fits_line
+word_fits text fields all None is found = rw (is, sym found) refl
+word_fits text fields all (Some w) is found = rw (sym (word_has text w (sym found))) is

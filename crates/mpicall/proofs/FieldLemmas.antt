@@ -1,8 +1,9 @@
 -- How the first space cuts a body into its first field and the rest.
-use Rattle.std.proofs.Common.{◌≡◌, ◌==◌, Option, ℕ, ◌+◌, ◌-◌, ◌<◌, ◌≤◌, Bool, true, false, List, [], ◌∷◌, length, take, drop, refl, arith, rules, Some, None, cond, ltb, length-drop}
+use Rattle.std.proofs.Common.{◌≡◌, ◌==◌, Option, ℕ, ◌+◌, ◌-◌, ◌<◌, ◌≤◌, Bool, true, false, List, [], ◌∷◌, length, take, drop, refl, subst, arith, rules, Some, None, cond, ltb, length-drop, get_or}
 use Rattle.std.specs.List.{slice_split, position, position_or_len}
 use Rattle.mpicall.specs.Lines.{is_empty, split_fields}
-use Rattle.std.proofs.lemmas.List.{take_all}
+use Rattle.std.proofs.lemmas.Bool.{lt-ltb}
+use Rattle.std.proofs.lemmas.List.{take_all, get_or-take}
 use Rattle.std.proofs.lemmas.List.Quantifiers.{position-Some}
 use Rattle.std.proofs.lemmas.List.Sums.{position_or_len_is, fails_before_first}
 use Rattle.std.proofs.lemmas.Bool.Decides.{nat_tests}
@@ -38,3 +39,18 @@ pub some_field : (bytes : List ℕ) → is_empty (split_fields bytes) ≡ false
 some_field bytes = split_as (λ byte. byte == 32) bytes (position (λ byte. byte == 32) bytes) refl
 
 pub ruleset field_steps = (split_at_first_space, split_without_space)
+
+-- a word at the front, behind which a space stands, is the first field
+word_place : (word bytes : List ℕ) → position (λ byte. byte == 32) word ≡ None → take (length word) bytes ≡ word → length word < length bytes → get_or bytes (length word) 0 ≡ 32 → position (λ byte. byte == 32) bytes ≡ Some (length word)
+word_place word bytes none front less space =
+    let all : length word ≤ position_or_len (λ byte. byte == 32) word = none_passes (ltb (position_or_len (λ byte. byte == 32) word) (length word)) (position_or_len (λ byte. byte == 32) word) (length word) refl none in
+    let first : position_or_len (λ byte. byte == 32) bytes ≡ length word =
+    position_or_len_is (λ byte. byte == 32) bytes (length word) 0 (omega (arith, less))
+    (λ k below. subst (λ (c : ℕ). (c == 32) ≡ false) (get_or-take (length word) bytes k 0 below) (rw front (fails_before_first (λ byte. byte == 32) word k 0 (omega (arith, all, below)))))
+    (λ _. rw space refl) in
+    rw first (rw (lt-ltb (length word) (length bytes) less) refl)
+
+pub word_first : (word bytes : List ℕ) → position (λ byte. byte == 32) word ≡ None → take (length word) bytes ≡ word → length word < length bytes → get_or bytes (length word) 0 ≡ 32 → split_fields bytes ≡ word ∷ split_fields (take (length bytes - (length word + 1)) (drop (length word + 1) bytes))
+word_first word bytes none front less space =
+    let cut = split_at_first_space (λ byte. byte == 32) bytes (length word) (word_place word bytes none front less space) in
+    rw front at cut

@@ -1,5 +1,5 @@
 -- A word's text is found as that word, and what is found as a word has its text.
-use Rattle.std.proofs.Common.{◌≡◌, ℕ, ◌<◌, ◌≤◌, Bool, true, false, List, [], ◌∷◌, length, sym, ap, ◌∙◌, refl, arith, Option, Some, None, cond, option_map, map, get_or, ◌==◌, nat_lt, nat_le, ◌&&◌}
+use Rattle.std.proofs.Common.{◌≡◌, ℕ, ◌<◌, ◌≤◌, Bool, true, false, List, [], ◌∷◌, length, sym, ap, ◌∙◌, refl, arith, Option, Some, None, cond, option_map, map, ◌==◌, nat_lt, nat_le, ◌&&◌}
 use Rattle.std.specs.List.{list_all}
 use Rattle.std.specs.Str.{bytes_eq}
 use Rattle.std.proofs.lemmas.Slice.Eq.{bytes_eq-Decides}
@@ -44,17 +44,6 @@ operation_has : (text : List ℕ) (o : Operation) → operation_of text ≡ Some
 unfolding operation_of
 operation_has text o e =
     else_cases (text ≡ operation_text o) (with_text operation_text text messages) (option_map Coll (collective_of text)) o (with_text_has operation_text text messages o) (coll_has text o) e
-
--- no operation's word begins with the letter that starts one, or as a wait
-pub starts_none : (text : List ℕ) → get_or text 0 0 ≡ start_letter → operation_of text ≡ None
-unfolding operation_of collective_of
-starts_none [] e = refl
-starts_none (letter ∷ text) e = rw e refl
-
-pub waits_none : (text : List ℕ) → get_or text 0 0 ≡ 119 → operation_of text ≡ None
-unfolding operation_of collective_of
-waits_none [] e = refl
-waits_none (letter ∷ text) e = rw e refl
 
 blocking_has : (text : List ℕ) (w : Word) → option_map Blocking (operation_of text) ≡ Some w → text ≡ text_of w
 blocking_has text w e = let found = map_some Blocking (operation_of text) w e in rw found.2 (operation_has text found.0 found.1)

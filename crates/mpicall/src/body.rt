@@ -2,42 +2,52 @@
 
 ghost use Rattle.std.specs.Prelude.{◌≡◌, ◌≤◌, [], ◌∷◌, true, false, List, ℕ, length, MatchOption, MatchBool};
 ghost use Rattle.mpicall.specs.Reading.{ReadsBehind, ReadsFields, requests_fit, SpellsRequests};
+ghost use Rattle.mpicall.specs.Line.{fits_line};
+ghost use Rattle.mpicall.specs.Word.{text_of};
 ghost use Rattle.mpicall.specs.declared.word.Name.TheVariants as name;
 ghost use Rattle.mpicall.specs.declared.word.Word.TheVariants.{Named};
 
-use crate::call::Call;
+use crate::call::{Call, Mode};
 use crate::fields::Fields;
 use crate::limits::MOST_REQUESTS;
 use crate::reading::{
     next_number, next_request, read_blocking, read_laid, read_started, read_wait,
 };
 use crate::reqs::Reqs;
-use crate::word::{Name, Word, word_of};
+use crate::word::{Name, Operation, Word, word_of};
 
-/// The requests that all the fields spell, where they are as many as one wait may name.
-fn read_requests(mut fields: Fields<'_>) -> Option<Reqs>
-    ensures { MatchOption result (requests_fit fields.entry ≡ false) (λ reqs. SpellsRequests fields.entry reqs) }
+/// Reads the requests that all the fields spell into one place, which holds one number before; says whether they are as
+/// many as one wait may name.
+#[inline(always)]
+fn read_requests(mut fields: Fields<'_>, reqs: &mut Reqs) -> bool
+    requires { length reqs.old ≡ 1 }
+    ensures { MatchBool result (SpellsRequests fields.entry reqs.new) (requests_fit fields.entry ≡ false) }
 {
-    let mut reqs = Reqs::of_one(next_request(&mut fields)?);
+    let Some(first) = next_request(&mut fields) else {
+        return false;
+    };
+    reqs.set_only(first);
     while !fields.are_over() {
         if reqs.is_full() {
-            return None;
+            return false;
         }
-        reqs.push(next_request(&mut fields)?);
+        let Some(req) = next_request(&mut fields) else {
+            return false;
+        };
+        reqs.push(req);
     }
-    Some(reqs)
+    true
 }
 
 fn read_waitall(fields: Fields<'_>, into: &mut Call) -> bool
     ensures { ReadsBehind (Named name.Waitall) fields.entry result into.old into.new }
 {
-    match read_requests(fields) {
-        Some(reqs) => {
-            *into = Call::Waitall { reqs };
-            true
-        }
-        None => false,
+    let mut reqs = Reqs::of_one(0);
+    if !read_requests(fields, &mut reqs) {
+        return false;
     }
+    *into = Call::Waitall { reqs };
+    true
 }
 
 fn read_waitany(mut fields: Fields<'_>, into: &mut Call) -> bool
@@ -46,9 +56,10 @@ fn read_waitany(mut fields: Fields<'_>, into: &mut Call) -> bool
     let Some(chosen) = next_number(MOST_REQUESTS as u32 - 1, &mut fields) else {
         return false;
     };
-    let Some(reqs) = read_requests(fields) else {
+    let mut reqs = Reqs::of_one(0);
+    if !read_requests(fields, &mut reqs) {
         return false;
-    };
+    }
     if chosen as usize >= reqs.count() {
         return false;
     }
@@ -83,16 +94,60 @@ fn read_behind(word: Word, fields: Fields<'_>, into: &mut Call) -> bool
     }
 }
 
+/// Takes off the word of a call that comes often, where the fields begin with one and others stand behind it. It is
+/// found by the first bytes, before the field's end is sought.
+#[inline(always)]
+fn next_often(fields: &mut Fields<'_>) -> Option<Word>
+    ensures { MatchOption result (fields.new ≡ fields.old) (λ word. fields.old ≡ text_of word ∷ fields.new) }
+{
+    if fields.take_word(b"isend") {
+        return Some(Word::Started(Operation::Send(Mode::Standard)));
+    }
+    if fields.take_word(b"irecv") {
+        return Some(Word::Started(Operation::Recv));
+    }
+    if fields.take_word(b"send") {
+        return Some(Word::Blocking(Operation::Send(Mode::Standard)));
+    }
+    if fields.take_word(b"recv") {
+        return Some(Word::Blocking(Operation::Recv));
+    }
+    if fields.take_word(b"waitall") {
+        return Some(Word::Named(Name::Waitall));
+    }
+    if fields.take_word(b"wait") {
+        return Some(Word::Named(Name::Wait));
+    }
+    None
+}
+
+/// Takes off a word of the format, where the fields begin with one.
+#[inline(never)]
+#[tactic(auto, unfolding(crate::specs::Line::fits_line))]
+fn next_any(fields: &mut Fields<'_>) -> Option<Word>
+    ensures { MatchOption result (fits_line fields.old ≡ false) (λ word. fields.old ≡ text_of word ∷ fields.new) }
+{
+    let field = fields.next_field()?;
+    word_of(field)
+}
+
+/// The same; the most frequent ones first.
+#[inline(always)]
+fn next_word(fields: &mut Fields<'_>) -> Option<Word>
+    ensures { MatchOption result (fits_line fields.old ≡ false) (λ word. fields.old ≡ text_of word ∷ fields.new) }
+{
+    match next_often(fields) {
+        Some(word) => Some(word),
+        None => next_any(fields),
+    }
+}
+
 /// Reads the call of the fields of a line, its word first; says whether there is one, and else leaves the
 /// place alone.
-#[tactic(auto, unfolding(crate::specs::Line::fits_line))]
 pub(crate) fn read_fields(mut fields: Fields<'_>, into: &mut Call) -> bool
     ensures { ReadsFields fields.entry result into.old into.new }
 {
-    let Some(field) = fields.next_field() else {
-        return false;
-    };
-    match word_of(field) {
+    match next_word(&mut fields) {
         Some(word) => read_behind(word, fields, into),
         None => false,
     }

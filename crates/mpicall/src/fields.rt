@@ -1,6 +1,6 @@
 //! The fields of a line's body: what lies between its single spaces.
 
-ghost use Rattle.std.specs.Prelude.{◌≡◌, ◌≤◌, [], ◌∷◌, ◌==◌, Some, position, IfSome, MatchOption};
+ghost use Rattle.std.specs.Prelude.{◌≡◌, ◌≤◌, [], ◌∷◌, ◌==◌, None, Some, true, length, take, position, IfSome, MatchBool, MatchOption};
 ghost use Rattle.std.specs.List.{list_any};
 ghost use Rattle.mpicall.specs.Spelling.{space};
 ghost use Rattle.mpicall.specs.Lines.{split_fields, is_blank, is_empty};
@@ -31,6 +31,23 @@ fn space_at(bytes: &[u8]) -> Option<usize>
     ensures { result ≡ position (λ byte. byte == space) bytes.now }
 {
     bytes.iter().position(|byte| *byte == b' ')
+}
+
+/// Whether some bytes begin with a word. Where the word is known when this is built, each of its bytes is one test.
+#[inline(always)]
+fn begin_with(bytes: &[u8], word: &[u8]) -> bool
+    ensures long { result ≡ true → length word.now ≤ length bytes.now }
+    ensures front { result ≡ true → take (length word.now) bytes.now ≡ word.now }
+{
+    if bytes.len() < word.len() {
+        return false;
+    }
+    for at in 0..word.len() {
+        if bytes[at] != word[at] {
+            return false;
+        }
+    }
+    true
 }
 
 impl<'a> Fields<'a> {
@@ -77,6 +94,23 @@ impl<'a> Fields<'a> {
                 Some(&rest[..at])
             }
         }
+    }
+
+    /// Takes the next field off where it is this word, which has no space, and others stand behind it; says whether it
+    /// is. Else the fields stay as they are.
+    #[inline(always)]
+    pub(crate) fn take_word(&mut self, word: &[u8]) -> bool
+        requires { position (λ byte. byte == space) word.now ≡ None }
+        ensures { MatchBool result (self.old ≡ word.now ∷ self.new) (self.new ≡ self.old) }
+    {
+        let Some(rest) = self.rest else {
+            return false;
+        };
+        if !begin_with(rest, word) || rest.len() == word.len() || rest[word.len()] != b' ' {
+            return false;
+        }
+        self.rest = Some(&rest[word.len() + 1..]);
+        true
     }
 
     /// The next field as a number, where it is a canonical one of at most `limit`. Else the fields stay as they are.

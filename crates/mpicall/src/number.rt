@@ -87,11 +87,11 @@ pub(crate) fn read_front(limit: u32, bytes: &[u8]) -> Option<Front>
     let mut number = 0;
     for at in 0..bytes.len() {
         let byte = bytes[at];
-        if byte == b' ' {
-            return Some(Front { count: at, number });
-        }
         if !byte.is_ascii_digit() {
-            return None;
+            if byte != b' ' {
+                return None;
+            }
+            return Some(Front { count: at, number });
         }
         let next = u64::from(number) * 10 + u64::from(byte - b'0');
         if next > u64::from(limit) {

@@ -23,7 +23,8 @@ use crate::limits::{
 use crate::number::{read_number, read_signed};
 use crate::word::{Collective, Layout, Name, Operation, layout_of};
 
-/// The same, by a look at the field and then at its digits.
+/// The next field, where it is a number up to `greatest`: the slow way, by a look at the field and then at its digits,
+/// for fields that are no such number.
 #[inline(never)]
 fn read_other_number(greatest: u32, fields: &mut Fields<'_>) -> Option<u32>
     ensures value { MatchOption result
@@ -35,7 +36,7 @@ fn read_other_number(greatest: u32, fields: &mut Fields<'_>) -> Option<u32>
     read_number(greatest, field)
 }
 
-/// The next field, where it is a number up to `greatest`. A canonical one is read in one pass.
+/// The next field, where it is a number up to `greatest`. It is read in one pass, but for what is no such number.
 #[inline(always)]
 pub(crate) fn next_number(greatest: u32, fields: &mut Fields<'_>) -> Option<u32>
     ensures value { MatchOption result
@@ -46,7 +47,11 @@ pub(crate) fn next_number(greatest: u32, fields: &mut Fields<'_>) -> Option<u32>
     if let Some(number) = fields.next_canonical(greatest) {
         return Some(number);
     }
-    read_other_number(greatest, fields)
+    // The slow way is given a copy, so that the fields themselves need no place in memory.
+    let mut rest = fields.again();
+    let number = read_other_number(greatest, &mut rest);
+    *fields = rest;
+    number
 }
 
 #[inline(always)]
@@ -85,7 +90,7 @@ fn next_root(fields: &mut Fields<'_>) -> Option<u16>
     Some(next_number(u32::from(GREATEST_RANK), fields)? as u16)
 }
 
-/// A peer, by a look at the field and then at its digits.
+/// The next field, where it is a peer: the slow way, for what is no rank's number.
 #[inline(never)]
 fn next_other_peer(fields: &mut Fields<'_>) -> Option<Peer>
     ensures { MatchOption result
@@ -100,6 +105,7 @@ fn next_other_peer(fields: &mut Fields<'_>) -> Option<Peer>
     Some(Peer::Rank(rank as u16))
 }
 
+/// The next field, where it is a peer. A rank's number is read in one pass.
 #[inline(always)]
 fn next_peer(fields: &mut Fields<'_>) -> Option<Peer>
     ensures { MatchOption result
@@ -109,7 +115,10 @@ fn next_peer(fields: &mut Fields<'_>) -> Option<Peer>
     if let Some(rank) = fields.next_canonical(u32::from(GREATEST_RANK)) {
         return Some(Peer::Rank(rank as u16));
     }
-    next_other_peer(fields)
+    let mut rest = fields.again();
+    let peer = next_other_peer(&mut rest);
+    *fields = rest;
+    peer
 }
 
 fn next_colour(fields: &mut Fields<'_>) -> Option<Option<u32>>
@@ -163,6 +172,7 @@ fn next_message(fields: &mut Fields<'_>) -> Option<(u16, Peer, u32)>
 }
 
 /// The bytes of a message, where they stand last; no other fields are left.
+#[inline(always)]
 fn last_bytes(fields: &mut Fields<'_>) -> Option<Option<u32>>
     ensures { MatchOption result
         (all_taken (take_arguments (bytes_forms 0 (length fields.old)) fields.old) ≡ None)
@@ -177,6 +187,7 @@ fn last_bytes(fields: &mut Fields<'_>) -> Option<Option<u32>>
 }
 
 /// A communicator, a peer and a tag, behind which the bytes may stand last.
+#[inline(always)]
 fn last_message(fields: &mut Fields<'_>) -> Option<(u16, Peer, u32, Option<u32>)>
     ensures { MatchOption result
         (all_taken (take_arguments (comm_form ∷ PeerForm ∷ tag_form ∷ bytes_forms 3 (length fields.old)) fields.old) ≡ None)

@@ -110,7 +110,7 @@ impl Remembered {
         let at = *self.behind.get(usize::from(self.last))?;
         let kept = self.kept.get(usize::from(at))?;
         let line = kept.line();
-        if held.len() < line.len() || &held[..line.len()] != line {
+        if !held.starts_with(line) {
             return None;
         }
         let len = line.len();

@@ -58,6 +58,15 @@ impl Reqs {
         Reqs { cells, len: 1 }
     }
 
+    /// Puts another number in the place of the only one.
+    #[tactic(auto, using(crate::proofs::CellLemmas::cell_steps))]
+    pub(crate) fn set_only(&mut self, number: u32)
+        requires { length self.old ≡ 1 }
+        ensures { self.new ≡ number ∷ [] }
+    {
+        self.cells[0] = number;
+    }
+
     /// Whether as many numbers are held as may be.
     pub(crate) fn is_full(&self) -> bool
         ensures { result ≡ (length self.now == MOST_REQUESTS) }

@@ -126,6 +126,24 @@ impl<I: Input> Source<I> {
             self.stage = stage_behind(into);
             return Ok(true);
         }
+        self.read_other(into)
+    }
+
+    /// Reads the next line, which may be any, where no end record came so far.
+    #[inline(never)]
+    fn read_other(&mut self, into: &mut Record) -> Result<bool, SourceFault>
+        requires { self.old.stage ≡ Reading }
+        ensures trace { Gives (coming I.left self.old) (coming I.left self.new) (answer_into result into.new) }
+        ensures end { ended self.new ≡ end_of_answer (answer_into result into.new) }
+        ensures count { I.failures (input_of self.new)
+            ≡ count_after None (answer_into result into.new) (I.failures (input_of self.old)) }
+        ensures own { IfErr result IsOwnFault }
+        ensures kept { result ≢ Ok true → into.new ≡ into.old }
+        ensures line { result ≡ Ok true
+            → Consumes (unread I.left self.old) (unread I.left self.new) (spelling into.new) }
+        ensures cut { result ≡ Err ReadFailed
+            → IsCutOff I.left self.old self.new [] }
+    {
         let len = match line_end(&mut self.window, &mut self.input) {
             Ok(len) => len,
             Err(_) => {

@@ -64,8 +64,7 @@ pub enum Name {
     Open,
 }
 
-/// The text of each name and what stands behind it: a row each, in the order of the variants of `Name`. The first
-/// two are the most frequent words: `named_of` compares them in place, and looks through the rows behind them alone.
+/// The text of each name and what stands behind it: a row each, in the order of the variants of `Name`.
 pub const NAMES: [(&str, Name, Layout); 9] = [
     ("waitall", Name::Waitall, Layout::Requests),
     ("wait", Name::Wait, Layout::Request),
@@ -175,19 +174,11 @@ fn collective_of(field: &[u8]) -> Option<Collective>
     None
 }
 
-/// The operation that a field spells, if the format has it; the most frequent ones first. None begins with the letter
-/// that starts one, or as a wait.
-#[inline(always)]
+/// The operation that a field spells, if the format has it.
 #[tactic(auto, unfolding(crate::specs::Word::operation_of))]
 fn operation_of(field: &[u8]) -> Option<Operation>
     ensures { result ≡ operation_of field.now }
 {
-    if !field.is_empty() && field[0] == b'i' {
-        return None;
-    }
-    if !field.is_empty() && field[0] == b'w' {
-        return None;
-    }
     if field == b"send".as_slice() {
         return Some(Operation::Send(Mode::Standard));
     }
@@ -233,24 +224,17 @@ fn name_in(mut table: &[(&str, Name, Layout)], field: &[u8]) -> Option<Name>
     None
 }
 
-/// A word that is no operation's, if the field spells one; the most frequent ones first.
+/// A word that is no operation's, if the field spells one.
 fn named_of(field: &[u8]) -> Option<Word>
     ensures { result ≡ named_of field.now }
 {
-    if field == b"waitall".as_slice() {
-        return Some(Word::Named(Name::Waitall));
-    }
-    if field == b"wait".as_slice() {
-        return Some(Word::Named(Name::Wait));
-    }
-    match name_in(&NAMES[2..], field) {
+    match name_in(&NAMES, field) {
         Some(name) => Some(Word::Named(name)),
         None => None,
     }
 }
 
 /// The word that a field spells, if the format has it.
-#[inline(always)]
 #[tactic(auto, unfolding(crate::specs::Word::word_of))]
 pub(crate) fn word_of(field: &[u8]) -> Option<Word>
     ensures { result ≡ word_of field.now }

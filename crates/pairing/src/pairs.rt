@@ -1,6 +1,6 @@
 //! Calls of all ranks, added one by one, with what each means for the others.
 
-ghost use Rattle.std.specs.Prelude.{◌≡◌, ◌≢◌, ◌<◌, ◌≤◌, ℕ, [], length, replicate, slice_get, option_map, None, Err, IfOk, IfErr, IfNone, IfSome, OnOk, OnErr, false, true};
+ghost use Rattle.std.specs.Prelude.{◌≡◌, ◌≢◌, ◌<◌, ◌≤◌, ℕ, [], ◌∷◌, length, replicate, slice_get, option_map, None, Err, IfOk, IfErr, IfNone, IfSome, OnOk, OnErr, false, true};
 ghost use Rattle.mpigroup.specs.Groups.{ranks_of};
 ghost use Rattle.callnotes.specs.Limits.{most_calls};
 ghost use Rattle.callnotes.specs.Recordings.{Lists, calls_of, appended, is_ended, has_end};
@@ -9,7 +9,7 @@ ghost use Rattle.pairing.specs.Probed.{probed_of, seen_from, HasProbe, NoneIsPro
 ghost use Rattle.callnotes.specs.Often.{kind_no};
 ghost use Rattle.pairing.specs.Seated.{IsProbing};
 ghost use Rattle.callnotes.specs.Communicators.{NoneIsMade, HasMade};
-ghost use Rattle.callnotes.specs.Requests.{started_in, started_of, HasActive};
+ghost use Rattle.callnotes.specs.Requests.{started_in, started_of, waits_for, HasActive};
 ghost use Rattle.pairing.specs.Joined.{IsListFor};
 ghost use Rattle.callnotes.specs.Waves.{wave_of, member_of};
 ghost use Rattle.pairing.specs.Faults.{fault_of, waits_for_active, IsLawful};
@@ -133,6 +133,33 @@ fn reserve(
     tables.reserve(head, rank, call)
 }
 
+/// Notes the rank's next wait for one request, with the place that started it.
+#[inline(never)]
+fn note_wait_for_one(
+    head: &Head,
+    notes: &mut Notes,
+    tables: &Tables,
+    rank: u16,
+    call: &NextCall<'_>,
+    req: u32,
+    list: Option<usize>,
+)
+    requires is_rank { rank < length notes.old.lists }
+    requires room { HasRoom notes.old rank call.now }
+    requires few { length (notes_of notes.old.lists rank) < most_calls }
+    requires tables { AreTables head.now (recording_of notes.old.lists) tables.now }
+    requires is_list { IsListFor rank call.now tables.now.waves list }
+    requires active { waits_for_active (calls_of (recording_of notes.old.lists) rank) call.now ≡ true }
+    requires one { waits_for call.now ≡ req ∷ [] }
+    ensures { GoOnBy notes.old.lists notes.new.lists rank call.now }
+{
+    let _head = head;
+    match tables.active.start_of(rank, req) {
+        Some(start) => notes.note(rank, call.record(), tables.beside(list), &[start]),
+        None => unreachable!(),
+    }
+}
+
 /// Notes the rank's next wait, with the places that started the requests which it names.
 fn note_wait(
     head: &Head,
@@ -177,10 +204,10 @@ fn note_call(
     requires active { waits_for_active (calls_of (recording_of notes.old.lists) rank) call.now ≡ true }
     ensures { GoOnBy notes.old.lists notes.new.lists rank call.now }
 {
-    if call.waits_for().is_empty() {
-        notes.note(rank, call.record(), tables.beside(list), &[]);
-    } else {
-        note_wait(head, notes, tables, rank, call.record(), list);
+    match call.waits_for() {
+        [] => notes.note(rank, call.record(), tables.beside(list), &[]),
+        [req] => note_wait_for_one(head, notes, tables, rank, call, *req, list),
+        _ => note_wait(head, notes, tables, rank, call.record(), list),
     }
 }
 

@@ -1,8 +1,7 @@
 -- A word and what stands behind it.
-use Rattle.std.proofs.Common.{sym, ◌∙◌}
+use Rattle.mpicall.proofs.WordLemmas.{word_found}
 use Rattle.mpicall.proofs.BodyLemmas.{line_reads}
 use Rattle.mpicall.proofs.body.read_fields.Goals as goal
 
-pub returns-in-Some-word_of : goal.returns-in-Some-word_of
-returns-in-Some-word_of c =
-    line_reads _ _ _ _ _ _ _ c.in-Some.ensures (sym c.word_of.ensures ∙ c.in-Some-word_of.is) c.read_behind.ensures
+pub returns-in-Some : goal.returns-in-Some
+returns-in-Some c = line_reads _ _ _ _ _ _ _ c.in-Some.ensures (word_found c.in-Some.word) c.read_behind.ensures

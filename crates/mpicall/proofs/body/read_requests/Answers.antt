@@ -7,11 +7,11 @@ use Rattle.mpicall.specs.declared.limits.TheConstants.{GREATEST_REQUEST}
 use Rattle.mpicall.proofs.body.read_requests.Goals as goal
 
 pub loop-fields-init : goal.loop-fields-init
-loop-fields-init c = rw c.of_one-reqs.ensures (requests_begin _ _ _ c.in_ok-next_request.ensures)
+loop-fields-init c = rw c.set_only.ensures (requests_begin _ _ _ c.in-Some.ensures)
 
 pub loop-fields-preserved : goal.loop-fields-preserved
 loop-fields-preserved c =
-    let split = number_split c.loop-fields.fields c.next_request-in-loop-fields.new.fields GREATEST_REQUEST c.in_ok-next_request-2.field-0 c.in_ok-next_request-2.ensures in
+    let split = number_split c.loop-fields.fields c.next_request-in-loop-fields.new.fields GREATEST_REQUEST c.in-Some-next_request.req c.in-Some-next_request.ensures in
     let so_far : SoFar c.args.fields c.loop-fields.reqs (split.0 ∷ c.next_request-in-loop-fields.new.fields) = rw split.1 at c.loop-fields.invariant in
     let most = c.loop-fields.invariant.most in
     let other = sym c.is_full.ensures ∙ c.if-is_full.false in

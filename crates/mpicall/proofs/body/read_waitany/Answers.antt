@@ -8,14 +8,14 @@ returns-in_default c = (index_missing _ c.in_default.ensures.value, refl)
 
 pub returns-then-chosen-count : goal.returns-then-chosen-count
 returns-then-chosen-count c = (
-  index_unfit _ _ _ _ (index_read _ _ _ c.in-Some.ensures.value) c.in-Some-read_requests.ensures (rw c.count.ensures at c.if-chosen-count.true),
+  index_unfit _ _ _ _ (index_read _ _ _ c.in-Some.ensures.value) (rw c.if-not-read_requests.false at c.read_requests.ensures) (rw c.count.ensures at c.if-chosen-count.true),
   refl,
 )
 
 pub returns : goal.returns
 returns c =
-    index_fits _ _ _ _ (index_read _ _ _ c.in-Some.ensures.value) c.in-Some-read_requests.ensures (rw c.count.ensures at c.if-chosen-count.false)
+    index_fits _ _ _ _ (index_read _ _ _ c.in-Some.ensures.value) (rw c.if-not-read_requests.false at c.read_requests.ensures) (rw c.count.ensures at c.if-chosen-count.false)
 
-pub returns-in_default-read_requests : goal.returns-in_default-read_requests
-returns-in_default-read_requests c =
-    (list_unfit _ _ _ (index_read _ _ _ c.in-Some.ensures.value) c.in_default-read_requests.ensures, refl)
+pub returns-then-not-read_requests : goal.returns-then-not-read_requests
+returns-then-not-read_requests c =
+    (list_unfit _ _ _ (index_read _ _ _ c.in-Some.ensures.value) (rw c.if-not-read_requests.true at c.read_requests.ensures), refl)

@@ -6,8 +6,8 @@ use Rattle.mpicall.proofs.number.read_front.Goals as goal
 pub loop-at-init : goal.loop-at-init
 loop-at-init c = no_digit_yet c.args.limit c.args.bytes.now
 
-pub returns-then-byte-eq32 : goal.returns-then-byte-eq32
-returns-then-byte-eq32 c = record { are = c.loop-at.invariant; ends = λ _. c.if-byte-eq32.true }
+pub returns-then-not-is_ascii_digit : goal.returns-then-not-is_ascii_digit
+returns-then-not-is_ascii_digit c = record { are = c.loop-at.invariant; ends = λ _. c.if-byte-ne32.false }
 
 pub loop-at-preserved : goal.loop-at-preserved
 loop-at-preserved c =

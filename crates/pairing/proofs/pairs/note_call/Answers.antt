@@ -1,6 +1,5 @@
 -- What is noted of a call that waits for nothing.
 use Rattle.std.proofs.Common.{◌≡◌, ◌∙◌, ◌≤◌, ℕ, List, [], length, map, refl, ap, sym, arith}
-use Rattle.std.proofs.lemmas.Bool.{eqb-true}
 use Rattle.std.proofs.lemmas.List.{nil_from_length}
 use Rattle.mpicall.specs.declared.call.Call.{Call}
 use Rattle.callnotes.specs.Limits.{most_calls}
@@ -13,13 +12,13 @@ use Rattle.pairing.proofs.KeptLemmas.{count_noted}
 use Rattle.pairing.proofs.NotedLemmas.{calls_of-recorded}
 use Rattle.pairing.proofs.pairs.note_call.Goals as goal
 
-pub returns-then-is_empty : goal.returns-then-is_empty
-returns-then-is_empty c =
+pub returns-in-empty : goal.returns-in-empty
+returns-in-empty c =
     let recorded = calls_of-recorded c.args.notes.now.lists c.args.rank in
     let reqs : c.waits_for.result.now ≡ waits_for c.args.call.now = c.waits_for.ensures.value in
     let few : length (calls_of (recording_of c.args.notes.now.lists) c.args.rank) ≤ most_calls = omega (arith, count_noted c.args.notes.now.lists c.args.rank, c.requires.few) in
     let beside = c.beside.ensures c.args.head.now (recording_of c.args.notes.now.lists) c.args.rank c.args.call.now c.requires.tables c.requires.is_list few in
-    let none : waits_for c.args.call.now ≡ [] = sym reqs ∙ nil_from_length c.waits_for.result.now (eqb-true (length c.waits_for.result.now) 0 (sym c.if-is_empty.ensures)) in
+    let none : waits_for c.args.call.now ≡ [] = sym reqs ∙ nil_from_length c.waits_for.result.now (omega (arith, c.in-empty.len_below)) in
     record {
       noted = record { call = c.args.call.now; beside = c.beside.result; starts = [] };
       added = rw c.record.ensures at c.note.ensures;

@@ -1,9 +1,6 @@
--- What the next line is, by what is held of it.
-use Rattle.std.proofs.Common.{sym, ap, ◌∙◌, take, List, ℕ}
+-- What the next line is, where it is the line that was expected.
 use Rattle.mpicall.specs.Source.{coming}
-use Rattle.mpicall.specs.Reading.{record_of_line}
-use Rattle.mpicall.proofs.GivesLemmas.{gives_read_failed, gives_no_finalize, gives_record, gives_line_fault}
-use Rattle.mpicall.proofs.CutLemmas.{cut_in_line, gives_spelled, held_spelling}
+use Rattle.mpicall.proofs.CutLemmas.{gives_spelled, held_spelling}
 use Rattle.mpicall.proofs.source.Source.read_record.Goals as goal
 
 pub returns-in-Some-clause-trace : goal.returns-in-Some-clause-trace
@@ -17,28 +14,6 @@ returns-in-Some-clause-line g c =
     let begins = rw c.held.ensures at c.in-Some.ensures in
     λ given. rw c.drop_front.ensures (held_spelling _ _ _ _ begins)
 
-pub returns-in-Err-clause-trace : goal.returns-in-Err-clause-trace
+pub returns-clause-trace : goal.returns-clause-trace
 unfolding coming
-returns-in-Err-clause-trace g c = gives_read_failed _
-
-pub returns-then-len-eq0-clause-trace : goal.returns-then-len-eq0-clause-trace
-unfolding coming
-returns-then-len-eq0-clause-trace g c =
-    rw c.requires (gives_no_finalize _ _ c.line_end.new.window c.in-Ok.ensures.known (rw c.if-len-eq0.true at c.in-Ok.ensures.ends))
-
-pub returns-in-Ok-read-clause-trace : goal.returns-in-Ok-read-clause-trace
-unfolding coming
-returns-in-Ok-read-clause-trace g c =
-    let read = ap (λ (held : List ℕ). record_of_line (take c.in-Ok.len held)) (sym c.held-2.ensures) ∙ c.in-Ok-read.ensures.reading in
-    rw (c.requires, c.stage_behind-self-in-Ok-read.ensures, c.drop_front-in-Ok-read.ensures)
-    (gives_record _ _ c.line_end.new.window c.in-Ok.len c.read.new.into c.in-Ok.ensures.known c.in-Ok.ensures.ends read)
-
-pub returns-in-Err-read-clause-trace : goal.returns-in-Err-read-clause-trace
-unfolding coming
-returns-in-Err-read-clause-trace g c =
-    let read = ap (λ (held : List ℕ). record_of_line (take c.in-Ok.len held)) (sym c.held-2.ensures) ∙ c.in-Err-read.ensures.reading.0 in
-    rw c.requires
-    (gives_line_fault _ _ c.line_end.new.window c.in-Ok.len c.in-Err-read.fault c.in-Ok.ensures.known c.in-Ok.ensures.ends c.if-len-eq0.false read)
-
-pub returns-in-Err-clause-cut : goal.returns-in-Err-clause-cut
-returns-in-Err-clause-cut g c = λ failed. cut_in_line _ _ _ _ c.requires c.in-Err.ensures.known c.in-Err.ensures.cut c.in-Err.ensures.short
+returns-clause-trace g c = c.read_other.ensures.trace
