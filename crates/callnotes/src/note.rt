@@ -62,6 +62,14 @@ impl<'a> Note<'a> {
         }
     }
 
+    /// The same note once more.
+    #[inline(always)]
+    pub(crate) fn again(&self) -> Note<'a>
+        ensures { result ≡ self.now }
+    {
+        Note::of(self.entry, self.entries, self.starts)
+    }
+
     /// The call as a record.
     pub(crate) fn record(&self) -> Record
         ensures { result ≡ self.now.call }

@@ -39,6 +39,16 @@ impl<'a> StoredCall<'a> {
         StoredCall { note }
     }
 
+    /// The same call once more.
+    #[inline(always)]
+    pub fn again(&self) -> StoredCall<'a>
+        ensures { result ≡ self.now }
+    {
+        StoredCall {
+            note: self.note.again(),
+        }
+    }
+
     /// The call as a record.
     pub fn record(&self) -> Record
         ensures { result ≡ self.now }

@@ -132,13 +132,13 @@ fn look_at_any_operation(
     progress: &Progress,
     rank: u16,
     place: u32,
-    call: &StoredCall<'_>,
+    call: StoredCall<'_>,
 ) -> Look
     requires waves { AreWaves pairs.now.groups pairs.now.recording stands.now progress.now IsNoException }
-    requires call { slice_get (calls_of pairs.now.recording rank) place ≡ Some call.now }
+    requires call { slice_get (calls_of pairs.now.recording rank) place ≡ Some call }
     ensures { TellsOperation reading pairs.now.groups pairs.now.recording stands.now progress.now rank place result }
 {
-    look_at_operation(reading, pairs, stands, progress, rank, place, call)
+    look_at_operation(reading, pairs, stands, progress, rank, place, &call)
 }
 
 /// What is told of the operation of a call of this kind at the place. There is one such function for each kind that
@@ -150,14 +150,14 @@ fn look_at_operation_of<const KIND: u8>(
     progress: &Progress,
     rank: u16,
     place: u32,
-    call: &StoredCall<'_>,
+    call: StoredCall<'_>,
 ) -> Look
     requires waves { AreWaves pairs.now.groups pairs.now.recording stands.now progress.now IsNoException }
-    requires call { slice_get (calls_of pairs.now.recording rank) place ≡ Some call.now }
+    requires call { slice_get (calls_of pairs.now.recording rank) place ≡ Some call }
     ensures { TellsOperation reading pairs.now.groups pairs.now.recording stands.now progress.now rank place result }
 {
     if call.kind_no() == KIND {
-        look_at_operation(reading, pairs, stands, progress, rank, place, call)
+        look_at_operation(reading, pairs, stands, progress, rank, place, &call)
     } else {
         look_at_any_operation(reading, pairs, stands, progress, rank, place, call)
     }
@@ -180,13 +180,9 @@ fn look_at_start(
         return Look::Moves;
     };
     match call.kind_no() {
-        ISEND => look_at_operation_of::<ISEND>(
-            reading, pairs, stands, progress, rank, start, &call,
-        ),
-        IRECV => look_at_operation_of::<IRECV>(
-            reading, pairs, stands, progress, rank, start, &call,
-        ),
-        _ => look_at_any_operation(reading, pairs, stands, progress, rank, start, &call),
+        ISEND => look_at_operation_of::<ISEND>(reading, pairs, stands, progress, rank, start, call),
+        IRECV => look_at_operation_of::<IRECV>(reading, pairs, stands, progress, rank, start, call),
+        _ => look_at_any_operation(reading, pairs, stands, progress, rank, start, call),
     }
 }
 
@@ -242,17 +238,17 @@ fn look_at_any_call(
     progress: &Progress,
     rank: u16,
     place: u32,
-    call: &StoredCall<'_>,
+    call: StoredCall<'_>,
 ) -> Look
     requires waves { AreWaves pairs.now.groups pairs.now.recording stands.now progress.now IsNoException }
-    requires call { slice_get (calls_of pairs.now.recording rank) place ≡ Some call.now }
-    ensures { TellsCall reading pairs.now.groups pairs.now.recording stands.now progress.now rank place call.now result }
+    requires call { slice_get (calls_of pairs.now.recording rank) place ≡ Some call }
+    ensures { TellsCall reading pairs.now.groups pairs.now.recording stands.now progress.now rank place call.entry result }
 {
     if call.starts().is_some() {
         return Look::Moves;
     }
-    match look_at_any_operation(reading, pairs, stands, progress, rank, place, call) {
-        Look::Moves => look_at_requests(reading, pairs, stands, progress, rank, place, call),
+    match look_at_any_operation(reading, pairs, stands, progress, rank, place, call.again()) {
+        Look::Moves => look_at_requests(reading, pairs, stands, progress, rank, place, &call),
         look => look,
     }
 }
@@ -266,11 +262,11 @@ fn look_at_call_of<const KIND: u8>(
     progress: &Progress,
     rank: u16,
     place: u32,
-    call: &StoredCall<'_>,
+    call: StoredCall<'_>,
 ) -> Look
     requires waves { AreWaves pairs.now.groups pairs.now.recording stands.now progress.now IsNoException }
-    requires call { slice_get (calls_of pairs.now.recording rank) place ≡ Some call.now }
-    ensures { TellsCall reading pairs.now.groups pairs.now.recording stands.now progress.now rank place call.now result }
+    requires call { slice_get (calls_of pairs.now.recording rank) place ≡ Some call }
+    ensures { TellsCall reading pairs.now.groups pairs.now.recording stands.now progress.now rank place call.entry result }
 {
     if call.kind_no() != KIND {
         return look_at_any_call(reading, pairs, stands, progress, rank, place, call);
@@ -278,8 +274,16 @@ fn look_at_call_of<const KIND: u8>(
     if call.starts().is_some() {
         return Look::Moves;
     }
-    match look_at_operation_of::<KIND>(reading, pairs, stands, progress, rank, place, call) {
-        Look::Moves => look_at_requests(reading, pairs, stands, progress, rank, place, call),
+    match look_at_operation_of::<KIND>(
+        reading,
+        pairs,
+        stands,
+        progress,
+        rank,
+        place,
+        call.again(),
+    ) {
+        Look::Moves => look_at_requests(reading, pairs, stands, progress, rank, place, &call),
         look => look,
     }
 }
@@ -293,11 +297,11 @@ fn look_at_call(
     progress: &Progress,
     rank: u16,
     place: u32,
-    call: &StoredCall<'_>,
+    call: StoredCall<'_>,
 ) -> Look
     requires waves { AreWaves pairs.now.groups pairs.now.recording stands.now progress.now IsNoException }
-    requires call { slice_get (calls_of pairs.now.recording rank) place ≡ Some call.now }
-    ensures { TellsCall reading pairs.now.groups pairs.now.recording stands.now progress.now rank place call.now result }
+    requires call { slice_get (calls_of pairs.now.recording rank) place ≡ Some call }
+    ensures { TellsCall reading pairs.now.groups pairs.now.recording stands.now progress.now rank place call.entry result }
 {
     match call.kind_no() {
         ISEND | IRECV if call.starts().is_some() => Look::Moves,
@@ -340,7 +344,7 @@ pub(crate) fn look_at(
     }
     match pairs.call(rank, stand) {
         Some(call) if !call.ends_list() => look_at_call(
-            reading, pairs, stands, progress, rank, stand, &call,
+            reading, pairs, stands, progress, rank, stand, call,
         ),
         _ => Look::Over,
     }

@@ -155,6 +155,7 @@ impl Progress {
     }
 
     /// The same for a call that joins this wave.
+    #[inline(always)]
     fn reach_wave(
         &mut self,
         pairs: &Pairs,

@@ -10,6 +10,7 @@ pub mod SourceLemmas
 pub mod TraceLemmas
 pub mod ArgumentLemmas
 pub mod WildcardLemmas
+pub mod RememberedLemmas
 pub mod RequestLemmas
 pub mod CellLemmas
 pub mod WordLemmas

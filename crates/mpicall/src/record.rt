@@ -8,7 +8,7 @@ ghost use Rattle.mpicall.specs.Laid.{laid_arguments};
 ghost use Rattle.mpicall.specs.Limits.{in_ranges, may_tell};
 ghost use Rattle.mpicall.specs.Reading.{ReadsFields};
 ghost use Rattle.mpicall.specs.Spelling.{root_of, root_arguments};
-ghost use Rattle.mpicall.specs.declared.call.Call.TheVariants.{Finalize};
+ghost use Rattle.mpicall.specs.declared.call.Call.TheVariants.{Coll, Finalize};
 
 use crate::body::read_fields;
 use crate::call::{Call, Kind, Mode, Peer};
@@ -232,6 +232,22 @@ impl Record {
         &self.call
     }
 
+    /// Makes the record that of a collective. Where it is one already, only what tells it is written, and not the place
+    /// for requests behind it.
+    #[inline(always)]
+    fn set_collective(&mut self, to: u16, of: Kind)
+        requires { IsTrue (in_ranges (Coll to of)) }
+        ensures { self.new ≡ Coll to of }
+    {
+        match &mut self.call {
+            Call::Coll { comm, kind } => {
+                *comm = to;
+                *kind = of;
+            }
+            _ => self.call = Call::Coll { comm: to, kind: of },
+        }
+    }
+
     /// Copies the record into a place: a short one field by field, since most of a record's bytes are for waits that
     /// name many requests.
     #[inline(always)]
@@ -280,7 +296,7 @@ impl Record {
                 tag,
             },
             Call::Wait { req } => into.call = Call::Wait { req },
-            Call::Coll { comm, kind } => into.call = Call::Coll { comm, kind },
+            Call::Coll { comm, kind } => into.set_collective(comm, kind),
             _ => slice::from_mut(into).copy_from_slice(slice::from_ref(self)),
         }
     }

@@ -1,7 +1,7 @@
 //! Lines that came before, held in place with their records: the traces of programs are loops, so that most lines
 //! equal one of the last few.
 
-ghost use Rattle.std.specs.Prelude.{◌≡◌, ◌≤◌, take, IfOk, MatchOption, MatchBool};
+ghost use Rattle.std.specs.Prelude.{◌≡◌, ◌≤◌, true, length, take, IfOk, MatchOption, MatchBool};
 ghost use Rattle.mpicall.specs.Reading.{record_of_line, ReadsInto, Spells, BeginsWith};
 ghost use Rattle.mpicall.specs.declared.remembered.TheConstants.{MOST_KEPT_BYTES};
 
@@ -59,6 +59,24 @@ fn mark_of(line: &[u8]) -> u8 {
     ((ends.wrapping_mul(0x9e37_79b1) >> 24) & 0xff) as u8
 }
 
+/// Whether two lines of one length are the same: up to 16 bytes, which most lines have, by their first 8 and last 8.
+#[inline(always)]
+fn are_same(one: &[u8], other: &[u8]) -> bool
+    requires { length one.now ≡ length other.now }
+    ensures { result ≡ true → one.now ≡ other.now }
+{
+    if one.len() > 16 {
+        return one == other;
+    }
+    let (Some(first), Some(second)) = (one.first_chunk::<8>(), other.first_chunk::<8>()) else {
+        return one == other;
+    };
+    let (Some(last), Some(latter)) = (one.last_chunk::<8>(), other.last_chunk::<8>()) else {
+        return one == other;
+    };
+    first == second && last == latter
+}
+
 impl KnownLine {
     /// The line of the end record.
     fn finalize() -> KnownLine {
@@ -110,7 +128,7 @@ impl Remembered {
         let at = *self.behind.get(usize::from(self.last))?;
         let kept = self.kept.get(usize::from(at))?;
         let line = kept.line();
-        if !held.starts_with(line) {
+        if held.len() < line.len() || !are_same(&held[..line.len()], line) {
             return None;
         }
         let len = line.len();

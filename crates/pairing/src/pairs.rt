@@ -133,7 +133,8 @@ fn reserve(
     tables.reserve(head, rank, call)
 }
 
-/// Notes the rank's next wait for one request, with the place that started it.
+/// Notes the rank's next wait for one request, with the place that started it. It isn't inlined, since `put` would grow too
+/// large to be.
 #[inline(never)]
 fn note_wait_for_one(
     head: &Head,
