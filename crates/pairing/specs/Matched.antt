@@ -1,6 +1,6 @@
 -- Pending halves of messages: those that have no partner yet stand in lists, by the numbers of their
 -- envelopes, and the partners of the others are kept with them.
-use Rattle.std.specs.Prelude.{◌≡◌, ℕ, ◌+◌, ◌*◌, ◌<◌, ◌≤◌, Bool, true, false, ◌&&◌, Option, Some, None, IfSome, option_map, if◌then◌else◌, is_some, List, [], ◌∷◌, ◌++◌, length, drop, slice_get, slice_set, slice_index_or, position}
+use Rattle.std.specs.Prelude.{◌≡◌, ℕ, ◌+◌, ◌*◌, ◌<◌, ◌≤◌, Bool, true, false, ◌&&◌, Option, Some, None, IfSome, option_map, if◌then◌else◌, is_some, List, [], ◌∷◌, ◌++◌, length, drop, slice_get, slice_set, position}
 use Rattle.std.specs.Option.{option_map_or}
 use Rattle.arenalist.specs.Arena.{counted}
 use Rattle.arenalist.specs.Numbers.{list_at}
@@ -42,10 +42,6 @@ pub record HaveLists (lists : List (List (ℕ × ℕ))) (keys : ℕ) : Type 0 wh
 -- the number of an envelope
 abbrev pub number_in : List Envelope → Envelope → Option ℕ
 number_in keys e = position (same_envelope e) keys
-
--- each of these stands beside its number
-abbrev pub AreKnown : List Envelope → List (Option Numbered) → Type 0
-AreKnown keys cells = (cell : ℕ) → IfSome (slice_index_or cells cell None) (λ known. number_in keys known.envelope ≡ Some known.number)
 
 -- the number of the list of an envelope's half
 abbrev pub list_no : Half → ℕ → ℕ

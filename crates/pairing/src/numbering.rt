@@ -19,13 +19,14 @@ pub(crate) struct Numbered {
 }
 
 /// So many envelopes at most are found again without a look-up.
-const ENVELOPE_CELLS: usize = 4096;
+const ENVELOPE_CELLS: usize = 65_536;
 
 /// The envelopes that have numbers, from 0 on in the order in which they got them. Contracts see them.
 pub(crate) struct Numbering {
     envelopes: IndexSet<Envelope>,
-    // Some of them with their numbers, each in the cell that its fields tell: those that were asked for last.
-    cells: Vec<Option<Numbered>>,
+    // The number of the envelope that was put in last of those whose fields tell the cell. What is found there is
+    // compared with the envelope that has it, so that the cells may hold any numbers.
+    cells: Vec<u32>,
 }
 
 impl Drop for Numbering {
@@ -39,14 +40,11 @@ impl Drop for Numbering {
 
 impl Model for Numbering {
     ghost use Rattle.std.specs.Prelude.{List};
-    ghost use Rattle.pairing.specs.Matched.{AreKnown};
     ghost use Rattle.callnotes.specs.declared.envelope.Envelope.{Envelope as EnvelopeValue};
 
     ghost Value = { List EnvelopeValue };
 
     ghost view = { λ n. n.envelopes.keys };
-
-    ghost invariant = { λ n. AreKnown n.envelopes.keys n.cells.items };
 }
 
 /// The number of the cell of an envelope.
@@ -54,8 +52,11 @@ impl Model for Numbering {
 fn cell_no(envelope: &Envelope) -> usize
     ensures { result < ENVELOPE_CELLS }
 {
-    let ends = usize::from(envelope.source) * 61 + usize::from(envelope.dest) * 5;
-    (ends + usize::from(envelope.comm) * 17 + envelope.tag as usize) % ENVELOPE_CELLS
+    let ends = u64::from(envelope.source) * 0x1_0000 + u64::from(envelope.dest);
+    let fields = (ends * 0x1_0000_0000 + u64::from(envelope.tag)).wrapping_add(
+        u64::from(envelope.comm) * 0x9e37_79b9,
+    );
+    (fields.wrapping_mul(0x9e37_79b9_7f4a_7c15) >> 48) as usize % ENVELOPE_CELLS
 }
 
 impl Numbering {
@@ -63,7 +64,7 @@ impl Numbering {
     pub(crate) fn new(alloc: Global) -> Result<Numbering, AllocError>
         ensures { IfOk result (λ numbering. numbering ≡ []) }
     {
-        let cells = vec![in alloc; None; ENVELOPE_CELLS]?;
+        let cells = vec![in alloc; 0u32; ENVELOPE_CELLS]?;
         Ok(Numbering {
             envelopes: IndexSet::new(alloc),
             cells,
@@ -91,20 +92,22 @@ impl Numbering {
     pub(crate) fn known(&self, envelope: &Envelope) -> Option<usize>
         ensures { IfSome result (λ number. number_in self.now envelope.now ≡ Some number) }
     {
-        match self.cells.get(cell_no(envelope)) {
-            Some(Some(known)) if known.envelope == *envelope => Some(known.number),
+        let number = *self.cells.get(cell_no(envelope))? as usize;
+        // No envelope has two numbers.
+        let _envelopes = self.len();
+        match self.envelopes.get_index(number) {
+            Some(known) if *known == *envelope => Some(number),
             _ => None,
         }
     }
 
     /// Keeps the number of an envelope in its cell.
-    fn keep(&mut self, envelope: Envelope, number: usize)
-        requires { number_in self.old envelope ≡ Some number }
+    fn keep(&mut self, envelope: &Envelope, number: usize)
         ensures { self.new ≡ self.old }
     {
-        let cell = cell_no(&envelope);
+        let cell = cell_no(envelope);
         if cell < self.cells.len() {
-            self.cells[cell] = Some(Numbered { envelope, number });
+            self.cells[cell] = (number & 0xffff_ffff) as u32;
         }
     }
 
@@ -125,7 +128,7 @@ impl Numbering {
         ensures err { OnErr result (self.new ≡ self.old) }
     {
         let number = self.push(envelope)?;
-        self.keep(envelope, number);
+        self.keep(&envelope, number);
         Ok(number)
     }
 }
