@@ -74,7 +74,7 @@ fn are_same(one: &[u8], other: &[u8]) -> bool
     let (Some(last), Some(latter)) = (one.last_chunk::<8>(), other.last_chunk::<8>()) else {
         return one == other;
     };
-    first == second && last == latter
+    *first == *second && *last == *latter
 }
 
 impl KnownLine {

@@ -212,16 +212,6 @@ fn note_call(
     }
 }
 
-/// Tells the compiler the kind of a call, which it forgets where anything was written since.
-#[inline(always)]
-fn assume_kind<const KIND: u8>(call: &Record)
-    requires { KIND ≢ 0 → kind_no call.now ≡ KIND }
-{
-    if KIND != ANY && kind_no(call.as_call()) != KIND {
-        unreachable!();
-    }
-}
-
 /// Puts in the rank's next call, which has no fault, at its place. It takes no memory.
 #[inline(always)]
 fn put(
@@ -394,7 +384,9 @@ impl Pairs {
     {
         // The ranks are few, so the calls are, and each probe's seat has a number of 32 bits.
         let _ranks = self.head.ranks();
-        assume_kind::<KIND>(call);
+        if KIND != ANY && kind_no(call.as_call()) != KIND {
+            unreachable!();
+        }
         let call = &NextCall::of(call);
         if let Some(fault) = next_fault(&self.head, &self.notes, &self.tables, rank, call) {
             return Err(PairFault::Refused(fault));
@@ -404,7 +396,6 @@ impl Pairs {
         }
         match reserve(&self.head, &mut self.notes, &mut self.tables, rank, call) {
             Ok(room) => {
-                assume_kind::<KIND>(call.record());
                 put(
                     &self.head,
                     &mut self.notes,
