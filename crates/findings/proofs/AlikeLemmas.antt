@@ -1,7 +1,7 @@
 -- Two collectives of one kind, of which nothing is found.
 use Rattle.std.proofs.Common.{◌≡◌, ℕ, zero, suc, ◌+◌, ◌-◌, ◌<◌, ◌≤◌, true, false, Option, Some, None, List, [], ◌++◌, length, refl, sym, ap, subst, arith}
 use Rattle.std.specs.List.{flat_map, range_with_len}
-use Rattle.std.specs.Prelude.{unwrap_or}
+use Rattle.std.specs.Prelude.{unwrap_or, option_and_then}
 use Rattle.std.specs.Option.{option_map_or}
 use Rattle.std.proofs.lemmas.Option.{none-some}
 use Rattle.std.proofs.lemmas.Bool.Decides.{Decides-eqb}
@@ -15,10 +15,11 @@ use Rattle.mpicall.specs.Word.{text_of}
 use Rattle.callnotes.specs.Kinds.{kind_of}
 use Rattle.findings.specs.declared.finding.wave.Compared.{Compared}
 use Rattle.findings.specs.declared.finding.wave.Compared.TheVariants.{Kinds, Roots}
-use Rattle.findings.specs.Comparisons.{comparison_of}
+use Rattle.findings.specs.Comparisons.{comparison_of, kind_in}
+use Rattle.findings.specs.Places.{call_of_member}
 use Rattle.mpigroup.specs.Groups.{Groups, group_of}
 use Rattle.callnotes.specs.Recordings.{Lists}
-use Rattle.findings.specs.Findings.{Comparison, kind_found, root_found, roots_found, found_of_member, found_in_comm, found_in_waves, waves_in, kinds_of, roots_of, is_wrong_group}
+use Rattle.findings.specs.Findings.{Comparison, compared as where_both, kind_found, root_found, roots_found, found_of_member, found_in_comm, found_in_waves, waves_in, kinds_of, roots_of, is_wrong_group}
 
 same_text : (text : List ℕ) → bytes_eq text text ≡ true
 same_text text = (bytes_eq-Decides text text).1 refl
@@ -45,6 +46,16 @@ alike first call kind of_first of_call compared comm wave member =
     of_kind (λ (one : Call). comparison_of compared comm wave member one call ≡ []) first kind of_first
     (λ a. of_kind (λ (other : Call). comparison_of compared comm wave member (Coll a kind) other ≡ []) call kind of_call
     (λ b. same_kind compared comm wave member a b kind))
+
+-- of two members' calls
+found_alike : (first call : Option Call) (kind : Kind) → option_and_then kind_of first ≡ Some kind → option_and_then kind_of call ≡ Some kind → (compared : Compared) (comm wave member : ℕ) → where_both (comparison_of compared comm wave member) first call ≡ []
+found_alike None call kind of_first of_call compared comm wave member = absurd (none-some kind of_first)
+found_alike (Some first) None kind of_first of_call compared comm wave member = absurd (none-some kind of_call)
+found_alike (Some first) (Some call) kind of_first of_call compared comm wave member = alike first call kind of_first of_call compared comm wave member
+
+pub member_alike : (groups : Groups) (recording : Lists) (comm wave g : ℕ) (kind : Kind) → kind_in groups recording comm wave 0 ≡ Some kind → kind_in groups recording comm wave g ≡ Some kind → (compared : Compared) → found_of_member (comparison_of compared) groups recording comm wave g ≡ []
+member_alike groups recording comm wave g kind of_first of_call compared =
+    found_alike (call_of_member groups recording comm wave 0) (call_of_member groups recording comm wave g) kind of_first of_call compared comm wave g
 
 -- where nothing is listed of each number
 pub nothing_listed : {A : Type 0} (listed : ℕ → List A) (a n : ℕ) → ((j : ℕ) → a ≤ j → j < a + n → listed j ≡ []) → flat_map listed (range_with_len a n) ≡ []

@@ -33,7 +33,8 @@ pub(crate) fn calls(pairs: &Pairs, rank: u16) -> u32
 
 /// How many calls the first member of a communicator has, in all.
 fn first_calls(pairs: &Pairs, comm: u16) -> u32
-    ensures { result ≡ option_map_or (λ rank. length (calls_of pairs.now.recording rank)) (world_rank_of pairs.now.groups comm 0) 0 }
+    ensures value { result ≡ option_map_or (λ rank. length (calls_of pairs.now.recording rank)) (world_rank_of pairs.now.groups comm 0) 0 }
+    ensures most { result ≤ most_calls }
 {
     match pairs.head().world_rank(comm, 0) {
         Some(rank) => calls(pairs, rank),
@@ -44,7 +45,8 @@ fn first_calls(pairs: &Pairs, comm: u16) -> u32
 /// How many waves of a communicator its first member has a call in.
 #[tactic(auto, using(crate::proofs::WaveLemmas::most_waves))]
 pub(crate) fn waves(pairs: &Pairs, comm: u16) -> u32
-    ensures { result ≡ waves_in pairs.now.groups pairs.now.recording comm }
+    ensures value { result ≡ waves_in pairs.now.groups pairs.now.recording comm }
+    ensures most { result ≤ most_calls }
 {
     let most = first_calls(pairs, comm);
     for wave in 0..most {

@@ -253,8 +253,8 @@ fn look_at_any_call(
     }
 }
 
-/// What is told of a call of this kind at the place. There is one such function for each kind that comes often, built
-/// for it alone; another kind of call goes the slow way.
+/// What is told of a call of this kind at the place. There is one such function for each kind that comes often and starts
+/// no request, built for it alone; another kind of call goes the slow way.
 fn look_at_call_of<const KIND: u8>(
     reading: Reading,
     pairs: &Pairs,

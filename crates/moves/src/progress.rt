@@ -72,6 +72,21 @@ fn next_missing(pairs: &Pairs, stands: &[u32], comm: u16, wave: u32, from: u16) 
     members
 }
 
+/// The same. Most often it is the first of them, which is looked at here.
+#[inline(always)]
+fn next_missing_at_once(pairs: &Pairs, stands: &[u32], comm: u16, wave: u32, from: u16) -> u16
+    requires { from ≤ length (group_of pairs.now.groups comm) }
+    ensures least { from ≤ result }
+    ensures most { result ≤ length (group_of pairs.now.groups comm) }
+    ensures met { (g member : ℕ) → from ≤ g → g < result → world_rank_of pairs.now.groups comm g ≡ Some member → is_met stands.now (member_need pairs.now.recording comm wave member) ≡ true }
+    ensures missing { (member : ℕ) → world_rank_of pairs.now.groups comm result ≡ Some member → is_met stands.now (member_need pairs.now.recording comm wave member) ≡ false }
+{
+    match pairs.head().world_rank(comm, from) {
+        Some(member) if !is_member_met(pairs, stands, comm, wave, from, member) => from,
+        _ => next_missing(pairs, stands, comm, wave, from),
+    }
+}
+
 impl Progress {
     /// No wave of so many communicators is complete.
     pub(crate) fn new(alloc: Global, comms: u16) -> Result<Progress, AllocError>
@@ -181,7 +196,7 @@ impl Progress {
         }
         self.changes = self.changes.saturating_add(1);
         let members = members(pairs, comm);
-        let missing = next_missing(pairs, stands, comm, wave, self.met(comm) + 1);
+        let missing = next_missing_at_once(pairs, stands, comm, wave, self.met(comm) + 1);
         if missing < members {
             self.met[usize::from(comm)] = missing;
             return None;

@@ -1,13 +1,15 @@
 //! The calls of the members in each wave, compared with the first member's.
 
-ghost use Rattle.std.specs.Prelude.{◌≡◌, ◌<◌, ◌-◌, ◌++◌, ℕ, [], length, flat_map, is_some, option_to_list, IsTrue, IfOk, OnOk};
+ghost use Rattle.std.specs.Prelude.{◌≡◌, ◌+◌, ◌<◌, ◌≤◌, ◌-◌, ◌++◌, ℕ, [], length, flat_map, is_some, option_to_list, IsTrue, IfOk, OnOk};
 ghost use Rattle.std.specs.List.{filter, range_with_len};
 ghost use Rattle.mpigroup.specs.Groups.{group_of};
+ghost use Rattle.callnotes.specs.Limits.{most_calls};
 ghost use Rattle.callnotes.specs.Waves.{member_of};
 ghost use Rattle.findings.specs.Places.{call_of_member};
 ghost use Rattle.findings.specs.Findings.{found_of_member, found_in_comm, found_in_waves};
-ghost use Rattle.findings.specs.Comparisons.{comparison_of};
+ghost use Rattle.findings.specs.Comparisons.{comparison_of, kind_in, AreFirstKinds};
 ghost use Rattle.findings.specs.declared.finding.wave.Compared.{Compared};
+ghost use Rattle.findings.specs.declared.finding.wave.TheConstants.{WAVES_A_BLOCK};
 
 use crate::extent::{comms, waves};
 use crate::finding::Finding;
@@ -15,10 +17,14 @@ use crate::finding::kind::kind_found;
 use crate::finding::root::root_found;
 use callnotes::stored::StoredCall;
 use moves::need::members;
-use mpicall::call::Call;
+use mpicall::call::{Call, Kind};
 use mpicall::record::Record;
 use pairing::pairs::Pairs;
 use std::alloc::{AllocError, Global};
+
+/// So many waves are compared with the first member's at a time, member by member: the first member's calls are
+/// sought once for all members, and calls of one rank lie side by side.
+const WAVES_A_BLOCK: usize = 256;
 
 /// What of two calls is compared.
 #[derive(Clone, Copy)]
@@ -74,48 +80,105 @@ fn are_alike(first: &StoredCall<'_>, call: &StoredCall<'_>) -> bool
     }
 }
 
-/// Whether the calls of a member and of the first one in the wave are both there, and alike.
+/// The kind of a member's call in a wave, where it is a collective that isn't started alone.
 #[inline(always)]
-fn is_member_alike(pairs: &Pairs, comm: u16, wave: u32, g: u16) -> bool
+fn kind_in(pairs: &Pairs, comm: u16, wave: u32, g: u16) -> Option<Kind>
+    ensures { result ≡ kind_in pairs.now.groups pairs.now.recording comm wave g }
+{
+    stored_of_member(pairs, comm, wave, g)?.kind()
+}
+
+/// The kinds of the first member's calls in the waves of a block from one on.
+fn first_kinds(pairs: &Pairs, comm: u16, from: u32) -> [Option<Kind>; WAVES_A_BLOCK]
+    requires { from ≤ most_calls }
+    ensures { AreFirstKinds pairs.now.groups pairs.now.recording comm from result }
+{
+    let mut kinds = [None; WAVES_A_BLOCK];
+    for i in 0..WAVES_A_BLOCK {
+        kinds[i] = kind_in(pairs, comm, from + i as u32, 0);
+    }
+    kinds
+}
+
+/// Whether both are the same collective, with the same root if it has one.
+#[inline(always)]
+fn are_same_kind(first: Kind, kind: Kind) -> bool
+    ensures { IsTrue result → first ≡ kind }
+{
+    first == kind
+}
+
+/// Whether a member's call in a wave is a collective of that kind, which is the first member's.
+#[inline(always)]
+fn is_of_kind(pairs: &Pairs, comm: u16, wave: u32, g: u16, first: Option<Kind>) -> bool
+    requires { first ≡ kind_in pairs.now.groups pairs.now.recording comm wave 0 }
     ensures { IsTrue result → (compared : Compared) →
         found_of_member (comparison_of compared) pairs.now.groups pairs.now.recording comm wave g ≡ [] }
 {
-    let first = stored_of_member(pairs, comm, wave, 0);
-    match (first, stored_of_member(pairs, comm, wave, g)) {
-        (Some(first), Some(call)) => are_alike(&first, &call),
+    match (first, kind_in(pairs, comm, wave, g)) {
+        (Some(first), Some(kind)) => are_same_kind(first, kind),
         _ => false,
     }
 }
 
-/// The same in each of the first waves.
-fn is_alike_in_waves(pairs: &Pairs, comm: u16, waves: u32, g: u16) -> bool
-    ensures { IsTrue result → (compared : Compared) (wave : ℕ) → wave < waves →
-        found_of_member (comparison_of compared) pairs.now.groups pairs.now.recording comm wave g ≡ [] }
+/// Whether a member's calls in the first waves of a block are of these kinds, which are the first member's.
+fn is_alike_in_block(
+    pairs: &Pairs,
+    comm: u16,
+    from: u32,
+    kinds: &[Option<Kind>; WAVES_A_BLOCK],
+    count: usize,
+    g: u16,
+) -> bool
+    requires few { from ≤ most_calls }
+    requires within { count ≤ WAVES_A_BLOCK }
+    requires first { AreFirstKinds pairs.now.groups pairs.now.recording comm from kinds.now }
+    ensures { IsTrue result → (compared : Compared) (i : ℕ) → i < count →
+        found_of_member (comparison_of compared) pairs.now.groups pairs.now.recording comm (from + i) g ≡ [] }
 {
-    for wave in 0..waves {
-        if !is_member_alike(pairs, comm, wave, g) {
+    for i in 0..count {
+        if !is_of_kind(pairs, comm, from + i as u32, g, kinds[i]) {
             return false;
         }
     }
     true
 }
 
-/// The same of each member, in all waves.
+/// Whether the calls of each member in the first waves of a block are there, and alike to the first member's.
+fn are_alike_in_block(pairs: &Pairs, comm: u16, from: u32, count: usize) -> bool
+    requires few { from ≤ most_calls }
+    requires within { count ≤ WAVES_A_BLOCK }
+    ensures { IsTrue result → (compared : Compared) (g i : ℕ) → 1 ≤ g → g < length (group_of pairs.now.groups comm) → i < count →
+        found_of_member (comparison_of compared) pairs.now.groups pairs.now.recording comm (from + i) g ≡ [] }
+{
+    let kinds = first_kinds(pairs, comm, from);
+    for g in 1..members(pairs, comm) {
+        if !is_alike_in_block(pairs, comm, from, &kinds, count, g) {
+            return false;
+        }
+    }
+    true
+}
+
+/// The same in all waves, block by block.
 fn are_alike_in_comm(pairs: &Pairs, comm: u16) -> bool
     ensures { IsTrue result → (compared : Compared) →
         found_in_comm (comparison_of compared) pairs.now.groups pairs.now.recording comm ≡ [] }
 {
     let waves = waves(pairs, comm);
-    for g in 1..members(pairs, comm) {
-        if !is_alike_in_waves(pairs, comm, waves, g) {
+    let mut from = 0;
+    while from < waves {
+        let count = (waves - from).min(WAVES_A_BLOCK as u32);
+        if !are_alike_in_block(pairs, comm, from, count as usize) {
             return false;
         }
+        from += count;
     }
     true
 }
 
 /// Whether each member's call is there and alike to the first member's in all waves, so that no comparison
-/// finds anything. It goes member by member, since calls of one rank lie side by side.
+/// finds anything.
 #[tactic(auto, using(crate::proofs::AlikeLemmas::nothing_in_waves))]
 pub(crate) fn are_all_alike(pairs: &Pairs) -> bool
     ensures { IsTrue result → (compared : Compared) →

@@ -7,16 +7,16 @@ pub returns-then-missing-members-clause-waves : goal.returns-then-missing-member
 returns-then-missing-members-clause-waves c =
     let p = c.args.pairs.now in
     let wanting = rw c.head.ensures.value at (c.is_wanting.ensures.0 c.if-not-is_wanting.false) in
-    let passes : ReachesWanting p.groups p.recording c.args.stands.now c.args.self.now c.args.rank c.args.place c.args.comm c.args.wave c.next_missing-missing.result = record {
+    let passes : ReachesWanting p.groups p.recording c.args.stands.now c.args.self.now c.args.rank c.args.place c.args.comm c.args.wave c.next_missing_at_once-missing.result = record {
       before = c.requires.waves;
       there = c.requires.joins;
       is_next = wanting.0;
       wanting = wanting.1;
       stands_there = c.requires.is_there;
-      least = omega (arith, c.next_missing-missing.ensures.least, c.met.ensures);
-      met = λ g member least less is. c.next_missing-missing.ensures.met g member (omega (arith, c.met.ensures)) less is;
+      least = omega (arith, c.next_missing_at_once-missing.ensures.least, c.met.ensures);
+      met = λ g member least less is. c.next_missing_at_once-missing.ensures.met g member (omega (arith, c.met.ensures)) less is;
     } in
-    passes_on p.groups p.recording c.args.stands.now c.args.self.now _ c.args.rank c.args.place c.args.comm c.args.wave c.next_missing-missing.result passes (omega (arith, c.members-members.ensures, c.if-missing-members.true)) c.next_missing-missing.ensures.missing refl (ap (λ (i : ℕ). set c.args.self.now.met.items i c.next_missing-missing.result) c.from.ensures)
+    passes_on p.groups p.recording c.args.stands.now c.args.self.now _ c.args.rank c.args.place c.args.comm c.args.wave c.next_missing_at_once-missing.result passes (omega (arith, c.members-members.ensures, c.if-missing-members.true)) c.next_missing_at_once-missing.ensures.missing refl (ap (λ (i : ℕ). set c.args.self.now.met.items i c.next_missing_at_once-missing.result) c.from.ensures)
 
 pub overflow_add-wave : goal.overflow_add-wave
 overflow_add-wave c = omega (arith, wave_few c.args.pairs.now.recording c.args.rank c.args.place c.args.comm c.args.wave (c.requires.joins), c.requires.few)
@@ -42,16 +42,16 @@ pub returns-clause-waves : goal.returns-clause-waves
 returns-clause-waves c =
     let p = c.args.pairs.now in
     let wanting = rw c.head.ensures.value at (c.is_wanting.ensures.0 c.if-not-is_wanting.false) in
-    let passes : ReachesWanting p.groups p.recording c.args.stands.now c.args.self.now c.args.rank c.args.place c.args.comm c.args.wave c.next_missing-missing.result = record {
+    let passes : ReachesWanting p.groups p.recording c.args.stands.now c.args.self.now c.args.rank c.args.place c.args.comm c.args.wave c.next_missing_at_once-missing.result = record {
       before = c.requires.waves;
       there = c.requires.joins;
       is_next = wanting.0;
       wanting = wanting.1;
       stands_there = c.requires.is_there;
-      least = omega (arith, c.next_missing-missing.ensures.least, c.met.ensures);
-      met = λ g member least less is. c.next_missing-missing.ensures.met g member (omega (arith, c.met.ensures)) less is;
+      least = omega (arith, c.next_missing_at_once-missing.ensures.least, c.met.ensures);
+      met = λ g member least less is. c.next_missing_at_once-missing.ensures.met g member (omega (arith, c.met.ensures)) less is;
     } in
-    passes_wave p.groups p.recording c.args.stands.now c.args.self.now _ c.args.rank c.args.place c.args.comm c.args.wave c.next_missing-missing.result c.next_missing.result passes (omega (arith, c.members-members.ensures, c.if-missing-members.false)) c.next_missing.ensures.most c.next_missing.ensures.met c.next_missing.ensures.missing
+    passes_wave p.groups p.recording c.args.stands.now c.args.self.now _ c.args.rank c.args.place c.args.comm c.args.wave c.next_missing_at_once-missing.result c.next_missing.result passes (omega (arith, c.members-members.ensures, c.if-missing-members.false)) c.next_missing.ensures.most c.next_missing.ensures.met c.next_missing.ensures.missing
     (ap (λ (i : ℕ). set c.args.self.now.complete.items i (c.args.wave + 1)) c.from-2.ensures)
     (ap (λ (i : ℕ). set c.args.self.now.met.items i c.next_missing.result) c.from-3.ensures)
 

@@ -1,9 +1,0 @@
-use Rattle.std.proofs.Common.{◌≡◌, ◌<◌, ℕ, []}
-use Rattle.findings.specs.declared.finding.wave.Compared.{Compared}
-use Rattle.findings.specs.Comparisons.{comparison_of}
-use Rattle.findings.specs.Findings.{found_of_member}
-use Rattle.findings.proofs.finding.wave.is_alike_in_waves.Given as goal
-
--- nothing is found so far
-abbrev pub invariant-loop-wave : goal.invariant-loop-wave
-invariant-loop-wave l = (compared : Compared) (wave : ℕ) → wave < l.wave → found_of_member (comparison_of compared) l.pairs.groups l.pairs.recording l.comm wave l.g ≡ []
