@@ -16,8 +16,8 @@ use crate::reading::{
 use crate::reqs::Reqs;
 use crate::word::{Name, Operation, Word, word_of};
 
-/// Reads the requests that all the fields spell into one place, which holds one number before; says whether they are as
-/// many as one wait may name.
+/// Reads the requests that all the fields spell into one place, which holds one number before; says whether each field
+/// is a request, and they are as many as one wait may name. Where not, the place may hold any numbers.
 #[inline(always)]
 fn read_requests(mut fields: Fields<'_>, reqs: &mut Reqs) -> bool
     requires { length reqs.old ≡ 1 }
@@ -121,7 +121,7 @@ fn next_often(fields: &mut Fields<'_>) -> Option<Word>
     None
 }
 
-/// Takes off a word of the format, where the fields begin with one.
+/// Takes the first field off; answers the word of the format that it is, if it is one.
 #[inline(never)]
 #[tactic(auto, unfolding(crate::specs::Line::fits_line))]
 fn next_any(fields: &mut Fields<'_>) -> Option<Word>

@@ -97,7 +97,7 @@ impl<'a> Fields<'a> {
     }
 
     /// Takes the next field off where it is this word, which has no space, and others stand behind it; says whether it
-    /// is. Else the fields stay as they are.
+    /// did. Else the fields stay as they are.
     #[inline(always)]
     pub(crate) fn take_word(&mut self, word: &[u8]) -> bool
         requires { position (λ byte. byte == space) word.now ≡ None }

@@ -24,7 +24,7 @@ use crate::number::{read_number, read_signed};
 use crate::word::{Collective, Layout, Name, Operation, layout_of};
 
 /// The next field, where it is a number up to `greatest`: the slow way, by a look at the field and then at its digits,
-/// for fields that are no such number.
+/// for what isn't read in one pass.
 #[inline(never)]
 fn read_other_number(greatest: u32, fields: &mut Fields<'_>) -> Option<u32>
     ensures value { MatchOption result
@@ -36,7 +36,7 @@ fn read_other_number(greatest: u32, fields: &mut Fields<'_>) -> Option<u32>
     read_number(greatest, field)
 }
 
-/// The next field, where it is a number up to `greatest`. It is read in one pass, but for what is no such number.
+/// The next field, where it is a number up to `greatest`. Where it is one, it is read in one pass.
 #[inline(always)]
 pub(crate) fn next_number(greatest: u32, fields: &mut Fields<'_>) -> Option<u32>
     ensures value { MatchOption result

@@ -232,8 +232,7 @@ impl Record {
         &self.call
     }
 
-    /// Makes the record that of a collective. Where it is one already, only what tells it is written, and not the place
-    /// for requests behind it.
+    /// Makes the record that of a collective. Where it is one already, only its communicator and its kind are written.
     #[inline(always)]
     fn set_collective(&mut self, to: u16, of: Kind)
         requires { IsTrue (in_ranges (Coll to of)) }

@@ -59,7 +59,8 @@ fn mark_of(line: &[u8]) -> u8 {
     ((ends.wrapping_mul(0x9e37_79b1) >> 24) & 0xff) as u8
 }
 
-/// Whether two lines of one length are the same: up to 16 bytes, which most lines have, by their first 8 and last 8.
+/// Whether two lines of one length are the same. Those of 8 to 16 bytes, as most are, are compared by their first 8 and
+/// last 8, others whole.
 #[inline(always)]
 fn are_same(one: &[u8], other: &[u8]) -> bool
     requires { length one.now ≡ length other.now }

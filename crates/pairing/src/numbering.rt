@@ -24,8 +24,8 @@ const ENVELOPE_CELLS: usize = 65_536;
 /// The envelopes that have numbers, from 0 on in the order in which they got them. Contracts see them.
 pub(crate) struct Numbering {
     envelopes: IndexSet<Envelope>,
-    // The number of the envelope that was put in last of those whose fields tell the cell. What is found there is
-    // compared with the envelope that has it, so that the cells may hold any numbers.
+    // The number of the envelope that was numbered or looked up last among those whose fields tell the cell, 0 at first.
+    // What is found there is compared with the envelope that has it, so that the cells may hold any numbers.
     cells: Vec<u32>,
 }
 

@@ -133,8 +133,8 @@ fn reserve(
     tables.reserve(head, rank, call)
 }
 
-/// Notes the rank's next wait for one request, with the place that started it. It isn't inlined, since `put` would grow too
-/// large to be.
+/// Notes the rank's next wait for one request, with the place of the call that started the request. It isn't inlined,
+/// since `put` would then be too large to be inlined itself.
 #[inline(never)]
 fn note_wait_for_one(
     head: &Head,
