@@ -6,4 +6,4 @@ pub mod OwnerLemmas
 pub mod LinkLemmas
 pub mod EntryLemmas
 pub mod ArenaLemmas
-pub mod AppendLemmas
+pub mod SpliceLemmas

@@ -16,7 +16,7 @@ long_rings heads nexts = length-map heads (λ (h : ℕ). h ∷ walk nexts (lengt
 pub long_lists : (heads nexts : List ℕ) → length (lists_of (rings_of heads nexts)) ≡ length heads
 long_lists heads nexts = length-map (rings_of heads nexts) (λ (ring : List ℕ). drop 1 ring) ∙ long_rings heads nexts
 
-ring_at : (heads nexts : List ℕ) (l : ℕ) → l < length heads → list_at (rings_of heads nexts) l ≡ get_or heads l 0 ∷ list_at (lists_of (rings_of heads nexts)) l
+pub ring_at : (heads nexts : List ℕ) (l : ℕ) → l < length heads → list_at (rings_of heads nexts) l ≡ get_or heads l 0 ∷ list_at (lists_of (rings_of heads nexts)) l
 ring_at heads nexts l h =
     let is : list_at (rings_of heads nexts) l ≡ get_or heads l 0 ∷ walk nexts (length nexts) (get_or heads l 0) (get_or heads l 0) = get_or-map (λ (x : ℕ). x ∷ walk nexts (length nexts) x x) heads l 0 [] h in
     is ∙ ap (λ (xs : List ℕ). get_or heads l 0 ∷ xs) (sym (lists_at (rings_of heads nexts) l (omega (arith, long_rings heads nexts)) ∙ ap (λ (ring : List ℕ). drop 1 ring) is))

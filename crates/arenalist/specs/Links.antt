@@ -1,5 +1,5 @@
 -- The links of an arena's cells.
-use Rattle.std.specs.Prelude.{◌≡◌, ℕ, ◌<◌, ◌^◌, List, length, get_or, Option, Some, None}
+use Rattle.std.specs.Prelude.{◌≡◌, ℕ, ◌<◌, ◌^◌, List, [], ◌∷◌, length, get_or, set, Option, Some, None}
 use Rattle.arenalist.specs.Numbers.{count, list_at}
 use Rattle.arenalist.specs.Rings.{AreLinked, rings_of, lists_of}
 
@@ -20,3 +20,8 @@ pub record AreLinks (heads nexts prevs : List ℕ) (owners : List (Option ℕ)) 
   pub as_many : length owners ≡ length nexts
   pub small : length nexts < 2 ^ 32
   pub few : length heads < 2 ^ 32
+
+-- the owners once cells are given to list `l`
+abbrev pub owners_given : List (Option ℕ) → List ℕ → ℕ → List (Option ℕ)
+owners_given owners [] l = owners
+owners_given owners (x ∷ xs) l = owners_given (set owners x (Some l)) xs l

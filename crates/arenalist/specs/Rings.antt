@@ -1,6 +1,6 @@
 -- Rings of cells by their links. A ring begins and ends at a cell of its own, its head.
 use Rattle.std.specs.Prelude.{◌≡◌, ℕ, zero, suc, ◌<◌, ◌≤◌, List, [], ◌∷◌, length, get_or, set, map, drop, ◌==◌, if◌then◌else◌}
-use Rattle.arenalist.specs.Numbers.{in_all, list_at}
+use Rattle.arenalist.specs.Numbers.{count, in_all, list_at}
 
 -- from `a` over the cells to `z`, by the links there and back
 abbrev pub Chain : List ℕ → List ℕ → ℕ → List ℕ → ℕ → Type 0
@@ -44,3 +44,25 @@ nexts_unlinked nexts prevs n = set nexts (get_or prevs n 0) (get_or nexts n 0)
 
 abbrev pub prevs_unlinked : List ℕ → List ℕ → ℕ → List ℕ
 prevs_unlinked nexts prevs n = set prevs (get_or nexts n 0) (get_or prevs n 0)
+
+-- the links once all cells of the ring of head `f` are linked at the back of the ring of head `t`
+abbrev pub nexts_spliced : List ℕ → List ℕ → ℕ → ℕ → List ℕ
+nexts_spliced nexts prevs t f = set (set (set nexts (get_or prevs t 0) (get_or nexts f 0)) (get_or prevs f 0) t) f f
+
+abbrev pub prevs_spliced : List ℕ → List ℕ → ℕ → ℕ → List ℕ
+prevs_spliced nexts prevs t f = set (set (set prevs (get_or nexts f 0) (get_or prevs t 0)) t (get_or prevs f 0)) f f
+
+-- the cells from a head to where its ring closes
+abbrev pub around : List ℕ → ℕ → List ℕ
+around nexts h = walk nexts (length nexts) h h
+
+-- `c` is the first of the cells, each is linked to the one behind it, and the last to `z`
+abbrev pub Leads : List ℕ → ℕ → List ℕ → ℕ → Type 0
+Leads nexts c [] z = c ≡ z
+Leads nexts c (x ∷ xs) z = (c ≡ x) × Leads nexts (get_or nexts x 0) xs z
+
+-- the links there lead from the head round to it
+pub record IsRound (nexts : List ℕ) (h : ℕ) : Type 0 where
+  pub leads : Leads nexts (get_or nexts h 0) (around nexts h) h
+  pub apart : count h (around nexts h) ≡ 0
+  pub within : (x : ℕ) → 0 < count x (around nexts h) → x < length nexts

@@ -1,9 +1,10 @@
 //! Which cell of an arena follows which.
 
-ghost use Rattle.std.specs.Prelude.{◌≡◌, ◌+◌, ◌-◌, ◌<◌, ◌≤◌, ◌^◌, ℕ, [], ◌∷◌, ◌++◌, length, map, slice_set, slice_index, None, Some, IfOk, OnOk, OnErr};
+ghost use Rattle.std.specs.Prelude.{◌≡◌, ◌≢◌, ◌+◌, ◌-◌, ◌<◌, ◌≤◌, ◌^◌, ℕ, [], ◌∷◌, ◌++◌, length, map, slice_set, slice_index, None, Some, IfOk, OnOk, OnErr};
 ghost use Rattle.std.specs.Vec.{vec_len, vec_capacity};
 ghost use Rattle.arenalist.specs.Numbers.{count, in_all, list_at, without, after, first_of};
-ghost use Rattle.arenalist.specs.Rings.{nexts_linked, prevs_linked, nexts_unlinked, prevs_unlinked};
+ghost use Rattle.arenalist.specs.Rings.{nexts_linked, prevs_linked, nexts_unlinked, prevs_unlinked, nexts_spliced, prevs_spliced, around, IsRound};
+ghost use Rattle.arenalist.specs.Links.{owners_given};
 
 use std::alloc::{AllocError, Global};
 use std::marker::Model;
@@ -42,6 +43,47 @@ fn unlink(nexts: &mut Vec<u32>, prevs: &mut Vec<u32>, cell: u32)
     let after = nexts[cell as usize];
     nexts[before as usize] = after;
     prevs[after as usize] = before;
+}
+
+/// Links all cells of a ring, but not its head, between another ring's last cell and its head.
+fn splice(nexts: &mut Vec<u32>, prevs: &mut Vec<u32>, to: u32, from: u32)
+    requires same { length nexts.old.items ≡ length prevs.old.items }
+    requires to { to < length nexts.old.items }
+    requires from { from < length nexts.old.items }
+    requires first { slice_index nexts.old.items from < length nexts.old.items }
+    requires last_to { slice_index prevs.old.items to < length nexts.old.items }
+    requires last_from { slice_index prevs.old.items from < length nexts.old.items }
+    ensures nexts { nexts.new.items ≡ nexts_spliced nexts.old.items prevs.old.items to from }
+    ensures prevs { prevs.new.items ≡ prevs_spliced nexts.old.items prevs.old.items to from }
+{
+    let first = nexts[from as usize];
+    let last_to = prevs[to as usize];
+    let last_from = prevs[from as usize];
+    nexts[last_to as usize] = first;
+    nexts[last_from as usize] = to;
+    nexts[from as usize] = from;
+    prevs[first as usize] = last_to;
+    prevs[to as usize] = last_from;
+    prevs[from as usize] = from;
+}
+
+/// Gives all cells of a ring, but not its head, to a list, and answers how many they are.
+fn give(nexts: &Vec<u32>, owners: &mut Vec<Option<u32>>, head: u32, list: u32) -> u64
+    requires same { length owners.old.items ≡ length nexts.now.items }
+    requires head { head < length nexts.now.items }
+    requires small { length nexts.now.items < 2 ^ 32 }
+    requires round { IsRound nexts.now.items head }
+    ensures count { result ≡ length (around nexts.now.items head) }
+    ensures owners { owners.new.items ≡ owners_given owners.old.items (around nexts.now.items head) list }
+{
+    let mut given = 0;
+    let mut cell = nexts[head as usize];
+    while cell != head {
+        owners[cell as usize] = Some(list);
+        given += 1;
+        cell = nexts[cell as usize];
+    }
+    given
 }
 
 /// Makes room in each vector, and changes nothing else.
@@ -204,6 +246,27 @@ impl Links {
     {
         unlink(&mut self.nexts, &mut self.prevs, cell);
         self.owners[cell as usize] = None;
+    }
+
+    /// Puts all cells of a list behind those of another, and answers how many they are.
+    pub(crate) fn splice(&mut self, to: u32, from: u32) -> u64
+        requires to { to < length self.old.lists }
+        requires from { from < length self.old.lists }
+        requires differ { to ≢ from }
+        ensures count { result ≡ length (list_at self.old.lists from) }
+        ensures few { result < 2 ^ 32 }
+        ensures heads { self.new.heads ≡ self.old.heads }
+        ensures lists { self.new.lists ≡ slice_set (slice_set self.old.lists to (list_at self.old.lists to ++ list_at self.old.lists from)) from [] }
+        ensures cells { self.new.cells ≡ self.old.cells }
+    {
+        let from_head = self.heads[from as usize];
+        let moved = give(&self.nexts, &mut self.owners, from_head, to);
+        if moved == 0 {
+            return 0;
+        }
+        let to_head = self.heads[to as usize];
+        splice(&mut self.nexts, &mut self.prevs, to_head, from_head);
+        moved
     }
 
     /// The first cell of a list.
