@@ -15,11 +15,15 @@ const MOST_KEPT: usize = 24;
 /// The most bytes of a line that is kept.
 const MOST_KEPT_BYTES: usize = 56;
 
-/// How often a line may be missed before no line is sought for a while; one that was expected makes up for it.
+/// How often a line may be missed before no other line is sought for a while than the one that came again last; one that
+/// was expected makes up for it.
 const MOST_MISSED: u16 = 32;
 
 /// The count at which that while ends.
 const MOST_PASSED: u16 = 4096;
+
+/// So many lines may be missed within that while, since one that was known, before none is expected for the rest of it.
+const MOST_STRANGE: u16 = 16;
 
 /// A line, and the record that it spells.
 #[derive(Clone, Copy)]
@@ -42,6 +46,9 @@ pub(crate) struct Remembered {
     places: [u8; 256],
     /// The place of the line that came last, if it was kept.
     last: u8,
+    /// The place of the last line that was known when it came, and how many were missed then.
+    again: u8,
+    hit: u16,
     /// The place of the next line that is kept, modulo how many there are.
     fresh: u8,
     /// The mark of the line that was sought last.
@@ -104,6 +111,8 @@ impl Remembered {
             behind: [0; MOST_KEPT],
             places: [0; 256],
             last: 0,
+            again: 0,
+            hit: 0,
             fresh: 0,
             mark: 0,
             missed: 0,
@@ -118,15 +127,34 @@ impl Remembered {
         self.last = at;
     }
 
-    /// Reads the record of the first line of some bytes, where it is the line that came behind the last one
-    /// before; says how many bytes it has, and else leaves the place alone.
+    /// The place of the line that is expected: the one that came behind the last line before, or, where few lines come
+    /// again, the last that did.
+    #[inline(always)]
+    fn expected(&self) -> Option<u8> {
+        if self.missed < MOST_MISSED {
+            return self.behind.get(usize::from(self.last)).copied();
+        }
+        if self.missed.wrapping_sub(self.hit) < MOST_STRANGE {
+            Some(self.again)
+        } else {
+            None
+        }
+    }
+
+    /// Notes that the line at a place was known.
+    #[inline(always)]
+    fn note_known(&mut self, at: u8) {
+        self.last = at;
+        self.again = at;
+        self.hit = self.missed;
+    }
+
+    /// Reads the record of the first line of some bytes, where it is the line that is expected; says how many bytes it
+    /// has, and else leaves the place alone.
     pub(crate) fn expect(&mut self, held: &[u8], into: &mut Record) -> Option<usize>
         ensures { MatchOption result (into.new ≡ into.old) (BeginsWith held.now into.new) }
     {
-        if self.missed >= MOST_MISSED {
-            return None;
-        }
-        let at = *self.behind.get(usize::from(self.last))?;
+        let at = self.expected()?;
         let kept = self.kept.get(usize::from(at))?;
         let line = kept.line();
         if held.len() < line.len() || !are_same(&held[..line.len()], line) {
@@ -134,8 +162,8 @@ impl Remembered {
         }
         let len = line.len();
         kept.known.write(into);
-        self.last = at;
         self.missed = self.missed.saturating_sub(1);
+        self.note_known(at);
         Some(len)
     }
 
@@ -154,6 +182,7 @@ impl Remembered {
         }
         kept.known.write(into);
         self.note(at);
+        self.note_known(at);
         true
     }
 
