@@ -1,5 +1,5 @@
--- What of two calls of a wave is compared.
-use Rattle.std.specs.Prelude.{◌≡◌, ℕ, ◌+◌, ◌<◌, Option, None, option_and_then, List, length, get_or}
+-- What of two calls of a wave is compared, and the kinds of members' calls.
+use Rattle.std.specs.Prelude.{◌≡◌, ℕ, ◌+◌, ◌<◌, Option, None, option_and_then, List, get_or}
 use Rattle.mpicall.specs.declared.call.Kind.{Kind}
 use Rattle.mpigroup.specs.Groups.{Groups}
 use Rattle.callnotes.specs.Kinds.{kind_of}
@@ -17,7 +17,7 @@ comparison_of Roots = root_found
 abbrev pub kind_in : Groups → Lists → ℕ → ℕ → ℕ → Option Kind
 kind_in groups recording comm wave g = option_and_then kind_of (call_of_member groups recording comm wave g)
 
--- these are the first member's kinds in the waves from one on
-abbrev pub AreFirstKinds : Groups → Lists → ℕ → ℕ → List (Option Kind) → Type 0
-AreFirstKinds groups recording comm from kinds =
-    (i : ℕ) → i < length kinds → get_or kinds i None ≡ kind_in groups recording comm (from + i) 0
+-- these begin with the first member's kinds in so many waves from one on
+abbrev pub AreFirstKinds : Groups → Lists → ℕ → ℕ → ℕ → List (Option Kind) → Type 0
+AreFirstKinds groups recording comm from count kinds =
+    (i : ℕ) → i < count → get_or kinds i None ≡ kind_in groups recording comm (from + i) 0

@@ -11,8 +11,9 @@ use Rattle.moves.specs.Runs.{State, total}
 use Rattle.moves.specs.Stands.{call_count}
 
 -- the reading of the sends, the groups of a run's communicators, the calls of each rank that were accepted, the ranks'
--- stands, how much was done in the arena in which waiting ranks are linked (1 for each link and each unlink, as the
--- arena counts it), and the touches: that, and how often it was noted how far a communicator's waves are
+-- stands, how much was done in the arena in which waiting ranks are linked (1 each time that a rank is put into a list
+-- or taken out of one, as the arena counts it), and the touches: that, and how often it was noted how far a
+-- communicator's waves are
 pub record Analysed : Type 0 where
   pub reading : Reading
   pub groups : Groups

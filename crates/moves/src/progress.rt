@@ -14,8 +14,8 @@ use std::alloc::{AllocError, Global};
 
 /// How far the waves of each communicator are: how many are complete, the first ones, and how many members,
 /// from the first on, have reached their calls of the next one. So a look at a wave is a look at one number.
-/// That number only rises within a wave, and each member is passed once, so members are looked at no more than three
-/// times for each call in a wave. `changes` counts how often one of these numbers was changed for a call that was
+/// That number only rises within a wave, and each member is passed once and looked at twice for it at most, so members
+/// are looked at no more than three times for each call in a wave. `changes` counts how often one of these numbers was changed for a call that was
 /// reached.
 pub(crate) struct Progress {
     pub complete: Vec<u32>,
@@ -72,7 +72,8 @@ fn next_missing(pairs: &Pairs, stands: &[u32], comm: u16, wave: u32, from: u16) 
     members
 }
 
-/// The same. Most often it is the first of them, which is looked at here.
+/// The same. Most often it is the first one, which is so looked at here; where that is met, the search begins with it once
+/// more.
 #[inline(always)]
 fn next_missing_at_once(pairs: &Pairs, stands: &[u32], comm: u16, wave: u32, from: u16) -> u16
     requires { from ≤ length (group_of pairs.now.groups comm) }

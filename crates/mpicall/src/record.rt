@@ -207,7 +207,7 @@ impl Record {
         }
     }
 
-    /// The record with which each trace ends.
+    /// The record of MPI_Finalize.
     pub fn finalize() -> Record
         ensures { result ≡ Finalize }
     {

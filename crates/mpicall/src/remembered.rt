@@ -19,11 +19,11 @@ const MOST_KEPT_BYTES: usize = 56;
 /// was expected makes up for it.
 const MOST_MISSED: u16 = 32;
 
-/// The count at which that while ends.
+/// The count at which that while ends; it ends too where expected lines bring the count below the other.
 const MOST_PASSED: u16 = 4096;
 
-/// So many lines may be missed within that while, since one that was known, before none is expected for the rest of it.
-const MOST_STRANGE: u16 = 16;
+/// So many lines may be missed in a row until, within that while, none is expected any more.
+const MOST_MISSED_IN_A_ROW: u16 = 16;
 
 /// A line, and the record that it spells.
 #[derive(Clone, Copy)]
@@ -48,12 +48,13 @@ pub(crate) struct Remembered {
     last: u8,
     /// The place of the last line that was known when it came, and how many were missed then.
     again: u8,
-    hit: u16,
+    missed_before: u16,
     /// The place of the next line that is kept, modulo how many there are.
     fresh: u8,
     /// The mark of the line that was sought last.
     mark: u8,
-    /// How many lines were missed; from the most on, those count that were not sought.
+    /// How many lines were missed, less those that were expected and came; from the most on, each line that is plainly
+    /// read counts as missed.
     missed: u16,
 }
 
@@ -86,7 +87,7 @@ fn are_same(one: &[u8], other: &[u8]) -> bool
 }
 
 impl KnownLine {
-    /// The line of the end record.
+    /// The line `finalize`, with its record.
     fn finalize() -> KnownLine {
         let mut bytes = [0; MOST_KEPT_BYTES];
         bytes[..9].copy_from_slice(b"finalize\n");
@@ -112,7 +113,7 @@ impl Remembered {
             places: [0; 256],
             last: 0,
             again: 0,
-            hit: 0,
+            missed_before: 0,
             fresh: 0,
             mark: 0,
             missed: 0,
@@ -134,7 +135,7 @@ impl Remembered {
         if self.missed < MOST_MISSED {
             return self.behind.get(usize::from(self.last)).copied();
         }
-        if self.missed.wrapping_sub(self.hit) < MOST_STRANGE {
+        if self.missed.wrapping_sub(self.missed_before) < MOST_MISSED_IN_A_ROW {
             Some(self.again)
         } else {
             None
@@ -146,7 +147,7 @@ impl Remembered {
     fn note_known(&mut self, at: u8) {
         self.last = at;
         self.again = at;
-        self.hit = self.missed;
+        self.missed_before = self.missed;
     }
 
     /// Reads the record of the first line of some bytes, where it is the line that is expected; says how many bytes it

@@ -107,8 +107,7 @@ impl<I: Input> Source<I> {
         }
     }
 
-    /// Reads the next line, where no end record came so far; at once, where it is the one that came behind the last line
-    /// before.
+    /// Reads the next line, where no end record came so far; at once, where it is the one that is expected.
     fn read_record(&mut self, into: &mut Record) -> Result<bool, SourceFault>
         requires { self.old.stage ≡ Reading }
         ensures trace { Gives (coming I.left self.old) (coming I.left self.new) (answer_into result into.new) }

@@ -88,13 +88,14 @@ fn kind_in(pairs: &Pairs, comm: u16, wave: u32, g: u16) -> Option<Kind>
     stored_of_member(pairs, comm, wave, g)?.kind()
 }
 
-/// The kinds of the first member's calls in the waves of a block from one on.
-fn first_kinds(pairs: &Pairs, comm: u16, from: u32) -> [Option<Kind>; WAVES_A_BLOCK]
-    requires { from ≤ most_calls }
-    ensures { AreFirstKinds pairs.now.groups pairs.now.recording comm from result }
+/// The kinds of the first member's calls in the first waves of a block.
+fn first_kinds(pairs: &Pairs, comm: u16, from: u32, count: usize) -> [Option<Kind>; WAVES_A_BLOCK]
+    requires few { from ≤ most_calls }
+    requires within { count ≤ WAVES_A_BLOCK }
+    ensures { AreFirstKinds pairs.now.groups pairs.now.recording comm from count result }
 {
     let mut kinds = [None; WAVES_A_BLOCK];
-    for i in 0..WAVES_A_BLOCK {
+    for i in 0..count {
         kinds[i] = kind_in(pairs, comm, from + i as u32, 0);
     }
     kinds
@@ -132,7 +133,7 @@ fn is_alike_in_block(
 ) -> bool
     requires few { from ≤ most_calls }
     requires within { count ≤ WAVES_A_BLOCK }
-    requires first { AreFirstKinds pairs.now.groups pairs.now.recording comm from kinds.now }
+    requires first { AreFirstKinds pairs.now.groups pairs.now.recording comm from count kinds.now }
     ensures { IsTrue result → (compared : Compared) (i : ℕ) → i < count →
         found_of_member (comparison_of compared) pairs.now.groups pairs.now.recording comm (from + i) g ≡ [] }
 {
@@ -151,7 +152,7 @@ fn are_alike_in_block(pairs: &Pairs, comm: u16, from: u32, count: usize) -> bool
     ensures { IsTrue result → (compared : Compared) (g i : ℕ) → 1 ≤ g → g < length (group_of pairs.now.groups comm) → i < count →
         found_of_member (comparison_of compared) pairs.now.groups pairs.now.recording comm (from + i) g ≡ [] }
 {
-    let kinds = first_kinds(pairs, comm, from);
+    let kinds = first_kinds(pairs, comm, from, count);
     for g in 1..members(pairs, comm) {
         if !is_alike_in_block(pairs, comm, from, &kinds, count, g) {
             return false;
