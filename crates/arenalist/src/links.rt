@@ -45,8 +45,8 @@ fn unlink(nexts: &mut Vec<u32>, prevs: &mut Vec<u32>, cell: u32)
     prevs[after as usize] = before;
 }
 
-/// Links all cells of a ring, but not its head, between another ring's last cell and its head; the head is left alone in
-/// its ring.
+/// Links all cells of a ring, but not its head, between another ring's last cell and its head; the head is left
+/// alone in its ring.
 fn splice(nexts: &mut Vec<u32>, prevs: &mut Vec<u32>, to: u32, from: u32)
     requires same { length nexts.old.items ≡ length prevs.old.items }
     requires to { to < length nexts.old.items }

@@ -14,9 +14,9 @@ use std::alloc::{AllocError, Global};
 
 /// How far the waves of each communicator are: how many are complete, the first ones, and how many members,
 /// from the first on, have reached their calls of the next one. So a look at a wave is a look at one number.
-/// That number only rises within a wave, and each member is passed once and looked at twice for it at most, so members
-/// are looked at no more than three times for each call in a wave. `changes` counts how often one of these numbers was changed for a call that was
-/// reached.
+/// That number only rises within a wave, and each member is passed once and looked at twice for it at most, so
+/// members are looked at no more than three times for each call in a wave. `changes` counts how often one of these
+/// numbers was changed for a call that was reached.
 pub(crate) struct Progress {
     pub complete: Vec<u32>,
     pub met: Vec<u16>,

@@ -120,7 +120,7 @@ impl Remembered {
         }
     }
 
-    /// Notes that the line at a place came.
+    /// Notes that the line at a place came, behind the last one.
     fn note(&mut self, at: u8) {
         if let Some(behind) = self.behind.get_mut(usize::from(self.last)) {
             *behind = at;
@@ -142,10 +142,9 @@ impl Remembered {
         }
     }
 
-    /// Notes that the line at a place was known.
+    /// Notes that the line at a place was known when it came.
     #[inline(always)]
     fn note_known(&mut self, at: u8) {
-        self.last = at;
         self.again = at;
         self.missed_before = self.missed;
     }
@@ -164,6 +163,7 @@ impl Remembered {
         let len = line.len();
         kept.known.write(into);
         self.missed = self.missed.saturating_sub(1);
+        self.last = at;
         self.note_known(at);
         Some(len)
     }

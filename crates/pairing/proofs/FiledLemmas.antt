@@ -14,7 +14,7 @@ use Rattle.callnotes.specs.declared.envelope.Envelope.{Envelope}
 use Rattle.callnotes.specs.declared.envelope.Half.{Half}
 use Rattle.callnotes.specs.declared.envelope.Half.TheVariants.{Send as SendHalf, Recv as RecvHalf}
 use Rattle.pairing.specs.declared.matches.Halves.{Halves}
-use Rattle.pairing.specs.declared.numbering.Numbered.{Numbered}
+use Rattle.pairing.specs.declared.matches.Numbered.{Numbered}
 use Rattle.callnotes.specs.Envelopes.{other_half, envelope_of, same_envelope, rank_of_half, has_envelope}
 use Rattle.pairing.specs.Kept.{AreNoted, ArePartnered}
 use Rattle.pairing.specs.Matched.{halves_of, pending_of, Matching, Filing, filed_on, filed_halves, worked_if, worked, number_in, pending_at, pending_by, IsGrown, IsMatched, ArePaired, IsNext}

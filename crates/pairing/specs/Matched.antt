@@ -10,7 +10,7 @@ use Rattle.callnotes.specs.declared.envelope.Envelope.{Envelope}
 use Rattle.callnotes.specs.declared.envelope.Half.{Half}
 use Rattle.callnotes.specs.declared.envelope.Half.TheVariants.{Send as SendHalf, Recv as RecvHalf}
 use Rattle.pairing.specs.declared.matches.Halves.{Halves}
-use Rattle.pairing.specs.declared.numbering.Numbered.{Numbered}
+use Rattle.pairing.specs.declared.matches.Numbered.{Numbered}
 use Rattle.callnotes.specs.Recordings.{Lists}
 use Rattle.callnotes.specs.Envelopes.{envelope_of, other_half, same_envelope, rank_of_half}
 use Rattle.pairing.specs.Partners.{places_of, envelope_at}

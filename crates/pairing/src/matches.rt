@@ -7,13 +7,20 @@ ghost use Rattle.callnotes.specs.Envelopes.{other_half};
 ghost use Rattle.callnotes.specs.declared.envelope.Envelope.{Envelope};
 ghost use Rattle.pairing.specs.Matched.{list_no, number_in, pending_at, pending_by, met, HasNumber, HasPending, HasRoomFor, IsGrown};
 
-use crate::numbering::{Numbered, Numbering};
+use crate::numbering::Numbering;
 use arenalist::lists::Lists;
 use callnotes::envelope::{Envelope, Half};
 use callnotes::next_call::NextCall;
 use mpigroup::head::Head;
 use std::alloc::{AllocError, Global};
 use std::marker::Model;
+
+/// The envelope of a half of a call, with its number.
+#[derive(Clone, Copy)]
+pub(crate) struct Numbered {
+    pub envelope: Envelope,
+    pub number: usize,
+}
 
 /// The halves of a call that have messages.
 #[derive(Clone, Copy)]

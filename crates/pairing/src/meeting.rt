@@ -7,8 +7,7 @@ ghost use Rattle.callnotes.specs.Notes.{recording_of, partnered};
 ghost use Rattle.pairing.specs.Matched.{Filing, filed_on, filed_halves, worked_if, worked, HasNumber, ArePaired, IsNext};
 ghost use Rattle.callnotes.specs.declared.envelope.Half.TheVariants.{Send as SendHalf, Recv as RecvHalf};
 
-use crate::matches::{Halves, Matches};
-use crate::numbering::Numbered;
+use crate::matches::{Halves, Matches, Numbered};
 use callnotes::envelope::{Half, rank_of_half};
 use callnotes::notes::Notes;
 use mpigroup::head::Head;

@@ -11,13 +11,6 @@ use indexmap::IndexSet;
 use std::alloc::{AllocError, Global};
 use std::marker::Model;
 
-/// The envelope of a half of a call, with its number.
-#[derive(Clone, Copy)]
-pub(crate) struct Numbered {
-    pub envelope: Envelope,
-    pub number: usize,
-}
-
 /// So many envelopes at most are found again without a look-up.
 const ENVELOPE_CELLS: usize = 65_536;
 

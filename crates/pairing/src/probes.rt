@@ -13,7 +13,7 @@ ghost use Rattle.callnotes.specs.Recordings.{Lists};
 ghost use Rattle.pairing.specs.Probed.{probed_envelope, HasProbesIf};
 ghost use Rattle.pairing.specs.Probing.{seat_for, Seating, AreSeated, HasRoomToSit, Sits, Follows};
 
-use crate::numbering::Numbered;
+use crate::matches::Numbered;
 use callnotes::envelope::{Envelope, Half, Message, envelope_by};
 use callnotes::next_call::NextCall;
 use indexmap::IndexMap;

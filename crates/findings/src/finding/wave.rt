@@ -67,7 +67,15 @@ pub(crate) fn call_of_member(pairs: &Pairs, comm: u16, wave: u32, g: u16) -> Opt
     Some(stored_of_member(pairs, comm, wave, g)?.record())
 }
 
-/// Whether both are the same collective, with the same root if it has one. Then nothing is found of them.
+/// Whether two kinds are the same, and so are their roots if they have any.
+#[inline(always)]
+fn are_same_kind(first: Kind, kind: Kind) -> bool
+    ensures { IsTrue result → first ≡ kind }
+{
+    first == kind
+}
+
+/// Whether both calls are collectives of one kind. Then nothing is found of them.
 #[inline(always)]
 #[tactic(auto, using(crate::proofs::AlikeLemmas::alike))]
 fn are_alike(first: &StoredCall<'_>, call: &StoredCall<'_>) -> bool
@@ -75,7 +83,7 @@ fn are_alike(first: &StoredCall<'_>, call: &StoredCall<'_>) -> bool
         comparison_of compared comm wave member first.now call.now ≡ [] }
 {
     match (first.kind(), call.kind()) {
-        (Some(kind), Some(other)) => kind == other,
+        (Some(first), Some(kind)) => are_same_kind(first, kind),
         _ => false,
     }
 }
@@ -99,14 +107,6 @@ fn first_kinds(pairs: &Pairs, comm: u16, from: u32, count: usize) -> [Option<Kin
         kinds[i] = kind_in(pairs, comm, from + i as u32, 0);
     }
     kinds
-}
-
-/// Whether both are the same collective, with the same root if it has one.
-#[inline(always)]
-fn are_same_kind(first: Kind, kind: Kind) -> bool
-    ensures { IsTrue result → first ≡ kind }
-{
-    first == kind
 }
 
 /// Whether a member's call in a wave is a collective of that kind, which is the first member's.
