@@ -1,6 +1,7 @@
 //! The reading of a trace in plain Rust, as a measure for the proved one: the same structure, with no
-//! contract. It reads a file into a window of bytes, finds the end of each line by `memchr`, reads the
-//! line field by field into one place of a `Record`, and looks at a line that has a fault once more.
+//! contract, but it keeps no lines that came before, and looks up each word by its whole field. It reads a
+//! file into a window of bytes, finds the end of each line by `memchr`, reads the line field by field into
+//! one place of a `Record`, and looks at a line that has a fault once more.
 //!
 //! Build with `rustc -O`. `plain lint FILE` prints how many records the file has. `plain records FILE`
 //! looks at each record, and prints the sum of their tags and requests too.
@@ -411,24 +412,34 @@ impl<'a> Iterator for Fields<'a> {
     }
 }
 
-fn read_blocking(operation: Operation, mut fields: Fields<'_>, into: &mut Call) -> Option<()> {
+/// Reads what an operation's word has behind it: blocking, or started with a request.
+fn read_operation(operation: Operation, req: Option<u32>, mut fields: Fields<'_>, into: &mut Call) -> Option<()> {
     match operation {
         Operation::Send(mode) => {
             let (comm, dest, tag) = fields.next_message()?;
             let bytes = fields.next_bytes_of(mode)?;
             fields.end()?;
-            *into = Call::Send { mode, comm, dest, tag, bytes };
+            *into = match req {
+                None => Call::Send { mode, comm, dest, tag, bytes },
+                Some(req) => Call::Isend { req, mode, comm, dest, tag, bytes },
+            };
         }
         Operation::Recv => {
             let (comm, source, tag) = fields.next_message()?;
             fields.end()?;
-            *into = Call::Recv { comm, source, tag };
+            *into = match req {
+                None => Call::Recv { comm, source, tag },
+                Some(req) => Call::Irecv { req, comm, source, tag },
+            };
         }
         Operation::Coll(collective) => {
             let comm = fields.next_comm()?;
             let kind = fields.next_kind(collective)?;
             fields.end()?;
-            *into = Call::Coll { comm, kind };
+            *into = match req {
+                None => Call::Coll { comm, kind },
+                Some(req) => Call::Icoll { req, comm, kind },
+            };
         }
     }
     Some(())
@@ -436,26 +447,7 @@ fn read_blocking(operation: Operation, mut fields: Fields<'_>, into: &mut Call) 
 
 fn read_started(operation: Operation, mut fields: Fields<'_>, into: &mut Call) -> Option<()> {
     let req = fields.next_request()?;
-    match operation {
-        Operation::Send(mode) => {
-            let (comm, dest, tag) = fields.next_message()?;
-            let bytes = fields.next_bytes_of(mode)?;
-            fields.end()?;
-            *into = Call::Isend { req, mode, comm, dest, tag, bytes };
-        }
-        Operation::Recv => {
-            let (comm, source, tag) = fields.next_message()?;
-            fields.end()?;
-            *into = Call::Irecv { req, comm, source, tag };
-        }
-        Operation::Coll(collective) => {
-            let comm = fields.next_comm()?;
-            let kind = fields.next_kind(collective)?;
-            fields.end()?;
-            *into = Call::Icoll { req, comm, kind };
-        }
-    }
-    Some(())
+    read_operation(operation, Some(req), fields, into)
 }
 
 fn read_sendrecv(mut fields: Fields<'_>, into: &mut Call) -> Option<()> {
@@ -526,7 +518,7 @@ fn read_end_record(call: Call, fields: Fields<'_>, into: &mut Call) -> Option<()
 /// Reads the call of a word and the fields behind it, if there is one, and else leaves the place alone.
 fn read_behind(word: Word, fields: Fields<'_>, into: &mut Call) -> Option<()> {
     match word {
-        Word::Blocking(operation) => read_blocking(operation, fields, into),
+        Word::Blocking(operation) => read_operation(operation, None, fields, into),
         Word::Started(operation) => read_started(operation, fields, into),
         Word::Waitall => read_waitall(fields, into),
         Word::Wait => read_wait(fields, into),
@@ -751,8 +743,8 @@ impl<I: Read> Source<I> {
     }
 }
 
-/// Reads a source to its end: the number of its records, or the call and the fault with which it ends.
-fn lint<I: Read>(source: &mut Source<I>) -> Result<u64, (u64, SourceFault)> {
+/// Reads a source to its end and shows each record: how many there are, or the call and the fault with which it ends.
+fn read_all<I: Read>(source: &mut Source<I>, mut show: impl FnMut(&Record)) -> Result<u64, (u64, SourceFault)> {
     let mut count: u64 = 0;
     let mut record = Record::finalize();
     loop {
@@ -761,6 +753,7 @@ fn lint<I: Read>(source: &mut Source<I>) -> Result<u64, (u64, SourceFault)> {
             Ok(false) => return Ok(count),
             Err(fault) => return Err((count, fault)),
         }
+        show(&record);
     }
 }
 
@@ -771,27 +764,8 @@ fn number_of(record: &Record) -> u64 {
         Call::Isend { req, tag, .. } | Call::Irecv { req, tag, .. } => u64::from(*req) + u64::from(*tag),
         Call::Sendrecv { send_tag, recv_tag, .. } => u64::from(*send_tag) + u64::from(*recv_tag),
         Call::Wait { req } | Call::Icoll { req, .. } => u64::from(*req),
-        Call::Waitall { reqs } | Call::Waitany { reqs, .. } => {
-            reqs.as_slice().iter().map(|req| u64::from(*req)).sum()
-        }
+        Call::Waitall { reqs } | Call::Waitany { reqs, .. } => reqs.as_slice().iter().map(|req| u64::from(*req)).sum(),
         _ => 0,
-    }
-}
-
-/// Reads each record of a source: how many there are, and the sum of their tags and requests.
-fn add_up<I: Read>(source: &mut Source<I>) -> Result<(u64, u64), (u64, SourceFault)> {
-    let mut count: u64 = 0;
-    let mut sum: u64 = 0;
-    let mut record = Record::finalize();
-    loop {
-        match source.next_into(&mut record) {
-            Ok(true) => {
-                count += 1;
-                sum = sum.wrapping_add(number_of(&record));
-            }
-            Ok(false) => return Ok((count, sum)),
-            Err(fault) => return Err((count, fault)),
-        }
     }
 }
 
@@ -806,9 +780,11 @@ fn main() -> ExitCode {
         return ExitCode::from(4);
     };
     let mut source = Source::new(file);
+    let mut sum: u64 = 0;
     let said = match way.as_str() {
-        "lint" => lint(&mut source).map(|count| format!("{count}")),
-        _ => add_up(&mut source).map(|(count, sum)| format!("{count} {sum}")),
+        "lint" => read_all(&mut source, |_| ()).map(|count| format!("{count}")),
+        _ => read_all(&mut source, |record| sum = sum.wrapping_add(number_of(record)))
+            .map(|count| format!("{count} {sum}")),
     };
     match said {
         Ok(said) => {
