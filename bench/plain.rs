@@ -413,6 +413,7 @@ impl<'a> Iterator for Fields<'a> {
 }
 
 /// Reads what an operation's word has behind it: blocking, or started with a request.
+#[inline(always)]
 fn read_operation(operation: Operation, req: Option<u32>, mut fields: Fields<'_>, into: &mut Call) -> Option<()> {
     match operation {
         Operation::Send(mode) => {
@@ -443,11 +444,6 @@ fn read_operation(operation: Operation, req: Option<u32>, mut fields: Fields<'_>
         }
     }
     Some(())
-}
-
-fn read_started(operation: Operation, mut fields: Fields<'_>, into: &mut Call) -> Option<()> {
-    let req = fields.next_request()?;
-    read_operation(operation, Some(req), fields, into)
 }
 
 fn read_sendrecv(mut fields: Fields<'_>, into: &mut Call) -> Option<()> {
@@ -516,10 +512,10 @@ fn read_end_record(call: Call, fields: Fields<'_>, into: &mut Call) -> Option<()
 }
 
 /// Reads the call of a word and the fields behind it, if there is one, and else leaves the place alone.
-fn read_behind(word: Word, fields: Fields<'_>, into: &mut Call) -> Option<()> {
+fn read_behind(word: Word, mut fields: Fields<'_>, into: &mut Call) -> Option<()> {
     match word {
         Word::Blocking(operation) => read_operation(operation, None, fields, into),
-        Word::Started(operation) => read_started(operation, fields, into),
+        Word::Started(operation) => read_operation(operation, Some(fields.next_request()?), fields, into),
         Word::Waitall => read_waitall(fields, into),
         Word::Wait => read_wait(fields, into),
         Word::Waitany => read_waitany(fields, into),
