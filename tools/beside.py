@@ -15,7 +15,14 @@ def told_of(journal, trace):
     """What recording.json says of a rank."""
     left = [{"meaning": meaning, "call": call, "count": count} for meaning, call, count in journal.left_out()]
     left += [{"meaning": meaning, "call": call, "count": count} for (meaning, call), count in trace.left.items()]
-    return {"end": trace.end, "calls": trace.count, "left_out": left, "notes": trace.notes, "seen": bool(journal.header)}
+    return {
+        "seen": bool(journal.header),
+        "calls": trace.count,
+        "last": trace.last_call(),
+        "end": trace.end,
+        "left_out": left,
+        "notes": trace.notes,
+    }
 
 
 def unrecorded(journals):
@@ -24,12 +31,13 @@ def unrecorded(journals):
     return dict(Counter(path.read_text().splitlines())) if path.exists() else {}
 
 
-def write_recording(folder, told, communicators, checker):
+def write_recording(folder, told, communicators, checker, live=False):
     recording = {
         "ranks": told,
         "communicators": len(communicators.head()),
         "reused": len(communicators.reused),
         "unrecorded": unrecorded(folder / "journal"),
         "judged": checker.knows("open") or all(rank["end"] == "finalize" for rank in told),
+        "live": live,
     }
     (folder / "recording.json").write_text(json.dumps(recording, indent=1) + "\n", encoding="utf-8")

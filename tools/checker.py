@@ -1,10 +1,14 @@
-"""The program mpiwait, as the companions here run it. An unproved companion of mpiwait, as all of tools/."""
+"""The program mpiwait, as the companions here run it, and how they take their words and end. An unproved companion of
+mpiwait, as all of tools/.
+"""
 
+import argparse
 import os
 import resource
 import subprocess
 import sys
 import tempfile
+import traceback
 from pathlib import Path
 
 # Each is a trace that a checker takes which knows the word or the limit.
@@ -15,6 +19,54 @@ TEXTS = {
     "1024-ranks": "send 0 64 0\nfinalize\n",
     "4096-communicators": "send 256 0 0\nfinalize\n",
 }
+
+
+# ---- Scripts -------------------------------------------------------------------------------------
+
+
+def fail(why, status=4):
+    """Says why a script can't do what it was asked for, and ends it."""
+    try:
+        print(f"tools/{Path(sys.argv[0]).name}: {why}", file=sys.stderr)
+    finally:
+        sys.exit(status)
+
+
+class Words(argparse.ArgumentParser):
+    """The words of a script. Wrong ones end it with status 3."""
+
+    def error(self, message):
+        self.print_usage(sys.stderr)
+        fail(message, 3)
+
+
+def run_script(main):
+    """Runs a script and ends it: with status 4 where a file, the output or what it was given fails it."""
+    if sys.stdout is None:
+        fail("there is no standard output")
+    sys.stdout.reconfigure(errors="backslashreplace")
+    try:
+        try:
+            status = main()
+        finally:
+            sys.stdout.flush()
+    except OSError as fault:
+        why = fault
+    except MemoryError:
+        why = "there is too little memory"
+    except KeyboardInterrupt:
+        why = "it was interrupted"
+    except Exception as fault:
+        place = traceback.extract_tb(fault.__traceback__)[-1]
+        why = f"what it was given has another form: {fault!r} at {Path(place.filename).name}:{place.lineno}"
+    else:
+        sys.exit(status)
+    # What the output didn't take is dropped.
+    os.dup2(os.open(os.devnull, os.O_WRONLY), sys.stdout.fileno())
+    fail(why)
+
+
+# ---- The checker ---------------------------------------------------------------------------------
 
 
 class Checker:
@@ -29,9 +81,9 @@ class Checker:
 
     def run(self, *words):
         try:
-            return subprocess.run([self.path, *map(str, words)], capture_output=True, text=True, check=False)
+            return subprocess.run([self.path, *map(str, words)], capture_output=True, text=True, errors="replace", check=False)
         except OSError as fault:
-            sys.exit(f"tools: the checker can't be run: {fault}")
+            return fail(f"the checker can't be run: {fault}")
 
     def start(self, *words):
         """The same without waiting for its end."""
@@ -45,7 +97,7 @@ class Checker:
                 trace.flush()
                 said = self.run("lint", trace.name)
             if said.returncode not in (0, 2):
-                sys.exit(f"tools: {self.path} lint failed: {said.stderr.strip()}")
+                fail(f"{self.path} lint failed: {said.stderr.strip()}")
             self._known[what] = said.returncode == 0
         return self._known[what]
 
@@ -59,6 +111,23 @@ class Checker:
         return 4095 if self.knows("4096-communicators") else 255
 
 
+def files_of(folder):
+    """The head of a folder and its traces in rank order, as a check wants them: as many as the head says, one where it
+    says no number, and those behind them."""
+    head = Path(folder) / "head"
+    with open(head, "rb") as text:
+        said = text.readline(80).split()
+    ranks = int(said[1]) if len(said) == 2 and said[1].isdigit() and len(said[1]) < 5 else 1
+    traces = [head.with_name(f"r{rank}") for rank in range(ranks)]
+    while (more := head.with_name(f"r{len(traces)}")).exists():
+        traces.append(more)
+    return [head, *traces]
+
+
+def main():
+    return 0 if all(Checker().knows(what) for what in sys.argv[1:]) else 1
+
+
 if __name__ == "__main__":
     # `checker.py open probe`: whether the checker knows all of these.
-    sys.exit(not all(Checker().knows(what) for what in sys.argv[1:]))
+    run_script(main)

@@ -9,7 +9,7 @@ members make. A rank holds a communicator from its own `dup` or `split` on, whic
 
 from dataclasses import dataclass, field
 
-from journal import COLLECTIVES, COMM_FIELD, MAKERS, SELF, STARTED_COLLECTIVES, WORLD, split_line
+from journal import COLLECTIVES, COMM_FIELD, FREES, MAKERS, SELF, STARTED_COLLECTIVES, WORLD, split_line
 
 
 @dataclass(eq=False)
@@ -44,6 +44,7 @@ class Scan:
         self.rank = journal.rank
         self.resolved = {}  # the source and tag of a receive with wildcards, by its request
         self.gone = set()  # requests that were cancelled
+        self.unsure = set()  # those of them of which it isn't told whether they completed all the same
         self.makings = []
         self.freed = {}
         self.used = set()
@@ -63,10 +64,11 @@ class Scan:
             self._collective(place, word, int(fields[0]), fields)
         elif word in STARTED_COLLECTIVES:
             self._collective(place, word, int(fields[1]), fields)
-        elif word == "free":
+        elif word in FREES:
             self.freed[int(fields[0])] = place
         elif word == "cancel":
             self.gone.add(fields[0])
+            self.unsure.add(fields[0])
         elif word in COMM_FIELD:
             self.used.add(int(fields[COMM_FIELD[word]]))
 
@@ -79,11 +81,8 @@ class Scan:
 
     def _told(self, place, line):
         word, *fields = line.split(" ")
-        if word == "=done":
-            self.resolved[fields[0]] = (fields[1], fields[2])
-            self.gone.discard(fields[0])
-        elif word == "=kept":
-            self.gone.discard(fields[0])
+        if word in ("=done", "=gone", "=kept"):
+            self._completed(word, *fields)
         elif word == "=none":
             self.makings[-1].came_back = True
         elif word in ("=comm", "=apart"):
@@ -93,6 +92,13 @@ class Scan:
             making.came_back = True
             making.new = int(fields[0])
             making.group = tuple(map(int, fields[1:]))
+
+    def _completed(self, word, request, *message):
+        self.unsure.discard(request)
+        if word != "=gone":
+            self.gone.discard(request)
+        if message:
+            self.resolved[request] = tuple(message)
 
 
 class Communicators:

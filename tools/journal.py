@@ -6,8 +6,9 @@ came back. The recorder in record/ writes them.
 """
 
 import re
-import sys
 from pathlib import Path
+
+from checker import fail
 
 COLLECTIVES = {
     "barrier": "barrier",
@@ -35,6 +36,8 @@ MAKERS = {
     "comm_dup", "comm_dup_with_info", "comm_split", "comm_split_type", "comm_create", "cart_create", "cart_sub",
     "graph_create", "dist_graph_create", "dist_graph_create_adjacent",
 }  # fmt: skip
+
+FREES = {"comm_free", "comm_disconnect"}
 
 SENDS = {"send": "send", "ssend": "ssend", "bsend": "bsend", "rsend": "send"}
 STARTED_SENDS = {
@@ -73,7 +76,7 @@ def written(path):
     """The lines of a text up to its first zero byte: behind it the recorder wrote nothing."""
     data = path.read_bytes()
     end = data.find(b"\0")
-    return (data if end < 0 else data[:end]).decode().split("\n")[:-1]
+    return (data if end < 0 else data[:end]).decode(errors="replace").split("\n")[:-1]
 
 
 class Journal:
@@ -90,10 +93,6 @@ class Journal:
     @property
     def ranks(self):
         return int(self.header[3]) if self.header else 0
-
-    @property
-    def library(self):
-        return self.header[4] if self.header else ""
 
     def left_out(self):
         """What was counted and not recorded: (meaning, call, how often)."""
@@ -116,4 +115,4 @@ def count_ranks(folder):
         journal = Journal(folder, rank)
         if journal.ranks:
             return journal.ranks
-    sys.exit(f"tools: no journal of a rank is in {folder}: nothing was recorded")
+    return fail(f"no journal of a rank is in {folder}: nothing was recorded")

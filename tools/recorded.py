@@ -8,6 +8,7 @@ import subprocess
 from functools import cache
 from pathlib import Path
 
+from checker import files_of
 from journal import Journal
 
 STARTS = {"isend", "issend", "ibsend", "irecv"}
@@ -30,7 +31,7 @@ class Call:
 
     @property
     def is_start(self):
-        return self.word in STARTS or self.word.startswith("i")
+        return self.word.startswith("i")
 
     @property
     def comm(self):
@@ -50,7 +51,7 @@ class Call:
     def peers(self):
         """The ranks of the world of which it may wait for calls."""
         fields = self.fields[1:] if self.is_start else self.fields
-        if self.word in ("sendrecv",):
+        if self.word == "sendrecv":
             named = [fields[1], fields[3]]
         elif self.message():
             named = [fields[1]]
@@ -99,13 +100,10 @@ class Run:
 
     def files(self):
         """The head and the traces, as a check wants them."""
-        return [self.folder / "head", *(self.folder / f"r{rank}" for rank in range(self.ranks))]
+        return files_of(self.folder)
 
     def group(self, comm):
         return self._groups[comm]
-
-    def last_call(self, rank):
-        return self.call(rank, len(self.trace(rank)) - 1) if self.trace(rank) else None
 
     def in_wave(self, comm, wave, rank):
         """The call of a rank that is the wave-th, from 0, of those that all members of a communicator make."""
@@ -154,7 +152,7 @@ def look_up(frame):
         return short(line)
     name = f"{Path(module).name}+0x{offset}"
     function = next((function for start, end, function in functions(module) if start <= place < end), None)
-    return f"{shortened(function)} ({name})" if function else name
+    return f"{clipped(function)} ({name})" if function else name
 
 
 @cache
@@ -173,7 +171,7 @@ def said_by(*words):
         return ""
 
 
-def shortened(name):
+def clipped(name):
     return name if len(name) <= 60 else name[:58] + ".."
 
 

@@ -19,11 +19,16 @@ NO_PROBE = "probes that found a message: the checker has no word for them"
 WORDS = {"any": "MPI_ANY_SOURCE", "null": "MPI_PROC_NULL"}
 
 UNTOLD = "receives with a wildcard that no call completed"
+UNSURE = "calls that were cancelled and that no call completed (whether they were done isn't known)"
 FAILED = "stopped a call answered an error"  # what the recorder writes behind such a call
 
 
 class WrongCall(Exception):
     """A call that MPI answers with an error, as one that names what no trace can say."""
+
+
+class TraceIsFull(Exception):
+    """A trace holds no more calls."""
 
 
 class Trace:
@@ -36,12 +41,11 @@ class Trace:
         self.calls = open(folder / f"calls{self.rank}", "w", encoding="ascii")
         self.count = 0
         self.left = Counter()  # (meaning, call): how often
-        self.notes = []  # (meaning, text) of this rank
+        self.notes = []  # calls that aren't in the trace, since they never came back or nothing completed them
         self.end = "cut"
         self._numbers = {}  # of requests, in the trace, by those in the journal
         self._free = []
         self._left_requests = set()  # those whose calls aren't in the trace
-        self._untold = 0
         self._told = []  # what the present call told
         self._fails = False  # the present call answered an error
         self._call = ("", 0)
@@ -64,15 +68,15 @@ class Trace:
             self._put(line)
 
     def take(self, place):
-        """Takes a line of the journal up. Answers whether there is room for more."""
+        """Takes a line of the journal up. Answers whether lines behind it can be taken too."""
         line = self.journal.lines[place]
         if line.startswith("="):
             return True
-        if self.count == MOST_LINES - 1 and split_line(line)[0] != "finalize":
-            self.end = "full"
-            return False
         try:
             self._write_call(place, line)
+        except TraceIsFull:
+            self.end = "full"
+            return False
         except WrongCall as why:
             self.end = f"wrong {why}"
             return False
@@ -99,10 +103,16 @@ class Trace:
             told.append(lines[place].split(" "))
         return told
 
-    def _put(self, line):
-        """Writes a call. What one did that answered an error isn't known."""
+    def _look_at_answer(self):
+        """What a call did that answered an error isn't known."""
         if self._fails:
             raise WrongCall("answered an error")
+
+    def _put(self, line):
+        """Writes a call. The last line is for the rank's end."""
+        self._look_at_answer()
+        if self.count == MOST_LINES - 1:
+            raise TraceIsFull
         self._write(line)
 
     def _write(self, line):
@@ -113,12 +123,8 @@ class Trace:
 
     def finish(self):
         """The last line. A rank that was cut off has `open`, if the checker has that word."""
-        if self.end == "full" or self.journal.lines and split_line(self.journal.lines[-1])[0] == "full":
-            self.end = "full"
         if self.end == "finalize":
             self._write("finalize")
-            if self._untold:
-                self.left["P", UNTOLD] = self._untold
         elif self.checker.knows("open"):
             self._write("open")
         self.trace.close()
@@ -127,8 +133,13 @@ class Trace:
     def _leave(self, meaning, what):
         self.left[meaning, what] += 1
 
-    def _note(self, meaning, text):
-        self.notes.append({"meaning": meaning, "text": text, "call": mpi_name(self._call[0]), "site": self._call[1]})
+    def last_call(self):
+        word, site = self._call
+        return {"call": mpi_name(word), "site": site}
+
+    def _note(self, text):
+        self._look_at_answer()
+        self.notes.append({**self.last_call(), "text": text})
 
     # ---- Fields ----------------------------------------------------------------------------------
 
@@ -192,6 +203,8 @@ class Trace:
 
     def _start(self, request, local, line, rest, size=""):
         comm = self._comm(local)
+        if request in self.scan.unsure:
+            self._leave("P", UNSURE)
         if comm is None or request in self.scan.gone:
             self._left_requests.add(request)
         else:
@@ -213,20 +226,19 @@ class Trace:
         self._look_at(*fields[:3], words=WORDS)
         comm, message = self._comm(fields[0]), self._message(fields[1:3])
         if message is None:
-            self._note("O", f"a receive that never came back: {described(fields[1:3])}")
+            self._note(f"a receive that never came back: {described(fields[1:3])}")
         elif comm is not None:
             self._put(f"recv {comm} {message[0]} {message[1]}")
 
     def _start_receive(self, _, fields):
         self._look_at(*fields[1:4], words=WORDS)
         request, message = fields[0], fields[2:4]
-        if "any" in message:
+        if "any" in message and request not in self.scan.gone:
             message = self.scan.resolved.get(request)
             if message is None:
+                self._note(f"a receive that no call completed: {described(fields[2:4])}")
+                self._leave("P", UNTOLD)
                 self._left_requests.add(request)
-                if request not in self.scan.gone:
-                    self._note("O", f"a receive that no call completed: {described(fields[2:4])}")
-                    self._untold += 1
                 return
         self._start(request, fields[1], "irecv", message)
 
@@ -239,7 +251,7 @@ class Trace:
             return
         size = self._bytes(fields, 5)
         if message is None:
-            self._note("O", f"its receive never came back: {described(fields[3:5])}")
+            self._note(f"its receive never came back: {described(fields[3:5])}")
             self._put(f"isend {self._begin_request('sendrecv')} {comm} {fields[1]} {fields[2]}{size}")
         else:
             self._put(f"sendrecv {comm} {fields[1]} {fields[2]} {message[0]} {message[1]}{size}")
@@ -248,7 +260,7 @@ class Trace:
         self._look_at(*fields[:3], words=WORDS)
         comm, message = self._comm(fields[0]), self._message(fields[1:3])
         if message is None:
-            self._note("O", f"a probe that never came back: {described(fields[1:3])}")
+            self._note(f"a probe that never came back: {described(fields[1:3])}")
         elif not self.checker.knows("probe"):
             self._leave("W", NO_PROBE)
         elif comm is not None:
@@ -264,13 +276,13 @@ class Trace:
 
     def _choose(self, word, fields):
         lists = [requests for what, *requests in self._told if what == "=chose"]
-        chosen = [request for requests in lists for request in requests]
         if not lists:
-            self._note("O", f"a wait for one of {len(fields) or 'many'} requests that never came back")
+            self._note(f"a wait for one of {len(fields) or 'many'} requests that never came back")
         elif word == "waitsome":
-            self._wait_for(self._named(chosen), "waitall")
-        elif self._named(chosen):
-            self._wait_for_one(self._named(fields), chosen[0])
+            for chosen in lists:
+                self._wait_for(self._named(chosen), "waitall")
+        elif self._named(lists[0]):
+            self._wait_for_one(self._named(fields), lists[0][0])
 
     def _wait_for_one(self, named, chosen):
         if not named:

@@ -57,6 +57,7 @@ int ended(int result);
 #define FIELDS(...) sizeof((Field[]){__VA_ARGS__}) / sizeof(Field), (Field[]){__VA_ARGS__}
 #define PUT(word, ...) journal_call(word, FIELDS(__VA_ARGS__), here)
 #define TOLD(word, ...) journal_told(word, FIELDS(__VA_ARGS__))
+#define COMPLETED(word, ...) journal_completed(word, FIELDS(__VA_ARGS__))
 
 /* Numbers the world and MPI_COMM_SELF, once MPI has begun. */
 void number_communicators(void);

@@ -50,8 +50,8 @@ void number_communicators(void) {
     set_number(MPI_COMM_SELF, SELF);
 }
 
-/* The field of a rank of a group: its rank in the world. */
-static void put_group(const char *word, int number, MPI_Comm comm) {
+/* Tells a communicator's group, each member by its rank in the world. One with members of another world isn't told. */
+static bool put_group(const char *word, int number, MPI_Comm comm) {
     MPI_Group group;
     int size;
     inside++;
@@ -64,12 +64,17 @@ static void put_group(const char *word, int number, MPI_Comm comm) {
     REAL(Group_translate_ranks)(group, size, places, world, ranks);
     REAL(Group_free)(&group);
     inside--;
+    bool is_of_world = true;
     fields[0] = number;
-    for (int i = 0; i < size; i++)
+    for (int i = 0; i < size; i++) {
         fields[1 + i] = ranks[i];
-    journal_told(word, 1 + size, fields);
+        is_of_world = is_of_world && ranks[i] != MPI_UNDEFINED;
+    }
+    if (is_of_world)
+        journal_told(word, 1 + size, fields);
     free(places);
     free(fields);
+    return is_of_world;
 }
 
 /* A call made a communicator, or gave this rank none. */
@@ -84,9 +89,8 @@ static void adopt(const char *word, MPI_Comm new) {
     inside--;
     if (inter)
         return;
-    int number = next_comm++;
-    set_number(new, number);
-    put_group(word, number, new);
+    if (put_group(word, next_comm, new))
+        set_number(new, next_comm++);
 }
 
 /* A call by which all members of a communicator make new ones: name, parameters, arguments, fields. */
@@ -142,14 +146,14 @@ MAKER(Dist_graph_create_adjacent, "dist_graph_create_adjacent",
 MAKER_APART(Comm_create_group, (MPI_Comm comm, MPI_Group group, int tag, MPI_Comm *new), (comm, group, tag, new))
 MAKER_APART(Intercomm_merge, (MPI_Comm comm, int high, MPI_Comm *new), (comm, high, new))
 
-#define FREE(Name) \
+#define FREE(Name, word) \
     int MPI_##Name(MPI_Comm *comm) { \
         int number; \
         if (BEGINS && (number = number_of(*comm)) > SELF) \
-            PUT("free", number); \
+            PUT(word, number); \
         return CALL(Name, (comm)); \
     } \
     ALSO_PMPI(Name)
 
-FREE(Comm_free)
-FREE(Comm_disconnect)
+FREE(Comm_free, "comm_free")
+FREE(Comm_disconnect, "comm_disconnect")

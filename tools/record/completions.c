@@ -4,31 +4,41 @@
 
 int next_request = 1;
 
-static int query_done(void *none, MPI_Status *status) {
-    (void)none;
-    REAL(Status_set_elements)(status, MPI_BYTE, 0);
-    REAL(Status_set_cancelled)(status, 0);
-    status->MPI_SOURCE = MPI_PROC_NULL;
-    status->MPI_TAG = MPI_ANY_TAG;
+static int query_done(void *told, MPI_Status *status) {
+    int error = status->MPI_ERROR; /* which the library sets by itself */
+    *status = *(MPI_Status *)told;
+    status->MPI_ERROR = error;
     return MPI_SUCCESS;
 }
 
-static int free_done(void *none) { return (void)none, MPI_SUCCESS; }
+static int free_done(void *told) { return free(told), MPI_SUCCESS; }
 
 static int cancel_done(void *none, int complete) { return (void)none, (void)complete, MPI_SUCCESS; }
 
 /* Libraries give one handle to all calls that are done at once. The program then gets a completed
  * request of its own instead, so that its later wait tells which call it is for. */
 static void make_distinct(MPI_Request *handle) {
+    MPI_Status *told = malloc(sizeof *told);
+    if (!told)
+        return;
     inside++;
-    REAL(Wait)(handle, MPI_STATUS_IGNORE);
-    REAL(Grequest_start)(query_done, free_done, cancel_done, NULL, handle);
+    REAL(Wait)(handle, told);
+    REAL(Grequest_start)(query_done, free_done, cancel_done, told, handle);
     REAL(Grequest_complete)(*handle);
     inside--;
 }
 
+static bool is_done(MPI_Request handle) {
+    int done = 0;
+    inside++;
+    int result = REAL(Request_get_status)(handle, &done, MPI_STATUS_IGNORE);
+    inside--;
+    return result == MPI_SUCCESS && done;
+}
+
+/* A handle that is known already may also be new again: the wait for the old call wasn't seen, or answered an error. */
 void started(MPI_Request *handle, int number, bool wild) {
-    if (requests_find(bits(*handle)))
+    if (requests_find(bits(*handle)) && is_done(*handle))
         make_distinct(handle);
     Request *request = requests_add(bits(*handle));
     request->number = number;
@@ -44,11 +54,11 @@ static void finish(uintptr_t handle, const MPI_Status *status) {
     if (request->cancelled)
         REAL(Test_cancelled)(status, &gone);
     if (gone)
-        TOLD("=gone", request->number);
+        COMPLETED("=gone", request->number);
     else if (request->wild)
-        TOLD("=done", request->number, status->MPI_SOURCE, status->MPI_TAG);
+        COMPLETED("=done", request->number, status->MPI_SOURCE, status->MPI_TAG);
     else if (request->cancelled)
-        TOLD("=kept", request->number);
+        COMPLETED("=kept", request->number);
     request->cancelled = false;
     if (request->template)
         request->number = 0;
@@ -265,7 +275,7 @@ int MPI_Request_free(MPI_Request *handle) {
     bool begun = BEGINS;
     uintptr_t freed = bits(*handle);
     Request *request = begun ? requests_find(freed) : NULL;
-    if (request && request->number)
+    if (request && request->number && !request->cancelled)
         left_out(WAITS, "MPI_Request_free of a request in use (its call has no wait)");
     if (request) {
         free(request->template);

@@ -15,6 +15,7 @@ enum {
     FIRST_WINDOW = 1 << 16, /* so much of the journal is mapped at first, */
     WINDOW = 1 << 20,       /* and at most at a time */
     LONGEST_LINE = 1 << 15,
+    LONGEST_STOP = 512, /* the line that says why no more follow; there is always room for it */
     MOST_CALLS = 1000001, /* a trace has one less, since it has no MPI_Init */
     COUNTS = 1 << 14,     /* bytes of the counts */
     DIGITS = 12
@@ -107,10 +108,9 @@ static bool has_room(int fields) {
         journal_stop("a call names more ranks or requests than a line of the journal holds");
         return false;
     }
-    if (journal.window + journal.size - journal.at >= LONGEST_LINE || move_window())
+    if (journal.window + journal.size - journal.at >= LONGEST_LINE + LONGEST_STOP || move_window())
         return true;
-    journal.open = false;
-    say("it stops recording, since there is no room for its journal");
+    journal_stop("there is no room for its journal");
     return false;
 }
 
@@ -130,23 +130,28 @@ static void put_line(const char *word, int count, const Field *fields, int site)
 void journal_call(const char *word, int count, const Field *fields, int site) {
     if (journal.full || !has_room(count))
         return;
-    if (++journal.calls > MOST_CALLS) {
-        journal.full = true;
-        word = "full", count = 0;
-    }
-    put_line(word, count, fields, site);
+    journal.full = ++journal.calls > MOST_CALLS;
+    if (journal.full)
+        put_line("full", 0, NULL, site);
+    else
+        put_line(word, count, fields, site);
     journal_has_call = true;
 }
 
 void journal_told(const char *word, int count, const Field *fields) {
+    if (!journal.full && has_room(count))
+        put_line(word, count, fields, 0);
+}
+
+void journal_completed(const char *word, int count, const Field *fields) {
     if (has_room(count))
         put_line(word, count, fields, 0);
 }
 
 void journal_stop(const char *why) {
-    if (!journal.open)
+    if (!journal.open || journal.full)
         return;
-    char line[512];
+    char line[LONGEST_STOP];
     snprintf(line, sizeof line, "stopped %s", why);
     put_line(line, 0, NULL, 0);
     journal.open = false;

@@ -14,6 +14,9 @@
 #include <limits.h>
 #include <stdbool.h>
 
+/* None of these is seen by the program. */
+#pragma GCC visibility push(hidden)
+
 /* A field of a line: a number, or one of these, which no int equals. */
 typedef long long Field;
 #define NULL_PEER ((Field)INT_MAX + 1)
@@ -24,9 +27,13 @@ typedef long long Field;
 /* Why the journal can't be begun, or NULL. */
 const char *journal_open(const char *folder, int rank, int ranks, const char *library);
 
-/* A call that begins, at a site of `site_of`; and what a call told, whose word begins with `=`. */
+/* A call that begins, at a site of `site_of`. Where there are more than a trace holds, the line `full` stands in the
+ * place of the first one behind, and no other call follows. */
 void journal_call(const char *word, int count, const Field *fields, int site);
+
+/* What the call told, and what became of the request of an earlier one: the words begin with `=`. */
 void journal_told(const char *word, int count, const Field *fields);
+void journal_completed(const char *word, int count, const Field *fields);
 
 /* Whether a line says the call that is recorded: set by journal_call, unset where a call begins. */
 extern bool journal_has_call;
@@ -49,5 +56,7 @@ void sites_open(const char *folder, int rank);
 
 /* The number, from 1, of the place from which the recorder was called; 0 where none is known. */
 int site_of(void *return_address);
+
+#pragma GCC visibility pop
 
 #endif

@@ -31,10 +31,12 @@ void *found_in_library(const char *name) {
     return found;
 }
 
+static bool is_recorded_thread(void) { return any_thread || pthread_equal(pthread_self(), thread); }
+
 bool begins(void *caller) {
     if (!recording || inside > 0)
         return false;
-    if (!any_thread && !pthread_equal(pthread_self(), thread)) {
+    if (!is_recorded_thread()) {
         left_out(PARTNERS, "calls of another thread than that of MPI_Init");
         return false;
     }
@@ -45,7 +47,7 @@ bool begins(void *caller) {
 
 int ended(int result) {
     inside--;
-    if (result != MPI_SUCCESS && recording && inside == 0)
+    if (result != MPI_SUCCESS && recording && inside == 0 && is_recorded_thread())
         journal_stop(journal_has_call ? "a call answered an error" : "another call answered an error");
     return result;
 }
@@ -131,7 +133,7 @@ static void start(void) {
 }
 
 /* What MPI calls for itself while it begins isn't recorded, as nothing is before `start`. */
-static int begun(int result, void *caller) {
+static int initialized(int result, void *caller) {
     if (result == MPI_SUCCESS)
         start();
     if (begins(caller))
@@ -141,13 +143,13 @@ static int begun(int result, void *caller) {
 
 int MPI_Init(int *argc, char ***argv) {
     refuse_other_library();
-    return begun(CALL(Init, (argc, argv)), __builtin_return_address(0));
+    return initialized(CALL(Init, (argc, argv)), __builtin_return_address(0));
 }
 ALSO_PMPI(Init)
 
 int MPI_Init_thread(int *argc, char ***argv, int required, int *provided) {
     refuse_other_library();
-    return begun(CALL(Init_thread, (argc, argv, required, provided)), __builtin_return_address(0));
+    return initialized(CALL(Init_thread, (argc, argv, required, provided)), __builtin_return_address(0));
 }
 ALSO_PMPI(Init_thread)
 

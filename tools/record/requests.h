@@ -5,6 +5,9 @@
 #include "journal.h"
 #include <stdint.h>
 
+/* None of these is seen by the program. */
+#pragma GCC visibility push(hidden)
+
 /* What each start of a persistent request is written as. */
 typedef struct {
     const char *word;
@@ -24,5 +27,7 @@ typedef struct {
 Request *requests_find(uintptr_t handle);
 Request *requests_add(uintptr_t handle);
 void requests_remove(uintptr_t handle);
+
+#pragma GCC visibility pop
 
 #endif

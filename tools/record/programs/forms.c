@@ -53,6 +53,10 @@ static void many_requests(void) {
     for (int rest = 2 * MANY; rest > 0; rest -= done)
         MPI_Testsome(2 * MANY, requests, &done, places, MPI_STATUSES_IGNORE);
     start_many(requests);
+    MPI_Barrier(comm);
+    for (int rest = 2 * MANY; rest > 0; rest -= done)
+        MPI_Waitsome(2 * MANY, requests, &done, places, MPI_STATUSES_IGNORE);
+    start_many(requests);
     do
         MPI_Testall(2 * MANY, requests, &done, MPI_STATUSES_IGNORE);
     while (!done);

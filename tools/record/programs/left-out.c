@@ -70,6 +70,9 @@ static void freed(void) {
     MPI_Isend(&data, 1, MPI_INT, (rank + 1) % ranks, 9, MPI_COMM_WORLD, &request);
     MPI_Request_free(&request);
     MPI_Recv(&data, 1, MPI_INT, (rank + ranks - 1) % ranks, 9, MPI_COMM_WORLD, MPI_STATUS_IGNORE);
+    MPI_Irecv(&data, 1, MPI_INT, (rank + 1) % ranks, 10, MPI_COMM_WORLD, &request);
+    MPI_Cancel(&request);
+    MPI_Request_free(&request);
 }
 
 int main(int argc, char **argv) {
