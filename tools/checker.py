@@ -81,7 +81,8 @@ class Checker:
 
     def run(self, *words):
         try:
-            return subprocess.run([self.path, *map(str, words)], capture_output=True, text=True, errors="replace", check=False)
+            words = [self.path, *map(str, words)]
+            return subprocess.run(words, capture_output=True, text=True, errors="replace", check=False)
         except OSError as fault:
             return fail(f"the checker can't be run: {fault}")
 
