@@ -30,8 +30,11 @@ def report(program, texts, eager):
     environment = {**os.environ, "MPIWAIT_LEVEL": str(LEVEL), "MPIWAIT_THREADS": "1"}
     words = [program, "check", "--json", *eager, *texts]
     done = subprocess.run(words, capture_output=True, check=False, text=True, env=environment)
+    try:
+        told = json.loads(done.stdout)
+    except ValueError:
+        told = {}
     verdict = RANDOM.VERDICTS.get(done.returncode)
-    told = json.loads(done.stdout) if verdict and not done.stderr else {}
-    if not told or told["verdict"] != verdict:
+    if not told or done.stderr or told["verdict"] != verdict:
         return None, f"status {done.returncode}: {done.stdout}{done.stderr}"
     return told, ""

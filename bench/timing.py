@@ -23,8 +23,11 @@ def ended(words, processors, level, output):
             resource.setrlimit(resource.RLIMIT_NOFILE, (hard, hard))
             os.sched_setaffinity(0, processors)
             os.dup2(output.fileno(), 1)
+            said = os.dup(2)
             os.dup2(os.open(os.devnull, os.O_WRONLY), 2)
             os.execve(words[0], words, {"MPIWAIT_THREADS": "1", "MPIWAIT_LEVEL": level} | os.environ)
+        except OSError as fault:
+            os.write(said, f"{words[0]}: {fault}\n".encode())
         finally:
             os._exit(127)
     _, status, used = os.wait4(child, 0)

@@ -4,6 +4,7 @@ mpiwait, as all of tools/.
 
 import argparse
 import os
+import re
 import resource
 import subprocess
 import sys
@@ -40,6 +41,19 @@ class Words(argparse.ArgumentParser):
         fail(message, 3)
 
 
+def drop_output():
+    """What standard output didn't take is dropped."""
+    os.dup2(os.open(os.devnull, os.O_WRONLY), sys.stdout.fileno())
+
+
+def place_of(fault):
+    """The line of the scripts at which it came up."""
+    here = Path(__file__).resolve().parent
+    frames = [(Path(frame.filename), frame.lineno) for frame in traceback.extract_tb(fault.__traceback__)]
+    path, line = [(path, line) for path, line in frames if path.resolve().parent == here][-1]
+    return f"{path.name}:{line}"
+
+
 def run_script(main):
     """Runs a script and ends it: with status 4 where a file, the output or what it was given fails it."""
     if sys.stdout is None:
@@ -50,6 +64,9 @@ def run_script(main):
             status = main()
         finally:
             sys.stdout.flush()
+    except BrokenPipeError:  # whoever reads it wants no more
+        drop_output()
+        sys.exit(4)
     except OSError as fault:
         why = fault
     except MemoryError:
@@ -57,12 +74,10 @@ def run_script(main):
     except KeyboardInterrupt:
         why = "it was interrupted"
     except Exception as fault:
-        place = traceback.extract_tb(fault.__traceback__)[-1]
-        why = f"what it was given has another form: {fault!r} at {Path(place.filename).name}:{place.lineno}"
+        why = f"it failed, most likely by the form of what it was given: {fault!r} at {place_of(fault)}"
     else:
         sys.exit(status)
-    # What the output didn't take is dropped.
-    os.dup2(os.open(os.devnull, os.O_WRONLY), sys.stdout.fileno())
+    drop_output()
     fail(why)
 
 
@@ -118,7 +133,7 @@ def files_of(folder):
     head = Path(folder) / "head"
     with open(head, "rb") as text:
         said = text.readline(80).split()
-    ranks = int(said[1]) if len(said) == 2 and said[1].isdigit() and len(said[1]) < 5 else 1
+    ranks = int(said[1]) if len(said) == 2 and re.fullmatch(rb"[1-9]\d{0,3}", said[1]) else 1
     traces = [head.with_name(f"r{rank}") for rank in range(ranks)]
     while (more := head.with_name(f"r{len(traces)}")).exists():
         traces.append(more)

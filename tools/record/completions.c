@@ -18,7 +18,7 @@ static int cancel_done(void *none, int complete) { return (void)none, (void)comp
 /* Libraries give one handle to all calls that are done at once. The program then gets a completed
  * request of its own instead, so that its later wait tells which call it is for. */
 static void make_distinct(MPI_Request *handle) {
-    MPI_Status *told = malloc(sizeof *told);
+    MPI_Status *told = calloc(1, sizeof *told); /* of what it isn't told the library may write nothing */
     if (!told)
         return;
     inside++;
