@@ -44,7 +44,7 @@ pub enum Words<'a> {
     NoMemory,
 }
 
-const VERSION: &str = "0.1.0";
+const VERSION: &str = "1.0.0";
 
 const ABOUT: &str =
     "Reads the recorded MPI calls of a parallel run, one trace a rank, and says whether the run can hang";
