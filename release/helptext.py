@@ -7,6 +7,7 @@ import re
 import subprocess
 from dataclasses import dataclass, field
 
+ITEMS = ("Commands", "Arguments", "Options")
 HEADING = re.compile(r"([A-Z][A-Za-z ]*):")
 # An option, an argument or a command begins its line at most this far in; its text lies further in.
 DEEPEST_ITEM = 6
@@ -111,8 +112,8 @@ def page_of(name, text):
         raise ValueError(f"the help of {name} has no usage")
     usage, *lines = rest.rstrip().split("\n")
     sections = sections_of(lines)
-    taken = {key: items_of(sections.pop(key.capitalize(), [])) for key in ("commands", "arguments", "options")}
-    return Page(name, about.strip().split("\n"), usage, after=sections, **taken)
+    commands, arguments, options = (items_of(sections.pop(each, [])) for each in ITEMS)
+    return Page(name, about.strip().split("\n"), usage, commands, arguments, options, sections)
 
 
 def said_by(program, *words):

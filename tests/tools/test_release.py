@@ -1,0 +1,174 @@
+"""Tests of release/: what is made of the program's help has each option and command of it, and nothing else.
+
+They want no program and no MPI: the help is that of tools/texts, which `tools/try texts` compares with the
+program's own.
+"""
+
+import re
+import shutil
+import subprocess
+import sys
+import tempfile
+import unittest
+from pathlib import Path
+
+TOP = Path(__file__).resolve().parents[2]
+TEXTS = TOP / "tools/texts"
+sys.path.insert(0, str(TOP / "release"))
+
+from helptext import page_of  # noqa: E402  (it lies in the folder above)
+
+# Says the stored texts as the program would.
+STUB = f"""#!/bin/sh
+case "$*" in
+--help) exec cat {TEXTS}/help ;;
+--version) exec cat {TEXTS}/version ;;
+*" --help") exec cat {TEXTS}/$1-help ;;
+esac
+exit 3
+"""
+HELP = {"": (TEXTS / "help").read_text()}
+COMMANDS = re.findall(r"^  (\w+) ", HELP[""].partition("\nCommands:")[2].partition("\n\n")[0], re.M)
+HELP.update((name, (TEXTS / f"{name}-help").read_text()) for name in COMMANDS)
+OPTION = r"(?<![\w-])--?[A-Za-z][\w-]*"
+
+
+def options_in(text):
+    """The options that lines of a help begin with: found apart from release/helptext.py, as a check on it."""
+    lines = re.findall(r"^ {2,6}(-.*?)(?:  |$)", text, re.MULTILINE)
+    return {option for line in lines for option in re.findall(OPTION, line)}
+
+
+def made(script, *words):
+    """What a script of release/ makes of the stored texts."""
+    with tempfile.TemporaryDirectory() as folder:
+        program = Path(folder) / "program"
+        program.write_text(STUB)
+        program.chmod(0o755)
+        command = [TOP / "release" / script, *words, program]
+        return subprocess.run(command, capture_output=True, text=True, check=True).stdout
+
+
+class Help(unittest.TestCase):
+    def test_pages_have_the_options_of_their_texts(self):
+        for name, text in HELP.items():
+            page = page_of(name, text)
+            self.assertEqual({each for item in page.options for each in item.names}, options_in(text), name)
+
+    def test_both_forms_of_help_give_the_same_words(self):
+        short, long = page_of("check", (TEXTS / "check-h").read_text()), page_of("check", HELP["check"])
+        self.assertEqual([item.names + [item.value] for item in short.options + short.arguments],
+                         [item.names + [item.value] for item in long.options + long.arguments])
+        self.assertEqual([item.value for item in long.arguments], ["<HEAD>", "<FILE>..."])
+
+    def test_paragraphs_and_values(self):
+        text = ("About.\n\nUsage: mpiwait it [OPTIONS]\n\nOptions:\n"
+                "      --kind <KIND>\n          What kind\n          of thing\n\n          [possible values: a, bc]\n\n"
+                "  -p, --part[=<N>]  A part\n")
+        kind, part = page_of("it", text).options
+        self.assertEqual(kind.text, ["What kind of thing", "[possible values: a, bc]"])
+        self.assertEqual(kind.choices, ["a", "bc"])
+        self.assertEqual((part.names, part.value, part.may_lack_value), (["-p", "--part"], "[=<N>]", True))
+
+    def test_a_form_that_is_not_known_is_refused(self):
+        for wrong in ("no usage\n", "A\n\nUsage: x\n\nstray\n", "A\n\nUsage: x\n\nOptions:\n  ?what  It\n"):
+            with self.assertRaises(ValueError):
+                page_of("x", wrong)
+
+
+class ManPage(unittest.TestCase):
+    def setUp(self):
+        self.page = made("manpage")
+
+    def test_it_has_the_options_of_the_help_and_no_others(self):
+        shown = re.sub(r"\\f[BIR]", "", self.page.replace("\\-", "-"))
+        self.assertEqual(set(re.findall(OPTION, shown)), set(re.findall(OPTION, "".join(HELP.values()))))
+        for command in COMMANDS:
+            text = HELP[command]
+            section = shown.partition(f".SS mpiwait {command}\n")[2].partition("\n.S")[0]
+            self.assertEqual(set(re.findall(r"^" + OPTION, section, re.M)) - {"-h", "-V"},
+                             options_in(text) - {"-h", "-V", "--help", "--version"}, command)
+
+    def test_it_has_the_commands_and_the_version(self):
+        self.assertEqual(re.findall(r"^\.SS mpiwait (\S+)", self.page, re.M), COMMANDS)
+        self.assertIn((TEXTS / "version").read_text().strip(), self.page.splitlines()[0])
+
+    def test_every_word_of_the_help_is_in_it(self):
+        shown = re.sub(r"\\f[BIR]", "", self.page)
+        of_form = {"Usage", "Arguments", "Options", "COMMAND", "Reads", "Examples", "Exit", "status"}
+        words = set(re.findall(r"\w+", "".join(HELP.values()))) - of_form
+        self.assertEqual(words - set(re.findall(r"\w+", shown)), set())
+
+    @unittest.skipUnless(shutil.which("groff"), "there is no groff")
+    def test_groff_has_no_warning(self):
+        groff = ["groff", "-man", "-ww", "-z", "-Kutf8"]
+        said = subprocess.run(groff, input=self.page, capture_output=True, text=True, check=True)
+        self.assertEqual(said.stderr, "")
+
+
+class Bash(unittest.TestCase):
+    def setUp(self):
+        self.folder = tempfile.TemporaryDirectory()
+        self.addCleanup(self.folder.cleanup)
+        self.script = Path(self.folder.name) / "completions"
+        self.script.write_text(made("completions", "bash"))
+        self.where = Path(self.folder.name) / "where"
+        (self.where / "a run").mkdir(parents=True)
+        (self.where / "r0").touch()
+
+    def complete(self, *words):
+        """What is offered for the last word."""
+        asks = 'source "$0"; COMP_WORDS=(mpiwait "$@"); COMP_CWORD=$#; _mpiwait; printf "%s\\n" "${COMPREPLY[@]}"'
+        command = ["bash", "-uc", asks, self.script, *words]
+        said = subprocess.run(command, capture_output=True, text=True, cwd=self.where)
+        self.assertEqual(said.stderr, "")
+        return {word for word in said.stdout.split("\n") if word}
+
+    def test_options_are_those_of_the_help(self):
+        for command, text in HELP.items():
+            words = [command] if command else []
+            self.assertEqual(self.complete(*words, "-"), options_in(text), command)
+        self.assertEqual(self.complete("check", "--json", "--e"), {"--eager"})
+        self.assertEqual(self.complete("lint", "--e"), set())
+
+    def test_first_word(self):
+        self.assertEqual(self.complete(""), set(COMMANDS))
+        self.assertEqual(self.complete("ch"), {"check"})
+        self.assertEqual(self.complete("a"), {"a run"})
+
+    def test_files_and_values(self):
+        self.assertEqual(self.complete("check", ""), {"a run", "r0"})
+        self.assertEqual(self.complete("check", "--json", "a run", "r"), {"r0"})
+        self.assertEqual(self.complete("check", "--", ""), {"a run", "r0"})
+        for text in ("--eager |", "--eager = |", "--eager =", "--eager = 4", "--capacity r"):
+            words = [word.strip("|") for word in text.split(" ")]
+            self.assertEqual(self.complete("check", *words), set(), words)
+
+    @unittest.skipUnless(shutil.which("shellcheck"), "there is no shellcheck")
+    def test_shellcheck_finds_nothing(self):
+        said = subprocess.run(["shellcheck", "-s", "bash", self.script], capture_output=True, text=True)
+        self.assertEqual(said.stdout, "")
+
+
+class Zsh(unittest.TestCase):
+    def test_options_are_those_of_the_help(self):
+        script = made("completions", "zsh")
+        for command, text in HELP.items():
+            begin, end = (f"\n        {command})\n", ";;") if command else ("_arguments -C", "&& return")
+            section = script.partition(begin)[2].partition(end)[0]
+            self.assertEqual(set(re.findall(r"'\([^)]*\)(--?[\w-]+)", section)), options_in(text), command)
+        self.assertEqual(re.findall(r"^        '([a-z]+):", script, re.M), COMMANDS)
+
+
+class Version(unittest.TestCase):
+    def test_it_is_the_same_everywhere(self):
+        source = (TOP / "crates/command/src/words.rt").read_text()
+        version = re.search(r'^const VERSION: &str = "(.*)";$', source, re.M).group(1)
+        for name in ("version", "check-version", "lint-version"):
+            self.assertEqual((TEXTS / name).read_text().split()[1], version, name)
+        changes = (TOP / "CHANGELOG.md").read_text()
+        self.assertEqual(re.search(r"^## (\S+) \(\d{4}-\d\d-\d\d\)$", changes, re.M).group(1), version)
+
+
+if __name__ == "__main__":
+    unittest.main()
