@@ -50,6 +50,10 @@ void *found_in_library(const char *name);
 bool begins(void *caller, void *frame);
 #define BEGINS begins(__builtin_return_address(0), __builtin_frame_address(0))
 
+/* The same where a function of the program's that MPI calls may well call it: nothing is lost then. */
+bool begins_quietly(void *caller, void *frame);
+#define BEGINS_QUIETLY begins_quietly(__builtin_return_address(0), __builtin_frame_address(0))
+
 /* The same for MPI_Init, which is recorded when it comes back. */
 bool take_turn(void);
 
@@ -69,6 +73,17 @@ void enter_recorder(void);
 
 /* The call comes back with this result. */
 int over(int result);
+
+/* An error handler of the program's is called, and may not come back. */
+typedef struct {
+    int inside;
+    bool is_locked;
+    void **frame, *caller;
+    unsigned long turn;
+    int site;
+} Thread;
+Thread leave_by_error(void);
+void come_back_to_error(Thread before);
 
 /* The site of the call. */
 int site(void);

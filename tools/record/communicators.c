@@ -213,7 +213,7 @@ MAKER_APART(Intercomm_merge, (MPI_Comm comm, int high, MPI_Comm *new), (comm, hi
 
 #define FREE(Name) \
     int MPI_##Name(MPI_Comm *comm) { \
-        int number = BEGINS ? number_of(*comm) : UNNUMBERED; \
+        int number = BEGINS_QUIETLY ? number_of(*comm) : UNNUMBERED; \
         if (number > SELF) \
             PUT("comm_free", number); \
         return over(CALL(Name, (comm))); \

@@ -366,7 +366,7 @@ int MPI_Testsome(int count, MPI_Request handles[], int *some, int places[], MPI_
 ALSO_PMPI(Testsome)
 
 int MPI_Request_get_status(MPI_Request handle, int *found, MPI_Status *status) {
-    if (BEGINS)
+    if (BEGINS_QUIETLY)
         left_out(NOTHING, "MPI_Request_get_status");
     return over(CALL(Request_get_status, (handle, found, status)));
 }

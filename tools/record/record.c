@@ -12,6 +12,7 @@
  */
 #define _GNU_SOURCE
 #include "calls.h"
+#include "modules.h"
 #include <stdio.h>
 #include <string.h>
 #include <pthread.h>
@@ -57,7 +58,7 @@ COUNTED_INITS(X)
 #ifdef OPEN_MPI
 #define TEXT_OF(number) #number
 #define TEXT(number) TEXT_OF(number)
-static const char library[] = "Open MPI", other_library[] = "libmpich";
+static const char library[] = "Open MPI", other_library[] = "libmpich.so";
 static const char version[] =
     "Open MPI " TEXT(OMPI_MAJOR_VERSION) "." TEXT(OMPI_MINOR_VERSION) "." TEXT(OMPI_RELEASE_VERSION);
 #else
@@ -67,14 +68,7 @@ static const char version[] = "MPICH " MPICH_VERSION;
 
 /* A program of the other library would get this library's functions with its own handles. */
 static void refuse_other_library(void) {
-    char line[4096];
-    FILE *maps = fopen("/proc/self/maps", "r");
-    bool there = false;
-    while (maps && fgets(line, sizeof line, maps))
-        there = there || strstr(line, other_library);
-    if (maps)
-        fclose(maps);
-    if (!there)
+    if (!is_loaded(other_library))
         return;
     fprintf(stderr, "mpiwait-record: this is the recorder for %s, and the program loads %s: it can't be run with it\n",
             library, other_library);
@@ -123,6 +117,7 @@ static void start(void) {
     turns_open(level);
     number_communicators();
     process = getpid();
+    find_bypasses();
     recording = true;
 }
 
@@ -152,6 +147,7 @@ ALSO_PMPI(Init_thread)
 /* From here on nothing is recorded, whatever the program has MPI call at its end. */
 int MPI_Finalize(void) {
     if (BEGINS) {
+        find_bypasses();
         journal_call("finalize", 0, NULL, site());
         journal_close();
         recording = false;
@@ -175,6 +171,7 @@ static void ended(int status, void *none) {
     (void)status, (void)none;
     if (!recording || getpid() != process || !nobody_calls())
         return;
+    find_bypasses();
     journal_begin();
     journal_call("exit", 0, NULL, 0);
     journal_came_back();

@@ -67,7 +67,7 @@ void made_persistent(MPI_Request *handle) {
 
 int MPI_Grequest_start(MPI_Grequest_query_function *query, MPI_Grequest_free_function *release,
                        MPI_Grequest_cancel_function *cancel, void *state, MPI_Request *handle) {
-    BEGINS;
+    BEGINS_QUIETLY;
     int result = CALL(Grequest_start, (query, release, cancel, state, handle));
     if (is_recorded() && result == MPI_SUCCESS)
         started(handle, 0);
@@ -87,7 +87,7 @@ static void put_each(const char *word, const Request *request) {
 }
 
 int MPI_Request_free(MPI_Request *handle) {
-    uintptr_t freed = BEGINS ? bits(*handle) : 0;
+    uintptr_t freed = BEGINS_QUIETLY ? bits(*handle) : 0;
     Request *request = requests_find(freed);
     if (request)
         put_each("request_free", request);
@@ -99,7 +99,7 @@ int MPI_Request_free(MPI_Request *handle) {
 ALSO_PMPI(Request_free)
 
 int MPI_Cancel(MPI_Request *handle) {
-    Request *request = BEGINS ? requests_find(bits(*handle)) : NULL;
+    Request *request = BEGINS_QUIETLY ? requests_find(bits(*handle)) : NULL;
     if (request && request->active && request->number) {
         request->cancelled = true;
         put_each("cancel", request);

@@ -1,17 +1,13 @@
 /* When a call of the program begins and comes back, and in which thread. See calls.h. */
 #define _GNU_SOURCE
 #include "calls.h"
+#include "modules.h"
 #include <pthread.h>
 
-/* What this thread is in. */
-static __thread struct {
-    int inside;         /* our functions: what a library calls for itself isn't the program's */
-    void **frame;       /* of the outermost of them, */
-    void *caller;       /* and where it was called */
-    unsigned long turn; /* the one that it has or had last */
-    bool is_locked;
-    int site; /* of the call, or -1 as long as nobody asked for it */
-} own __attribute__((tls_model("initial-exec")));
+/* What this thread is in: how many of our functions, since what a library calls for itself isn't the program's; the frame
+ * of the outermost of them, and where it was called; the turn that it has or had last; and the site of the call, or -1
+ * as long as nobody asked for it. */
+static __thread Thread own __attribute__((tls_model("initial-exec")));
 
 /* Who has the turn; 0: nobody. */
 static struct {
@@ -98,8 +94,18 @@ static void end_turn(void) {
 
 /* ---- Calls ------------------------------------------------------------------------------------- */
 
-/* Whether the call that this thread is in was left by a jump or an exception: another begins above it on the stack. */
-static bool was_left(const void *frame) { return (char *)frame >= (char *)own.frame; }
+/* Where a call of the recorder's returns to is next to its frame. */
+#if defined __x86_64__ || defined __aarch64__
+static bool is_overwritten(void) { return own.frame[1] != own.caller; }
+#else
+static bool is_overwritten(void) { return false; }
+#endif
+
+/* Whether the call that this thread is in was left by a jump or an exception: another begins above it on the stack, or
+ * over it, where more is on the stack for its arguments. */
+static bool was_left(const void *caller, void **frame) {
+    return frame >= own.frame || (is_overwritten() && module_of(caller) != OF_MPI);
+}
 
 /* What a call did that was left isn't known. */
 static void forget_call(void) {
@@ -112,14 +118,22 @@ static void forget_call(void) {
     end_turn();
 }
 
-bool begins(void *caller, void *frame) {
-    if (own.inside > 0 && was_left(frame))
+bool begins_quietly(void *caller, void *frame) {
+    if (own.inside > 0 && was_left(caller, frame))
         forget_call();
     if (own.inside++ > 0)
         return false;
     own.frame = frame;
     own.caller = caller;
     return recording && take_turn();
+}
+
+bool begins(void *caller, void *frame) {
+    if (begins_quietly(caller, frame))
+        return true;
+    if (own.inside > 1 && recording && has_turn() && module_of(caller) != OF_MPI)
+        left_out(PARTNERS, "calls of functions of the program that MPI called");
+    return false;
 }
 
 void leave_recorder(void) {
@@ -143,4 +157,45 @@ int over(int result) {
     }
     own.inside--;
     return result;
+}
+
+/* ---- Error handlers ---------------------------------------------------------------------------- */
+
+/* Gets the lock, as long as this thread has the turn: another may wait within MPI for what this one has there. */
+static bool take_lock_of_turn(void) {
+    while (!own.is_locked && pthread_mutex_trylock(&lock) != 0)
+        if (!has_turn())
+            return false;
+    own.is_locked = true;
+    return has_turn();
+}
+
+/* What the handler calls is recorded as all else. */
+Thread leave_by_error(void) {
+    Thread before = own;
+    if (has_turn() && take_lock_of_turn()) {
+        journal_failed();
+        end_turn();
+    } else {
+        before.turn = 0;
+        if (own.is_locked)
+            give_lock();
+    }
+    own.inside = 0;
+    return before;
+}
+
+/* The call goes on to its end, but its lines are complete. */
+void come_back_to_error(Thread before) {
+    own = before;
+    own.is_locked = false;
+    if (before.turn == 0)
+        return;
+    take_lock();
+    if (recording && turn.now == 0) {
+        turn.now = own.turn;
+        journal_begin();
+    }
+    if (!before.is_locked)
+        give_lock();
 }
