@@ -2,223 +2,184 @@
 
 An unproved companion of mpiwait, as all of tools/.
 
-Each rank numbers its communicators by itself. Those of two ranks are the same if their groups are and they
-came from the same call: the one that is the n-th of all calls on the same communicator that all its
-members make. A rank holds a communicator from its own `dup` or `split` on, which names it.
+Each rank numbers its communicators by itself. Two that a call on all members of a communicator made are the
+same if they came from the same call, the n-th on that communicator, and have the same group. Others are the
+same if they have the same group and as many like them came before.
 """
 
-from dataclasses import dataclass, field
+from dataclasses import dataclass
 
-from journal import COLLECTIVES, COMM_FIELD, FREES, MAKERS, SELF, STARTED_COLLECTIVES, WORLD, split_line
+from journal import COLLECTIVES, COMM_FIELD, MAKERS, SELF, STARTED_COLLECTIVES, WORLD
+
+MOST = 4095  # that a head may name, the world not counted
+ENDS = {"finalize", "exit", "abort", "stopped", "full"}
 
 
 @dataclass(eq=False)
 class Communicator:
     group: tuple
-    apart: bool = False  # no call on one communicator makes it, so it is held from the beginning on
-    made: dict = field(default_factory=dict)  # by rank, the place of the call that made it
-    freed: dict = field(default_factory=dict)
-    used: bool = False
+    is_apart: bool = False  # no call on one communicator makes it, so it is held from the beginning on
+    is_named: bool = False  # by some other call than the one that makes it
     number: int | None = None
-    is_first: bool = False  # it brought its number in; another may use that number on
 
 
 @dataclass(eq=False)
-class Making:
-    """A call of a rank that makes communicators."""
+class Gain:
+    """A communicator that a rank got, or may have got: by which way, and the how-manieth of its kind it is."""
 
-    place: int
-    word: str
-    parent: int
-    wave: int
-    fields: list
-    came_back: bool = False
-    new: int | None = None
-    group: tuple = ()
+    way: str  # made, idup, group, apart
+    parent: int | None  # the rank's number of the communicator that the call is on
+    count: int
+    group: tuple | None = None  # None: nothing was reported
+    local: int | None = None  # the rank's own number
+    is_lost: bool = False  # by a call that never came back
+    communicator: Communicator | None = None
 
 
 class Scan:
-    """What a journal tells before any of its lines can be written."""
+    """What a journal says before any of its lines can be written."""
 
     def __init__(self, journal):
         self.rank = journal.rank
-        self.resolved = {}  # the source and tag of a receive with wildcards, by its request
+        self.done = {}  # the source and tag of a receive with a wildcard, by its request
         self.gone = set()  # requests that were cancelled
-        self.unsure = set()  # those of them of which it isn't told whether they completed all the same
-        self.makings = []
-        self.freed = {}
-        self.used = set()
+        self.kept = set()  # those that completed all the same
+        self.gains = []  # in the order in which the rank got them
+        self.makers = {}  # the gains of calls that make communicators, by their lines
+        self.named = set()
+        self.calls = 0
+        self.end = "cut"  # how the recording ends
+        self.last = None  # the last call
         self._waves = {}
-        for place, line in enumerate(journal.lines):
-            self.take(place, line)
+        self._idups = {}  # by request
+        self._counts = {}
+        for entry in journal.entries():
+            self._take(entry)
 
-    def take(self, place, line):
-        if line.startswith("="):
-            self._told(place, line)
-        else:
-            self._called(place, line)
+    def _take(self, entry):
+        word, fields = entry.word, entry.fields
+        self.calls += 1
+        if word in ENDS:
+            self.end = " ".join([word, *fields])
+        if word not in ("full", "stopped", "exit"):
+            self.last = {"call": entry.name, "site": entry.site}
+        if word in COMM_FIELD:
+            self._on_communicator(entry, int(fields[COMM_FIELD[word]]))
+        elif word == "comm_create_group":
+            self._gain(entry, "group", tuple(map(int, fields)))
+        for report in entry.reports:
+            self._report(entry, *report)
 
-    def _called(self, place, line):
-        word, fields, _ = split_line(line)
-        if word in COLLECTIVES or word in MAKERS:
-            self._collective(place, word, int(fields[0]), fields)
-        elif word in STARTED_COLLECTIVES:
-            self._collective(place, word, int(fields[1]), fields)
-        elif word in FREES:
-            self.freed[int(fields[0])] = place
-        elif word == "cancel":
-            self.gone.add(fields[0])
-            self.unsure.add(fields[0])
-        elif word in COMM_FIELD:
-            self.used.add(int(fields[COMM_FIELD[word]]))
+    def _on_communicator(self, entry, local):
+        word = entry.word
+        self.named.add(local)
+        if word in COLLECTIVES or word in STARTED_COLLECTIVES or word in MAKERS or word == "comm_idup":
+            wave = self._waves[local] = self._waves.get(local, -1) + 1
+            if word == "comm_idup":
+                self._idups[entry.fields[0]] = (local, wave)
+            if word in MAKERS:
+                is_lost = not entry.came_back and (word != "comm_split" or entry.fields[1] != "undefined")
+                self.makers[entry.line] = Gain("made", local, wave, is_lost=is_lost)
 
-    def _collective(self, place, word, comm, fields):
-        wave = self._waves.get(comm, 0)
-        self._waves[comm] = wave + 1
-        self.used.add(comm)
-        if word in MAKERS:
-            self.makings.append(Making(place, word, comm, wave, fields))
+    def _gain(self, entry, way, group, local=None):
+        """One that no call on one communicator makes."""
+        count = self._counts[way, group] = self._counts.get((way, group), -1) + 1
+        gain = Gain(way, None, count, group, local)
+        self.gains.append(gain)
+        if way == "group":
+            self.makers[entry.line] = gain
 
-    def _told(self, place, line):
-        word, *fields = line.split(" ")
-        if word in ("=done", "=gone", "=kept"):
-            self._completed(word, *fields)
-        elif word == "=none":
-            self.makings[-1].came_back = True
-        elif word in ("=comm", "=apart"):
-            if word == "=apart":
-                self.makings.append(Making(place, "", -1, -1, []))
-            making = self.makings[-1]
-            making.came_back = True
-            making.new = int(fields[0])
-            making.group = tuple(map(int, fields[1:]))
-
-    def _completed(self, word, request, *message):
-        self.unsure.discard(request)
-        if word != "=gone":
-            self.gone.discard(request)
-        if message:
-            self.resolved[request] = tuple(message)
+    def _report(self, entry, word, *fields):
+        if word == "=done":
+            self.done[fields[0]] = fields[1:]
+        elif word in ("=gone", "=kept"):
+            (self.gone if word == "=gone" else self.kept).add(fields[0])
+        elif word == "=comm":
+            gain = self.makers[entry.line]
+            gain.local = int(fields[0])
+            if gain.group is None:
+                gain.group = tuple(map(int, fields[1:]))
+                self.gains.append(gain)
+        elif word == "=idup":
+            self.gains.append(Gain("idup", *self._idups[fields[1]], tuple(map(int, fields[2:])), int(fields[0])))
+        elif word == "=apart":
+            self._gain(entry, "apart", tuple(map(int, fields[1:])), int(fields[0]))
 
 
 class Communicators:
     """All communicators of a run, and what each rank's calls that make them are written as."""
 
-    def __init__(self, scans, ranks, most):
-        self.world = Communicator(tuple(range(ranks)), number=0)
-        self.all = []  # but the world, by the lowest rank that has them and by when it got them
-        self._by_key = {}
+    def __init__(self, scans):
+        self.world = Communicator(tuple(range(len(scans))), number=0)
+        self._same = {}
         self._of_rank = []  # for each rank, by its own numbers
-        self._from_wave = {}
-        self._beginning = []  # those that are held from the beginning on, in layers without a common rank
+        self._gained = []  # for each rank, in the order in which it got them
+        self._made = {}  # (rank, communicator) pairs by the communicator and the number of the call
         for scan in scans:
-            self._of_rank.append(self._identify(scan))
+            self._identify(scan)
         for scan in scans:
             self._find_lost(scan)
-        self.reused = []
-        self.dropped = []
-        self._number(most)
+        self._numbered = []
+        self._number()
+        self._layers = layers(comm for comm in self._numbered if comm.is_apart)
 
-    def number(self, rank, local):
-        """The number in the head of a rank's communicator, or None."""
-        comm = self._of_rank[rank].get(local)
-        return comm.number if comm else None
-
-    def size(self, rank, local):
-        """How many members a rank's communicator has."""
-        return len(self._of_rank[rank][local].group) if local in self._of_rank[rank] else float("inf")
+    def get(self, rank, local):
+        return self._of_rank[rank][local]
 
     def head(self):
         """The groups in the order of their numbers, from 1."""
-        return [comm.group for comm in sorted((c for c in self.all if c.is_first), key=lambda c: c.number)]
+        return [comm.group for comm in self._numbered]
 
     # ---- Which are the same ----------------------------------------------------------------------
 
     def _identify(self, scan):
-        local = {WORLD: self.world}
-        if SELF in scan.used:
-            local[SELF] = self._same((None, "self", scan.rank), (scan.rank,), apart=True)
-        apart = {}
-        for making in scan.makings:
-            if making.new is None:
-                continue
-            parent = local.get(making.parent)
-            if making.parent < 0:
-                apart[making.group] = apart.get(making.group, 0) + 1
-                comm = self._same((None, making.group, apart[making.group]), making.group, apart=True)
-            elif parent is None:
-                continue
-            else:
-                comm = self._same((id(parent), making.wave, making.group), making.group)
-                siblings = self._from_wave.setdefault((id(parent), making.wave), [])
-                if comm not in siblings:
-                    siblings.append(comm)
-            local[making.new] = comm
-            comm.made[scan.rank] = making.place
-            comm.used = comm.used or making.new in scan.used
-            if making.new in scan.freed:
-                comm.freed[scan.rank] = scan.freed[making.new]
-        return local
+        alone = self._one_of(("self", scan.rank), (scan.rank,), True)
+        local, gained = {WORLD: self.world, SELF: alone}, [alone]
+        self._of_rank.append(local)
+        self._gained.append(gained)
+        for gain in scan.gains:
+            parent = local[gain.parent] if gain.parent is not None else None
+            key = (gain.way, id(parent), gain.count, gain.group)
+            comm = gain.communicator = self._one_of(key, gain.group, gain.way != "made")
+            gained.append(comm)
+            if gain.local is not None:
+                local[gain.local] = comm
+            if gain.way == "made":
+                self._made.setdefault((id(parent), gain.count), []).append((scan.rank, comm))
+            comm.is_named = comm.is_named or gain.way == "group" or gain.local in scan.named
+        alone.is_named = SELF in scan.named
 
-    def _same(self, key, group, apart=False):
-        if key not in self._by_key:
-            self._by_key[key] = Communicator(group, apart, used=apart)
-            self.all.append(self._by_key[key])
-        return self._by_key[key]
+    def _one_of(self, key, group, is_apart):
+        if key not in self._same:
+            self._same[key] = Communicator(group, is_apart)
+        return self._same[key]
+
+    def _in_wave(self, rank, gain):
+        return self._made.get((id(self._of_rank[rank].get(gain.parent)), gain.count), [])
 
     def _find_lost(self, scan):
-        """A call that never came back may have made one that other ranks tell of."""
-        for making in scan.makings:
-            if not making.came_back:
-                for comm in self._siblings(scan.rank, making):
-                    if scan.rank in comm.group:
-                        comm.made[scan.rank] = making.place
-
-    def _siblings(self, rank, making):
-        parent = self._of_rank[rank].get(making.parent)
-        return self._from_wave.get((id(parent), making.wave), [])
+        """A call that never came back may have made one that other ranks have."""
+        for gain in scan.makers.values():
+            if gain.is_lost and gain.communicator is None and gain.way == "made":
+                found = (comm for _, comm in self._in_wave(scan.rank, gain) if scan.rank in comm.group)
+                gain.communicator = next(found, None)
+                self._gained[scan.rank] += [gain.communicator] if gain.communicator else []
 
     # ---- Numbers ---------------------------------------------------------------------------------
 
-    def _number(self, most):
-        """Where there are more than a head may name, those that no call uses get no number, and numbers of
-        freed ones with the same group are used on."""
-        scarce = len(self.all) > most
-        users = {}
-        given = 0
-        for comm in self.all:
-            older = users.setdefault(comm.group, [])
-            free = next((place for place, old in enumerate(older) if _follows(comm, old)), None) if scarce else None
-            if scarce and not comm.used:
-                continue
-            if free is not None and not comm.apart:
-                comm.number = older[free].number
-                older[free] = comm
-                self.reused.append(comm)
-            elif given < most:
-                given += 1
-                comm.number, comm.is_first = given, True
-                older.append(comm)
-            else:
-                self.dropped.append(comm)
-        self._layers()
-
-    def _layers(self):
-        for comm in self.all:
-            if not comm.apart or comm.number is None:
-                continue
-            for layer in self._beginning:
-                if all(set(comm.group).isdisjoint(other.group) for other in layer):
-                    layer.append(comm)
-                    break
-            else:
-                self._beginning.append([comm])
+    def _number(self):
+        """Those that no call names have none; if there are more than a head may name, the last ones neither."""
+        for gained in self._gained:
+            for comm in gained:
+                if comm.is_named and comm.number is None and len(self._numbered) < MOST:
+                    self._numbered.append(comm)
+                    comm.number = len(self._numbered)
 
     # ---- Lines -----------------------------------------------------------------------------------
 
     def beginning(self, rank):
         """The lines by which a rank gets those that it holds from the beginning on."""
-        for layer in self._beginning:
+        for layer in self._layers:
             for colour, comm in enumerate(layer):
                 if rank in comm.group:
                     yield f"split 0 {colour} {comm.group.index(rank)} {comm.number}"
@@ -226,26 +187,34 @@ class Communicators:
             else:
                 yield "split 0 undefined 0 none"
 
-    def line(self, rank, making):
-        """What a call that makes communicators is written as, or None where its own has no number. Where it
-        brings no number in for any rank, it is a barrier of its members."""
-        parent = self._of_rank[rank].get(making.parent)
-        if parent is None or parent.number is None:
-            return None
-        siblings = [comm for comm in self._siblings(rank, making) if comm.is_first]
-        if not siblings:
+    def line(self, rank, gain, split=None):
+        """What a call on a communicator that makes others is written as; `split` has the colour and the key of an
+        MPI_Comm_split. Where it brings no number in for any rank, it is a barrier of its members."""
+        parent, mine = self.get(rank, gain.parent), gain.communicator
+        if all(comm.number is None for _, comm in self._in_wave(rank, gain)):
             return f"barrier {parent.number}"
-        mine = next((comm for comm in siblings if comm.made.get(rank) == making.place), None)
-        is_split = making.word == "comm_split"
-        if mine is None:
-            return f"split {parent.number} undefined {making.fields[2] if is_split else 0} none"
-        if is_split:
-            return f"split {parent.number} {making.fields[1]} {making.fields[2]} {mine.number}"
+        if mine is None or mine.number is None:
+            return f"split {parent.number} undefined {split[1] if split else 0} none"
+        if split:
+            return f"split {parent.number} {colour(split[0])} {split[1]} {mine.number}"
         if mine.group == parent.group:
             return f"dup {parent.number} {mine.number}"
         return f"split {parent.number} {parent.group.index(mine.group[0])} {mine.group.index(rank)} {mine.number}"
 
 
-def _follows(comm, old):
-    """Whether every member freed the old one before it got this one."""
-    return all(rank in old.freed and old.freed[rank] < comm.made.get(rank, -1) for rank in comm.group)
+def layers(communicators):
+    """Each goes into the first layer in which no communicator shares a member with it."""
+    found, members = [], []
+    for comm in communicators:
+        place = next((at for at, ranks in enumerate(members) if ranks.isdisjoint(comm.group)), len(found))
+        if place == len(found):
+            found.append([])
+            members.append(set())
+        found[place].append(comm)
+        members[place].update(comm.group)
+    return found
+
+
+def colour(field):
+    """MPI forbids colours below 0; one library takes them."""
+    return int(field) + 2147483648 if field.startswith("-") else field

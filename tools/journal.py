@@ -1,82 +1,90 @@
 """What the recorder wrote of a run: one journal a rank. An unproved companion of mpiwait, as all of tools/.
 
 A journal has one line a call, written when the call began: its word, its fields, and `@N` for the place in
-the program from which it was made. A line that begins with `=` says what the call before it told when it
-came back. The recorder in record/ writes them.
+the program from which it was made. A line that begins with `=` says what a call reported when it came back.
+Communicators, requests and messages have the rank's own numbers.
 """
 
+import os
 import re
 from pathlib import Path
 
 from checker import fail
 
-COLLECTIVES = {
-    "barrier": "barrier",
-    "bcast": "bcast",
-    "gather": "gather",
-    "gatherv": "gather",
-    "scatter": "scatter",
-    "scatterv": "scatter",
-    "reduce": "reduce",
-    "allgather": "allgather",
-    "allgatherv": "allgather",
-    "alltoall": "alltoall",
-    "alltoallv": "alltoall",
-    "alltoallw": "alltoall",
-    "allreduce": "allreduce",
-    "reduce_scatter": "allreduce",
-    "reduce_scatter_block": "allreduce",
-    "scan": "scan",
-    "exscan": "exscan",
-}
-STARTED_COLLECTIVES = {"i" + word: "i" + line for word, line in COLLECTIVES.items()}
-
+COLLECTIVES = {"barrier", "bcast", "gather", "scatter", "reduce", "allgather", "alltoall", "allreduce", "scan", "exscan"}
+STARTED_COLLECTIVES = {"i" + word for word in COLLECTIVES}
 # Calls by which all members of a communicator make new ones.
-MAKERS = {
-    "comm_dup", "comm_dup_with_info", "comm_split", "comm_split_type", "comm_create", "cart_create", "cart_sub",
-    "graph_create", "dist_graph_create", "dist_graph_create_adjacent",
-}  # fmt: skip
+MAKERS = {"comm_dup", "comm_split", "comm_make"}
 
-FREES = {"comm_free", "comm_disconnect"}
-
+# The words of standard sends in a trace are those without `r`.
 SENDS = {"send": "send", "ssend": "ssend", "bsend": "bsend", "rsend": "send"}
-STARTED_SENDS = {
-    "isend": "isend", "issend": "issend", "ibsend": "ibsend", "irsend": "isend",
-    "start_send": "isend", "start_ssend": "issend", "start_bsend": "ibsend", "start_rsend": "isend",
-}  # fmt: skip
-RECEIVES = {"recv", "mrecv"}
-STARTED_RECEIVES = {"irecv", "imrecv", "start_recv"}
-EXCHANGES = {"sendrecv", "sendrecv_replace"}
-PROBES = {"probe", "mprobe", "iprobe", "improbe"}
-# Waits and tests that completed all that they name.
-WAITS = {"wait", "waitall", "test", "testall", "testany", "testsome"}
+STARTED_SENDS = {"isend": "isend", "issend": "issend", "ibsend": "ibsend", "irsend": "isend"}
+PROBES = {"probe", "iprobe"}
+MATCHED_PROBES = {"mprobe", "improbe"}
 CHOICES = {"waitany", "waitsome"}
 
-# The place of the communicator among the fields; requests come before it.
-COMM_FIELD = {word: 0 for word in {*SENDS, *RECEIVES, *EXCHANGES, *PROBES}} | {
-    word: 1 for word in {*STARTED_SENDS, *STARTED_RECEIVES}
+# The place of the communicator among the fields; the numbers of requests come before it.
+COMM_FIELD = {
+    **dict.fromkeys({*SENDS, *PROBES, *COLLECTIVES, *MAKERS, "recv", "sendrecv"}, 0),
+    **dict.fromkeys({*STARTED_SENDS, *MATCHED_PROBES, *STARTED_COLLECTIVES, "irecv", "comm_idup"}, 1),
+    "isendrecv": 2,
 }
 
 WORLD, SELF = 0, 1
+MOST_RANKS = 1024
+
+# Calls that always come back, and lines that may follow a call which hasn't.
+COME_BACK = {"test", "iprobe", "improbe"}
+OF_OTHERS = {"=done", "=gone", "=kept", "=apart"}
+
+NAMES = {
+    "exit": "the end of the process",
+    "comm_make": "a call that makes communicators",
+    "wait": "MPI_Waitall",
+    "test": "MPI_Testall",
+}
 
 
-def mpi_name(word):
-    """The name of a call as the program spells it."""
-    return "MPI_Start" if word.startswith("start_") else "MPI_" + word.capitalize()
-
-
-def split_line(line):
-    """The word, the fields and the site of a line; site 0 where it has none."""
-    text, _, site = line.partition(" @")
-    word, *fields = text.split(" ")
-    return word, fields, int(site or 0)
+def mpi_name(word, fields=()):
+    """The name of a call in MPI. One word stands for several calls where what they wait for is the same."""
+    if word in ("wait", "test") and len(fields) == 1:
+        return "MPI_" + word.capitalize()
+    return NAMES.get(word) or "MPI_" + word.capitalize()
 
 
 def written(path):
-    """The lines of a text up to its first zero byte: behind it the recorder wrote nothing."""
-    data = path.read_bytes()
+    """The lines of a text up to its first zero byte: the recorder wrote nothing after it."""
+    data = path.read_bytes() if path.exists() else b""
     end = data.find(b"\0")
-    return (data if end < 0 else data[:end]).decode(errors="replace").split("\n")[:-1]
+    return (data if end < 0 else data[:end]).decode(errors="surrogateescape").split("\n")[:-1]
+
+
+class Entry:
+    """A call line, with the lines after it that say what was reported."""
+
+    __slots__ = ("came_back", "fields", "line", "reports", "site", "word")
+
+    def __init__(self, line, text):
+        site = ""
+        if not text.startswith("stopped "):
+            text, _, site = text.partition(" @")
+        self.line = line
+        self.word, *self.fields = text.split(" ")
+        self.site = int(site or 0)
+        self.reports = []
+        self.came_back = self.word in COME_BACK
+
+    def reported(self, word):
+        """The fields of the first line after it with this word, or None."""
+        return next((fields for found, *fields in self.reports if found == word), None)
+
+    @property
+    def has_failed(self):
+        return bool(self.reports) and self.reported("=failed") is not None
+
+    @property
+    def name(self):
+        return mpi_name(self.word, self.fields)
 
 
 class Journal:
@@ -86,33 +94,84 @@ class Journal:
         self.folder = Path(folder)
         self.rank = rank
         self.path = self.folder / f"journal{rank}"
-        lines = written(self.path) if self.path.exists() else []
-        self.header = lines[0].split(" ", 4) if lines else []
+        lines = written(self.path)
+        self.header = header_of(self.path, lines[0]) if lines else None
         self.lines = lines[1:]
 
-    @property
-    def ranks(self):
-        return int(self.header[3]) if self.header else 0
+    def entries(self):
+        """The calls. The first one stands for what was reported before any call."""
+        entry = Entry(1, "init")
+        for number, line in enumerate(self.lines, 2):
+            if line.startswith("="):
+                report = line.split(" ")
+                entry.reports.append(report)
+                entry.came_back = entry.came_back or report[0] not in OF_OTHERS
+            else:
+                entry.came_back = True
+                yield entry
+                entry = Entry(number, line)
+        entry.came_back = entry.came_back or self.header is not None and self.header.is_outside
+        yield entry
 
     def left_out(self):
         """What was counted and not recorded: (meaning, call, how often)."""
-        path = self.folder / f"left{self.rank}"
-        for line in written(path) if path.exists() else []:
+        for line in written(self.folder / f"left{self.rank}"):
             meaning, count, call = line.split(" ", 2)
             yield meaning, call, int(count)
 
     def sites(self):
         """The places in the program: lists of frames, by number."""
         path = self.folder / f"sites{self.rank}"
-        lines = path.read_text(errors="replace").splitlines() if path.exists() else []
-        return {int(number): frames for number, *frames in (line.split("\t") for line in lines)}
+        lines = path.read_bytes().split(b"\n")[:-1] if path.exists() else []
+        return {int(number): [unescaped(frame) for frame in frames] for number, *frames in (line.split(b"\t") for line in lines)}
 
 
-def count_ranks(folder):
-    """How many ranks the run has, which every journal says."""
-    ranks = [int(found[1]) for path in Path(folder).glob("journal*") if (found := re.fullmatch(r"journal(\d+)", path.name))]
-    for rank in sorted(ranks):
-        journal = Journal(folder, rank)
-        if journal.ranks:
-            return journal.ranks
-    return fail(f"no journal of a rank is in {folder}: nothing was recorded")
+def unescaped(frame):
+    """A frame with its bytes as they were: the recorder writes blanks, control bytes and `\\` as `\\xHH`."""
+    return os.fsdecode(re.sub(rb"\\x([0-9a-f]{2})", lambda found: bytes.fromhex(found[1].decode()), frame))
+
+
+# ---- Headers -------------------------------------------------------------------------------------
+
+
+class Header:
+    """The first line of a journal: `journal 2 R P ID S LIBRARY`."""
+
+    def __init__(self, rank, ranks, run, state):
+        self.rank, self.ranks, self.run = int(rank), int(ranks), run
+        self.is_outside = state == "o"  # of the last call
+
+
+HEADER = re.compile(r"journal 2 (0|[1-9]\d{0,3}) ([1-9]\d{0,3}) ([^ ]+) ([io]) .+")
+
+
+def header_of(path, line):
+    found = HEADER.fullmatch(line)
+    if not found:
+        fail(f"{path}: its first line isn't that of a journal of version 2: {ascii(line[:80])}")
+    return Header(*found.groups())
+
+
+def checked_journals(folder):
+    """Yields the journals of all ranks: each is that of its rank, and all are of one run."""
+    first = Journal(folder, 0)
+    if not first.header:
+        fail(f"{first.path} isn't there or is empty" + (": nothing was recorded" if not others(folder) else ""))
+    if first.header.ranks > MOST_RANKS:
+        fail(f"the run has {first.header.ranks:,} ranks, and at most {MOST_RANKS:,} can be judged")
+    for rank in range(first.header.ranks):
+        journal = Journal(folder, rank) if rank else first
+        header = journal.header
+        if header and header.rank != rank:
+            fail(f"{journal.path} is the journal of rank {header.rank}")
+        if header and (header.ranks, header.run) != (first.header.ranks, first.header.run):
+            fail(f"{journal.path} is of another run than {first.path}: {differing(header)}, and not {differing(first.header)}")
+        yield journal
+
+
+def others(folder):
+    return any(re.fullmatch(r"journal\d+", path.name) for path in Path(folder).glob("journal*"))
+
+
+def differing(header):
+    return f"{header.ranks} ranks with the name {header.run}"

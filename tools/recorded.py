@@ -4,6 +4,8 @@ An unproved companion of mpiwait, as all of tools/.
 """
 
 import json
+import os
+import re
 import subprocess
 from functools import cache
 from pathlib import Path
@@ -21,7 +23,7 @@ class Call:
         self.run, self.rank, self.at = run, rank, at
         self.line = run.trace(rank)[at]
         self.word, *self.fields = self.line.split(" ")
-        self.name, site = run.calls(rank)[at].split(" ")
+        site, self.name = run.calls(rank)[at].split(" ", 1)
         self.site = int(site)
 
     @property
@@ -80,12 +82,12 @@ class Run:
     def __init__(self, folder):
         self.folder = Path(folder)
         self.recording = json.loads((self.folder / "recording.json").read_text())
-        head = (self.folder / "head").read_text().splitlines()
+        head = lines_of(self.folder / "head")
         self.ranks = int(head[0].split(" ")[1])
         self._groups = [list(range(self.ranks))] + [[int(rank) for rank in line.split(" ")[1:]] for line in head[1:]]
         self.places = Places(self.folder)
-        self.trace = cache(lambda rank: (self.folder / f"r{rank}").read_text().splitlines())
-        self.calls = cache(lambda rank: (self.folder / f"calls{rank}").read_text().splitlines())
+        self.trace = cache(lambda rank: lines_of(self.folder / f"r{rank}"))
+        self.calls = cache(lambda rank: lines_of(self.folder / f"calls{rank}"))
         self.call = cache(lambda rank, at: Call(self, rank, at))
 
     def report(self):
@@ -93,10 +95,14 @@ class Run:
         path = self.folder / "report.json"
         return json.loads(path.read_text()) if path.exists() else None
 
+    def is_closed(self, rank):
+        """Whether its trace has all calls of the rank, to its end."""
+        said = self.recording["ranks"][rank]
+        return said["end"] in ("finalize", "exit") and not said["stops"]
+
     @property
     def is_whole(self):
-        """Whether each rank came to its MPI_Finalize."""
-        return all(rank["end"] == "finalize" for rank in self.recording["ranks"])
+        return all(map(self.is_closed, range(self.ranks)))
 
     def files(self):
         """The head and the traces, as a check wants them."""
@@ -113,6 +119,10 @@ class Run:
                     return self.call(rank, at)
                 wave -= 1
         return None
+
+
+def lines_of(path):
+    return path.read_text(encoding="ascii").split("\n")[:-1]
 
 
 def is_collective(line, comm):
@@ -142,23 +152,23 @@ class Places:
 
 def look_up(frame):
     """`FILE:LINE` for a frame `MODULE+0xOFFSET`, where that is known; else the function, where one has a symbol, and
-    the frame. The offset is that of the return, which may lie behind the line of the call."""
+    the frame. The offset is that of the return, which may be in the line after that of the call."""
     module, plus, offset = frame.rpartition("+0x")
     if not plus:
         return short(frame)
     place = int(offset, 16) - 1
-    line = said_by("addr2line", "-e", module, hex(place)).strip().split(" (")[0]
+    line = re.sub(r" \(discriminator \d+\)$", "", said_by("addr2line", "-e", module, hex(place)).rstrip("\n"))
     if not line.startswith("??") and line.rpartition(":")[2].isdecimal():  # else `??:0', or `FILE:?' without -g
         return short(line)
-    name = f"{Path(module).name}+0x{offset}"
+    name = printable(f"{Path(module).name}+0x{offset}")
     function = next((function for start, end, function in functions(module) if start <= place < end), None)
-    return f"{clipped(function)} ({name})" if function else name
+    return f"{clipped(printable(function))} ({name})" if function else name
 
 
 @cache
 def functions(module):
-    """The functions that a module's tables of symbols tell: beginning, end and name."""
-    lines = [line.split(" ", 3) for table in ("-a", "-D") for line in said_by("nm", table, "-CS", module).splitlines()]
+    """The functions that a module's tables of symbols have: beginning, end and name."""
+    lines = [line.split(" ", 3) for table in ("-a", "-D") for line in said_by("nm", table, "-CS", module).split("\n")]
     sized = [line for line in lines if len(line) == 4 and line[2] in set("tTwW")]
     return [(int(start, 16), int(start, 16) + int(size, 16), name) for start, size, _, name in sized]
 
@@ -166,7 +176,7 @@ def functions(module):
 def said_by(*words):
     """What a tool of binutils says; nothing where it isn't there or fails."""
     try:
-        return subprocess.run(words, capture_output=True, text=True, errors="replace", check=False).stdout
+        return os.fsdecode(subprocess.run(words, capture_output=True, check=False).stdout)
     except OSError:
         return ""
 
@@ -179,6 +189,15 @@ def short(line):
     """A path below the folder in which we are is named from there."""
     path, colon, number = line.rpartition(":")
     try:
-        return f"{Path(path).relative_to(Path.cwd())}{colon}{number}"
+        return printable(f"{Path(path).relative_to(Path.cwd())}{colon}{number}")
     except ValueError:
-        return line
+        return printable(line)
+
+
+def printable(text):
+    """A name of a file as one line: a byte that is no character is written as `\\xHH`, and what no line shows likewise."""
+    return "".join(one if one.isprintable() else escaped(one) for one in text)
+
+
+def escaped(one):
+    return f"\\x{ord(one) - 0xDC00:02x}" if "\udc80" <= one <= "\udcff" else one.encode("unicode_escape").decode()

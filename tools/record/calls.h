@@ -2,21 +2,27 @@
  * companion of mpiwait, as all of tools/.
  *
  *   record.c          how the recording begins and ends, and calls that are only counted
+ *   turns.c           when a call of the program begins and comes back, and in which thread
+ *   errors.c          error handlers
  *   communicators.c   communicators and their numbers
- *   completions.c     requests, waits and tests
- *   messages.c        sends, receives and probes
+ *   completions.c     waits and tests
+ *   starts.c          requests, as they are started, freed and cancelled
+ *   messages.c        sends and receives
+ *   persistent.c      persistent ones
+ *   probes.c          probes and the messages that they take
  *   collectives.c     collectives
  */
 #ifndef MPIWAIT_CALLS_H
 #define MPIWAIT_CALLS_H
 
+#include "counted.h"
 #include "journal.h"
 #include "requests.h"
 #include <dlfcn.h>
 #include <mpi.h>
 #include <stdlib.h>
 
-enum { WORLD = 0, SELF = 1, UNNUMBERED = -1, MOST_NAMED = 64, NO_ROOT = -1 };
+enum { WORLD = 0, SELF = 1, UNNUMBERED = -1 };
 
 /* The library's own function. */
 #define REAL(Name) \
@@ -27,8 +33,8 @@ enum { WORLD = 0, SELF = 1, UNNUMBERED = -1, MOST_NAMED = 64, NO_ROOT = -1 };
         found_; \
     })
 
-/* Bindings for Fortran call `PMPI_Send`: Open MPI's all, MPICH's of mpi_f08 some. So the recorder stands
- * under that name too. */
+/* Bindings for Fortran call `PMPI_Send`: Open MPI's all, MPICH's of mpi_f08 some; so do other tools. So the recorder
+ * stands under that name too. */
 #define ALSO_PMPI(Name) extern __typeof__(MPI_##Name) PMPI_##Name __attribute__((alias("MPI_" #Name)));
 
 /* None of these is seen by the program. */
@@ -36,28 +42,66 @@ enum { WORLD = 0, SELF = 1, UNNUMBERED = -1, MOST_NAMED = 64, NO_ROOT = -1 };
 
 void *found_in_library(const char *name);
 
-extern bool recording;
-extern int here;         /* the site of the call that is recorded */
-extern int next_request; /* the number of the next call that starts one */
+/* ---- Turns ------------------------------------------------------------------------------------- */
 
-/* How many of our calls this thread is in: what a library calls for itself isn't the program's. */
-extern __thread int inside __attribute__((tls_model("initial-exec")));
+/* Each function of the recorder begins with BEGINS and ends with `over`. A call that is recorded has the turn from
+ * one to the other, and the recorder's lock but for the time within MPI: calls of several threads come one after the
+ * other, and what they write and look up is one thread's. A call within another call isn't the program's. */
+bool begins(void *caller, void *frame);
+#define BEGINS begins(__builtin_return_address(0), __builtin_frame_address(0))
 
-/* Whether a call is to be recorded. */
-bool begins(void *caller);
-#define BEGINS begins(__builtin_return_address(0))
+/* The same where a function of the program's that MPI calls may well call it: nothing is lost then. */
+bool begins_quietly(void *caller, void *frame);
+#define BEGINS_QUIETLY begins_quietly(__builtin_return_address(0), __builtin_frame_address(0))
 
-/* A call that failed stands in the journal, and what it did isn't known. */
-int ended(int result);
-#define CALL(Name, args) ended((inside++, REAL(Name) args))
+/* The same for MPI_Init, which is recorded when it comes back. */
+bool take_turn(void);
+
+/* Whether the call is recorded still. */
+bool is_recorded(void);
+
+/* Calls MPI. */
+void leave_recorder(void);
+void enter_recorder(void);
+#define CALL(Name, args) \
+    ({ \
+        leave_recorder(); \
+        __typeof__(REAL(Name) args) result_ = REAL(Name) args; \
+        enter_recorder(); \
+        result_; \
+    })
+
+/* The call comes back with this result. */
+int over(int result);
+
+/* An error handler of the program's is called, and may not come back. */
+typedef struct {
+    int inside;
+    bool is_locked;
+    void **frame, *caller;
+    unsigned long turn;
+    int site;
+} Thread;
+Thread leave_by_error(void);
+void come_back_to_error(Thread before);
+
+/* The site of the call. */
+int site(void);
+
+/* From MPI_Init on. */
+void turns_open(int level);
+
+/* Whether no thread is within a recorded call. */
+bool nobody_calls(void);
+
+/* ---- Lines ------------------------------------------------------------------------------------- */
 
 /* The list within a pair of brackets, so that a macro can take it as one word. */
 #define UNPACK(...) __VA_ARGS__
 
 #define FIELDS(...) sizeof((Field[]){__VA_ARGS__}) / sizeof(Field), (Field[]){__VA_ARGS__}
-#define PUT(word, ...) journal_call(word, FIELDS(__VA_ARGS__), here)
+#define PUT(word, ...) journal_call(word, FIELDS(__VA_ARGS__), site())
 #define TOLD(word, ...) journal_told(word, FIELDS(__VA_ARGS__))
-#define COMPLETED(word, ...) journal_completed(word, FIELDS(__VA_ARGS__))
 
 /* Numbers the world and MPI_COMM_SELF, once MPI has begun. */
 void number_communicators(void);
@@ -65,10 +109,20 @@ void number_communicators(void);
 /* The number of a call's communicator, or UNNUMBERED, and then the call is counted. */
 int numbered(MPI_Comm comm, const char *call);
 
+/* A call that made communicator `comm`: `=idup` with the number of its request. */
+void adopt_duplicate(int request, MPI_Comm comm);
+
 static inline uintptr_t bits(MPI_Request handle) { return handle == MPI_REQUEST_NULL ? 0 : (uintptr_t)handle; }
 
-/* A call started the request with that number, a receive with a wildcard or another. */
-void started(MPI_Request *handle, int number, bool wild);
+/* The number of the next request or message: 0 where no call line is written any more. */
+int new_number(void);
+
+/* A call started a request; its number is 0 where no line says the call. What the table has of it, to be filled in,
+ * or NULL where the recording stopped. */
+Request *started(MPI_Request *handle, int number);
+
+/* A call made a persistent request that isn't recorded. */
+void made_persistent(MPI_Request *handle);
 
 #pragma GCC visibility pop
 

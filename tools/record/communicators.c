@@ -6,6 +6,7 @@
  * attribute of the communicator. */
 static MPI_Group world;
 static int number_key, next_comm = SELF + 1;
+static const char unnumbered[] = "calls that make communicators, of ones that have no number";
 static MPI_Comm last_asked = MPI_COMM_NULL;
 static int last_number;
 
@@ -15,6 +16,7 @@ static int forget_number(MPI_Comm comm, int key, void *number, void *none) {
     return MPI_SUCCESS;
 }
 
+/* As long as the recorder has its lock; so only of calls that are recorded. */
 static int number_of(MPI_Comm comm) {
     void *number = NULL;
     int found = 0;
@@ -22,9 +24,7 @@ static int number_of(MPI_Comm comm) {
         return UNNUMBERED;
     if (comm == last_asked)
         return last_number;
-    inside++;
     REAL(Comm_get_attr)(comm, number_key, &number, &found);
-    inside--;
     last_asked = comm;
     return last_number = found ? (int)(intptr_t)number : UNNUMBERED;
 }
@@ -37,9 +37,7 @@ int numbered(MPI_Comm comm, const char *call) {
 }
 
 static void set_number(MPI_Comm comm, int number) {
-    inside++;
     REAL(Comm_set_attr)(comm, number_key, (void *)(intptr_t)number);
-    inside--;
     last_asked = MPI_COMM_NULL;
 }
 
@@ -50,110 +48,177 @@ void number_communicators(void) {
     set_number(MPI_COMM_SELF, SELF);
 }
 
-/* Tells a communicator's group, each member by its rank in the world. One with members of another world isn't told. */
-static bool put_group(const char *word, int number, MPI_Comm comm) {
-    MPI_Group group;
-    int size;
-    inside++;
-    REAL(Comm_group)(comm, &group);
-    REAL(Group_size)(group, &size);
-    Field *fields = malloc((size + 1) * sizeof *fields);
-    int *places = malloc(2 * size * sizeof *places), *ranks = places + size;
-    for (int i = 0; i < size; i++)
+/* ---- Groups ------------------------------------------------------------------------------------ */
+
+/* The members of a group by their ranks in the world, behind `before` fields; or NULL, where one is of another world
+ * or there is no memory. */
+static Field *members_of(MPI_Group group, int before, int *size) {
+    REAL(Group_size)(group, size);
+    size_t count = *size;
+    Field *fields = malloc((before + count + 1) * sizeof *fields);
+    int *places = malloc((2 * count + 1) * sizeof *places), *ranks = places + count;
+    bool is_of_world = fields && places;
+    if (!is_of_world)
+        journal_stop("there is no memory for the members of a communicator");
+    for (int i = 0; is_of_world && i < *size; i++)
         places[i] = i;
-    REAL(Group_translate_ranks)(group, size, places, world, ranks);
-    REAL(Group_free)(&group);
-    inside--;
-    bool is_of_world = true;
-    fields[0] = number;
-    for (int i = 0; i < size; i++) {
-        fields[1 + i] = ranks[i];
-        is_of_world = is_of_world && ranks[i] != MPI_UNDEFINED;
-    }
     if (is_of_world)
-        journal_told(word, 1 + size, fields);
+        REAL(Group_translate_ranks)(group, *size, places, world, ranks);
+    for (int i = 0; is_of_world && i < *size; i++) {
+        is_of_world = ranks[i] != MPI_UNDEFINED;
+        fields[before + i] = ranks[i];
+    }
     free(places);
+    if (is_of_world)
+        return fields;
     free(fields);
-    return is_of_world;
+    return NULL;
+}
+
+/* Gives a communicator the next number and tells its group, behind the request that made it, if there is one. One with
+ * members of another world isn't told. */
+static void tell_group(const char *word, int request, MPI_Comm comm) {
+    MPI_Group group;
+    int size, before = request ? 2 : 1;
+    REAL(Comm_group)(comm, &group);
+    Field *fields = members_of(group, before, &size);
+    REAL(Group_free)(&group);
+    if (!fields)
+        return;
+    fields[0] = next_comm;
+    if (request)
+        fields[1] = request;
+    journal_told(word, before + size, fields);
+    set_number(comm, next_comm++);
+    free(fields);
+}
+
+static void adopt_by(const char *word, int request, MPI_Comm new) {
+    int inter = 0;
+    REAL(Comm_test_inter)(new, &inter);
+    if (!inter && !journal_is_full)
+        tell_group(word, request, new);
 }
 
 /* A call made a communicator, or gave this rank none. */
 static void adopt(const char *word, MPI_Comm new) {
-    if (new == MPI_COMM_NULL) {
+    if (new == MPI_COMM_NULL)
         journal_told("=none", 0, NULL);
-        return;
-    }
-    int inter;
-    inside++;
-    REAL(Comm_test_inter)(new, &inter);
-    inside--;
-    if (inter)
-        return;
-    if (put_group(word, next_comm, new))
-        set_number(new, next_comm++);
+    else
+        adopt_by(word, 0, new);
 }
 
-/* A call by which all members of a communicator make new ones: name, parameters, arguments, fields. */
+void adopt_duplicate(int request, MPI_Comm comm) { adopt_by("=idup", request, comm); }
+
+/* ---- Calls of all members ---------------------------------------------------------------------- */
+
+/* A call by which all members of a communicator make new ones: name, word, parameters, arguments, fields. */
 #define MAKER(Name, word, params, args, ...) \
     int MPI_##Name params { \
-        int number = UNNUMBERED; \
-        if (BEGINS && (number = numbered(comm, "MPI_" #Name " on a communicator that has no number")) != UNNUMBERED) \
+        int number = BEGINS ? numbered(comm, unnumbered) : UNNUMBERED; \
+        if (number != UNNUMBERED) \
             PUT(word, number, ##__VA_ARGS__); \
         int result = CALL(Name, args); \
-        if (number != UNNUMBERED && result == MPI_SUCCESS) \
+        if (is_recorded() && number != UNNUMBERED && result == MPI_SUCCESS) \
             adopt("=comm", *new); \
-        return result; \
+        return over(result); \
     } \
     ALSO_PMPI(Name)
 
 MAKER(Comm_dup, "comm_dup", (MPI_Comm comm, MPI_Comm *new), (comm, new))
-MAKER(Comm_dup_with_info, "comm_dup_with_info", (MPI_Comm comm, MPI_Info info, MPI_Comm *new), (comm, info, new))
+MAKER(Comm_dup_with_info, "comm_dup", (MPI_Comm comm, MPI_Info info, MPI_Comm *new), (comm, info, new))
 MAKER(Comm_split, "comm_split", (MPI_Comm comm, int colour, int key, MPI_Comm *new), (comm, colour, key, new),
       colour == MPI_UNDEFINED ? UNDEFINED : colour, key)
-MAKER(Comm_split_type, "comm_split_type", (MPI_Comm comm, int type, int key, MPI_Info info, MPI_Comm *new),
+MAKER(Comm_split_type, "comm_make", (MPI_Comm comm, int type, int key, MPI_Info info, MPI_Comm *new),
       (comm, type, key, info, new))
-MAKER(Comm_create, "comm_create", (MPI_Comm comm, MPI_Group group, MPI_Comm *new), (comm, group, new))
-MAKER(Cart_create, "cart_create",
+MAKER(Comm_create, "comm_make", (MPI_Comm comm, MPI_Group group, MPI_Comm *new), (comm, group, new))
+MAKER(Cart_create, "comm_make",
       (MPI_Comm comm, int n, const int dims[], const int periods[], int reorder, MPI_Comm *new),
       (comm, n, dims, periods, reorder, new))
-MAKER(Cart_sub, "cart_sub", (MPI_Comm comm, const int remain[], MPI_Comm *new), (comm, remain, new))
-MAKER(Graph_create, "graph_create",
+MAKER(Cart_sub, "comm_make", (MPI_Comm comm, const int remain[], MPI_Comm *new), (comm, remain, new))
+MAKER(Graph_create, "comm_make",
       (MPI_Comm comm, int n, const int index[], const int edges[], int reorder, MPI_Comm *new),
       (comm, n, index, edges, reorder, new))
-MAKER(Dist_graph_create, "dist_graph_create",
+MAKER(Dist_graph_create, "comm_make",
       (MPI_Comm comm, int n, const int sources[], const int degrees[], const int dests[], const int weights[],
        MPI_Info info, int reorder, MPI_Comm *new),
       (comm, n, sources, degrees, dests, weights, info, reorder, new))
-MAKER(Dist_graph_create_adjacent, "dist_graph_create_adjacent",
+MAKER(Dist_graph_create_adjacent, "comm_make",
       (MPI_Comm comm, int in, const int sources[], const int in_weights[], int out, const int dests[],
        const int out_weights[], MPI_Info info, int reorder, MPI_Comm *new),
       (comm, in, sources, in_weights, out, dests, out_weights, info, reorder, new))
 
-/* Made by the new members alone, or from an intercommunicator: no collective call on a communicator that
- * has a number. What making it waits for is left out. */
+/* The communicator is there when its request is complete. Some libraries give its handle at once; where they don't,
+ * it is read later where the program has it, as C's programs do. */
+#define IDUP(Name, params, args) \
+    int MPI_##Name(UNPACK params, MPI_Comm *new, MPI_Request *handle) { \
+        int number = BEGINS ? numbered(comm, unnumbered) : UNNUMBERED; \
+        int request = number == UNNUMBERED ? 0 : new_number(); \
+        if (request) \
+            PUT("comm_idup", request, number); \
+        int result = CALL(Name, (UNPACK args, new, handle)); \
+        Request *known = is_recorded() && result == MPI_SUCCESS ? started(handle, request) : NULL; \
+        if (known && *new != MPI_COMM_NULL) \
+            known->comm = (uintptr_t)*new; \
+        else if (known) \
+            known->place = new; \
+        return over(result); \
+    } \
+    ALSO_PMPI(Name)
+
+IDUP(Comm_idup, (MPI_Comm comm), (comm))
+#ifdef HAS_Comm_idup_with_info
+IDUP(Comm_idup_with_info, (MPI_Comm comm, MPI_Info info), (comm, info))
+#endif
+
+/* ---- Calls of some ----------------------------------------------------------------------------- */
+
+/* The new members alone call it. One that isn't of the group gets none. */
+static bool put_create_group(MPI_Group group) {
+    int size = 0, rank = MPI_UNDEFINED;
+    REAL(Group_rank)(group, &rank);
+    Field *fields = rank == MPI_UNDEFINED ? NULL : members_of(group, 0, &size);
+    if (fields)
+        journal_call("comm_create_group", size, fields, site());
+    else
+        left_out(rank == MPI_UNDEFINED ? NOTHING : WAITS, "MPI_Comm_create_group of a group that isn't of the world");
+    free(fields);
+    return fields;
+}
+
+int MPI_Comm_create_group(MPI_Comm comm, MPI_Group group, int tag, MPI_Comm *new) {
+    bool is_put = BEGINS && put_create_group(group);
+    int result = CALL(Comm_create_group, (comm, group, tag, new));
+    if (is_put && is_recorded() && result == MPI_SUCCESS && *new != MPI_COMM_NULL)
+        adopt("=comm", *new);
+    return over(result);
+}
+ALSO_PMPI(Comm_create_group)
+
+/* Made by no call on a communicator that has a number. What making it waits for is left out. */
 #define MAKER_APART(Name, params, args) \
     int MPI_##Name params { \
-        bool begun = BEGINS; \
-        if (begun) \
+        if (BEGINS) \
             left_out(WAITS, "MPI_" #Name " itself (calls on what it makes are recorded)"); \
         int result = CALL(Name, args); \
-        if (begun && result == MPI_SUCCESS && *new != MPI_COMM_NULL) \
+        if (is_recorded() && result == MPI_SUCCESS && *new != MPI_COMM_NULL) \
             adopt("=apart", *new); \
-        return result; \
+        return over(result); \
     } \
     ALSO_PMPI(Name)
 
-MAKER_APART(Comm_create_group, (MPI_Comm comm, MPI_Group group, int tag, MPI_Comm *new), (comm, group, tag, new))
 MAKER_APART(Intercomm_merge, (MPI_Comm comm, int high, MPI_Comm *new), (comm, high, new))
 
-#define FREE(Name, word) \
+/* ---- Free -------------------------------------------------------------------------------------- */
+
+#define FREE(Name) \
     int MPI_##Name(MPI_Comm *comm) { \
-        int number; \
-        if (BEGINS && (number = number_of(*comm)) > SELF) \
-            PUT(word, number); \
-        return CALL(Name, (comm)); \
+        int number = BEGINS_QUIETLY ? number_of(*comm) : UNNUMBERED; \
+        if (number > SELF) \
+            PUT("comm_free", number); \
+        return over(CALL(Name, (comm))); \
     } \
     ALSO_PMPI(Name)
 
-FREE(Comm_free, "comm_free")
-FREE(Comm_disconnect, "comm_disconnect")
+FREE(Comm_free)
+FREE(Comm_disconnect)

@@ -1,296 +1,373 @@
-/* Requests, and the waits and tests that complete them. See calls.h. */
+/* Waits and tests. See calls.h. */
 #define _GNU_SOURCE
 #include "calls.h"
 
-int next_request = 1;
+enum { FEW = 64 };
 
-static int query_done(void *told, MPI_Status *status) {
-    int error = status->MPI_ERROR; /* which the library sets by itself */
-    *status = *(MPI_Status *)told;
-    status->MPI_ERROR = error;
-    return MPI_SUCCESS;
+/* One request of a wait or a test, as it was before. */
+typedef struct {
+    uintptr_t handle;
+    int number, second; /* 0 where it isn't active or has none */
+} Named;
+
+/* What line says a wait for one or some before it comes back. */
+typedef enum { NO_LINE, WAIT_LINE, CHOICE_LINE } Line;
+
+/* A wait or a test, and room for what it needs. */
+typedef struct {
+    int count;
+    bool begun, needed; /* whether statuses are needed: a wildcard or a cancelled one is there */
+    bool has_others;    /* active ones of calls that aren't recorded */
+    int named, pairs;   /* how many active ones are, and how many of these send and receive */
+    Line line;
+    MPI_Status *told; /* where its statuses go, */
+    bool is_for_all;  /* and whether there is one for each request, in their order */
+    Named *requests;
+    Field *packed;
+    MPI_Status *statuses;
+    void *memory; /* of more than a few */
+    Named few_requests[FEW];
+    Field few_packed[2 * FEW];
+    MPI_Status few_statuses[FEW];
+} Asked;
+
+static const char others[] = "waits and tests for requests of calls that aren't recorded";
+
+static bool make_room(Asked *asked) {
+    asked->requests = asked->few_requests;
+    asked->packed = asked->few_packed;
+    asked->statuses = asked->few_statuses;
+    if (asked->count <= FEW)
+        return true;
+    asked->memory = calloc(asked->count, sizeof(MPI_Status) + sizeof(Named) + 2 * sizeof(Field));
+    if (!asked->memory)
+        return false;
+    asked->packed = asked->memory;
+    asked->requests = (Named *)(asked->packed + 2 * (size_t)asked->count);
+    asked->statuses = (MPI_Status *)(asked->requests + asked->count);
+    return true;
 }
 
-static int free_done(void *told) { return free(told), MPI_SUCCESS; }
-
-static int cancel_done(void *none, int complete) { return (void)none, (void)complete, MPI_SUCCESS; }
-
-/* Libraries give one handle to all calls that are done at once. The program then gets a completed
- * request of its own instead, so that its later wait tells which call it is for. */
-static void make_distinct(MPI_Request *handle) {
-    MPI_Status *told = calloc(1, sizeof *told); /* of what it isn't told the library may write nothing */
-    if (!told)
+static void look_at(Asked *asked, Named *named) {
+    const Request *request = requests_find(named->handle);
+    if (request && !request->active)
         return;
-    inside++;
-    REAL(Wait)(handle, told);
-    REAL(Grequest_start)(query_done, free_done, cancel_done, told, handle);
-    REAL(Grequest_complete)(*handle);
-    inside--;
-}
-
-static bool is_done(MPI_Request handle) {
-    int done = 0;
-    inside++;
-    int result = REAL(Request_get_status)(handle, &done, MPI_STATUS_IGNORE);
-    inside--;
-    return result == MPI_SUCCESS && done;
-}
-
-/* A handle that is known already may also be new again: the wait for the old call wasn't seen, or answered an error. */
-void started(MPI_Request *handle, int number, bool wild) {
-    if (requests_find(bits(*handle)) && is_done(*handle))
-        make_distinct(handle);
-    Request *request = requests_add(bits(*handle));
-    request->number = number;
-    request->wild = wild;
-}
-
-/* A request is complete; a persistent one may be started again. */
-static void finish(uintptr_t handle, const MPI_Status *status) {
-    Request *request = requests_find(handle);
-    if (!request || request->number == 0)
+    if (!request || !request->number) {
+        asked->has_others = true;
+        left_out(WAITS, others);
         return;
+    }
+    named->number = request->number;
+    named->second = request->second;
+    asked->named++;
+    asked->pairs += request->second != 0;
+    asked->needed = asked->needed || request->wild || request->cancelled;
+}
+
+static void ask(Asked *asked, bool begun, int count, const MPI_Request handles[]) {
+    asked->begun = begun;
+    asked->count = count;
+    asked->needed = asked->has_others = asked->is_for_all = false;
+    asked->named = asked->pairs = 0;
+    asked->line = NO_LINE;
+    asked->memory = NULL;
+    if (begun && !make_room(asked)) {
+        journal_stop("there is no memory for the requests of a wait");
+        asked->begun = false;
+    }
+    for (int i = 0; asked->begun && i < count; i++) {
+        asked->requests[i] = (Named){.handle = bits(handles[i])};
+        if (asked->requests[i].handle)
+            look_at(asked, &asked->requests[i]);
+    }
+}
+
+/* The statuses go to the program's own place, or ours where it wants none and we do. */
+static MPI_Status *place_for(Asked *asked, MPI_Status *theirs, const MPI_Status *none) {
+    return asked->told = asked->needed && theirs == none ? asked->statuses : theirs;
+}
+
+/* Whether the call is recorded still, now that it came back. */
+static bool is_back(const Asked *asked) { return asked->begun && is_recorded(); }
+
+static int done(Asked *asked, int result) {
+    free(asked->memory);
+    return over(result);
+}
+
+/* ---- Lines ------------------------------------------------------------------------------------- */
+
+/* The numbers of the active requests at some places (NULL: all). */
+static int pack(const Asked *asked, int count, const int places[]) {
+    int packed = 0;
+    for (int i = 0; i < count; i++) {
+        const Named *named = &asked->requests[places ? places[i] : i];
+        if (named->number)
+            asked->packed[packed++] = named->number;
+        if (named->second)
+            asked->packed[packed++] = named->second;
+    }
+    return packed;
+}
+
+/* Those at some places: several lines, if one doesn't hold them. */
+static void put_list(const char *word, const Asked *asked, int count, const int places[]) {
+    int all = pack(asked, count, places);
+    for (int from = 0; from < all; from += MOST_FIELDS) {
+        int part = all - from < MOST_FIELDS ? all - from : MOST_FIELDS;
+        journal_call(word, part, asked->packed + from, site());
+    }
+}
+
+/* A wait for one or some. Where it may be over by a request that has no number, or one line doesn't hold it, none says
+ * it before it comes back. A wait for one request that sends and receives is a wait for both. */
+static void put_choice(const char *word, bool is_for_one, Asked *asked) {
+    if (!asked->begun || asked->has_others || asked->named == 0 || asked->named > MOST_FIELDS / 2)
+        return;
+    if (asked->pairs > 0 && is_for_one && asked->named > 1)
+        return;
+    asked->line = asked->pairs > 0 && is_for_one ? WAIT_LINE : CHOICE_LINE;
+    put_list(asked->line == WAIT_LINE ? "wait" : word, asked, asked->count, NULL);
+}
+
+/* Those that it chose. */
+static void tell_choice(Asked *asked, int count, const int places[]) {
+    if (asked->line == NO_LINE)
+        put_list("test", asked, count, places);
+    else if (asked->line == CHOICE_LINE)
+        journal_told("=chose", pack(asked, count, places), asked->packed);
+}
+
+/* ---- Completed requests ------------------------------------------------------------------------ */
+
+static void tell_end(int number, bool wild, const Request *request, const MPI_Status *status) {
     int gone = 0;
     if (request->cancelled)
         REAL(Test_cancelled)(status, &gone);
-    if (gone)
-        COMPLETED("=gone", request->number);
-    else if (request->wild)
-        COMPLETED("=done", request->number, status->MPI_SOURCE, status->MPI_TAG);
+    if (wild && !gone)
+        journal_done(number, status->MPI_SOURCE, status->MPI_TAG);
     else if (request->cancelled)
-        COMPLETED("=kept", request->number);
-    request->cancelled = false;
-    if (request->template)
-        request->number = 0;
-    else
+        TOLD(gone ? "=gone" : "=kept", number);
+}
+
+/* A request isn't in use any more; a persistent one may be started again. */
+static void drop(uintptr_t handle) {
+    Request *request = requests_find(handle);
+    if (!request || !request->persistent) {
         requests_remove(handle);
-}
-
-/* ---- Waits and tests --------------------------------------------------------------------------- */
-
-/* The handles of a wait as they were before it, and room for the statuses that it tells. */
-static struct {
-    int room;
-    uintptr_t *handles;
-    Field *numbers, *packed;
-    MPI_Status *statuses;
-} asked;
-
-/* Looks the handles up. Answers whether their statuses are needed: a wildcard or a cancelled one is there. */
-static bool ask(int count, const MPI_Request handles[]) {
-    bool needed = false;
-    if (count > asked.room) {
-        asked.room = 2 * count;
-        asked.handles = realloc(asked.handles, asked.room * sizeof *asked.handles);
-        asked.numbers = realloc(asked.numbers, asked.room * sizeof *asked.numbers);
-        asked.packed = realloc(asked.packed, asked.room * sizeof *asked.packed);
-        asked.statuses = realloc(asked.statuses, asked.room * sizeof *asked.statuses);
+        return;
     }
-    for (int i = 0; i < count; i++) {
-        asked.handles[i] = bits(handles[i]);
-        Request *request = requests_find(asked.handles[i]);
-        asked.numbers[i] = request ? request->number : 0;
-        needed = needed || (request && (request->wild || request->cancelled));
-        if (asked.handles[i] != 0 && !request)
-            left_out(WAITS, "waits and tests for requests of calls that aren't recorded");
+    request->active = request->cancelled = false;
+    request->number = 0;
+}
+
+static MPI_Comm made_by(const Request *request) {
+    if (request->place)
+        return *(const MPI_Comm *)request->place;
+    return request->comm ? (MPI_Comm)request->comm : MPI_COMM_NULL;
+}
+
+static void finish(uintptr_t handle, const MPI_Status *status) {
+    Request *request = requests_find(handle);
+    if (!request || !request->active)
+        return;
+    int number = request->number;
+    if (number && status) {
+        tell_end(number, request->wild && !request->second, request, status);
+        if (request->second)
+            tell_end(request->second, request->wild, request, status);
     }
-    return needed;
-}
-
-/* Moves the numbers of recorded requests at some places (NULL: all) together; how many there are. */
-static int pack(int count, const int places[]) {
-    int named = 0;
-    for (int i = 0; i < count; i++) {
-        Field number = asked.numbers[places ? places[i] : i];
-        if (number != 0)
-            asked.packed[named++] = number;
-    }
-    return named;
-}
-
-/* One call may name more requests than a line: then it makes several lines. */
-static void put_list(const char *word, int count, const int places[]) {
-    int named = pack(count, places);
-    for (int from = 0; from < named; from += MOST_NAMED) {
-        int part = named - from < MOST_NAMED ? named - from : MOST_NAMED;
-        if (word[0] == '=')
-            journal_told(word, part, asked.packed + from);
-        else
-            journal_call(word, part, asked.packed + from, here);
-    }
-}
-
-/* A wait for one or some of several: all are named, if one line holds them. Answers whether there is such a line. */
-static bool put_choice(const char *word, int count) {
-    int named = pack(count, NULL);
-    if (named > 0)
-        journal_call(word, named > MOST_NAMED ? 0 : named, asked.packed, here);
-    return named > 0;
-}
-
-/* Those that it chose; none is named where it chose requests of calls that aren't recorded. */
-static void tell_chosen(int count, const int places[]) {
-    put_list("=chose", count, places);
-    if (pack(count, places) == 0)
-        journal_told("=chose", 0, NULL);
+    MPI_Comm made = made_by(request);
+    drop(handle);
+    if (number && made != MPI_COMM_NULL)
+        adopt_duplicate(number, made);
 }
 
 /* The requests at these places (NULL: all) completed. */
-static void finish_all(int count, const int places[], const MPI_Status *statuses) {
+static void finish_all(const Asked *asked, int count, const int places[]) {
     for (int i = 0; i < count; i++)
-        finish(asked.handles[places ? places[i] : i], statuses ? &statuses[i] : NULL);
+        finish(asked->requests[places ? places[i] : i].handle, asked->needed ? &asked->told[i] : NULL);
 }
 
-/* Where the statuses go: the program's own place, or ours where it wants none and we do. */
-static MPI_Status *place_for(MPI_Status *theirs, bool needed, const MPI_Status *none) {
-    return needed && theirs == none ? asked.statuses : theirs;
+/* The call answered an error: of some requests the statuses may say that they completed; others are null now. */
+static void sort_out(const Asked *asked, int result, const MPI_Request handles[]) {
+    int class = MPI_SUCCESS;
+    REAL(Error_class)(result, &class);
+    bool is_told = asked->is_for_all && asked->needed && class == MPI_ERR_IN_STATUS;
+    journal_failed();
+    for (int i = 0; i < asked->count; i++) {
+        if (is_told && asked->told[i].MPI_ERROR == MPI_SUCCESS)
+            finish(asked->requests[i].handle, &asked->told[i]);
+        else if (asked->requests[i].handle != 0 && bits(handles[i]) == 0)
+            drop(asked->requests[i].handle);
+    }
 }
+
+/* A test that found nothing, or answered an error. */
+static void found_none(const Asked *asked, Poll poll, const char *what, int result, const MPI_Request handles[]) {
+    if (result == MPI_SUCCESS) {
+        left_out(NOTHING, what);
+        journal_polled(poll, site());
+        return;
+    }
+    put_list("test", asked, asked->count, NULL);
+    sort_out(asked, result, handles);
+}
+
+/* The library knows none of these as active: MPICH takes a persistent request from MPI_PROC_NULL so. They wait for
+ * nobody. */
+static void none_active(Asked *asked) {
+    int all = pack(asked, asked->count, NULL), chosen = asked->line == CHOICE_LINE;
+    if (chosen)
+        journal_told("=chose", 1, asked->packed);
+    if (all > chosen && asked->line != WAIT_LINE)
+        journal_call("test", all - chosen, asked->packed + chosen, site());
+    for (int i = 0; i < asked->count; i++)
+        finish(asked->requests[i].handle, NULL);
+}
+
+/* ---- Waits ------------------------------------------------------------------------------------- */
 
 int MPI_Wait(MPI_Request *handle, MPI_Status *status) {
-    bool begun = BEGINS, needed = begun && ask(1, handle);
-    MPI_Status *told = place_for(status, needed, MPI_STATUS_IGNORE);
-    if (begun && asked.numbers[0])
-        journal_call("wait", 1, asked.numbers, here);
+    Asked asked;
+    ask(&asked, BEGINS, 1, handle);
+    MPI_Status *told = place_for(&asked, status, MPI_STATUS_IGNORE);
+    if (asked.named)
+        put_list("wait", &asked, 1, NULL);
     int result = CALL(Wait, (handle, told));
-    if (begun && result == MPI_SUCCESS)
-        finish_all(1, NULL, needed ? told : NULL);
-    return result;
+    if (is_back(&asked) && result == MPI_SUCCESS)
+        finish_all(&asked, 1, NULL);
+    else if (is_back(&asked))
+        sort_out(&asked, result, handle);
+    return done(&asked, result);
 }
 ALSO_PMPI(Wait)
 
-int MPI_Test(MPI_Request *handle, int *done, MPI_Status *status) {
-    bool begun = BEGINS, needed = begun && ask(1, handle);
-    MPI_Status *told = place_for(status, needed, MPI_STATUS_IGNORE);
-    int result = CALL(Test, (handle, done, told));
-    if (!begun || result != MPI_SUCCESS || asked.numbers[0] == 0)
-        return result;
-    if (!*done) {
-        left_out(NOTHING, "MPI_Test, found nothing");
-        return result;
-    }
-    journal_call("test", 1, asked.numbers, here);
-    finish_all(1, NULL, needed ? told : NULL);
-    return result;
-}
-ALSO_PMPI(Test)
-
 int MPI_Waitall(int count, MPI_Request handles[], MPI_Status statuses[]) {
-    bool begun = BEGINS, needed = begun && ask(count, handles);
-    MPI_Status *told = place_for(statuses, needed, MPI_STATUSES_IGNORE);
-    if (begun)
-        put_list("waitall", count, NULL);
+    Asked asked;
+    ask(&asked, BEGINS, count, handles);
+    asked.is_for_all = true;
+    MPI_Status *told = place_for(&asked, statuses, MPI_STATUSES_IGNORE);
+    if (asked.named)
+        put_list("wait", &asked, count, NULL);
     int result = CALL(Waitall, (count, handles, told));
-    if (begun && result == MPI_SUCCESS)
-        finish_all(count, NULL, needed ? told : NULL);
-    return result;
+    if (is_back(&asked) && result == MPI_SUCCESS)
+        finish_all(&asked, count, NULL);
+    else if (is_back(&asked))
+        sort_out(&asked, result, handles);
+    return done(&asked, result);
 }
 ALSO_PMPI(Waitall)
 
-/* Where no statuses are wanted of more than 64 requests, MPICH 4.0 takes all for those of sends and receives, which
- * ours aren't (make_distinct). */
-int MPI_Testall(int count, MPI_Request handles[], int *done, MPI_Status statuses[]) {
-    bool begun = BEGINS, needed = begun && (ask(count, handles) || count > 64);
-    MPI_Status *told = place_for(statuses, needed, MPI_STATUSES_IGNORE);
-    int result = CALL(Testall, (count, handles, done, told));
-    if (!begun || result != MPI_SUCCESS)
-        return result;
-    if (!*done) {
-        left_out(NOTHING, "MPI_Testall, found nothing");
-        return result;
-    }
-    put_list("testall", count, NULL);
-    finish_all(count, NULL, needed ? told : NULL);
-    return result;
-}
-ALSO_PMPI(Testall)
-
 int MPI_Waitany(int count, MPI_Request handles[], int *chosen, MPI_Status *status) {
-    bool begun = BEGINS, needed = begun && ask(count, handles);
-    MPI_Status *told = place_for(status, needed, MPI_STATUS_IGNORE);
-    bool put = begun && put_choice("waitany", count);
+    Asked asked;
+    ask(&asked, BEGINS, count, handles);
+    MPI_Status *told = place_for(&asked, status, MPI_STATUS_IGNORE);
+    put_choice("waitany", true, &asked);
     int result = CALL(Waitany, (count, handles, chosen, told));
-    if (!begun || result != MPI_SUCCESS || *chosen == MPI_UNDEFINED)
-        return result;
-    if (put)
-        tell_chosen(1, chosen);
-    finish_all(1, chosen, needed ? told : NULL);
-    return result;
+    if (is_back(&asked) && result != MPI_SUCCESS) {
+        sort_out(&asked, result, handles);
+    } else if (is_back(&asked) && *chosen == MPI_UNDEFINED) {
+        none_active(&asked);
+    } else if (is_back(&asked)) {
+        tell_choice(&asked, 1, chosen);
+        finish_all(&asked, 1, chosen);
+    }
+    return done(&asked, result);
 }
 ALSO_PMPI(Waitany)
 
-int MPI_Testany(int count, MPI_Request handles[], int *chosen, int *done, MPI_Status *status) {
-    bool begun = BEGINS, needed = begun && ask(count, handles);
-    MPI_Status *told = place_for(status, needed, MPI_STATUS_IGNORE);
-    int result = CALL(Testany, (count, handles, chosen, done, told));
-    if (!begun || result != MPI_SUCCESS)
-        return result;
-    if (!*done) {
-        left_out(NOTHING, "MPI_Testany, found nothing");
-    } else if (*chosen != MPI_UNDEFINED && asked.numbers[*chosen]) {
-        journal_call("testany", 1, &asked.numbers[*chosen], here);
-        finish_all(1, chosen, needed ? told : NULL);
+int MPI_Waitsome(int count, MPI_Request handles[], int *some, int places[], MPI_Status statuses[]) {
+    Asked asked;
+    ask(&asked, BEGINS, count, handles);
+    MPI_Status *told = place_for(&asked, statuses, MPI_STATUSES_IGNORE);
+    put_choice("waitsome", false, &asked);
+    int result = CALL(Waitsome, (count, handles, some, places, told));
+    if (is_back(&asked) && result != MPI_SUCCESS) {
+        sort_out(&asked, result, handles);
+    } else if (is_back(&asked) && *some == MPI_UNDEFINED) {
+        none_active(&asked);
+    } else if (is_back(&asked)) {
+        tell_choice(&asked, *some, places);
+        finish_all(&asked, *some, places);
     }
-    return result;
-}
-ALSO_PMPI(Testany)
-
-int MPI_Waitsome(int count, MPI_Request handles[], int *done, int places[], MPI_Status statuses[]) {
-    bool begun = BEGINS, needed = begun && ask(count, handles);
-    MPI_Status *told = place_for(statuses, needed, MPI_STATUSES_IGNORE);
-    bool put = begun && put_choice("waitsome", count);
-    int result = CALL(Waitsome, (count, handles, done, places, told));
-    if (!begun || result != MPI_SUCCESS || *done == MPI_UNDEFINED)
-        return result;
-    if (put)
-        tell_chosen(*done, places);
-    finish_all(*done, places, needed ? told : NULL);
-    return result;
+    return done(&asked, result);
 }
 ALSO_PMPI(Waitsome)
 
-int MPI_Testsome(int count, MPI_Request handles[], int *done, int places[], MPI_Status statuses[]) {
-    bool begun = BEGINS, needed = begun && ask(count, handles);
-    MPI_Status *told = place_for(statuses, needed, MPI_STATUSES_IGNORE);
-    int result = CALL(Testsome, (count, handles, done, places, told));
-    if (!begun || result != MPI_SUCCESS || *done == MPI_UNDEFINED)
-        return result;
-    if (*done == 0) {
-        left_out(NOTHING, "MPI_Testsome, found nothing");
-        return result;
+/* ---- Tests ------------------------------------------------------------------------------------- */
+
+int MPI_Test(MPI_Request *handle, int *found, MPI_Status *status) {
+    Asked asked;
+    ask(&asked, BEGINS, 1, handle);
+    MPI_Status *told = place_for(&asked, status, MPI_STATUS_IGNORE);
+    int result = CALL(Test, (handle, found, told));
+    if (is_back(&asked) && (result != MPI_SUCCESS || !*found)) {
+        found_none(&asked, TEST, "MPI_Test, found nothing", result, handle);
+    } else if (is_back(&asked)) {
+        put_list("test", &asked, 1, NULL);
+        finish_all(&asked, 1, NULL);
     }
-    put_list("testsome", *done, places);
-    finish_all(*done, places, needed ? told : NULL);
-    return result;
+    return done(&asked, result);
+}
+ALSO_PMPI(Test)
+
+/* Where no statuses are wanted of more than 64 requests, MPICH 4.0 takes all for those of sends and receives, which
+ * ours aren't (starts.c). */
+int MPI_Testall(int count, MPI_Request handles[], int *found, MPI_Status statuses[]) {
+    Asked asked;
+    ask(&asked, BEGINS, count, handles);
+    asked.needed = asked.begun && (asked.needed || count > 64);
+    asked.is_for_all = true;
+    MPI_Status *told = place_for(&asked, statuses, MPI_STATUSES_IGNORE);
+    int result = CALL(Testall, (count, handles, found, told));
+    if (is_back(&asked) && (result != MPI_SUCCESS || !*found)) {
+        found_none(&asked, TESTALL, "MPI_Testall, found nothing", result, handles);
+    } else if (is_back(&asked)) {
+        put_list("test", &asked, count, NULL);
+        finish_all(&asked, count, NULL);
+    }
+    return done(&asked, result);
+}
+ALSO_PMPI(Testall)
+
+int MPI_Testany(int count, MPI_Request handles[], int *chosen, int *found, MPI_Status *status) {
+    Asked asked;
+    ask(&asked, BEGINS, count, handles);
+    MPI_Status *told = place_for(&asked, status, MPI_STATUS_IGNORE);
+    int result = CALL(Testany, (count, handles, chosen, found, told));
+    if (is_back(&asked) && (result != MPI_SUCCESS || !*found)) {
+        found_none(&asked, TESTANY, "MPI_Testany, found nothing", result, handles);
+    } else if (is_back(&asked) && *chosen == MPI_UNDEFINED) {
+        none_active(&asked);
+    } else if (is_back(&asked)) {
+        put_list("test", &asked, 1, chosen);
+        finish_all(&asked, 1, chosen);
+    }
+    return done(&asked, result);
+}
+ALSO_PMPI(Testany)
+
+int MPI_Testsome(int count, MPI_Request handles[], int *some, int places[], MPI_Status statuses[]) {
+    Asked asked;
+    ask(&asked, BEGINS, count, handles);
+    MPI_Status *told = place_for(&asked, statuses, MPI_STATUSES_IGNORE);
+    int result = CALL(Testsome, (count, handles, some, places, told));
+    if (is_back(&asked) && (result != MPI_SUCCESS || *some == 0)) {
+        found_none(&asked, TESTSOME, "MPI_Testsome, found nothing", result, handles);
+    } else if (is_back(&asked) && *some == MPI_UNDEFINED) {
+        none_active(&asked);
+    } else if (is_back(&asked)) {
+        put_list("test", &asked, *some, places);
+        finish_all(&asked, *some, places);
+    }
+    return done(&asked, result);
 }
 ALSO_PMPI(Testsome)
 
-int MPI_Request_get_status(MPI_Request handle, int *done, MPI_Status *status) {
-    if (BEGINS)
+int MPI_Request_get_status(MPI_Request handle, int *found, MPI_Status *status) {
+    if (BEGINS_QUIETLY)
         left_out(NOTHING, "MPI_Request_get_status");
-    return CALL(Request_get_status, (handle, done, status));
+    return over(CALL(Request_get_status, (handle, found, status)));
 }
 ALSO_PMPI(Request_get_status)
-
-int MPI_Request_free(MPI_Request *handle) {
-    bool begun = BEGINS;
-    uintptr_t freed = bits(*handle);
-    Request *request = begun ? requests_find(freed) : NULL;
-    if (request && request->number && !request->cancelled)
-        left_out(WAITS, "MPI_Request_free of a request in use (its call has no wait)");
-    if (request) {
-        free(request->template);
-        requests_remove(freed);
-    }
-    return CALL(Request_free, (handle));
-}
-ALSO_PMPI(Request_free)
-
-int MPI_Cancel(MPI_Request *handle) {
-    Request *request = BEGINS ? requests_find(bits(*handle)) : NULL;
-    if (request && request->number) {
-        request->cancelled = true;
-        PUT("cancel", request->number);
-    }
-    return CALL(Cancel, (handle));
-}
-ALSO_PMPI(Cancel)

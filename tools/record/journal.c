@@ -1,12 +1,10 @@
-/* Writes a rank's journal, and the counts of what it leaves out. See journal.h. */
+/* Writes a rank's journal. See journal.h. */
 #define _GNU_SOURCE
 #include "journal.h"
 #include <errno.h>
 #include <fcntl.h>
-#include <pthread.h>
 #include <stdint.h>
 #include <stdio.h>
-#include <stdlib.h>
 #include <string.h>
 #include <sys/mman.h>
 #include <unistd.h>
@@ -15,37 +13,38 @@ enum {
     FIRST_WINDOW = 1 << 16, /* so much of the journal is mapped at first, */
     WINDOW = 1 << 20,       /* and at most at a time */
     LONGEST_LINE = 1 << 15,
-    LONGEST_STOP = 512, /* the line that says why no more follow; there is always room for it */
-    MOST_CALLS = 1000001, /* a trace has one less, since it has no MPI_Init */
-    COUNTS = 1 << 14,     /* bytes of the counts */
-    DIGITS = 12
+    LONGEST_STOP = 512,  /* the line that says why no more follow; there is always room for it */
+    MOST_CALLS = 1000001 /* a trace has one less, since it has no MPI_Init */
 };
+
+bool recording, journal_is_full;
 
 static struct {
     int file, rank;
-    bool open, full;
+    bool is_open;
     long calls;
     off_t start; /* of the window, in the file */
     size_t size; /* of the window */
     char *window, *at;
+    char *state, *polls; /* where the header has them: its page stays mapped for good */
 } journal;
 
-bool journal_has_call;
+/* The program's call that is recorded. */
+static struct {
+    off_t begin, first_end; /* where its lines begin, and where the first of them ends */
+    int lines;
+    bool failed;
+} call;
 
-static void say(const char *text) {
-    fprintf(stderr, "mpiwait-record: rank %d: %s\n", journal.rank, text);
-}
-
-static int create(const char *folder, const char *name, int rank) {
+int create_text(const char *folder, const char *name, int rank) {
     char path[4096];
     if (snprintf(path, sizeof path, "%s/%s%d", folder, name, rank) >= (int)sizeof path)
         return -1;
     return open(path, O_RDWR | O_CREAT | O_EXCL | O_CLOEXEC, 0666);
 }
 
-/* Maps so many bytes of a file, which are zero. That there is room on the disk is asked before, since a
- * write into memory couldn't answer it. */
-static char *map(int file, off_t start, size_t size) {
+/* That there is room on the disk is asked before, since a write into memory couldn't answer it. */
+char *map_text(int file, long start, unsigned long size) {
     if (posix_fallocate(file, start, size) != 0)
         return NULL;
     char *place = mmap(NULL, size, PROT_READ | PROT_WRITE, MAP_SHARED, file, start);
@@ -53,12 +52,6 @@ static char *map(int file, off_t start, size_t size) {
 }
 
 /* ---- Lines ------------------------------------------------------------------------------------- */
-
-static char *put_text(char *at, const char *text) {
-    while (*text)
-        *at++ = *text++;
-    return at;
-}
 
 static char *put_number(char *at, long long number) {
     char digits[24];
@@ -77,19 +70,21 @@ static char *put_number(char *at, long long number) {
 static char *put_field(char *at, Field field) {
     switch (field) {
     case UNKNOWN: return at;
-    case NULL_PEER: return put_text(at, " null");
-    case ANY: return put_text(at, " any");
-    case UNDEFINED: return put_text(at, " undefined");
+    case NULL_PEER: return stpcpy(at, " null");
+    case ANY: return stpcpy(at, " any");
+    case UNDEFINED: return stpcpy(at, " undefined");
     default: *at++ = ' '; return put_number(at, field);
     }
 }
 
+static off_t place(void) { return journal.start + (journal.at - journal.window); }
+
 /* The next window begins on the page on which the next line does. It is larger, since the run is longer. */
 static bool move_window(void) {
     long page = sysconf(_SC_PAGESIZE);
-    off_t place = journal.start + (journal.at - journal.window), start = place - place % page;
+    off_t next = place(), start = next - next % page;
     size_t size = !journal.window ? FIRST_WINDOW : journal.size < WINDOW ? 2 * journal.size : WINDOW;
-    char *window = map(journal.file, start, size);
+    char *window = map_text(journal.file, start, size);
     if (!window)
         return false;
     if (journal.window)
@@ -97,15 +92,15 @@ static bool move_window(void) {
     journal.window = window;
     journal.start = start;
     journal.size = size;
-    journal.at = window + (place - start);
+    journal.at = window + (next - start);
     return true;
 }
 
 static bool has_room(int fields) {
-    if (!journal.open)
+    if (!journal.is_open)
         return false;
-    if (fields > (LONGEST_LINE - 256) / 24) {
-        journal_stop("a call names more ranks or requests than a line of the journal holds");
+    if (fields > MOST_FIELDS) {
+        journal_stop("a call names more ranks than a line of the journal holds");
         return false;
     }
     if (journal.window + journal.size - journal.at >= LONGEST_LINE + LONGEST_STOP || move_window())
@@ -115,11 +110,11 @@ static bool has_room(int fields) {
 }
 
 static void put_line(const char *word, int count, const Field *fields, int site) {
-    char *at = put_text(journal.at + 1, word + 1);
+    char *at = stpcpy(journal.at + 1, word + 1);
     for (int i = 0; i < count; i++)
         at = put_field(at, fields[i]);
     if (site) {
-        at = put_text(at, " @");
+        at = stpcpy(at, " @");
         at = put_number(at, site);
     }
     *at++ = '\n';
@@ -127,107 +122,140 @@ static void put_line(const char *word, int count, const Field *fields, int site)
     journal.at = at;
 }
 
-void journal_call(const char *word, int count, const Field *fields, int site) {
-    if (journal.full || !has_room(count))
+/* Takes out what was written from a place on, if it is in memory still. */
+static bool cut_from(off_t from) {
+    if (!journal.is_open || from < journal.start)
+        return false;
+    char *cut = journal.window + (from - journal.start);
+    __atomic_store_n(cut, '\0', __ATOMIC_RELEASE);
+    memset(cut, '\0', journal.at - cut);
+    journal.at = cut;
+    return true;
+}
+
+/* ---- Calls ------------------------------------------------------------------------------------- */
+
+static void set_state(char state) { __atomic_store_n(journal.state, state, __ATOMIC_RELEASE); }
+
+static const char no_polls[] = "00000000 00 0000000000000000";
+
+static unsigned long polled;
+
+static void put_digits(char *at, int digits, unsigned long number) {
+    for (int i = digits - 1; i >= 0; i--, number >>= 4)
+        at[i] = "0123456789abcdef"[number & 15];
+}
+
+void journal_polled(Poll poll, int site) {
+    if (!journal.is_open)
         return;
-    journal.full = ++journal.calls > MOST_CALLS;
-    if (journal.full)
+    if (site)
+        put_digits(journal.polls, 8, site);
+    put_digits(journal.polls + 9, 2, poll);
+    put_digits(journal.polls + 12, 16, ++polled);
+}
+
+static void clear_polls(void) {
+    if (polled)
+        memcpy(journal.polls, no_polls, sizeof no_polls - 1);
+    polled = 0;
+}
+
+void journal_begin(void) {
+    call.begin = place();
+    call.lines = 0;
+    call.failed = false;
+}
+
+/* Where there are more calls than a trace holds, the line `full` is in the place of the first one after them. */
+void journal_call(const char *word, int count, const Field *fields, int site) {
+    if (journal_is_full || !has_room(count))
+        return;
+    journal_is_full = ++journal.calls > MOST_CALLS;
+    if (journal_is_full)
         put_line("full", 0, NULL, site);
     else
         put_line(word, count, fields, site);
-    journal_has_call = true;
+    set_state('i');
+    clear_polls();
+    if (call.lines++ == 0)
+        call.first_end = place();
 }
 
 void journal_told(const char *word, int count, const Field *fields) {
-    if (!journal.full && has_room(count))
+    if (!journal_is_full && has_room(count))
         put_line(word, count, fields, 0);
 }
 
-void journal_completed(const char *word, int count, const Field *fields) {
-    if (has_room(count))
-        put_line(word, count, fields, 0);
+void journal_done(int number, Field source, Field tag) {
+    if (has_room(3))
+        put_line("=done", 3, (Field[]){number, source, tag}, 0);
+}
+
+/* Which of several lines failed isn't known: the first says so for all. */
+void journal_failed(void) {
+    if (call.lines == 0 || call.failed || journal_is_full)
+        return;
+    call.failed = true;
+    if (call.lines > 1)
+        cut_from(call.first_end);
+    journal_told("=failed", 0, NULL);
+}
+
+void journal_came_back(void) {
+    if (call.lines > 0)
+        set_state('o');
+    call.lines = 0;
+}
+
+void journal_take_back(void) {
+    if (call.lines > 0 && !journal_is_full && !cut_from(call.begin))
+        journal_failed();
+    journal_came_back();
 }
 
 void journal_stop(const char *why) {
-    if (!journal.open || journal.full)
+    recording = false;
+    if (!journal.is_open || journal_is_full)
         return;
     char line[LONGEST_STOP];
     snprintf(line, sizeof line, "stopped %s", why);
     put_line(line, 0, NULL, 0);
-    journal.open = false;
+    set_state('o');
+    journal.is_open = false;
     fprintf(stderr, "mpiwait-record: rank %d stops recording: %s\n", journal.rank, why);
 }
 
 void journal_close(void) {
-    if (journal.window && ftruncate(journal.file, journal.start + (journal.at - journal.window)) != 0)
-        say("its journal couldn't be cut to its length");
-    journal.open = false;
-}
-
-/* ---- Counts ------------------------------------------------------------------------------------ */
-
-/* One line for each kind, `W 000000000012 MPI_Put`, whose digits are counted up where they stand. */
-static struct {
-    char *text, *end;
-    int kinds;
-    const char *what[128];
-    char *last_digit[128];
-} counts;
-
-static pthread_mutex_t counting = PTHREAD_MUTEX_INITIALIZER;
-
-static void count_up(char *digit) {
-    while (*digit == '9')
-        *digit-- = '0';
-    ++*digit;
-}
-
-/* No kind beyond the room that there is has a line of its own. */
-static int new_kind(Meaning meaning, const char *what) {
-    if (counts.kinds == 128 || counts.end + strlen(what) + DIGITS + 4 > counts.text + COUNTS)
-        return counts.kinds - 1;
-    char *line = counts.end, *at = line + 1;
-    *at++ = ' ';
-    memset(at, '0', DIGITS);
-    counts.what[counts.kinds] = what;
-    counts.last_digit[counts.kinds] = at + DIGITS - 1;
-    at[DIGITS] = ' ';
-    at = put_text(at + DIGITS + 1, what);
-    *at++ = '\n';
-    __atomic_store_n(line, (char)meaning, __ATOMIC_RELEASE);
-    counts.end = at;
-    return counts.kinds++;
-}
-
-void left_out(Meaning meaning, const char *what) {
-    if (!counts.text)
-        return;
-    pthread_mutex_lock(&counting);
-    int kind = 0;
-    while (kind < counts.kinds && counts.what[kind] != what)
-        kind++;
-    if (kind == counts.kinds)
-        kind = new_kind(meaning, what);
-    count_up(counts.last_digit[kind]);
-    pthread_mutex_unlock(&counting);
+    if (journal.is_open && ftruncate(journal.file, place()) != 0)
+        fprintf(stderr, "mpiwait-record: rank %d: its journal couldn't be cut to its length\n", journal.rank);
+    journal.is_open = false;
 }
 
 /* ---- Beginning --------------------------------------------------------------------------------- */
 
-const char *journal_open(const char *folder, int rank, int ranks, const char *library) {
+static bool put_header(const char *id, int ranks, const char *library) {
+    char line[1024];
+    int before = snprintf(line, sizeof line, "journal 2 %d %d %s ", journal.rank, ranks, id);
+    int length = before + snprintf(line + before, sizeof line - before, "o %s polls %s", library, no_polls);
+    journal.state = map_text(journal.file, 0, sysconf(_SC_PAGESIZE));
+    if (length >= (int)sizeof line || !journal.state)
+        return false;
+    journal.polls = journal.state + length - (sizeof no_polls - 1);
+    journal.state += before;
+    put_line(line, 0, NULL, 0);
+    return true;
+}
+
+const char *journal_open(const char *folder, const char *id, int rank, int ranks, const char *library) {
     journal.rank = rank;
-    journal.file = create(folder, "journal", rank);
+    journal.file = create_text(folder, "journal", rank);
     if (journal.file < 0)
         return errno == EEXIST ? "an MPI program before it was recorded in the same folder"
                                : "no journal can be made in the folder that MPIWAIT_JOURNAL names";
-    int file = create(folder, "left", rank);
-    counts.text = counts.end = file < 0 ? NULL : map(file, 0, COUNTS);
-    if (!counts.text || !move_window())
+    const char *why = counts_open(folder, rank);
+    if (why || !move_window() || !put_header(id, ranks, library))
         return "there is no room for its journal";
-    close(file);
-    journal.open = true;
-    char line[256];
-    snprintf(line, sizeof line, "journal 1 %d %d %s", rank, ranks, library);
-    put_line(line, 0, NULL, 0);
+    journal.is_open = true;
     return NULL;
 }

@@ -12,15 +12,11 @@
  */
 #define _GNU_SOURCE
 #include "calls.h"
-#include <pthread.h>
+#include "modules.h"
 #include <stdio.h>
 #include <string.h>
-
-bool recording;
-int here;
-static bool any_thread; /* the library or the program lets one thread call at a time */
-static pthread_t thread;
-__thread int inside __attribute__((tls_model("initial-exec")));
+#include <pthread.h>
+#include <unistd.h>
 
 void *found_in_library(const char *name) {
     void *found = dlsym(RTLD_NEXT, name);
@@ -31,64 +27,48 @@ void *found_in_library(const char *name) {
     return found;
 }
 
-static bool is_recorded_thread(void) { return any_thread || pthread_equal(pthread_self(), thread); }
-
-bool begins(void *caller) {
-    if (!recording || inside > 0)
-        return false;
-    if (!is_recorded_thread()) {
-        left_out(PARTNERS, "calls of another thread than that of MPI_Init");
-        return false;
-    }
-    here = site_of(caller);
-    journal_has_call = false;
-    return true;
-}
-
-int ended(int result) {
-    inside--;
-    if (result != MPI_SUCCESS && recording && inside == 0 && is_recorded_thread())
-        journal_stop(journal_has_call ? "a call answered an error" : "another call answered an error");
-    return result;
-}
-
 /* ---- Calls that are only counted --------------------------------------------------------------- */
 
-/* The Makefile makes this list from the library's own mpi.h: for each such call
- * X(Name, meaning, (parameters), (arguments)). */
-#include "counted.h"
-
-#define X(Name, meaning, params, args) \
+/* The Makefile makes these lists from the library's own mpi.h. Of a call that starts a request, or makes a persistent
+ * one, the request is known all the same. */
+#define COUNT(Name, meaning, params, args, then) \
     int MPI_##Name params { \
         if (BEGINS) \
             left_out(meaning, "MPI_" #Name); \
-        inside++; \
-        int result = REAL(Name) args; \
-        inside--; \
-        return result; \
+        int result = CALL(Name, args); \
+        if (is_recorded() && result == MPI_SUCCESS) { \
+            then; \
+        } \
+        return over(result); \
     } \
     ALSO_PMPI(Name)
+
+#define X(Name, meaning, params, args) COUNT(Name, meaning, params, args, )
 COUNTED(X)
+#undef X
+#define X(Name, meaning, params, args) COUNT(Name, meaning, params, args, started(request, 0))
+COUNTED_STARTS(X)
+#undef X
+#define X(Name, meaning, params, args) COUNT(Name, meaning, params, args, made_persistent(request))
+COUNTED_INITS(X)
 #undef X
 
 /* ---- Beginning and end ------------------------------------------------------------------------- */
 
 #ifdef OPEN_MPI
-static const char library[] = "Open MPI", other_library[] = "libmpich";
+#define TEXT_OF(number) #number
+#define TEXT(number) TEXT_OF(number)
+static const char library[] = "Open MPI", other_library[] = "libmpich.so";
+static const char version[] =
+    "Open MPI " TEXT(OMPI_MAJOR_VERSION) "." TEXT(OMPI_MINOR_VERSION) "." TEXT(OMPI_RELEASE_VERSION);
 #else
 static const char library[] = "MPICH", other_library[] = "libmpi.so.40";
+static const char version[] = "MPICH " MPICH_VERSION;
 #endif
 
 /* A program of the other library would get this library's functions with its own handles. */
 static void refuse_other_library(void) {
-    char line[4096];
-    FILE *maps = fopen("/proc/self/maps", "r");
-    bool there = false;
-    while (maps && fgets(line, sizeof line, maps))
-        there = there || strstr(line, other_library);
-    if (maps)
-        fclose(maps);
-    if (!there)
+    if (!is_loaded(other_library))
         return;
     fprintf(stderr, "mpiwait-record: this is the recorder for %s, and the program loads %s: it can't be run with it\n",
             library, other_library);
@@ -107,66 +87,103 @@ static void not_recorded(const char *folder, int rank, const char *why) {
     }
 }
 
+static pid_t process; /* the one that called MPI_Init */
+
+static const char *open_texts(const char *named, int rank, int ranks, char *folder, unsigned long room) {
+    const char *id, *why = run_open(named, ranks, folder, room, &id);
+    return why ? why : journal_open(folder, id, rank, ranks, version);
+}
+
 static void start(void) {
     int rank, ranks, level;
     MPI_Comm parent;
-    const char *folder = getenv("MPIWAIT_JOURNAL"), *why = NULL;
+    char folder[4096] = "";
+    const char *named = getenv("MPIWAIT_JOURNAL"), *why = NULL;
     REAL(Comm_rank)(MPI_COMM_WORLD, &rank);
     REAL(Comm_size)(MPI_COMM_WORLD, &ranks);
     REAL(Comm_get_parent)(&parent);
-    if (!folder || !*folder)
+    if (!named || !*named)
         why = "the variable MPIWAIT_JOURNAL names no folder";
     else if (parent != MPI_COMM_NULL)
         why = "it was spawned by another run";
     else
-        why = journal_open(folder, rank, ranks, library);
+        why = open_texts(named, rank, ranks, folder, sizeof folder);
     if (why) {
-        not_recorded(folder, rank, why);
+        not_recorded(*folder ? folder : named, rank, why);
         return;
     }
     sites_open(folder, rank);
     REAL(Query_thread)(&level);
-    any_thread = level != MPI_THREAD_MULTIPLE;
-    thread = pthread_self();
+    turns_open(level);
     number_communicators();
+    process = getpid();
+    find_bypasses();
     recording = true;
 }
 
 /* What MPI calls for itself while it begins isn't recorded, as nothing is before `start`. */
-static int initialized(int result, void *caller) {
-    if (result == MPI_SUCCESS)
+static int initialized(int result) {
+    if (result == MPI_SUCCESS && !recording)
         start();
-    if (begins(caller))
-        journal_call("init", 0, NULL, here);
-    return result;
+    if (recording && take_turn())
+        journal_call("init", 0, NULL, site());
+    return over(result);
 }
 
 int MPI_Init(int *argc, char ***argv) {
     refuse_other_library();
-    return initialized(CALL(Init, (argc, argv)), __builtin_return_address(0));
+    BEGINS;
+    return initialized(CALL(Init, (argc, argv)));
 }
 ALSO_PMPI(Init)
 
 int MPI_Init_thread(int *argc, char ***argv, int required, int *provided) {
     refuse_other_library();
-    return initialized(CALL(Init_thread, (argc, argv, required, provided)), __builtin_return_address(0));
+    BEGINS;
+    return initialized(CALL(Init_thread, (argc, argv, required, provided)));
 }
 ALSO_PMPI(Init_thread)
 
 /* From here on nothing is recorded, whatever the program has MPI call at its end. */
 int MPI_Finalize(void) {
     if (BEGINS) {
-        journal_call("finalize", 0, NULL, here);
+        find_bypasses();
+        journal_call("finalize", 0, NULL, site());
         journal_close();
+        recording = false;
     }
-    recording = false;
-    return REAL(Finalize)();
+    return over(CALL(Finalize, ()));
 }
 ALSO_PMPI(Finalize)
 
 int MPI_Abort(MPI_Comm comm, int code) {
-    if (BEGINS)
-        journal_call("abort", 0, NULL, here);
-    return REAL(Abort)(comm, code);
+    if (BEGINS) {
+        journal_call("abort", 0, NULL, site());
+        journal_close();
+        recording = false;
+    }
+    return over(CALL(Abort, (comm, code)));
 }
 ALSO_PMPI(Abort)
+
+/* The program ends without MPI_Finalize. Where a thread is within a call, that never comes back. */
+static void ended(int status, void *none) {
+    (void)status, (void)none;
+    if (!recording || getpid() != process || !nobody_calls())
+        return;
+    find_bypasses();
+    journal_begin();
+    journal_call("exit", 0, NULL, 0);
+    journal_came_back();
+    journal_close();
+    recording = false;
+}
+
+/* A child that the program forks isn't the rank. */
+static void forget(void) { recording = false; }
+
+/* What is asked for before the program begins is called last of all. */
+__attribute__((constructor)) static void load(void) {
+    on_exit(ended, NULL);
+    pthread_atfork(NULL, NULL, forget);
+}

@@ -1,6 +1,5 @@
 /* A hash table with linear probing; at most half of its places are used. See requests.h. */
 #include "requests.h"
-#include <stdio.h>
 #include <stdlib.h>
 
 static Request *places;
@@ -18,19 +17,19 @@ static Request *place_of(uintptr_t handle) {
     return &places[at];
 }
 
-static void grow(void) {
+static bool grow(void) {
     Request *old = places;
-    size_t old_room = room;
-    room = room ? 2 * room : 1024;
-    places = calloc(room, sizeof *places);
-    if (!places) {
-        fputs("mpiwait-record: no memory\n", stderr);
-        abort();
-    }
+    size_t old_room = room, new_room = room ? 2 * room : 1024;
+    Request *new = calloc(new_room, sizeof *new);
+    if (!new)
+        return false;
+    places = new;
+    room = new_room;
     for (size_t i = 0; i < old_room; i++)
         if (old[i].handle != 0)
             *place_of(old[i].handle) = old[i];
     free(old);
+    return true;
 }
 
 Request *requests_find(uintptr_t handle) {
@@ -41,10 +40,11 @@ Request *requests_find(uintptr_t handle) {
 }
 
 Request *requests_add(uintptr_t handle) {
-    if (2 * (used + 1) > room)
-        grow();
+    if (2 * (used + 1) > room && !grow())
+        return NULL;
     Request *new = place_of(handle);
     used += new->handle == 0;
+    free(new->template);
     *new = (Request){.handle = handle};
     return new;
 }
@@ -54,6 +54,7 @@ void requests_remove(uintptr_t handle) {
     Request *found = requests_find(handle);
     if (!found)
         return;
+    free(found->template);
     size_t hole = found - places, mask = room - 1;
     for (size_t at = (hole + 1) & mask; places[at].handle != 0; at = (at + 1) & mask) {
         if (((at - home(places[at].handle)) & mask) >= ((at - hole) & mask)) {

@@ -16,15 +16,22 @@ typedef struct {
 } Template;
 
 typedef struct {
-    uintptr_t handle;   /* 0: no request */
-    int number;         /* in the journal, from 1; 0 where a persistent request isn't started */
-    bool wild;          /* a receive whose source or tag its status will tell */
-    bool cancelled;     /* MPI_Cancel was called for it */
-    Template *template; /* of a persistent request */
+    uintptr_t handle; /* 0: no request */
+    int number;       /* in the journal, from 1; 0 where its call isn't recorded, or a persistent one isn't started */
+    int second;       /* the number of its receive, where the call sends and receives; else 0 */
+    bool active;      /* started, and not known to be complete */
+    bool persistent;
+    bool wild;      /* a receive whose source or tag its status will tell */
+    bool cancelled; /* MPI_Cancel was called for it */
+    Template *template; /* of a persistent one that is recorded */
+    uintptr_t comm;     /* the communicator that it makes, */
+    const void *place;  /* or, as long as that isn't known, where the program will have it */
 } Request;
 
 /* The request of a handle, or NULL. What is found moves with the next `requests_add` or `requests_remove`. */
 Request *requests_find(uintptr_t handle);
+
+/* A request with a new handle, or NULL where there is no memory. */
 Request *requests_add(uintptr_t handle);
 void requests_remove(uintptr_t handle);
 

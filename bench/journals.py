@@ -1,0 +1,709 @@
+#!/usr/bin/env python3
+"""What a run's journals stand for, by definition: a second program to compare `judge` and `close` with.
+
+    journals.py judge [--json] [--eager N] [--tests wait|pass] [--calls strict|went] FOLDER
+    journals.py close [--tests wait|pass] [--calls strict|went] FOLDER OUT
+
+It is no part of the product and shares nothing with it but tools/journal_faults.py, which knows the form of
+journals. It makes the head and the traces rule by rule, in memory and without haste, and has them checked by the
+program that the variable MPIWAIT names, else by the repository's `mpiwait`.
+
+An entry is a call line with the lines after it that begin with `='. Each stands for some lines of the trace, or ends
+the trace by `open' for a reason. The statuses are those of `mpiwait check'.
+"""
+
+import argparse
+import heapq
+import json
+import os
+import subprocess
+import sys
+import tempfile
+from dataclasses import dataclass, field
+from pathlib import Path
+
+HERE = Path(__file__).resolve().parent
+sys.path.append(str(HERE.parent / "tools"))
+
+from journal_faults import Fault, check, header_of, lines_of  # noqa: E402
+
+MOST_LINES = 1_000_000  # of a trace
+MOST_COMMUNICATORS = 4095  # of a head, the world not counted
+MOST_REQUESTS = 64  # of a wait
+
+SENDS = {"send": "send", "rsend": "send", "ssend": "ssend", "bsend": "bsend"}
+STARTED_SENDS = {"isend": "isend", "irsend": "isend", "issend": "issend", "ibsend": "ibsend"}
+COLLECTIVES = {"barrier", "bcast", "gather", "scatter", "reduce", "allgather", "alltoall", "allreduce", "scan", "exscan"}
+STARTED_COLLECTIVES = {"i" + word for word in COLLECTIVES}
+MAKERS = {"comm_dup", "comm_split", "comm_make"}
+IN_WAVES = COLLECTIVES | STARTED_COLLECTIVES | MAKERS | {"comm_idup"}
+# The place of the communicator in the fields of the calls that are on one.
+ON = {
+    **dict.fromkeys(SENDS, 0), **dict.fromkeys(STARTED_SENDS, 1), **dict.fromkeys(COLLECTIVES | MAKERS, 0),
+    **dict.fromkeys(STARTED_COLLECTIVES, 1), "comm_idup": 1, "recv": 0, "irecv": 1, "sendrecv": 0, "isendrecv": 2,
+    "probe": 0, "iprobe": 0, "mprobe": 1, "improbe": 1,
+}  # fmt: skip
+ALWAYS_BACK = {"test", "iprobe", "improbe"}
+OF_OTHER_CALLS = {"=done", "=gone", "=kept", "=apart"}
+
+
+class Named(Exception):
+    """A refusal or a fault: what is said of it, and the status."""
+
+
+# ---- Reading -------------------------------------------------------------------------------------
+
+
+@dataclass
+class Entry:
+    line: int
+    word: str
+    fields: list
+    reports: list = field(default_factory=list)
+    came_back: bool = False
+
+    def reported(self, word):
+        return next((fields for found, *fields in self.reports if found == word), None)
+
+
+@dataclass
+class Journal:
+    """The entries of a rank; the first one stands for what is reported before any call."""
+
+    rank: int
+    is_there: bool
+    entries: list
+
+    def __post_init__(self):
+        reports = [(entry, *report) for entry in self.entries for report in entry.reports]
+        self.done = {fields[0]: fields[1:] for _, word, *fields in reports if word == "=done"}
+        self.gone = {fields[0] for _, word, *fields in reports if word == "=gone"}
+        self.kept = {fields[0] for _, word, *fields in reports if word == "=kept"}
+        self.freed = {entry.fields[0] for entry in self.entries if entry.word == "request_free"}
+        sends = [entry.fields[0] for entry in self.entries if entry.word in STARTED_SENDS or entry.word == "isendrecv"]
+        self.sends = set(sends)
+
+
+def bytes_of(folder, rank):
+    """None of a journal that isn't there."""
+    path = folder / f"journal{rank}"
+    try:
+        with open(path, "rb", buffering=0) as file:
+            return file.read()
+    except FileNotFoundError:
+        if rank > 0 and not os.path.lexists(path):
+            return None
+        raise Named(f"fault open {path}", 4) from None
+    except IsADirectoryError:
+        raise Named(f"fault rank {rank} line 1 E2 read failed", 4) from None
+    except OSError:
+        raise Named(f"fault open {path}", 4) from None
+
+
+def journal_of(data, rank, first):
+    """The journal of a rank; `first` is the header of that of rank 0."""
+    lines = lines_of(data)
+    try:
+        header = header_of(lines)
+        if header[0] != rank or first and header[1:3] != first[1:3]:
+            raise Fault(1, "J1")
+        check(lines, rank, header[1])
+    except Fault as fault:
+        raise Named(f"refused rank {rank} {fault}", 2) from None
+    return header, Journal(rank, True, entries_of(lines, header[3] == b"o"))
+
+
+def entries_of(lines, is_outside):
+    entries = [Entry(1, "init", [])]
+    for number, line in enumerate(lines[1:], 2):
+        word, *fields = line.decode("latin-1").split(" ")
+        if word.startswith("="):
+            entries[-1].reports.append((word, *fields))
+        else:
+            has_site = word != "stopped" and fields and fields[-1].startswith("@")
+            entries.append(Entry(number, word, fields[:-1] if has_site else fields))
+    for entry in entries:
+        entry.came_back = entry.word in ALWAYS_BACK or any(word not in OF_OTHER_CALLS for word, *_ in entry.reports)
+    for entry in entries[:-1]:
+        entry.came_back = True
+    entries[-1].came_back |= is_outside
+    return entries
+
+
+def journals_in(folder):
+    first, found = journal_of(bytes_of(folder, 0), 0, None)
+    journals = [found]
+    for rank in range(1, first[1]):
+        data = bytes_of(folder, rank)
+        absent = Journal(rank, False, [Entry(1, "init", [])])
+        journals.append(absent if data is None else journal_of(data, rank, first)[1])
+    return journals
+
+
+# ---- Communicators -------------------------------------------------------------------------------
+
+
+@dataclass(frozen=True)
+class Key:
+    """How a communicator came to be: two are the same exactly if their keys are equal. `parent` is the place of the
+    parent's key among all keys."""
+
+    way: str  # world, alone, made, idup, group, apart
+    parent: int
+    count: int
+    group: tuple
+
+
+class Communicators:
+    def __init__(self, journals):
+        self.journals = journals
+        ranks = len(journals)
+        self.keys = []  # all of them
+        self.places = {}  # of keys in that list
+        self.world = self._place(Key("world", -1, 0, tuple(range(ranks))))
+        self.local = []  # for each rank, keys by its own numbers
+        self.has = []  # for each rank, keys in the order in which it got them
+        self.named = set()  # by a call other than that which makes it
+        self.waves = {}  # (rank, line) of a call that all members make: the parent and the how-manieth call on it
+        self.told = {}  # (rank, line) of a call that makes one: the key
+        for journal in journals:
+            self._read(journal)
+        self.in_wave = {}  # by parent and number of the call: (rank, key)
+        for (rank, line), key in self.told.items():
+            if self.keys[key].way == "made":
+                self.in_wave.setdefault(self.waves[rank, line], []).append((rank, key))
+        for journal in journals:
+            self._find_untold(journal)
+        self.numbered = [self.world, *self._with_numbers()]
+        self.numbers = {key: number for number, key in enumerate(self.numbered)}
+
+    def _place(self, key):
+        if key not in self.places:
+            self.places[key] = len(self.keys)
+            self.keys.append(key)
+        return self.places[key]
+
+    def group(self, key):
+        return self.keys[key].group
+
+    def number(self, key):
+        return self.numbers.get(key)
+
+    # ---- Which there are ----
+
+    def _read(self, journal):
+        rank = journal.rank
+        alone = self._place(Key("alone", -1, 0, (rank,)))
+        local, has = {0: self.world, 1: alone}, [alone]
+        self.local.append(local)
+        self.has.append(has)
+        counts, idups = {}, {}
+
+        def one_more(*what):
+            counts[what] = counts.get(what, -1) + 1
+            return counts[what]
+
+        def got(key, own=None):
+            has.append(key)
+            if own is not None:
+                local[own] = key
+
+        for entry in journal.entries:
+            place = rank, entry.line
+            if entry.word in ON:
+                parent = local[int(entry.fields[ON[entry.word]])]
+                self.named.add(parent)
+                if entry.word in IN_WAVES:
+                    self.waves[place] = parent, one_more("wave", parent)
+                if entry.word == "comm_idup":
+                    idups[entry.fields[0]] = self.waves[place]
+            if entry.word == "comm_create_group":
+                group = tuple(map(int, entry.fields))
+                self.told[place] = self._place(Key("group", -1, one_more("group", group), group))
+                self.named.add(self.told[place])
+                got(self.told[place])
+            for word, *fields in entry.reports:
+                if word == "=comm" and entry.word == "comm_create_group":
+                    local[int(fields[0])] = self.told[place]
+                elif word == "=comm":
+                    self.told[place] = self._place(Key("made", *self.waves[place], tuple(map(int, fields[1:]))))
+                    got(self.told[place], int(fields[0]))
+                elif word == "=idup":
+                    got(self._place(Key("idup", *idups[fields[1]], tuple(map(int, fields[2:])))), int(fields[0]))
+                elif word == "=apart":
+                    group = tuple(map(int, fields[1:]))
+                    got(self._place(Key("apart", -1, one_more("apart", group), group)), int(fields[0]))
+
+    def _find_untold(self, journal):
+        """A call that never came back may have made the communicator that other ranks report of the same wave."""
+        entry = journal.entries[-1]
+        is_undefined = entry.word == "comm_split" and entry.fields[1] == "undefined"
+        place = journal.rank, entry.line
+        if entry.word in MAKERS and not entry.came_back and not is_undefined:
+            others = sorted(self.in_wave.get(self.waves[place], []))
+            for _, key in others:
+                if journal.rank in self.group(key):
+                    self.told[place] = key
+                    self.has[journal.rank].append(key)
+                    return
+
+    # ---- Numbers ----
+
+    def _with_numbers(self):
+        """The keys with a number, from 1 on: by the lowest rank that has them, and then by when it got them."""
+        wanted = (key for has in self.has for key in has if key in self.named)
+        return list(dict.fromkeys(wanted))[:MOST_COMMUNICATORS]
+
+    def head(self):
+        lines = [f"ranks {len(self.journals)}", *("comm " + spelled(self.group(key)) for key in self.numbered[1:])]
+        return "".join(line + "\n" for line in lines)
+
+    def preface(self, rank):
+        """Its lines at the head of its trace: by them all get the communicators that no call on a parent makes."""
+        lines = []
+        for layer in self._layers():
+            mine = [(colour, key) for colour, key in enumerate(layer) if rank in self.group(key)]
+            for colour, key in mine:
+                lines.append(f"split 0 {colour} {self.group(key).index(rank)} {self.number(key)}")
+            if not mine:
+                lines.append("split 0 undefined 0 none")
+        return lines
+
+    def _layers(self):
+        """Those of the preface, in the order of their numbers: each in the first line without a common member."""
+        layers = []
+        for key in self.numbered[1:]:
+            if self.keys[key].way == "made":
+                continue
+            members = set(self.group(key))
+            for layer in layers:
+                if all(members.isdisjoint(self.group(other)) for other in layer):
+                    layer.append(key)
+                    break
+            else:
+                layers.append([key])
+        return layers
+
+
+def spelled(numbers):
+    return " ".join(map(str, numbers))
+
+
+# ---- What an entry stands for --------------------------------------------------------------------
+
+
+class Left(Exception):
+    """The list ends at this entry, by `open' in its place: why."""
+
+
+class List:
+    """The trace of one rank: its lines, and of which line of the journal each is."""
+
+    def __init__(self, journal, communicators, tests, calls):
+        self.journal, self.communicators = journal, communicators
+        self.passes_tests = tests == "pass" and calls == "strict"
+        self.as_it_went = calls == "went"
+        self.lines, self.places = [], []
+        self.left = None if journal.is_there else (0, "no journal")
+        self.starts = {}  # the request, of the journal, that a place of the trace starts
+        self.same = {}  # the message that a request of `imrecv' stands for
+        self.active = {}  # numbers by request
+        self.free, self.most = [], 0
+        self.late = []  # sends that are waited for at the end
+        self.line = 0
+        try:
+            for text in communicators.preface(journal.rank):
+                self.put(text)
+            last = self.all_entries()
+        except Left as why:
+            self.left = self.line, str(why)
+            last = "open"
+        self.lines.append(last)
+        self.places.append(self.line)
+
+    def all_entries(self):
+        """Puts the lines of each entry. Answers the last line."""
+        for entry in self.journal.entries:
+            self.line = entry.line
+            if entry.word in ENDS:
+                raise Left(ENDS[entry.word])
+            if entry.word in ("finalize", "exit"):
+                self.wait_for(self.late)
+                return "finalize"
+            if entry.reported("=failed") is not None:
+                raise Left("failed")
+            if entry.word in ENTRIES:
+                ENTRIES[entry.word](self, entry)
+        return "open"
+
+    def put(self, *fields):
+        if len(self.lines) == MOST_LINES - 1:
+            raise Left("too long")
+        self.lines.append(spelled(fields))
+        self.places.append(self.line)
+
+    def stands_for_its_start(self, entry):
+        """As it went, a call that came back waits for nothing any more."""
+        return self.as_it_went and entry.came_back
+
+    # ---- Fields ----
+
+    def key(self, field):
+        return self.communicators.local[self.journal.rank][int(field)]
+
+    def can_be(self, comm, peer, tag="0"):
+        """A peer or root is in the group, or nobody; a tag isn't below 0."""
+        size = len(self.communicators.group(self.key(comm)))
+        if peer not in ("null", "any") and not 0 <= int(peer) < size or tag != "any" and int(tag) < 0:
+            raise Left("cannot be")
+
+    def numbered(self, comm):
+        number = self.communicators.number(self.key(comm))
+        if number is None:
+            raise Left("no number")
+        return number
+
+    def message(self, comm, source, tag, reported):
+        """The source and the tag of a receive or probe; None where it has a wildcard and nothing was reported."""
+        self.can_be(comm, source, tag)
+        if source == "null":
+            return ["null", "0" if tag == "any" else tag]
+        if "any" not in (source, tag):
+            return [source, tag]
+        if reported is None:
+            return None
+        message = [known if own == "any" else own for own, known in zip((source, tag), reported)]
+        self.can_be(comm, *message)
+        return message
+
+    # ---- Requests ----
+
+    def start(self, word, request, *fields):
+        """Its request gets the least free number. Nothing stands for one that was cancelled."""
+        if request in self.journal.gone:
+            return
+        if not self.free:
+            heapq.heappush(self.free, self.most)
+            self.most += 1
+        self.starts[len(self.lines)] = request
+        self.put(word, self.free[0], *fields)
+        self.active[request] = heapq.heappop(self.free)
+
+    def standing(self, requests):
+        """Of some requests those that stand, by those that stand for them."""
+        return [self.same.get(request, request) for request in requests if request not in self.journal.gone]
+
+    def wait_for(self, requests):
+        for first in range(0, len(requests), MOST_REQUESTS):
+            some = requests[first : first + MOST_REQUESTS]
+            self.put("wait" if len(some) == 1 else "waitall", *(self.active[request] for request in some))
+            self.complete(some)
+
+    def complete(self, requests):
+        for request in requests:
+            heapq.heappush(self.free, self.active.pop(request))
+
+    # ---- Messages ----
+
+    def send(self, entry):
+        comm, peer, tag, *size = entry.fields
+        self.can_be(comm, peer, tag)
+        self.start_or_put(entry, SENDS[entry.word], self.numbered(comm), peer, tag, *size)
+
+    def start_or_put(self, entry, word, *fields):
+        if self.stands_for_its_start(entry):
+            self.start("i" + word, entry.line, *fields)
+        else:
+            self.put(word, *fields)
+
+    def isend(self, entry):
+        request, comm, peer, tag, *size = entry.fields
+        self.can_be(comm, peer, tag)
+        self.start(STARTED_SENDS[entry.word], request, self.numbered(comm), peer, tag, *size)
+
+    def recv(self, entry):
+        comm, source, tag = entry.fields
+        message = self.message(comm, source, tag, entry.reported("=got"))
+        number = self.numbered(comm)
+        self.came_back_from(message)
+        self.start_or_put(entry, "recv", number, *message)
+
+    def came_back_from(self, message):
+        if message is None:
+            raise Left("never came back")
+
+    def irecv(self, entry):
+        request, comm, source, tag = entry.fields
+        message = self.message(comm, source, tag, self.journal.done.get(request))
+        self.start_receive(request, self.numbered(comm), message)
+
+    def start_receive(self, request, number, message):
+        if message is None and request not in self.journal.gone:
+            raise Left("never told")
+        self.start("irecv", request, number, *(message or ()))
+
+    def sendrecv(self, entry):
+        comm, peer, tag, source, other, *size = entry.fields
+        self.can_be(comm, peer, tag)
+        message = self.message(comm, source, other, entry.reported("=got"))
+        number = self.numbered(comm)
+        self.came_back_from(message)
+        if self.stands_for_its_start(entry):
+            self.start("isend", (entry.line, "send"), number, peer, tag, *size)
+            self.start("irecv", (entry.line, "receive"), number, *message)
+        else:
+            self.put("sendrecv", number, peer, tag, *message, *size)
+
+    def isendrecv(self, entry):
+        sent, received, comm, peer, tag, source, other, *size = entry.fields
+        self.can_be(comm, peer, tag)
+        message = self.message(comm, source, other, self.journal.done.get(received))
+        number = self.numbered(comm)
+        self.start("isend", sent, number, peer, tag, *size)
+        self.start_receive(received, number, message)
+
+    def probe(self, entry):
+        *request, comm, source, tag = entry.fields
+        message = self.message(comm, source, tag, entry.reported("=got"))
+        number = self.numbered(comm)
+        self.came_back_from(message)
+        if not self.stands_for_its_start(entry):
+            self.put("probe", number, *message)
+        if request:
+            self.start("irecv", *request, number, *message)
+
+    def imrecv(self, entry):
+        request, message = entry.fields
+        self.same[request] = message
+
+    # ---- Waits ----
+
+    def wait(self, entry):
+        if not self.stands_for_its_start(entry):
+            self.wait_for(self.standing(entry.fields))
+
+    def test(self, entry):
+        if self.passes_tests:
+            self.late += [request for request in self.standing(entry.fields) if request in self.journal.sends]
+            self.wait_for([request for request in self.standing(entry.fields) if request not in self.journal.sends])
+        else:
+            self.wait(entry)
+
+    def choose(self, entry):
+        chosen = entry.reported("=chose")
+        if chosen is None and len(entry.fields) > 1:
+            raise Left("never came back")
+        if self.stands_for_its_start(entry):
+            return
+        named = self.standing(entry.fields)[:MOST_REQUESTS]
+        wanted = self.standing(chosen or entry.fields)
+        if entry.word == "waitany" and len(entry.fields) > 1 and wanted and wanted[0] in named:
+            self.put("waitany", named.index(wanted[0]), *(self.active[request] for request in named))
+            self.complete(wanted)
+        else:
+            self.wait_for(wanted)
+
+    def cancel(self, entry):
+        request, journal = entry.fields[0], self.journal
+        if request not in journal.gone and request not in journal.kept and request not in journal.done:
+            raise Left("never told")
+
+    # ---- Collectives ----
+
+    def collective(self, entry):
+        comm, *root = entry.fields
+        for rank in root:
+            self.can_be(comm, rank)
+        self.start_or_put(entry, entry.word, self.numbered(comm), *root)
+
+    def start_collective(self, entry):
+        request, comm, *root = entry.fields
+        for rank in root:
+            self.can_be(comm, rank)
+        word = "ibarrier" if entry.word == "comm_idup" else entry.word
+        self.start(word, request, self.numbered(comm), *root)
+
+    def make(self, entry):
+        place, all_of = (self.journal.rank, entry.line), self.communicators
+        parent = self.numbered(entry.fields[0])
+        mine = all_of.told.get(place)
+        number = None if mine is None else all_of.number(mine)
+        _, colour, rank = entry.fields if entry.word == "comm_split" else (None, None, "0")
+        in_wave = all_of.in_wave.get(all_of.waves[place], [])
+        if all(all_of.number(key) is None for _, key in in_wave):
+            self.put("barrier", parent)
+        elif number is None:
+            self.put("split", parent, "undefined", rank, "none")
+        elif entry.word == "comm_split":
+            self.put("split", parent, int(colour) + 2**31 if int(colour) < 0 else colour, rank, number)
+        elif all_of.group(mine) == all_of.group(self.key(entry.fields[0])) or entry.word == "comm_dup":
+            self.put("dup", parent, number)
+        else:
+            group, of_parent = all_of.group(mine), all_of.group(self.key(entry.fields[0]))
+            self.put("split", parent, of_parent.index(group[0]), group.index(self.journal.rank), number)
+
+    def make_of_group(self, entry):
+        number = self.communicators.number(self.communicators.told[self.journal.rank, entry.line])
+        if number is None:
+            raise Left("no number")
+        self.start_or_put(entry, "barrier", number)
+
+
+ENDS = {"stopped": "stopped", "abort": "aborted", "full": "full"}
+ENTRIES = {
+    **dict.fromkeys(SENDS, List.send), **dict.fromkeys(STARTED_SENDS, List.isend), "recv": List.recv,
+    "irecv": List.irecv, "sendrecv": List.sendrecv, "isendrecv": List.isendrecv,
+    **dict.fromkeys(("probe", "iprobe", "mprobe", "improbe"), List.probe), "mrecv": List.wait, "imrecv": List.imrecv,
+    "wait": List.wait, "test": List.test, "waitany": List.choose, "waitsome": List.choose, "cancel": List.cancel,
+    **dict.fromkeys(COLLECTIVES, List.collective),
+    **dict.fromkeys(STARTED_COLLECTIVES | {"comm_idup"}, List.start_collective),
+    **dict.fromkeys(MAKERS, List.make), "comm_create_group": List.make_of_group,
+}  # fmt: skip
+
+
+# ---- The recording and its report ----------------------------------------------------------------
+
+
+class Recording:
+    def __init__(self, words):
+        self.journals = journals_in(words.folder)
+        self.communicators = Communicators(self.journals)
+        self.lists = [List(journal, self.communicators, words.tests, words.calls) for journal in self.journals]
+
+    def write(self, out):
+        try:
+            out.mkdir()
+        except OSError:
+            raise Named(f"fault make {out}", 4) from None
+        try:
+            (out / "head").write_text(self.communicators.head())
+            for rank, one in enumerate(self.lists):
+                (out / f"r{rank}").write_text("".join(line + "\n" for line in one.lines))
+        except OSError:
+            raise Named("fault write", 4) from None
+
+    def checked(self, *words):
+        """What `mpiwait check' says of it."""
+        with tempfile.TemporaryDirectory() as folder:
+            out = Path(folder) / "out"
+            self.write(out)
+            files = [out / "head", *(out / f"r{rank}" for rank in range(len(self.lists)))]
+            program = os.environ.get("MPIWAIT") or str(HERE.parent / "mpiwait")
+            said = subprocess.run([program, "check", *words, *files], capture_output=True, text=True, check=False)
+        if said.returncode not in (0, 1, 5):
+            raise Named((said.stdout + said.stderr).rstrip("\n"), said.returncode)
+        return said.returncode, said.stdout
+
+    def left(self):
+        return [[rank, *one.left] for rank, one in enumerate(self.lists) if one.left]
+
+    def is_of_freed(self, finding):
+        """Whether it is one `request R I Q' whose request the program freed."""
+        kind, *numbers = finding.split(" ")
+        if kind != "request":
+            return False
+        rank, place = map(int, numbers[:2])
+        request, one = self.lists[rank].starts.get(place), self.lists[rank]
+        return bool({request, *(other for other, same in one.same.items() if same == request)} & one.journal.freed)
+
+    # ---- Lines ----
+
+    def lines(self, report):
+        """The places that a report names, each with the line of its entry."""
+        places = set()
+        for stuck in report["ranks"]:
+            rank, at = stuck["rank"], stuck["at"]
+            places |= {(rank, at), *((other, call) for other, call in stuck["needs"] if call is not None)}
+            places |= {(rank, start) for start in self.starts_of(rank, at)}
+        for finding in report["findings"]:
+            places |= self.places_of(finding)
+        return [[rank, at, self.lists[rank].places[at]] for rank, at in sorted(places)]
+
+    def starts_of(self, rank, at):
+        """The starts of the requests that a wait completes."""
+        word, *numbers = self.lists[rank].lines[at].split(" ")
+        if word == "waitany":
+            numbers = [numbers[1 + int(numbers[0])]]
+        if word not in ("wait", "waitall", "waitany"):
+            return
+        for number in numbers:
+            starts = [place for place in self.lists[rank].starts if place < at and self.number_at(rank, place) == number]
+            yield max(starts)
+
+    def number_at(self, rank, place):
+        return self.lists[rank].lines[place].split(" ")[1]
+
+    def places_of(self, finding):
+        kind, *fields = finding.split(" ")
+        if kind not in ("kind", "root"):
+            return {(int(fields[0]), int(fields[1]))}
+        comm, wave, member = map(int, fields[:3])
+        group = self.communicators.group(self.communicators.numbered[comm])
+        return {(rank, self.in_wave(rank, comm, wave)) for rank in (group[0], group[member])}
+
+    def in_wave(self, rank, comm, wave):
+        """The place of a rank's wave-th call, from 0, of those that all members of a communicator make."""
+        calls = (line.split(" ") for line in self.lists[rank].lines)
+        places = [at for at, (word, *fields) in enumerate(calls) if comm_of(word, fields) == str(comm)]
+        return places[wave]
+
+
+def comm_of(word, fields):
+    """The communicator of a line for whose call all members have one."""
+    if word in COLLECTIVES or word in ("dup", "split"):
+        return fields[0]
+    return fields[1] if word in STARTED_COLLECTIVES else None
+
+
+def judge(words):
+    recording = Recording(words)
+    eager = [] if words.eager is None else ["--eager", words.eager]
+    status, said = recording.checked("--json", *eager)
+    report = json.loads(said)
+    findings = [] if words.calls == "went" else [one for one in report["findings"] if not recording.is_of_freed(one)]
+    report["findings"] = findings
+    if words.json:
+        report |= {"left": recording.left(), "lines": recording.lines(report)}
+        print(json.dumps(report, sort_keys=True, separators=(",", ":")))
+    else:
+        lines = [line for line in recording.checked(*eager)[1].splitlines() if not line.startswith("finding ")]
+        lines += [f"finding {one}" for one in findings]
+        lines += ["left " + spelled(one) for one in recording.left()]
+        print("\n".join(lines))
+    return status
+
+
+def close(words):
+    Recording(words).write(words.out)
+    return 0
+
+
+def words_of(argv):
+    parser = argparse.ArgumentParser(description="What a run's journals stand for, by definition.")
+    commands = parser.add_subparsers(dest="command", required=True)
+    for command in (judge, close):
+        sub = commands.add_parser(command.__name__)
+        sub.add_argument("--tests", choices=("wait", "pass"), default="wait")
+        sub.add_argument("--calls", choices=("strict", "went"), default="strict")
+        sub.set_defaults(run=command)
+        if command is judge:
+            sub.add_argument("--json", action="store_true")
+            sub.add_argument("--eager", metavar="N")
+        sub.add_argument("folder", metavar="FOLDER", type=Path)
+        if command is close:
+            sub.add_argument("out", metavar="OUT", type=Path)
+    return parser.parse_args(argv)
+
+
+def main():
+    words = words_of(sys.argv[1:])
+    try:
+        return words.run(words)
+    except Named as named:
+        text, status = named.args
+        print(text, file=sys.stdout if status == 2 else sys.stderr)
+        return status
+
+
+if __name__ == "__main__":
+    sys.exit(main())

@@ -1,0 +1,228 @@
+"""Whether a journal is one: its lines, and what they say of requests, messages and communicators. An unproved
+companion of mpiwait, as all of tools/. A line has at most one fault, the first of WORDS that it has (J6 comes before
+all others); a journal has that of its first line with one.
+"""
+
+import re
+
+MOST_BYTES = 32_768  # of a line, with its line feed
+MOST_RANKS = 1024
+MOST = 2**31 - 1
+
+WORDS = {
+    "J1": "header", "J2": "unknown word", "J3": "number of fields", "J4": "field out of form or range",
+    "J5": "line behind the end", "J6": "line too long", "J7": "told line out of place", "J8": "request",
+    "J9": "communicator", "J10": "group",
+}  # fmt: skip
+
+# The fields of each line, one letter each:
+# q, m: a new request, a new message; r, n: an earlier one, not completed; R: one or more r
+# c: a communicator; C: a new one; W: one or more ranks of the world
+# d: a destination, s: a source; t: a tag, u: one of a receive; o: a root; l, k: a colour, a key; b: bytes, if known
+FORMS = {
+    **dict.fromkeys(("init", "finalize", "abort", "exit", "full"), ""),
+    "send": "cdtb", "isend": "qcdtb", "recv": "csu", "irecv": "qcsu", "sendrecv": "cdtsub", "isendrecv": "qqcdtsub",
+    **dict.fromkeys(("ssend", "bsend", "rsend"), "cdt"), **dict.fromkeys(("issend", "ibsend", "irsend"), "qcdt"),
+    "probe": "csu", "iprobe": "cdt", "mprobe": "mcsu", "improbe": "mcdt", "mrecv": "n", "imrecv": "qn",
+    **dict.fromkeys(("wait", "test", "waitany", "waitsome"), "R"), "cancel": "r", "request_free": "r",
+    **dict.fromkeys(("barrier", "allgather", "alltoall", "allreduce", "scan", "exscan"), "c"),
+    **dict.fromkeys(("ibarrier", "iallgather", "ialltoall", "iallreduce", "iscan", "iexscan", "comm_idup"), "qc"),
+    **dict.fromkeys(("bcast", "gather", "scatter", "reduce"), "co"),
+    **dict.fromkeys(("ibcast", "igather", "iscatter", "ireduce"), "qco"),
+    **dict.fromkeys(("comm_dup", "comm_make", "comm_free"), "c"), "comm_split": "clk", "comm_create_group": "W",
+    "=got": "dt", "=chose": "R", "=done": "rdt", "=gone": "r", "=kept": "r", "=comm": "CW", "=idup": "CrW",
+    "=none": "", "=apart": "CW", "=failed": "",
+}  # fmt: skip
+LOWEST = {**dict.fromkeys("qmrnR", 1), **dict.fromkeys("cCbW", 0), **dict.fromkeys("dstuolk", -(2**31))}
+NAMES = {"d": {"null"}, "s": {"null", "any"}, "u": {"any"}, "l": {"undefined"}}
+HEADER = re.compile(rb"journal 2 (0|[1-9][0-9]{0,3}) ([1-9][0-9]{0,3}) ([^ ]+) ([io]) .+", re.DOTALL)
+NUMBER = re.compile(r"0|-?[1-9][0-9]{0,9}")
+
+# The calls that a line may follow, once each.
+CALLS = set(FORMS) - {word for word in FORMS if word.startswith("=")}
+WAITS, MAKERS = {"wait", "test", "waitany", "waitsome"}, {"comm_dup", "comm_split", "comm_make"}
+FOLLOW = {
+    "=got": {"recv", "sendrecv", "probe", "mprobe"}, "=chose": {"waitany", "waitsome"}, "=idup": WAITS,
+    "=comm": MAKERS | {"comm_create_group"}, "=none": MAKERS,
+    "=failed": CALLS - {"finalize", "abort", "exit", "full", "stopped"},
+}  # fmt: skip
+OUTCOMES = {"=done", "=gone", "=kept"}
+
+
+class Fault(Exception):
+    """A line, from 1, with a code of WORDS."""
+
+    def __str__(self):
+        line, code = self.args
+        return f"line {line} {code} {WORDS[code]}"
+
+
+def lines_of(data):
+    """The whole lines of a journal's bytes: those before its first zero byte."""
+    return data.partition(b"\0")[0].split(b"\n")[:-1]
+
+
+def header_of(lines):
+    """The rank, the number of ranks, the name of the run and the state in a first line."""
+    found = HEADER.fullmatch(lines[0]) if lines else None
+    if lines and len(lines[0]) >= MOST_BYTES:
+        raise Fault(1, "J6")
+    if not found or int(found[2]) > MOST_RANKS:
+        raise Fault(1, "J1")
+    return int(found[1]), int(found[2]), found[3], found[4]
+
+
+def fields_of(line, ranks):
+    """The word and the fields of a line, without its site."""
+    if len(line) >= MOST_BYTES:
+        raise ValueError("J6")
+    word, *fields = line.decode("latin-1").split(" ")
+    if word == "stopped":
+        return word, []
+    if word not in FORMS:
+        raise ValueError("J2")
+    site = fields.pop()[1:] if word in CALLS and fields and fields[-1].startswith("@") else "1"
+    letters = letters_of(word, fields)
+    if len(letters) != len(fields):
+        raise ValueError("J3")
+    if not is_number(site, 1, MOST) or not all(is_formed(*pair, ranks) for pair in zip(letters, fields)):
+        raise ValueError("J4")
+    return word, fields
+
+
+def letters_of(word, fields):
+    """One for each field that there has to be."""
+    letters = FORMS.get(word, "")
+    if letters.endswith("b") and len(fields) < len(letters):
+        return letters[:-1]
+    return letters + letters[-1] * (len(fields) - len(letters)) if letters.endswith(("R", "W")) else letters
+
+
+def is_formed(letter, field, ranks):
+    return field in NAMES.get(letter, ()) or is_number(field, LOWEST[letter], ranks - 1 if letter == "W" else MOST)
+
+
+def is_number(field, low, high):
+    return NUMBER.fullmatch(field) is not None and low <= int(field) <= high
+
+
+def need(is_right, code):
+    if not is_right:
+        raise ValueError(code)
+
+
+class Request:
+    """A request or a message, from the call line that numbers it on."""
+
+    def __init__(self, word, fields, is_message, wildcards):
+        self.is_message = is_message
+        self.parent = fields[1] if word == "comm_idup" else None  # of the communicator that it brings
+        self.has_wildcard = "any" in wildcards and wildcards[0] != "null"
+        self.is_cancelled = self.is_completed = self.has_outcome = self.is_brought = False
+
+
+class Checker:
+    """Takes the lines of one rank's journal after its header."""
+
+    def __init__(self, rank, ranks):
+        self.rank, self.ranks = str(rank), ranks
+        self.groups = {"0": [str(each) for each in range(ranks)], "1": [self.rank]}  # by the rank's own numbers
+        self.requests = {}  # messages too
+        self.word, self.fields, self.reports = "", [], set()  # of the last call line
+        self.completes = []  # what it completes, if it doesn't fail
+
+    def take(self, line):
+        """Raises the code of the line's fault."""
+        word, fields = fields_of(line, self.ranks)
+        need(self.word not in ("finalize", "exit"), "J5")
+        if word.startswith("="):
+            self._report(word, fields)
+        else:
+            self._call(word, fields, letters_of(word, fields))
+
+    # ---- Calls -----------------------------------------------------------------------------------
+
+    def _call(self, word, fields, letters):
+        for request in self.completes:
+            self.requests[request].is_completed |= "=failed" not in self.reports
+        self.word, self.fields, self.reports, self.completes = word, fields, set(), []
+        named = [(letter, field) for letter, field in zip(letters, fields) if letter in "qmrnR"]
+        need(all(self._is_right(*pair) for pair in named), "J8")
+        need(len({field for _, field in named}) == len(named), "J8")
+        need("c" not in letters or fields[letters.index("c")] in self.groups, "J9")
+        need(word != "comm_create_group" or self._is_group(fields, fields), "J10")
+        for letter, field in named:
+            if letter in "qm":
+                wildcards = fields[2:4] if word == "irecv" else fields[5:7] if field != fields[0] else []
+                self.requests[field] = Request(word, fields, letter == "m", wildcards)
+        if word == "cancel":
+            self.requests[fields[0]].is_cancelled = True
+        elif word in WAITS and (word in ("wait", "test") or len(fields) == 1) or word in ("mrecv", "request_free"):
+            self.completes = fields
+        elif word == "imrecv":
+            self.completes = fields[1:]
+
+    def _is_right(self, letter, field):
+        known = self.requests.get(field)
+        if letter in "qm" or known is None:
+            return letter in "qm" and known is None
+        return not known.is_completed and known.is_message == (letter == "n")
+
+    def _is_group(self, group, allowed):
+        return len(set(group)) == len(group) and self.rank in group and set(group) <= set(allowed)
+
+    # ---- What is reported ------------------------------------------------------------------------
+
+    def _report(self, word, fields):
+        named = fields if word == "=chose" else [field for letter, field in zip(FORMS[word], fields) if letter == "r"]
+        known = [(field, self.requests[field]) for field in named if field in self.requests]
+        known = [(field, request) for field, request in known if not request.is_message]
+        need(self._can_have(word, fields) and all(self._fits(word, *pair) for pair in known), "J7")
+        need(len(known) == len(named) == len(set(named)), "J8")
+        if word in ("=comm", "=idup", "=apart"):
+            self._new_communicator(word, fields, known)
+        for _, request in known:
+            request.has_outcome |= word in OUTCOMES
+            request.is_brought |= word == "=idup"
+        if word in FOLLOW and word != "=idup":
+            self.reports.add(word)
+        if word == "=chose":
+            self.completes = fields
+
+    def _can_have(self, word, fields):
+        """Whether the last call can have this line."""
+        if word not in FOLLOW:
+            return True
+        if word == "=comm" and self.word == "comm_split" and self.fields[1] == "undefined":
+            return False
+        once = self.reports & ({"=comm", "=none"} if word in ("=comm", "=none") else {word})
+        is_one = word != "=chose" or self.word != "waitany" or len(fields) == 1
+        return not once and is_one and self.word in FOLLOW[word]
+
+    def _fits(self, word, field, request):
+        """Whether the line can say this of a request; of a call that failed nothing was completed."""
+        if word == "=chose":
+            return field in self.fields
+        if word == "=idup":
+            is_back = field in self.completes and "=failed" not in self.reports
+            return request.parent is not None and is_back and not request.is_brought
+        return (request.has_wildcard if word == "=done" else request.is_cancelled) and not request.has_outcome
+
+    def _new_communicator(self, word, fields, known):
+        group = fields[2:] if word == "=idup" else fields[1:]
+        need(fields[0] not in self.groups, "J9")
+        is_of_group = word == "=comm" and self.word == "comm_create_group"
+        need(not is_of_group or group == self.fields, "J10")
+        parent = known[0][1].parent if word == "=idup" else "0" if word == "=apart" or is_of_group else self.fields[0]
+        need(self._is_group(group, self.groups[parent]), "J10")
+        self.groups[fields[0]] = group
+
+
+def check(lines, rank, ranks):
+    """Takes the lines of a journal after its header. Raises its first fault."""
+    checker = Checker(rank, ranks)
+    for number, line in enumerate(lines[1:], 2):
+        try:
+            checker.take(line)
+        except ValueError as code:
+            raise Fault(number, str(code)) from None

@@ -1,0 +1,82 @@
+/* Counts the calls that no line of a journal says. See journal.h. */
+#define _GNU_SOURCE
+#include "journal.h"
+#include <pthread.h>
+#include <string.h>
+#include <unistd.h>
+
+enum {
+    ROOM = 1 << 14, /* bytes of the text */
+    KINDS = 128,    /* of these the last three are for calls beyond the room that there is */
+    DIGITS = 12,
+    OTHERS_ROOM = 128
+};
+
+/* One line for each kind, `W 000000000012 MPI_Put`, whose digits are counted up where they stand. */
+static struct {
+    char *text, *end;
+    int kinds;
+    struct {
+        Meaning meaning;
+        const char *what;
+        char *last_digit;
+    } kind[KINDS];
+} counts;
+
+static const char others[] = "other calls";
+static pthread_mutex_t counting = PTHREAD_MUTEX_INITIALIZER;
+
+static void count_up(char *digit) {
+    while (*digit == '9')
+        *digit-- = '0';
+    ++*digit;
+}
+
+static int find_kind(Meaning meaning, const char *what) {
+    int kind = 0;
+    while (kind < counts.kinds && (counts.kind[kind].what != what || counts.kind[kind].meaning != meaning))
+        kind++;
+    return kind;
+}
+
+static bool has_room(const char *what) {
+    char *most = counts.text + ROOM - OTHERS_ROOM;
+    return what == others || (counts.kinds < KINDS - 3 && counts.end + strlen(what) + DIGITS + 4 < most);
+}
+
+static int new_kind(Meaning meaning, const char *what) {
+    char *line = counts.end, *at = line + 2;
+    line[1] = ' ';
+    memset(at, '0', DIGITS);
+    counts.kind[counts.kinds].meaning = meaning;
+    counts.kind[counts.kinds].what = what;
+    counts.kind[counts.kinds].last_digit = at + DIGITS - 1;
+    at[DIGITS] = ' ';
+    at = stpcpy(at + DIGITS + 1, what);
+    *at++ = '\n';
+    __atomic_store_n(line, (char)meaning, __ATOMIC_RELEASE);
+    counts.end = at;
+    return counts.kinds++;
+}
+
+void left_out(Meaning meaning, const char *what) {
+    if (!counts.text)
+        return;
+    pthread_mutex_lock(&counting);
+    int kind = find_kind(meaning, what);
+    if (kind == counts.kinds && !has_room(what))
+        kind = find_kind(meaning, what = others);
+    if (kind == counts.kinds)
+        kind = new_kind(meaning, what);
+    count_up(counts.kind[kind].last_digit);
+    pthread_mutex_unlock(&counting);
+}
+
+const char *counts_open(const char *folder, int rank) {
+    int file = create_text(folder, "left", rank);
+    char *text = file < 0 ? NULL : map_text(file, 0, ROOM);
+    if (file >= 0)
+        close(file);
+    counts.text = counts.end = text;
+    return text ? NULL : "there is no room for its journal";
+}

@@ -1,0 +1,26 @@
+/* The modules that the process has loaded. */
+#ifndef MPIWAIT_MODULES_H
+#define MPIWAIT_MODULES_H
+
+#include <stdbool.h>
+
+/* None of these is seen by the program. */
+#pragma GCC visibility push(hidden)
+
+/* Whose code is at an address: the program's, the MPI library's with its bindings, or that of another tool, which stands
+ * between the two. */
+typedef enum { OF_PROGRAM = 1, OF_MPI, OF_TOOL } Owner;
+Owner module_of(const void *address);
+
+/* Whether a library with a name that begins so is loaded. */
+bool is_loaded(const char *name);
+
+/* Counts each module of the program's whose calls of MPI don't lead to the recorder but to the library itself. */
+void find_bypasses(void);
+
+/* The same, if modules were loaded since. */
+void find_new_bypasses(void);
+
+#pragma GCC visibility pop
+
+#endif

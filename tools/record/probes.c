@@ -1,0 +1,138 @@
+/* Probes, and the messages that they take. See calls.h. */
+#define _GNU_SOURCE
+#include "messages.h"
+
+/* The messages that MPI_Mprobe took and no receive got yet. */
+static struct {
+    MPI_Message handle;
+    int number;
+} *messages;
+static int message_count, message_room;
+
+/* A number of 0 is that of a message that isn't recorded. */
+static void keep_message(MPI_Message handle, int number) {
+    if (message_count == message_room) {
+        int room = message_room ? 2 * message_room : 64;
+        void *more = realloc(messages, room * sizeof *messages);
+        if (!more) {
+            journal_stop("there is no memory for its messages");
+            return;
+        }
+        messages = more;
+        message_room = room;
+    }
+    messages[message_count].handle = handle;
+    messages[message_count++].number = number;
+}
+
+/* Takes a message out: its number, or 0. All from MPI_PROC_NULL have one handle, and are alike. */
+static int take_message(MPI_Message handle) {
+    for (int i = message_count - 1; i >= 0; i--) {
+        if (messages[i].handle != handle)
+            continue;
+        int number = messages[i].number;
+        messages[i] = messages[--message_count];
+        if (number)
+            return number;
+        break;
+    }
+    if (handle != MPI_MESSAGE_NO_PROC)
+        left_out(WAITS, "MPI_Mrecv of messages that aren't recorded");
+    return 0;
+}
+
+/* ---- Probes ------------------------------------------------------------------------------------ */
+
+int MPI_Probe(int source, int tag, MPI_Comm comm, MPI_Status *status) {
+    MPI_Status mine, *told = status == MPI_STATUS_IGNORE ? &mine : status;
+    int number = BEGINS ? numbered(comm, unnumbered) : UNNUMBERED;
+    if (number != UNNUMBERED)
+        PUT("probe", number, sender(source), tag_of_receive(tag));
+    int result = CALL(Probe, (source, tag, comm, number == UNNUMBERED ? status : told));
+    tell_message(number, result, told);
+    return over(result);
+}
+ALSO_PMPI(Probe)
+
+int MPI_Mprobe(int source, int tag, MPI_Comm comm, MPI_Message *message, MPI_Status *status) {
+    MPI_Status mine, *told = status == MPI_STATUS_IGNORE ? &mine : status;
+    int number = BEGINS ? numbered(comm, unnumbered) : UNNUMBERED;
+    int taken = number == UNNUMBERED ? 0 : new_number();
+    if (taken)
+        PUT("mprobe", taken, number, sender(source), tag_of_receive(tag));
+    int result = CALL(Mprobe, (source, tag, comm, message, number == UNNUMBERED ? status : told));
+    tell_message(number, result, told);
+    if (is_recorded() && result == MPI_SUCCESS)
+        keep_message(*message, taken);
+    return over(result);
+}
+ALSO_PMPI(Mprobe)
+
+/* What a probe found that doesn't wait; of MPI_PROC_NULL nobody's message. */
+static Field tag_found(const MPI_Status *status) { return status->MPI_SOURCE == MPI_PROC_NULL ? 0 : status->MPI_TAG; }
+
+int MPI_Iprobe(int source, int tag, MPI_Comm comm, int *found, MPI_Status *status) {
+    MPI_Status mine, *told = status == MPI_STATUS_IGNORE ? &mine : status;
+    int number = BEGINS ? numbered(comm, unnumbered) : UNNUMBERED;
+    int result = CALL(Iprobe, (source, tag, comm, found, number == UNNUMBERED ? status : told));
+    if (number == UNNUMBERED || result != MPI_SUCCESS || !is_recorded())
+        return over(result);
+    if (*found) {
+        PUT("iprobe", number, receiver(told->MPI_SOURCE), tag_found(told));
+    } else {
+        left_out(NOTHING, "MPI_Iprobe, found nothing");
+        journal_polled(IPROBE, site());
+    }
+    return over(result);
+}
+ALSO_PMPI(Iprobe)
+
+int MPI_Improbe(int source, int tag, MPI_Comm comm, int *found, MPI_Message *message, MPI_Status *status) {
+    MPI_Status mine, *told = status == MPI_STATUS_IGNORE ? &mine : status;
+    int number = BEGINS ? numbered(comm, unnumbered) : UNNUMBERED;
+    int result = CALL(Improbe, (source, tag, comm, found, message, number == UNNUMBERED ? status : told));
+    if (result != MPI_SUCCESS || !is_recorded())
+        return over(result);
+    if (*found) {
+        int taken = number == UNNUMBERED ? 0 : new_number();
+        if (taken)
+            PUT("improbe", taken, number, receiver(told->MPI_SOURCE), tag_found(told));
+        keep_message(*message, taken);
+    } else if (number != UNNUMBERED) {
+        left_out(NOTHING, "MPI_Improbe, found nothing");
+        journal_polled(IMPROBE, site());
+    }
+    return over(result);
+}
+ALSO_PMPI(Improbe)
+
+/* ---- Receives of messages ---------------------------------------------------------------------- */
+
+#define MRECV(Name, Count) \
+    int MPI_##Name(void *data, Count count, MPI_Datatype type, MPI_Message *message, MPI_Status *status) { \
+        int taken = BEGINS ? take_message(*message) : 0; \
+        if (taken) \
+            PUT("mrecv", taken); \
+        return over(CALL(Name, (data, count, type, message, status))); \
+    } \
+    ALSO_PMPI(Name)
+
+#define IMRECV(Name, Count) \
+    int MPI_##Name(void *data, Count count, MPI_Datatype type, MPI_Message *message, MPI_Request *handle) { \
+        int taken = BEGINS ? take_message(*message) : 0, request = taken ? new_number() : 0; \
+        if (request) \
+            PUT("imrecv", request, taken); \
+        int result = CALL(Name, (data, count, type, message, handle)); \
+        if (is_recorded() && result == MPI_SUCCESS) \
+            started(handle, request); \
+        return over(result); \
+    } \
+    ALSO_PMPI(Name)
+
+MRECV(Mrecv, int)
+IMRECV(Imrecv, int)
+
+#ifdef HAS_Mrecv_c
+MRECV(Mrecv_c, MPI_Count)
+IMRECV(Imrecv_c, MPI_Count)
+#endif

@@ -1,0 +1,187 @@
+/* Which run a process belongs to, and the folder for its journals. See journal.h.
+ *
+ * The ID is had without communication: a broadcast in MPI_Init would take part in the program's own collective calls
+ * of a rank that has no recorder, and hang, or be taken for one of them. It is a hash of what the launcher gives to
+ * each process of the run and to no other run: PMIx's namespace, the port of Hydra's mpiexec, the job of PMI, the
+ * step of SLURM. Where there is none of these, a run of one rank has its process's number and time. All other runs
+ * share one ID, which the first process claims; so the second such run in one folder isn't recorded, and that is said.
+ */
+#define _GNU_SOURCE
+#include "journal.h"
+#include <errno.h>
+#include <fcntl.h>
+#include <stdint.h>
+#include <stdio.h>
+#include <stdlib.h>
+#include <string.h>
+#include <sys/stat.h>
+#include <time.h>
+#include <unistd.h>
+
+enum { LONGEST_ID = 40, MOST_ANCESTORS = 32 };
+static const char claimed[] = "claimed-";
+
+static uint64_t hash_of(const char *text) {
+    uint64_t hash = 0xcbf29ce484222325u;
+    while (*text)
+        hash = (hash ^ (unsigned char)*text++) * 0x100000001b3u;
+    return hash;
+}
+
+/* ---- What the launchers give ------------------------------------------------------------------- */
+
+static const char *of_variables(const char *first, const char *second, char *text, size_t room) {
+    const char *one = getenv(first), *two = second ? getenv(second) : "";
+    if (!one || !*one || !two)
+        return NULL;
+    snprintf(text, room, "%s %s", one, two);
+    return text;
+}
+
+/* An Open MPI's namespace is 16 bits of a hash: the address of its mpirun makes it unlike others. */
+static const char *of_pmix(char *text, size_t room) {
+    const char *found = of_variables("PMIX_NAMESPACE", "OMPI_MCA_orte_hnp_uri", text, room);
+    return found ? found : of_variables("PMIX_NAMESPACE", NULL, text, room);
+}
+
+static long parent_of(long process) {
+    char path[64], text[1024];
+    long parent = 0;
+    snprintf(path, sizeof path, "/proc/%ld/stat", process);
+    FILE *file = fopen(path, "re");
+    if (!file)
+        return 0;
+    text[fread(text, 1, sizeof text - 1, file)] = '\0';
+    fclose(file);
+    const char *behind = strrchr(text, ')'); /* the name before it may have any byte */
+    return behind && sscanf(behind + 1, " %*c %ld", &parent) == 1 ? parent : 0;
+}
+
+/* The word after `--control-port` of a command of Hydra's proxy; its words end with zero bytes. */
+static const char *port_in(const char *command, size_t length) {
+    const char *end = command + length;
+    if (!strstr(command, "hydra_pmi_proxy"))
+        return NULL;
+    for (const char *word = command; word < end; word += strlen(word) + 1)
+        if (strcmp(word, "--control-port") == 0 && word + strlen(word) + 1 < end)
+            return word + strlen(word) + 1;
+    return NULL;
+}
+
+/* Each machine's proxy of Hydra is an ancestor of its ranks, and has the address of the run's mpiexec. */
+static const char *of_hydra(char *text, size_t room) {
+    long process = getpid();
+    for (int i = 0; i < MOST_ANCESTORS && process > 1; i++) {
+        char path[64], command[4096];
+        process = parent_of(process);
+        snprintf(path, sizeof path, "/proc/%ld/cmdline", process);
+        FILE *file = fopen(path, "re");
+        if (!file)
+            return NULL;
+        size_t length = fread(command, 1, sizeof command - 1, file);
+        fclose(file);
+        command[length] = '\0';
+        const char *port = port_in(command, length);
+        if (port)
+            return snprintf(text, room, "%s", port), text;
+    }
+    return NULL;
+}
+
+static const char *of_one_rank(int ranks, char *text, size_t room) {
+    char host[256] = "";
+    struct timespec now;
+    if (ranks != 1)
+        return NULL;
+    gethostname(host, sizeof host - 1);
+    clock_gettime(CLOCK_REALTIME, &now);
+    snprintf(text, room, "%s %ld %ld.%09ld", host, (long)getpid(), (long)now.tv_sec, now.tv_nsec);
+    return text;
+}
+
+/* Whether the launcher gives an ID. The first that does is asked; MPICH's own comes first for MPICH's programs, since
+ * they may be run by a program of the other library's mpirun. */
+static bool give_id(int ranks, char id[LONGEST_ID]) {
+    char text[4096];
+    const char *kind, *found;
+#ifdef OPEN_MPI
+    if ((found = of_pmix(text, sizeof text)))
+        kind = "pmix";
+    else if ((found = of_hydra(text, sizeof text)))
+        kind = "hydra";
+#else
+    if ((found = of_hydra(text, sizeof text)))
+        kind = "hydra";
+    else if ((found = of_pmix(text, sizeof text)))
+        kind = "pmix";
+#endif
+    else if ((found = of_variables("PMI_JOBID", NULL, text, sizeof text)))
+        kind = "pmi";
+    else if ((found = of_variables("SLURM_JOB_ID", "SLURM_STEP_ID", text, sizeof text)))
+        kind = "slurm";
+    else if ((found = of_one_rank(ranks, text, sizeof text)))
+        kind = "alone";
+    else
+        return false;
+    snprintf(id, LONGEST_ID, "%s-%016llx", kind, (unsigned long long)hash_of(found));
+    return true;
+}
+
+/* ---- The folder -------------------------------------------------------------------------------- */
+
+/* The file `run` is made whole or not at all, by one process alone, on file systems of several machines too. Where
+ * there are no links a rename that replaces nothing does it. */
+static bool put_in_place(const char *from, const char *to) {
+    if (link(from, to) == 0 || errno == EEXIST)
+        return true;
+    return renameat2(AT_FDCWD, from, AT_FDCWD, to, RENAME_NOREPLACE) == 0 || errno == EEXIST;
+}
+
+static bool claim(const char *folder, const char *id) {
+    char mine[4096], path[4096], host[64] = "";
+    gethostname(host, sizeof host - 1);
+    snprintf(mine, sizeof mine, "%s/.run-%s-%ld", folder, host, (long)getpid());
+    if (snprintf(path, sizeof path, "%s/run", folder) >= (int)sizeof path)
+        return false;
+    FILE *file = fopen(mine, "wxe");
+    if (!file)
+        return false;
+    bool written = fprintf(file, "%s\n", id) > 0;
+    written = fclose(file) == 0 && written && put_in_place(mine, path);
+    unlink(mine);
+    return written;
+}
+
+/* The ID of the run that has the folder; whether it could be read. */
+static bool read_claim(const char *folder, char id[LONGEST_ID]) {
+    char path[4096];
+    snprintf(path, sizeof path, "%s/run", folder);
+    FILE *file = fopen(path, "re");
+    bool found = file && fgets(id, LONGEST_ID, file);
+    if (file)
+        fclose(file);
+    if (found)
+        id[strcspn(id, "\n")] = '\0';
+    return found && *id;
+}
+
+const char *run_open(const char *named, int ranks, char *folder, unsigned long room, const char **id) {
+    static char mine[LONGEST_ID];
+    char first[LONGEST_ID] = "";
+    static const char wrong[] = "no journal can be made in the folder that MPIWAIT_JOURNAL names";
+    bool is_given = give_id(ranks, mine);
+    if (!is_given)
+        snprintf(mine, sizeof mine, "%s%lx", claimed, (long)getpid());
+    *id = mine;
+    if (!read_claim(named, first) && !(claim(named, mine) && read_claim(named, first)))
+        return wrong;
+    if (!is_given && strncmp(first, claimed, strlen(claimed)) == 0)
+        strcpy(mine, first);
+    else if (!is_given)
+        snprintf(mine, sizeof mine, "%s0", claimed);
+    if (strcmp(first, mine) == 0)
+        return snprintf(folder, room, "%s", named) < (int)room ? NULL : wrong;
+    if (snprintf(folder, room, "%s/run-%s", named, mine) >= (int)room)
+        return wrong;
+    return mkdir(folder, 0777) == 0 || errno == EEXIST ? NULL : wrong;
+}

@@ -1,0 +1,109 @@
+/* Requests, as they are started, freed and cancelled. See calls.h. */
+#define _GNU_SOURCE
+#include "calls.h"
+
+int new_number(void) {
+    static int last;
+    return journal_is_full ? 0 : ++last;
+}
+
+static int query_done(void *told, MPI_Status *status) {
+    int error = status->MPI_ERROR; /* which the library sets by itself */
+    *status = *(MPI_Status *)told;
+    status->MPI_ERROR = error;
+    return MPI_SUCCESS;
+}
+
+static int free_done(void *told) { return free(told), MPI_SUCCESS; }
+
+static int cancel_done(void *none, int complete) { return (void)none, (void)complete, MPI_SUCCESS; }
+
+/* Libraries give one handle to all calls that are done at once. The program then gets a completed
+ * request of its own instead, so that its later wait tells which call it is for. */
+static bool make_distinct(MPI_Request *handle) {
+    MPI_Status *told = calloc(1, sizeof *told); /* of what it isn't told the library may write nothing */
+    if (!told)
+        return false;
+    REAL(Wait)(handle, told);
+    REAL(Grequest_start)(query_done, free_done, cancel_done, told, handle);
+    REAL(Grequest_complete)(*handle);
+    return true;
+}
+
+static bool is_done(MPI_Request handle) {
+    int done = 0;
+    int result = REAL(Request_get_status)(handle, &done, MPI_STATUS_IGNORE);
+    return result == MPI_SUCCESS && done;
+}
+
+static Request *added(MPI_Request handle) {
+    Request *request = requests_add(bits(handle));
+    if (!request)
+        journal_stop("there is no memory for its requests");
+    return request;
+}
+
+/* A handle that is known already may also be new again: the wait for the old call wasn't seen, or answered an error. */
+Request *started(MPI_Request *handle, int number) {
+    if (requests_find(bits(*handle)) && is_done(*handle) && !make_distinct(handle)) {
+        journal_stop("there is no memory for its requests");
+        return NULL;
+    }
+    Request *request = added(*handle);
+    if (request) {
+        request->number = number;
+        request->active = true;
+    }
+    return request;
+}
+
+void made_persistent(MPI_Request *handle) {
+    Request *request = added(*handle);
+    if (request)
+        request->persistent = true;
+}
+
+/* ---- Generalized requests, whose end the program tells itself ---------------------------------- */
+
+int MPI_Grequest_start(MPI_Grequest_query_function *query, MPI_Grequest_free_function *release,
+                       MPI_Grequest_cancel_function *cancel, void *state, MPI_Request *handle) {
+    BEGINS_QUIETLY;
+    int result = CALL(Grequest_start, (query, release, cancel, state, handle));
+    if (is_recorded() && result == MPI_SUCCESS)
+        started(handle, 0);
+    return over(result);
+}
+ALSO_PMPI(Grequest_start)
+
+/* ---- Free and cancel --------------------------------------------------------------------------- */
+
+/* A line for each number that a request has. */
+static void put_each(const char *word, const Request *request) {
+    if (!request->active || !request->number)
+        return;
+    PUT(word, request->number);
+    if (request->second)
+        PUT(word, request->second);
+}
+
+int MPI_Request_free(MPI_Request *handle) {
+    uintptr_t freed = BEGINS_QUIETLY ? bits(*handle) : 0;
+    Request *request = requests_find(freed);
+    if (request)
+        put_each("request_free", request);
+    int result = CALL(Request_free, (handle));
+    if (freed && is_recorded() && result == MPI_SUCCESS)
+        requests_remove(freed);
+    return over(result);
+}
+ALSO_PMPI(Request_free)
+
+int MPI_Cancel(MPI_Request *handle) {
+    Request *request = BEGINS_QUIETLY ? requests_find(bits(*handle)) : NULL;
+    if (request && request->active && request->number) {
+        request->cancelled = true;
+        put_each("cancel", request);
+    }
+    return over(CALL(Cancel, (handle)));
+}
+ALSO_PMPI(Cancel)

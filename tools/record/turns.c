@@ -1,0 +1,201 @@
+/* When a call of the program begins and comes back, and in which thread. See calls.h. */
+#define _GNU_SOURCE
+#include "calls.h"
+#include "modules.h"
+#include <pthread.h>
+
+/* What this thread is in: how many of our functions, since what a library calls for itself isn't the program's; the frame
+ * of the outermost of them, and where it was called; the turn that it has or had last; and the site of the call, or -1
+ * as long as nobody asked for it. */
+static __thread Thread own __attribute__((tls_model("initial-exec")));
+
+/* Who has the turn; 0: nobody. */
+static struct {
+    unsigned long now, last;
+    bool is_of_first; /* of the thread of MPI_Init */
+} turn;
+
+static pthread_mutex_t lock = PTHREAD_MUTEX_INITIALIZER;
+static pthread_t first;
+static bool several; /* threads may call at once */
+static bool alone;   /* and did: calls of the thread of MPI_Init alone are recorded from then on */
+
+static void take_lock(void) {
+    pthread_mutex_lock(&lock);
+    own.is_locked = true;
+}
+
+static void give_lock(void) {
+    own.is_locked = false;
+    pthread_mutex_unlock(&lock);
+}
+
+static bool has_turn(void) { return own.turn != 0 && __atomic_load_n(&turn.now, __ATOMIC_RELAXED) == own.turn; }
+
+bool is_recorded(void) { return own.inside == 1 && has_turn(); }
+
+int site(void) {
+    if (own.site < 0)
+        own.site = site_of(own.caller);
+    return own.site;
+}
+
+void turns_open(int level) {
+    several = level == MPI_THREAD_MULTIPLE;
+    first = pthread_self();
+}
+
+bool nobody_calls(void) { return __atomic_load_n(&turn.now, __ATOMIC_ACQUIRE) == 0; }
+
+/* ---- Calls of several threads ------------------------------------------------------------------ */
+
+static const char other_threads[] = "calls of another thread than that of MPI_Init";
+
+/* Another thread is in a call. That one's lines are taken out, as the order of two calls at once isn't known. */
+static void two_at_once(void) {
+    if (!turn.is_of_first || !several) {
+        journal_take_back();
+        turn.now = 0;
+    }
+    if (!several)
+        journal_stop("two threads called MPI at once");
+    else if (!alone)
+        left_out(PARTNERS, other_threads);
+    alone = several;
+}
+
+static bool may_have_turn(void) {
+    bool is_first = pthread_equal(pthread_self(), first);
+    if (turn.now != 0 && turn.now != own.turn && !(alone && !is_first))
+        two_at_once();
+    if (alone && !is_first)
+        left_out(PARTNERS, other_threads);
+    return recording && (is_first || !alone);
+}
+
+bool take_turn(void) {
+    take_lock();
+    if (!recording || !may_have_turn()) {
+        give_lock();
+        return false;
+    }
+    own.turn = turn.now = ++turn.last;
+    turn.is_of_first = pthread_equal(pthread_self(), first);
+    own.site = -1;
+    journal_begin();
+    return true;
+}
+
+static void end_turn(void) {
+    journal_came_back();
+    __atomic_store_n(&turn.now, 0, __ATOMIC_RELEASE);
+    give_lock();
+}
+
+/* ---- Calls ------------------------------------------------------------------------------------- */
+
+/* Where a call of the recorder's returns to is next to its frame. */
+#if defined __x86_64__ || defined __aarch64__
+static bool is_overwritten(void) { return own.frame[1] != own.caller; }
+#else
+static bool is_overwritten(void) { return false; }
+#endif
+
+/* Whether the call that this thread is in was left by a jump or an exception: another begins above it on the stack, or
+ * over it, where more is on the stack for its arguments. */
+static bool was_left(const void *caller, void **frame) {
+    return frame >= own.frame || (is_overwritten() && module_of(caller) != OF_MPI);
+}
+
+/* What a call did that was left isn't known. */
+static void forget_call(void) {
+    own.inside = 0;
+    if (!has_turn())
+        return;
+    if (!own.is_locked)
+        take_lock();
+    journal_failed();
+    end_turn();
+}
+
+bool begins_quietly(void *caller, void *frame) {
+    if (own.inside > 0 && was_left(caller, frame))
+        forget_call();
+    if (own.inside++ > 0)
+        return false;
+    own.frame = frame;
+    own.caller = caller;
+    return recording && take_turn();
+}
+
+bool begins(void *caller, void *frame) {
+    if (begins_quietly(caller, frame))
+        return true;
+    if (own.inside > 1 && recording && has_turn() && module_of(caller) != OF_MPI)
+        left_out(PARTNERS, "calls of functions of the program that MPI called");
+    return false;
+}
+
+void leave_recorder(void) {
+    if (own.inside == 1 && own.is_locked)
+        give_lock();
+}
+
+void enter_recorder(void) {
+    if (!is_recorded())
+        return;
+    take_lock();
+    if (!has_turn())
+        give_lock();
+}
+
+int over(int result) {
+    if (is_recorded()) {
+        if (result != MPI_SUCCESS)
+            journal_failed();
+        end_turn();
+    }
+    own.inside--;
+    return result;
+}
+
+/* ---- Error handlers ---------------------------------------------------------------------------- */
+
+/* Gets the lock, as long as this thread has the turn: another may wait within MPI for what this one has there. */
+static bool take_lock_of_turn(void) {
+    while (!own.is_locked && pthread_mutex_trylock(&lock) != 0)
+        if (!has_turn())
+            return false;
+    own.is_locked = true;
+    return has_turn();
+}
+
+/* What the handler calls is recorded as all else. */
+Thread leave_by_error(void) {
+    Thread before = own;
+    if (has_turn() && take_lock_of_turn()) {
+        journal_failed();
+        end_turn();
+    } else {
+        before.turn = 0;
+        if (own.is_locked)
+            give_lock();
+    }
+    own.inside = 0;
+    return before;
+}
+
+/* The call goes on to its end, but its lines are complete. */
+void come_back_to_error(Thread before) {
+    own = before;
+    own.is_locked = false;
+    if (before.turn == 0)
+        return;
+    take_lock();
+    if (recording && turn.now == 0) {
+        turn.now = own.turn;
+        journal_begin();
+    }
+    if (!before.is_locked)
+        give_lock();
+}
