@@ -160,6 +160,47 @@ class Zsh(unittest.TestCase):
         self.assertEqual(re.findall(r"^        '([a-z]+):", script, re.M), COMMANDS)
 
 
+class Script(unittest.TestCase):
+    """The script before the program, with a program that tells its words and ends with status 5."""
+
+    def setUp(self):
+        folder = tempfile.TemporaryDirectory()
+        self.addCleanup(folder.cleanup)
+        self.top = Path(folder.name)
+        for name in ("bin", "libexec", "run"):
+            (self.top / name).mkdir()
+        self.script = self.top / "bin/mpiwait"
+        self.script.write_bytes(subprocess.run([TOP / "release/script"], capture_output=True, check=True).stdout)
+        self.program = self.top / "libexec/mpiwait"
+        self.program.write_text('#!/bin/sh\necho "$@"\nexit 5\n')
+        for path in (self.script, self.program):
+            path.chmod(0o755)
+        (self.top / "run/head").write_text("ranks 2\n")
+
+    def run_script(self, *words):
+        said = subprocess.run([self.script, *words], capture_output=True, text=True, cwd=self.top)
+        return said.returncode, said.stdout.strip()
+
+    def test_a_folder_stands_for_its_files(self):
+        files = "run/head run/r0 run/r1"
+        self.assertEqual(self.run_script("run"), (5, f"check {files}"))
+        self.assertEqual(self.run_script("check", "--eager", "4", "run"), (5, f"check --eager 4 {files}"))
+
+    def test_other_words_are_the_programs(self):
+        for words in ("check --json run/head run/r0", "lint run", "--help", "check", ""):
+            self.assertEqual(self.run_script(*words.split()), (5, words))
+
+    def test_its_own_failures_are_no_verdict(self):
+        self.assertEqual(self.run_script("no-folder"), (4, ""))
+        self.program.unlink()
+        self.assertEqual(self.run_script("--help"), (4, ""))
+
+    @unittest.skipUnless(shutil.which("shellcheck"), "there is no shellcheck")
+    def test_shellcheck_finds_nothing(self):
+        said = subprocess.run(["shellcheck", self.script], capture_output=True, text=True)
+        self.assertEqual(said.stdout, "")
+
+
 class Version(unittest.TestCase):
     def test_it_is_the_same_everywhere(self):
         source = (TOP / "crates/command/src/words.rt").read_text()
