@@ -63,7 +63,8 @@ class Help(unittest.TestCase):
 
     def test_paragraphs_and_values(self):
         text = ("About.\n\nUsage: mpiwait it [OPTIONS]\n\nOptions:\n"
-                "      --kind <KIND>\n          What kind\n          of thing\n\n          [possible values: a, bc]\n\n"
+                "      --kind <KIND>\n          What kind\n          of thing\n\n"
+                "          [possible values: a, bc]\n\n"
                 "  -p, --part[=<N>]  A part\n")
         kind, part = page_of("it", text).options
         self.assertEqual(kind.text, ["What kind of thing", "[possible values: a, bc]"])
@@ -118,8 +119,9 @@ class Bash(unittest.TestCase):
 
     def complete(self, *words):
         """What is offered for the last word."""
-        asks = 'source "$0"; COMP_WORDS=(mpiwait "$@"); COMP_CWORD=$#; _mpiwait; printf "%s\\n" "${COMPREPLY[@]}"'
-        command = ["bash", "-uc", asks, self.script, *words]
+        asks = 'source "$0"; COMP_WORDS=(mpiwait "$@"); COMP_CWORD=$#; _mpiwait'
+        shows = 'printf "%s\\n" "${COMPREPLY[@]}"'
+        command = ["bash", "-uc", f"{asks}; {shows}", self.script, *words]
         said = subprocess.run(command, capture_output=True, text=True, cwd=self.where)
         self.assertEqual(said.stderr, "")
         return {word for word in said.stdout.split("\n") if word}
@@ -170,7 +172,8 @@ class Script(unittest.TestCase):
         for name in ("bin", "libexec", "run"):
             (self.top / name).mkdir()
         self.script = self.top / "bin/mpiwait"
-        self.script.write_bytes(subprocess.run([TOP / "release/script"], capture_output=True, check=True).stdout)
+        written = subprocess.run([TOP / "release/script"], capture_output=True, check=True)
+        self.script.write_bytes(written.stdout)
         self.program = self.top / "libexec/mpiwait"
         self.program.write_text('#!/bin/sh\necho "$@"\nexit 5\n')
         for path in (self.script, self.program):
@@ -199,6 +202,92 @@ class Script(unittest.TestCase):
     def test_shellcheck_finds_nothing(self):
         said = subprocess.run(["shellcheck", self.script], capture_output=True, text=True)
         self.assertEqual(said.stdout, "")
+
+
+# A program of the machine that says the stored texts.
+PROGRAM = r"""
+#include <stdio.h>
+#include <string.h>
+int main(int count, char **words) {
+    char path[4096] = TEXTS "/";
+    int lone = count == 2;
+    strncat(path, lone ? words[1] + 2 : words[1], 80);
+    strcat(path, lone ? "" : "-help");
+    FILE *text = fopen(path, "r");
+    for (int each; (each = getc(text)) != EOF;)
+        putchar(each);
+    return 0;
+}
+"""
+NEEDED = ("gcc", "git", "readelf", "xz")
+
+
+@unittest.skipUnless(all(map(shutil.which, NEEDED)), f"not all of {', '.join(NEEDED)} are there")
+class Make(unittest.TestCase):
+    """release/make in a repository of what it packs, with a program that was built elsewhere."""
+
+    @classmethod
+    def setUpClass(cls):
+        folder = tempfile.TemporaryDirectory()
+        cls.addClassCleanup(folder.cleanup)
+        cls.top = Path(folder.name) / "repository"
+        (cls.top / "crates/command/src").mkdir(parents=True)
+        for name in ("mpiwait", "CHANGELOG.md", "crates/command/src/words.rt"):
+            shutil.copy2(TOP / name, cls.top / name)
+        for name in ("release", "tools", "docs", "examples"):
+            shutil.copytree(TOP / name, cls.top / name, ignore=shutil.ignore_patterns("out", "__pycache__"))
+        cls.git("init", "-q")
+        cls.git("add", "-A")
+        cls.git("commit", "-q", "-m", "All")
+        cls.program = Path(folder.name) / "program"
+        compile = ["gcc", "-x", "c", "-w", f'-DTEXTS="{TEXTS}"', "-o", cls.program, "-"]
+        subprocess.run(compile, input=PROGRAM, text=True, check=True)
+        cls.log = Path(folder.name) / "log"
+
+    @classmethod
+    def git(cls, *words):
+        of_nobody = ["-c", "user.name=N", "-c", "user.email=n@example.org"]
+        subprocess.run(["git", "-C", cls.top, *of_nobody, *words], check=True)
+
+    def make(self, *words):
+        return subprocess.run([self.top / "release/make", *words], capture_output=True, text=True)
+
+    def packed(self, *words):
+        """The archive that it makes, and the text of a file in it."""
+        said = self.make("--program", self.program, *words)
+        self.assertEqual((said.returncode, said.stderr), (0, ""))
+        archive = Path(said.stdout.strip())
+        taken = ["tar", "-xO", "-f", archive, "--wildcards", "*/BUILD-INFO"]
+        return archive.read_bytes(), subprocess.run(taken, capture_output=True, text=True, check=True).stdout
+
+    def test_the_same_commit_gives_the_same_bytes(self):
+        first, info = self.packed()
+        second, _ = self.packed()
+        self.assertEqual(first, second)
+        self.assertIn("not built by this script", info)
+        self.assertIn("no log of the gate was given", info)
+        self.assertRegex(info, r"C library +at least GLIBC_2\.\d+")
+
+    def test_a_gate_has_to_have_passed(self):
+        self.log.write_text("rt: ok, 19 crates\n12 passed, 0 failed\n")
+        self.assertIn("rt: ok, 19 crates\n", self.packed("--gate-log", self.log)[1])
+        for wrong in ("", "rt: ok\n", "1 passed, 2 failed\n", "0 passed, 0 failed\n"):
+            self.log.write_text(wrong)
+            said = self.make("--program", self.program, "--gate-log", self.log)
+            self.assertEqual(said.returncode, 4, wrong)
+
+    def test_wrong_words_and_programs(self):
+        for status, *words in ((3, "--what"), (3, "--program"), (3, "--program", "no-file"),
+                               (4, "--program", "/bin/true"), (4, "--program", __file__)):
+            said = self.make(*words)
+            self.assertEqual((said.returncode, said.stderr[:14]), (status, "release/make: "), words)
+
+    def test_a_change_without_a_commit_is_refused(self):
+        path = self.top / "CHANGELOG.md"
+        was = path.read_text()
+        self.addCleanup(path.write_text, was)
+        path.write_text(was + "more\n")
+        self.assertEqual(self.make("--program", self.program).returncode, 4)
 
 
 class Version(unittest.TestCase):
