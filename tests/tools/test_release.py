@@ -163,7 +163,7 @@ class Zsh(unittest.TestCase):
 
 
 class Script(unittest.TestCase):
-    """The script before the program, with a program that tells its words and ends with status 5."""
+    """The script before the program, with a program that prints its words and ends with status 5."""
 
     def setUp(self):
         folder = tempfile.TemporaryDirectory()
