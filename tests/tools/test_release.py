@@ -268,6 +268,15 @@ class Make(unittest.TestCase):
         self.assertIn("no log of the gate was given", info)
         self.assertRegex(info, r"C library +at least GLIBC_2\.\d+")
 
+    def test_the_documents_link_to_what_is_packed(self):
+        self.packed()
+        with tempfile.TemporaryDirectory() as folder:
+            archive = next(self.top.glob("release/out/*.xz"))
+            subprocess.run(["tar", "-x", "-C", folder, "-f", archive], check=True)
+            links = [(page, link) for page in Path(folder).rglob("*.md")
+                     for link in re.findall(r"\]\(([^)#:]+)[)#]", page.read_text())]
+            self.assertEqual([(page.name, link) for page, link in links if not (page.parent / link).exists()], [])
+
     def test_a_gate_has_to_have_passed(self):
         self.log.write_text("rt: ok, 19 crates\n12 passed, 0 failed\n")
         self.assertIn("rt: ok, 19 crates\n", self.packed("--gate-log", self.log)[1])
