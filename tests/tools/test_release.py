@@ -243,36 +243,38 @@ class Make(unittest.TestCase):
         compile = ["gcc", "-x", "c", "-w", f'-DTEXTS="{TEXTS}"', "-o", cls.program, "-"]
         subprocess.run(compile, input=PROGRAM, text=True, check=True)
         cls.log = Path(folder.name) / "log"
+        cls.archive, cls.info = cls.packed()
 
     @classmethod
     def git(cls, *words):
         of_nobody = ["-c", "user.name=N", "-c", "user.email=n@example.org"]
         subprocess.run(["git", "-C", cls.top, *of_nobody, *words], check=True)
 
-    def make(self, *words):
-        return subprocess.run([self.top / "release/make", *words], capture_output=True, text=True)
+    @classmethod
+    def make(cls, *words):
+        return subprocess.run([cls.top / "release/make", *words], capture_output=True, text=True)
 
-    def packed(self, *words):
-        """The archive that it makes, and the text of a file in it."""
-        said = self.make("--program", self.program, *words)
-        self.assertEqual((said.returncode, said.stderr), (0, ""))
+    @classmethod
+    def packed(cls, *words):
+        """The archive that it makes, and the BUILD-INFO in it."""
+        said = cls.make("--program", cls.program, *words)
+        if said.returncode or said.stderr:
+            raise AssertionError(said)
         archive = Path(said.stdout.strip())
         taken = ["tar", "-xO", "-f", archive, "--wildcards", "*/BUILD-INFO"]
         return archive.read_bytes(), subprocess.run(taken, capture_output=True, text=True, check=True).stdout
 
     def test_the_same_commit_gives_the_same_bytes(self):
-        first, info = self.packed()
-        second, _ = self.packed()
-        self.assertEqual(first, second)
-        self.assertIn("not built by this script", info)
-        self.assertIn("no log of the gate was given", info)
-        self.assertRegex(info, r"C library +at least GLIBC_2\.\d+")
+        self.assertEqual(self.packed()[0], self.archive)
+
+    def test_build_info(self):
+        self.assertIn("not built by this script", self.info)
+        self.assertIn("no log of the gate was given", self.info)
+        self.assertRegex(self.info, r"C library +at least GLIBC_2\.\d+")
 
     def test_the_documents_link_to_what_is_packed(self):
-        self.packed()
         with tempfile.TemporaryDirectory() as folder:
-            archive = next(self.top.glob("release/out/*.xz"))
-            subprocess.run(["tar", "-x", "-C", folder, "-f", archive], check=True)
+            subprocess.run(["tar", "-xJ", "-C", folder], input=self.archive, check=True)
             links = [(page, link) for page in Path(folder).rglob("*.md")
                      for link in re.findall(r"\]\(([^)#:]+)[)#]", page.read_text())]
             self.assertEqual([(page.name, link) for page, link in links if not (page.parent / link).exists()], [])
