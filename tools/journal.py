@@ -128,7 +128,7 @@ class Journal:
 
 def unescaped(frame):
     """A frame with its bytes as they were: the recorder writes blanks, control bytes and `\\` as `\\xHH`."""
-    return os.fsdecode(re.sub(rb"\\x([0-9a-f]{2})", lambda found: bytes.fromhex(found[1].decode()), frame))
+    return os.fsdecode(re.sub(rb"\\x([0-9a-fA-F]{2})", lambda found: bytes.fromhex(found[1].decode()), frame))
 
 
 # ---- Headers -------------------------------------------------------------------------------------

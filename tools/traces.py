@@ -24,6 +24,10 @@ class ListEnds(Exception):
     """A trace says nothing of this call and of those after it: why, as what its call does."""
 
 
+class CannotBe(ListEnds):
+    """The call names what no trace can say."""
+
+
 class Trace:
     """Writes the trace of one rank."""
 
@@ -58,11 +62,21 @@ class Trace:
                 self._begin()
             if self._entry.word in LAST:
                 return LAST[self._entry.word]
-            if self._entry.has_failed:
-                raise ListEnds("answered an error")
-            if self._entry.word in HANDLERS:
-                HANDLERS[self._entry.word](self, self._entry)
+            self._take(self._entry)
         return "open"
+
+    def _take(self, entry):
+        """What a call did that answered an error isn't known; that it names what can't be is."""
+        try:
+            if entry.word in HANDLERS:
+                HANDLERS[entry.word](self, entry)
+        except CannotBe:
+            raise
+        except ListEnds:
+            if not entry.has_failed:
+                raise
+        if entry.has_failed:
+            raise ListEnds("answered an error")
 
     def _begin(self):
         for line in self.communicators.beginning(self.rank):
@@ -70,6 +84,8 @@ class Trace:
 
     def _put(self, line):
         """Writes a call. The last line is for the rank's end."""
+        if self._entry.has_failed:
+            raise ListEnds
         if self.count == MOST_LINES - 1:
             raise ListEnds(f"would be line {MOST_LINES:,} of its trace, and no trace has more")
         self._write(line)
@@ -96,9 +112,9 @@ class Trace:
         size = len(self.communicators.get(self.rank, int(local)).group)
         if peer not in words and (peer in WORDS or not 0 <= int(peer) < size):
             named = WORDS.get(peer) or f"rank {peer}"
-            raise ListEnds(f"names {named}, which is none of the {size} ranks of its communicator")
+            raise CannotBe(f"names {named}, which is none of the {size} ranks of its communicator")
         if tag != "any" and int(tag) < 0:
-            raise ListEnds(f"names tag {tag}")
+            raise CannotBe(f"names tag {tag}")
 
     def _received(self, local, source, tag, reported):
         """The source and the tag of a receive or probe, where those of a wildcard were reported; else None."""

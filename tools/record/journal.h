@@ -106,8 +106,9 @@ const char *run_open(const char *named, int ranks, char *folder, unsigned long r
 
 void sites_open(const char *folder, int rank);
 
-/* The number, from 1, of the place from which the recorder was called; 0 where none is known. */
-int site_of(void *return_address);
+/* The number, from 1, of the place from which the recorder was called: where its function returns to, and that
+ * function's frame, which has this behind its first word. 0 where none is known. */
+int site_of(void *caller, void **frame);
 
 #pragma GCC visibility pop
 

@@ -2,24 +2,22 @@
  *
  * A place is a chain of return addresses, the innermost first, as modules and offsets: one address, or so
  * many as the variable MPIWAIT_FRAMES says (0: none are noted). Frames of MPI's own bindings, as those of
- * Fortran, are passed over. In a Python program it is the file and line of the Python code instead.
- *
- * sitesR has a line for each place: its number, a tab, and its frames with tabs between them, each
- * `MODULE+0xOFFSET` or `FILE:LINE`.
+ * Fortran, are passed over, and those of tools. In a Python program it is the file and line of the Python code instead.
  */
 #define _GNU_SOURCE
+#include "sites.h"
 #include "journal.h"
+#include "modules.h"
 #include <dlfcn.h>
-#include <execinfo.h>
-#include <fcntl.h>
 #include <link.h>
 #include <stdint.h>
 #include <stdio.h>
 #include <stdlib.h>
 #include <string.h>
 #include <unistd.h>
+#include <unwind.h>
 
-enum { MOST_FRAMES = 16, MOST_SITES = 1 << 16, IN_A_BINDING = -1 };
+enum { MOST_FRAMES = 16, MOST_WALKED = 32, PLACES = 1 << 16, MOST_SITES = PLACES / 4 };
 
 static FILE *sites;
 static int frames_wanted, sites_told;
@@ -28,40 +26,116 @@ static int frames_wanted, sites_told;
 static struct {
     uint64_t key;
     int site;
-} known[MOST_SITES];
+} known[PLACES];
 
+/* Where the site of a key is, or is to be; NULL where it is a new one and there is room for no more. */
 static int *look_up(uint64_t key) {
     size_t place = (key * 0x9e3779b97f4a7c15u) >> 48;
     while (known[place].key != 0 && known[place].key != key)
-        place = (place + 1) % MOST_SITES;
+        place = (place + 1) % PLACES;
+    if (known[place].key == 0 && sites_told == MOST_SITES)
+        return NULL;
     known[place].key = key;
     return &known[place].site;
 }
 
 static uint64_t mixed(uint64_t hash, uint64_t more) { return (hash ^ more) * 0x100000001b3u + 1; }
 
+static void put_name(const char *name) {
+    for (; *name; name++)
+        if ((unsigned char)*name < ' ' || *name == 127 || *name == '\\')
+            fprintf(sites, "\\x%02x", (unsigned char)*name);
+        else
+            fputc(*name, sites);
+}
+
 /* ---- Frames of machine code -------------------------------------------------------------------- */
 
-static bool is_in_a_binding(void *address) {
-    Dl_info found;
-    if (!dladdr(address, &found) || !found.dli_fname)
-        return false;
-    const char *slash = strrchr(found.dli_fname, '/'), *name = slash ? slash + 1 : found.dli_fname;
-    return strncmp(name, "libmpi", 6) == 0;
+typedef struct {
+    void *address;
+    void **place; /* on the stack; NULL where it isn't known */
+} Frame;
+
+typedef struct {
+    Frame bindings[MOST_WALKED]; /* frames that were passed over, from the one that called the recorder on */
+    void *frames[MOST_FRAMES];   /* those of the program */
+    Frame first;                 /* of these, */
+    int passed, kept, walked;
+    bool is_behind; /* the caller */
+    const void *caller;
+} Walk;
+
+/* Where the unwinder has a return address: right below the frame that it returns to, on most machines. */
+static Frame frame_of(struct _Unwind_Context *context) {
+    Frame frame = {(void *)_Unwind_GetIP(context), (void **)_Unwind_GetCFA(context) - 1};
+    if (*frame.place != frame.address)
+        frame.place = NULL;
+    return frame;
 }
 
-/* The frames of the program, from the one that called MPI on. */
-static int walk(void *caller, void *frames[MOST_FRAMES]) {
-    void *all[MOST_FRAMES + 8];
-    int count = backtrace(all, MOST_FRAMES + 8), from = 0, kept = 0;
-    while (from < count && all[from] != caller)
-        from++;
-    while (from < count && is_in_a_binding(all[from]))
-        from++;
-    while (from < count && kept < frames_wanted)
-        frames[kept++] = all[from++];
-    return kept;
+static _Unwind_Reason_Code step(struct _Unwind_Context *context, void *state) {
+    Walk *walk = state;
+    void *address = (void *)_Unwind_GetIP(context);
+    bool is_first = walk->kept == 0;
+    walk->is_behind = walk->is_behind || address == walk->caller;
+    if (walk->is_behind && is_first && module_of(address) != OF_PROGRAM) {
+        walk->bindings[walk->passed++] = frame_of(context);
+    } else if (walk->is_behind) {
+        if (is_first)
+            walk->first = frame_of(context);
+        walk->frames[walk->kept++] = address;
+    }
+    bool goes_on = walk->kept < frames_wanted && ++walk->walked < MOST_WALKED;
+    return goes_on ? _URC_NO_REASON : _URC_END_OF_STACK;
 }
+
+/* ---- Frames of bindings, without a walk -------------------------------------------------------- */
+
+/* How far on the stack the next return address is behind one in a binding, by pairs of them that a walk found. So the
+ * same two are found again without one. */
+enum { MOST_PAIRS = 1 << 10, FARTHEST = 1 << 9, MOST_PASSED = 8 };
+static struct {
+    void *from, *to;
+    int words;
+} pairs[MOST_PAIRS], last_from[MOST_PAIRS];
+
+static size_t place_of(const void *from, const void *to) {
+    return (((uintptr_t)from * 31 + (uintptr_t)to) * 0x9e3779b97f4a7c15u) >> 54;
+}
+
+static void learn_pair(Frame from, Frame to) {
+    long words = from.place && to.place ? to.place - from.place : 0;
+    if (words <= 0 || words > FARTHEST)
+        return;
+    size_t pair = place_of(from.address, to.address), last = place_of(from.address, NULL);
+    pairs[pair].from = from.address;
+    pairs[pair].to = to.address;
+    pairs[pair].words = words;
+    last_from[last].from = from.address;
+    last_from[last].words = words;
+}
+
+static void learn(const Walk *walk) {
+    for (int i = 0; i < walk->passed; i++)
+        learn_pair(walk->bindings[i], i + 1 < walk->passed ? walk->bindings[i + 1] : walk->first);
+}
+
+/* The program's frame, or NULL where a walk has to find it. */
+static void *guess(void *caller, void **place) {
+    for (int i = 0; i < MOST_PASSED && module_of(caller) != OF_PROGRAM; i++) {
+        size_t last = place_of(caller, NULL);
+        if (last_from[last].from != caller)
+            return NULL;
+        place += last_from[last].words;
+        size_t pair = place_of(caller, *place);
+        if (pairs[pair].from != caller || pairs[pair].to != *place || pairs[pair].words != last_from[last].words)
+            return NULL;
+        caller = *place;
+    }
+    return module_of(caller) == OF_PROGRAM ? caller : NULL;
+}
+
+/* ---- Sites ------------------------------------------------------------------------------------- */
 
 static void tell_frame(void *address) {
     Dl_info found;
@@ -74,98 +148,52 @@ static void tell_frame(void *address) {
             path[length > 0 ? length : 0] = '\0';
             name = path;
         }
-        fprintf(sites, "\t%s+0x%lx", name, (unsigned long)address - (unsigned long)module->l_addr);
+        fputc('\t', sites);
+        put_name(name);
+        fprintf(sites, "+0x%lx", (unsigned long)address - (unsigned long)module->l_addr);
     } else {
         fprintf(sites, "\t?+%p", address);
     }
 }
 
-static int new_site(void *const frames[], int count) {
+static int site_of_frames(uint64_t key, void *const frames[], int count) {
+    int *site = look_up(key);
+    if (!site || *site || count == 0)
+        return site ? *site : 0;
     fprintf(sites, "%d", ++sites_told);
     for (int i = 0; i < count; i++)
         tell_frame(frames[i]);
     fputc('\n', sites);
-    return sites_told;
+    return *site = sites_told;
 }
 
-static int site_of_chain(void *caller) {
-    void *frames[MOST_FRAMES];
+static int site_of_machine_code(void *caller, void **frame) {
+    void *found = frames_wanted == 1 ? guess(caller, frame + 1) : NULL;
+    if (found)
+        return site_of_frames((uintptr_t)found, &found, 1);
+    Walk walk = {.caller = caller};
     uint64_t key = 1;
-    int count = walk(caller, frames);
-    for (int i = 0; i < count; i++)
-        key = mixed(key, (uintptr_t)frames[i]);
-    int *site = look_up(key);
-    if (!*site && count > 0)
-        *site = new_site(frames, count);
-    return *site;
+    _Unwind_Backtrace(step, &walk);
+    learn(&walk);
+    for (int i = 0; i < walk.kept; i++)
+        key = mixed(key, (uintptr_t)walk.frames[i]);
+    return site_of_frames(walk.kept == 1 ? (uintptr_t)walk.frames[0] : key, walk.frames, walk.kept);
 }
 
-static int site_of_machine_code(void *caller) {
-    if (frames_wanted > 1)
-        return site_of_chain(caller);
-    int *site = look_up((uintptr_t)caller);
-    if (!*site)
-        *site = is_in_a_binding(caller) ? IN_A_BINDING : new_site(&caller, 1);
-    return *site == IN_A_BINDING ? site_of_chain(caller) : *site;
-}
+/* ------------------------------------------------------------------------------------------------ */
 
-/* ---- Python ------------------------------------------------------------------------------------ */
-
-/* Python's own functions, where the process has them. They are asked for by name, since the recorder
- * isn't linked with Python. */
-static struct {
-    bool there;
-    int (*is_initialized)(void);
-    int (*ensure)(void);
-    void (*release)(int);
-    void *(*frame)(void);
-    int (*line)(void *);
-    void *(*code)(void *);
-    void *(*attribute)(void *, const char *);
-    const char *(*text)(void *);
-    void (*drop)(void *);
-} python;
-
-#define FIND(member, name) ((*(void **)&python.member = dlsym(RTLD_DEFAULT, name)) != NULL)
-
-static void find_python(void) {
-    python.there = FIND(is_initialized, "Py_IsInitialized") && FIND(ensure, "PyGILState_Ensure") &&
-                   FIND(release, "PyGILState_Release") && FIND(frame, "PyEval_GetFrame") &&
-                   FIND(line, "PyFrame_GetLineNumber") && FIND(code, "PyFrame_GetCode") &&
-                   FIND(attribute, "PyObject_GetAttrString") && FIND(text, "PyUnicode_AsUTF8") &&
-                   FIND(drop, "Py_DecRef");
-}
-
-static int site_of_line(const char *file, int line) {
+int site_of_line(const char *file, int line) {
     uint64_t key = mixed(2, line);
     for (const char *at = file; *at; at++)
         key = mixed(key, (unsigned char)*at);
     int *site = look_up(key);
-    if (!*site) {
-        *site = ++sites_told;
-        fprintf(sites, "%d\t%s:%d\n", *site, file, line);
-    }
-    return *site;
+    if (!site || *site)
+        return site ? *site : 0;
+    fprintf(sites, "%d\t", ++sites_told);
+    put_name(file);
+    fprintf(sites, ":%d\n", line);
+    return *site = sites_told;
 }
-
-/* 0 where no Python code runs. */
-static int site_of_python(void) {
-    int site = 0, state = python.ensure();
-    void *frame = python.frame();
-    if (frame) {
-        void *code = python.code(frame), *file = python.attribute(code, "co_filename");
-        const char *name = file ? python.text(file) : NULL;
-        if (name)
-            site = site_of_line(name, python.line(frame));
-        if (file)
-            python.drop(file);
-        python.drop(code);
-    }
-    python.release(state);
-    return site;
-}
-
-/* ------------------------------------------------------------------------------------------------ */
 
 void sites_open(const char *folder, int rank) {
     char path[4096];
@@ -180,13 +208,9 @@ void sites_open(const char *folder, int rank) {
     find_python();
 }
 
-int site_of(void *return_address) {
-    if (!sites || sites_told > MOST_SITES / 4)
+int site_of(void *caller, void **frame) {
+    if (!sites)
         return 0;
-    if (python.there && python.is_initialized()) {
-        int site = site_of_python();
-        if (site)
-            return site;
-    }
-    return site_of_machine_code(return_address);
+    int site = site_of_python();
+    return site ? site : site_of_machine_code(caller, frame);
 }

@@ -36,7 +36,7 @@ bool is_recorded(void) { return own.inside == 1 && has_turn(); }
 
 int site(void) {
     if (own.site < 0)
-        own.site = site_of(own.caller);
+        own.site = site_of(own.caller, own.frame);
     return own.site;
 }
 

@@ -1,0 +1,57 @@
+"""What the tests of tools/ share: its scripts as modules, and folders of small runs."""
+
+import importlib.machinery
+import importlib.util
+import subprocess
+import sys
+import tempfile
+import unittest
+from pathlib import Path
+
+TOOLS = Path(__file__).resolve().parents[2] / "tools"
+sys.path.insert(0, str(TOOLS))
+sys.dont_write_bytecode = True
+
+
+def script(name):
+    """A script of tools/ as a module."""
+    loader = importlib.machinery.SourceFileLoader(name.replace("-", "_"), str(TOOLS / name))
+    module = importlib.util.module_from_spec(importlib.util.spec_from_loader(loader.name, loader))
+    loader.exec_module(module)
+    return module
+
+
+def lines(text):
+    """The text of lines that are written with ` / ' between them."""
+    return "".join(line + "\n" for line in text.split(" / ")) if text else ""
+
+
+def journal(rank, ranks, calls, state="i"):
+    return f"journal 2 {rank} {ranks} a-run {state} a library\n" + lines(calls)
+
+
+class Folders(unittest.TestCase):
+    """Tests that have a folder of their own."""
+
+    def setUp(self):
+        folder = tempfile.TemporaryDirectory()
+        self.addCleanup(folder.cleanup)
+        self.folder = Path(folder.name)
+
+    def run_of(self, *ranks, state="i"):
+        """Writes the journals of a run; None for a rank without one."""
+        (self.folder / "journal").mkdir()
+        for rank, calls in enumerate(ranks):
+            if calls is not None:
+                self.write(f"journal/journal{rank}", journal(rank, len(ranks), calls, state))
+
+    def write(self, name, text):
+        (self.folder / name).write_bytes(text if isinstance(text, bytes) else text.encode())
+
+    def read(self, name):
+        return (self.folder / name).read_text(encoding="utf-8")
+
+    def command(self, name, *words, **environment):
+        """Runs a script of tools/ to its end."""
+        words = [sys.executable, str(TOOLS / name), *map(str, words)]
+        return subprocess.run(words, capture_output=True, text=True, check=False, cwd=self.folder, **environment)
