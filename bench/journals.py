@@ -5,11 +5,11 @@
     journals.py close [--tests wait|pass] [--calls strict|went] FOLDER OUT
 
 It is no part of the product and shares nothing with it but tools/journal_faults.py, which knows the form of
-journals. It makes the head and the traces rule by rule, in memory and without haste, and has them checked by the
-program that the variable MPIWAIT names, else by the repository's `mpiwait`.
+journals. It makes the head and the traces rule by rule, in memory and without haste, and has them checked by
+the program that the variable MPIWAIT names, else by the repository's `mpiwait`.
 
-An entry is a call line with the lines after it that begin with `='. Each stands for some lines of the trace, or ends
-the trace by `open' for a reason. The statuses are those of `mpiwait check'.
+An entry is a call line with the lines after it that begin with `='. Each gives some lines of the trace, or
+ends the trace by `open' for a reason. The statuses are those of `mpiwait check'.
 """
 
 import argparse
@@ -33,16 +33,17 @@ MOST_REQUESTS = 64  # of a wait
 
 SENDS = {"send": "send", "rsend": "send", "ssend": "ssend", "bsend": "bsend"}
 STARTED_SENDS = {"isend": "isend", "irsend": "isend", "issend": "issend", "ibsend": "ibsend"}
-COLLECTIVES = {"barrier", "bcast", "gather", "scatter", "reduce", "allgather", "alltoall", "allreduce", "scan", "exscan"}
+ROOTED = {"bcast", "gather", "scatter", "reduce"}
+COLLECTIVES = ROOTED | {"barrier", "allgather", "alltoall", "allreduce", "scan", "exscan"}
 STARTED_COLLECTIVES = {"i" + word for word in COLLECTIVES}
 MAKERS = {"comm_dup", "comm_split", "comm_make"}
 IN_WAVES = COLLECTIVES | STARTED_COLLECTIVES | MAKERS | {"comm_idup"}
 # The place of the communicator in the fields of the calls that are on one.
 ON = {
-    **dict.fromkeys(SENDS, 0), **dict.fromkeys(STARTED_SENDS, 1), **dict.fromkeys(COLLECTIVES | MAKERS, 0),
-    **dict.fromkeys(STARTED_COLLECTIVES, 1), "comm_idup": 1, "recv": 0, "irecv": 1, "sendrecv": 0, "isendrecv": 2,
-    "probe": 0, "iprobe": 0, "mprobe": 1, "improbe": 1,
-}  # fmt: skip
+    **dict.fromkeys({*SENDS, *COLLECTIVES, *MAKERS, "recv", "sendrecv", "probe", "iprobe"}, 0),
+    **dict.fromkeys({*STARTED_SENDS, *STARTED_COLLECTIVES, "comm_idup", "irecv", "mprobe", "improbe"}, 1),
+    "isendrecv": 2,
+}
 ALWAYS_BACK = {"test", "iprobe", "improbe"}
 OF_OTHER_CALLS = {"=done", "=gone", "=kept", "=apart"}
 
@@ -80,8 +81,8 @@ class Journal:
         self.gone = {fields[0] for _, word, *fields in reports if word == "=gone"}
         self.kept = {fields[0] for _, word, *fields in reports if word == "=kept"}
         self.freed = {entry.fields[0] for entry in self.entries if entry.word == "request_free"}
-        sends = [entry.fields[0] for entry in self.entries if entry.word in STARTED_SENDS or entry.word == "isendrecv"]
-        self.sends = set(sends)
+        starts = [entry for entry in self.entries if entry.word in STARTED_SENDS or entry.word == "isendrecv"]
+        self.sends = {entry.fields[0] for entry in starts}
 
 
 def bytes_of(folder, rank):
@@ -123,7 +124,8 @@ def entries_of(lines, is_outside):
             has_site = word != "stopped" and fields and fields[-1].startswith("@")
             entries.append(Entry(number, word, fields[:-1] if has_site else fields))
     for entry in entries:
-        entry.came_back = entry.word in ALWAYS_BACK or any(word not in OF_OTHER_CALLS for word, *_ in entry.reports)
+        own = [word for word, *_ in entry.reports if word not in OF_OTHER_CALLS]
+        entry.came_back = entry.word in ALWAYS_BACK or bool(own)
     for entry in entries[:-1]:
         entry.came_back = True
     entries[-1].came_back |= is_outside
@@ -145,8 +147,8 @@ def journals_in(folder):
 
 @dataclass(frozen=True)
 class Key:
-    """How a communicator came to be: two are the same exactly if their keys are equal. `parent` is the place of the
-    parent's key among all keys."""
+    """How a communicator came to be: two are the same exactly if their keys are equal. `parent` is the place
+    of the parent's key among all keys, `count` how many like it came before."""
 
     way: str  # world, alone, made, idup, group, apart
     parent: int
@@ -154,21 +156,42 @@ class Key:
     group: tuple
 
 
+class Own:
+    """What a rank has: places of keys, by its own numbers and in the order in which it got them."""
+
+    def __init__(self, world, alone):
+        self.local, self.has = {0: world, 1: alone}, [alone]
+        self.idups = {}  # the parent and the number of the call, by request
+        self._counts = {}
+
+    def count(self, *what):
+        """How many like this came before."""
+        self._counts[what] = self._counts.get(what, -1) + 1
+        return self._counts[what]
+
+    def got(self, key, local=None):
+        self.has.append(key)
+        if local is not None:
+            self.local[int(local)] = key
+
+
 class Communicators:
     def __init__(self, journals):
         self.journals = journals
-        ranks = len(journals)
         self.keys = []  # all of them
         self.places = {}  # of keys in that list
-        self.world = self._place(Key("world", -1, 0, tuple(range(ranks))))
-        self.local = []  # for each rank, keys by its own numbers
-        self.has = []  # for each rank, keys in the order in which it got them
+        self.world = self._place("world", -1, 0, range(len(journals)))
+        self.owns = [Own(self.world, self._place("alone", -1, 0, [journal.rank])) for journal in journals]
         self.named = set()  # by a call other than that which makes it
-        self.waves = {}  # (rank, line) of a call that all members make: the parent and the how-manieth call on it
-        self.told = {}  # (rank, line) of a call that makes one: the key
-        for journal in journals:
-            self._read(journal)
-        self.in_wave = {}  # by parent and number of the call: (rank, key)
+        # By rank and line: of a call that all members make the parent and how many came before; of one that
+        # makes a communicator its key.
+        self.waves, self.told = {}, {}
+        for journal, own in zip(journals, self.owns):
+            for entry in journal.entries:
+                self._call(entry, (journal.rank, entry.line), own)
+                for word, *fields in entry.reports:
+                    self._report(word, fields, (journal.rank, entry.line), own)
+        self.in_wave = {}  # by parent and count: the ranks that report a communicator, and its key
         for (rank, line), key in self.told.items():
             if self.keys[key].way == "made":
                 self.in_wave.setdefault(self.waves[rank, line], []).append((rank, key))
@@ -176,12 +199,17 @@ class Communicators:
             self._find_untold(journal)
         self.numbered = [self.world, *self._with_numbers()]
         self.numbers = {key: number for number, key in enumerate(self.numbered)}
+        self.layers = self._layers()
 
-    def _place(self, key):
+    def _place(self, way, parent, count, group):
+        key = Key(way, parent, count, tuple(map(int, group)))
         if key not in self.places:
             self.places[key] = len(self.keys)
             self.keys.append(key)
         return self.places[key]
+
+    def key(self, rank, local):
+        return self.owns[rank].local[int(local)]
 
     def group(self, key):
         return self.keys[key].group
@@ -191,51 +219,33 @@ class Communicators:
 
     # ---- Which there are ----
 
-    def _read(self, journal):
-        rank = journal.rank
-        alone = self._place(Key("alone", -1, 0, (rank,)))
-        local, has = {0: self.world, 1: alone}, [alone]
-        self.local.append(local)
-        self.has.append(has)
-        counts, idups = {}, {}
+    def _call(self, entry, place, own):
+        if entry.word in ON:
+            parent = own.local[int(entry.fields[ON[entry.word]])]
+            self.named.add(parent)
+            if entry.word in IN_WAVES:
+                self.waves[place] = parent, own.count(parent)
+            if entry.word == "comm_idup":
+                own.idups[entry.fields[0]] = self.waves[place]
+        elif entry.word == "comm_create_group":
+            group = entry.fields
+            self.told[place] = self._place("group", -1, own.count("group", *group), group)
+            self.named.add(self.told[place])
+            own.got(self.told[place])
 
-        def one_more(*what):
-            counts[what] = counts.get(what, -1) + 1
-            return counts[what]
-
-        def got(key, own=None):
-            has.append(key)
-            if own is not None:
-                local[own] = key
-
-        for entry in journal.entries:
-            place = rank, entry.line
-            if entry.word in ON:
-                parent = local[int(entry.fields[ON[entry.word]])]
-                self.named.add(parent)
-                if entry.word in IN_WAVES:
-                    self.waves[place] = parent, one_more("wave", parent)
-                if entry.word == "comm_idup":
-                    idups[entry.fields[0]] = self.waves[place]
-            if entry.word == "comm_create_group":
-                group = tuple(map(int, entry.fields))
-                self.told[place] = self._place(Key("group", -1, one_more("group", group), group))
-                self.named.add(self.told[place])
-                got(self.told[place])
-            for word, *fields in entry.reports:
-                if word == "=comm" and entry.word == "comm_create_group":
-                    local[int(fields[0])] = self.told[place]
-                elif word == "=comm":
-                    self.told[place] = self._place(Key("made", *self.waves[place], tuple(map(int, fields[1:]))))
-                    got(self.told[place], int(fields[0]))
-                elif word == "=idup":
-                    got(self._place(Key("idup", *idups[fields[1]], tuple(map(int, fields[2:])))), int(fields[0]))
-                elif word == "=apart":
-                    group = tuple(map(int, fields[1:]))
-                    got(self._place(Key("apart", -1, one_more("apart", group), group)), int(fields[0]))
+    def _report(self, word, fields, place, own):
+        if word == "=comm" and place in self.told:
+            own.local[int(fields[0])] = self.told[place]  # by comm_create_group
+        elif word == "=comm":
+            self.told[place] = self._place("made", *self.waves[place], fields[1:])
+            own.got(self.told[place], fields[0])
+        elif word == "=idup":
+            own.got(self._place("idup", *own.idups[fields[1]], fields[2:]), fields[0])
+        elif word == "=apart":
+            own.got(self._place("apart", -1, own.count("apart", *fields[1:]), fields[1:]), fields[0])
 
     def _find_untold(self, journal):
-        """A call that never came back may have made the communicator that other ranks report of the same wave."""
+        """A call that never came back may have made what other ranks report of the same wave."""
         entry = journal.entries[-1]
         is_undefined = entry.word == "comm_split" and entry.fields[1] == "undefined"
         place = journal.rank, entry.line
@@ -244,24 +254,24 @@ class Communicators:
             for _, key in others:
                 if journal.rank in self.group(key):
                     self.told[place] = key
-                    self.has[journal.rank].append(key)
+                    self.owns[journal.rank].got(key)
                     return
 
     # ---- Numbers ----
 
     def _with_numbers(self):
-        """The keys with a number, from 1 on: by the lowest rank that has them, and then by when it got them."""
-        wanted = (key for has in self.has for key in has if key in self.named)
+        """The keys with a number, from 1 on: by the lowest rank that has them, then by when it got them."""
+        wanted = (key for own in self.owns for key in own.has if key in self.named)
         return list(dict.fromkeys(wanted))[:MOST_COMMUNICATORS]
 
     def head(self):
-        lines = [f"ranks {len(self.journals)}", *("comm " + spelled(self.group(key)) for key in self.numbered[1:])]
-        return "".join(line + "\n" for line in lines)
+        groups = ["comm " + spelled(self.group(key)) for key in self.numbered[1:]]
+        return "".join(line + "\n" for line in [f"ranks {len(self.journals)}", *groups])
 
     def preface(self, rank):
-        """Its lines at the head of its trace: by them all get the communicators that no call on a parent makes."""
+        """The lines at the head of its trace by which it gets those that no call on a parent makes."""
         lines = []
-        for layer in self._layers():
+        for layer in self.layers:
             mine = [(colour, key) for colour, key in enumerate(layer) if rank in self.group(key)]
             for colour, key in mine:
                 lines.append(f"split 0 {colour} {self.group(key).index(rank)} {self.number(key)}")
@@ -270,7 +280,7 @@ class Communicators:
         return lines
 
     def _layers(self):
-        """Those of the preface, in the order of their numbers: each in the first line without a common member."""
+        """Those of the preface by lines: each, by its number, in the first line without a common member."""
         layers = []
         for key in self.numbered[1:]:
             if self.keys[key].way == "made":
@@ -349,7 +359,7 @@ class List:
     # ---- Fields ----
 
     def key(self, field):
-        return self.communicators.local[self.journal.rank][int(field)]
+        return self.communicators.key(self.journal.rank, field)
 
     def can_be(self, comm, peer, tag="0"):
         """A peer or root is in the group, or nobody; a tag isn't below 0."""
@@ -364,7 +374,7 @@ class List:
         return number
 
     def message(self, comm, source, tag, reported):
-        """The source and the tag of a receive or probe; None where it has a wildcard and nothing was reported."""
+        """The source and the tag of a receive or probe; None where those of a wildcard weren't reported."""
         self.can_be(comm, source, tag)
         if source == "null":
             return ["null", "0" if tag == "any" else tag]
@@ -484,8 +494,8 @@ class List:
 
     def test(self, entry):
         if self.passes_tests:
-            self.late += [request for request in self.standing(entry.fields) if request in self.journal.sends]
-            self.wait_for([request for request in self.standing(entry.fields) if request not in self.journal.sends])
+            self.late += [one for one in self.standing(entry.fields) if one in self.journal.sends]
+            self.wait_for([one for one in self.standing(entry.fields) if one not in self.journal.sends])
         else:
             self.wait(entry)
 
@@ -553,8 +563,9 @@ ENDS = {"stopped": "stopped", "abort": "aborted", "full": "full"}
 ENTRIES = {
     **dict.fromkeys(SENDS, List.send), **dict.fromkeys(STARTED_SENDS, List.isend), "recv": List.recv,
     "irecv": List.irecv, "sendrecv": List.sendrecv, "isendrecv": List.isendrecv,
-    **dict.fromkeys(("probe", "iprobe", "mprobe", "improbe"), List.probe), "mrecv": List.wait, "imrecv": List.imrecv,
-    "wait": List.wait, "test": List.test, "waitany": List.choose, "waitsome": List.choose, "cancel": List.cancel,
+    **dict.fromkeys(("probe", "iprobe", "mprobe", "improbe"), List.probe), "imrecv": List.imrecv,
+    "wait": List.wait, "mrecv": List.wait, "test": List.test, "waitany": List.choose, "waitsome": List.choose,
+    "cancel": List.cancel,
     **dict.fromkeys(COLLECTIVES, List.collective),
     **dict.fromkeys(STARTED_COLLECTIVES | {"comm_idup"}, List.start_collective),
     **dict.fromkeys(MAKERS, List.make), "comm_create_group": List.make_of_group,
@@ -568,7 +579,7 @@ class Recording:
     def __init__(self, words):
         self.journals = journals_in(words.folder)
         self.communicators = Communicators(self.journals)
-        self.lists = [List(journal, self.communicators, words.tests, words.calls) for journal in self.journals]
+        self.lists = [List(one, self.communicators, words.tests, words.calls) for one in self.journals]
 
     def write(self, out):
         try:
@@ -588,8 +599,8 @@ class Recording:
             out = Path(folder) / "out"
             self.write(out)
             files = [out / "head", *(out / f"r{rank}" for rank in range(len(self.lists)))]
-            program = os.environ.get("MPIWAIT") or str(HERE.parent / "mpiwait")
-            said = subprocess.run([program, "check", *words, *files], capture_output=True, text=True, check=False)
+            command = [os.environ.get("MPIWAIT") or HERE.parent / "mpiwait", "check", *words, *files]
+            said = subprocess.run(command, capture_output=True, text=True, check=False)
         if said.returncode not in (0, 1, 5):
             raise Named((said.stdout + said.stderr).rstrip("\n"), said.returncode)
         return said.returncode, said.stdout
@@ -603,8 +614,9 @@ class Recording:
         if kind != "request":
             return False
         rank, place = map(int, numbers[:2])
-        request, one = self.lists[rank].starts.get(place), self.lists[rank]
-        return bool({request, *(other for other, same in one.same.items() if same == request)} & one.journal.freed)
+        one = self.lists[rank]
+        freed = {one.same.get(request, request) for request in one.journal.freed}
+        return one.starts.get(place) in freed
 
     # ---- Lines ----
 
@@ -627,8 +639,8 @@ class Recording:
         if word not in ("wait", "waitall", "waitany"):
             return
         for number in numbers:
-            starts = [place for place in self.lists[rank].starts if place < at and self.number_at(rank, place) == number]
-            yield max(starts)
+            earlier = (place for place in self.lists[rank].starts if place < at)
+            yield max(place for place in earlier if self.number_at(rank, place) == number)
 
     def number_at(self, rank, place):
         return self.lists[rank].lines[place].split(" ")[1]
@@ -660,13 +672,17 @@ def judge(words):
     eager = [] if words.eager is None else ["--eager", words.eager]
     status, said = recording.checked("--json", *eager)
     report = json.loads(said)
-    findings = [] if words.calls == "went" else [one for one in report["findings"] if not recording.is_of_freed(one)]
+    findings = (
+        [] if words.calls == "went" else [one for one in report["findings"] if not recording.is_of_freed(one)]
+    )
     report["findings"] = findings
     if words.json:
         report |= {"left": recording.left(), "lines": recording.lines(report)}
         print(json.dumps(report, sort_keys=True, separators=(",", ":")))
     else:
-        lines = [line for line in recording.checked(*eager)[1].splitlines() if not line.startswith("finding ")]
+        lines = [
+            line for line in recording.checked(*eager)[1].splitlines() if not line.startswith("finding ")
+        ]
         lines += [f"finding {one}" for one in findings]
         lines += ["left " + spelled(one) for one in recording.left()]
         print("\n".join(lines))

@@ -1,5 +1,5 @@
-"""The program mpiwait, as the companions here run it, and how they take their words and end. An unproved companion of
-mpiwait, as all of tools/.
+"""The program mpiwait, as the companions here run it, and how they take their words and end. An unproved
+companion of mpiwait, as all of tools/.
 """
 
 import argparse
@@ -92,8 +92,8 @@ class Checker:
 
 
 def files_of(folder):
-    """The head of a folder and its traces in rank order, as a check wants them: as many as the head says, one where it
-    says no number, and those behind them."""
+    """The head of a folder and its traces in rank order, as a check wants them: as many as the head says, one
+    where it says no number, and those after them."""
     head = Path(folder) / "head"
     with open(head, "rb") as text:
         said = text.readline(80).split()

@@ -25,7 +25,7 @@ class Communicator:
 
 @dataclass(eq=False)
 class Gain:
-    """A communicator that a rank got, or may have got: by which way, and the how-manieth of its kind it is."""
+    """A communicator that a rank got, or may have got: in which way, and how many like it came before."""
 
     way: str  # made, idup, group, apart
     parent: int | None  # the rank's number of the communicator that the call is on
@@ -101,7 +101,9 @@ class Scan:
                 gain.group = tuple(map(int, fields[1:]))
                 self.gains.append(gain)
         elif word == "=idup":
-            self.gains.append(Gain("idup", *self._idups[fields[1]], tuple(map(int, fields[2:])), int(fields[0])))
+            self.gains.append(
+                Gain("idup", *self._idups[fields[1]], tuple(map(int, fields[2:])), int(fields[0]))
+            )
         elif word == "=apart":
             self._gain(entry, "apart", tuple(map(int, fields[1:])), int(fields[0]))
 
@@ -168,7 +170,7 @@ class Communicators:
     # ---- Numbers ---------------------------------------------------------------------------------
 
     def _number(self):
-        """Those that no call names have none; if there are more than a head may name, the last ones neither."""
+        """Those that no call names have none, nor have the last ones beyond those that a head may name."""
         for gained in self._gained:
             for comm in gained:
                 if comm.is_named and comm.number is None and len(self._numbered) < MOST:
@@ -188,8 +190,8 @@ class Communicators:
                 yield "split 0 undefined 0 none"
 
     def line(self, rank, gain, split=None):
-        """What a call on a communicator that makes others is written as; `split` has the colour and the key of an
-        MPI_Comm_split. Where it brings no number in for any rank, it is a barrier of its members."""
+        """What a call on a communicator that makes others is written as; `split` has the colour and the key
+        of an MPI_Comm_split. Where it brings no number in for any rank, it is a barrier of its members."""
         parent, mine = self.get(rank, gain.parent), gain.communicator
         if all(comm.number is None for _, comm in self._in_wave(rank, gain)):
             return f"barrier {parent.number}"
@@ -199,7 +201,8 @@ class Communicators:
             return f"split {parent.number} {colour(split[0])} {split[1]} {mine.number}"
         if mine.group == parent.group:
             return f"dup {parent.number} {mine.number}"
-        return f"split {parent.number} {parent.group.index(mine.group[0])} {mine.group.index(rank)} {mine.number}"
+        first, key = parent.group.index(mine.group[0]), mine.group.index(rank)
+        return f"split {parent.number} {first} {key} {mine.number}"
 
 
 def layers(communicators):

@@ -11,7 +11,18 @@ from pathlib import Path
 
 from checker import fail
 
-COLLECTIVES = {"barrier", "bcast", "gather", "scatter", "reduce", "allgather", "alltoall", "allreduce", "scan", "exscan"}
+COLLECTIVES = {
+    "barrier",
+    "bcast",
+    "gather",
+    "scatter",
+    "reduce",
+    "allgather",
+    "alltoall",
+    "allreduce",
+    "scan",
+    "exscan",
+}
 STARTED_COLLECTIVES = {"i" + word for word in COLLECTIVES}
 # Calls by which all members of a communicator make new ones.
 MAKERS = {"comm_dup", "comm_split", "comm_make"}
@@ -123,7 +134,10 @@ class Journal:
         """The places in the program: lists of frames, by number."""
         path = self.folder / f"sites{self.rank}"
         lines = path.read_bytes().split(b"\n")[:-1] if path.exists() else []
-        return {int(number): [unescaped(frame) for frame in frames] for number, *frames in (line.split(b"\t") for line in lines)}
+        return {
+            int(number): [unescaped(frame) for frame in frames]
+            for number, *frames in (line.split(b"\t") for line in lines)
+        }
 
 
 def unescaped(frame):
@@ -142,7 +156,7 @@ class Header:
         self.is_outside = state == "o"  # of the last call
 
 
-HEADER = re.compile(r"journal 2 (0|[1-9]\d{0,3}) ([1-9]\d{0,3}) ([^ ]+) ([io]) .+")
+HEADER = re.compile(r"journal 2 (0|[1-9][0-9]{0,3}) ([1-9][0-9]{0,3}) ([^ ]+) ([io]) .+", re.DOTALL)
 
 
 def header_of(path, line):
@@ -154,24 +168,29 @@ def header_of(path, line):
 
 def checked_journals(folder):
     """Yields the journals of all ranks: each is that of its rank, and all are of one run."""
-    first = Journal(folder, 0)
-    if not first.header:
-        fail(f"{first.path} isn't there or is empty" + (": nothing was recorded" if not others(folder) else ""))
+    first = first_journal(folder)
     if first.header.ranks > MOST_RANKS:
         fail(f"the run has {first.header.ranks:,} ranks, and at most {MOST_RANKS:,} can be judged")
     for rank in range(first.header.ranks):
-        journal = Journal(folder, rank) if rank else first
+        journal = Journal(folder, rank)
         header = journal.header
         if header and header.rank != rank:
             fail(f"{journal.path} is the journal of rank {header.rank}")
         if header and (header.ranks, header.run) != (first.header.ranks, first.header.run):
-            fail(f"{journal.path} is of another run than {first.path}: {differing(header)}, and not {differing(first.header)}")
+            own, others = described(header), described(first.header)
+            fail(f"{journal.path} is of another run than {first.path}: {own}, and not {others}")
         yield journal
 
 
-def others(folder):
-    return any(re.fullmatch(r"journal\d+", path.name) for path in Path(folder).glob("journal*"))
+def first_journal(folder):
+    """That of the lowest rank which has one: rank 0 may be one that wasn't recorded."""
+    names = (re.fullmatch(r"journal([0-9]+)", path.name) for path in Path(folder).glob("journal*"))
+    for rank in sorted(int(name[1]) for name in names if name):
+        journal = Journal(folder, rank)
+        if journal.header:
+            return journal
+    return fail(f"no journal of a rank is in {folder}: nothing was recorded")
 
 
-def differing(header):
+def described(header):
     return f"{header.ranks} ranks with the name {header.run}"

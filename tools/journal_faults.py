@@ -1,6 +1,6 @@
 """Whether a journal is one: its lines, and what they say of requests, messages and communicators. An unproved
-companion of mpiwait, as all of tools/. A line has at most one fault, the first of WORDS that it has (J6 comes before
-all others); a journal has that of its first line with one.
+companion of mpiwait, as all of tools/. A line has at most one fault, the first of WORDS that it has (J6 comes
+before all others); a journal has that of its first line with one.
 """
 
 import re
@@ -18,18 +18,22 @@ WORDS = {
 # The fields of each line, one letter each:
 # q, m: a new request, a new message; r, n: an earlier one, not completed; R: one or more r
 # c: a communicator; C: a new one; W: one or more ranks of the world
-# d: a destination, s: a source; t: a tag, u: one of a receive; o: a root; l, k: a colour, a key; b: bytes, if known
+# d: a destination, s: a source; t: a tag, u: one of a receive; o: a root; l, k: a colour, a key
+# b: bytes, if known
 FORMS = {
     **dict.fromkeys(("init", "finalize", "abort", "exit", "full"), ""),
-    "send": "cdtb", "isend": "qcdtb", "recv": "csu", "irecv": "qcsu", "sendrecv": "cdtsub", "isendrecv": "qqcdtsub",
-    **dict.fromkeys(("ssend", "bsend", "rsend"), "cdt"), **dict.fromkeys(("issend", "ibsend", "irsend"), "qcdt"),
+    "send": "cdtb", "isend": "qcdtb", "recv": "csu", "irecv": "qcsu",
+    **dict.fromkeys(("ssend", "bsend", "rsend"), "cdt"),
+    **dict.fromkeys(("issend", "ibsend", "irsend"), "qcdt"),
+    "sendrecv": "cdtsub", "isendrecv": "qqcdtsub",
     "probe": "csu", "iprobe": "cdt", "mprobe": "mcsu", "improbe": "mcdt", "mrecv": "n", "imrecv": "qn",
     **dict.fromkeys(("wait", "test", "waitany", "waitsome"), "R"), "cancel": "r", "request_free": "r",
     **dict.fromkeys(("barrier", "allgather", "alltoall", "allreduce", "scan", "exscan"), "c"),
-    **dict.fromkeys(("ibarrier", "iallgather", "ialltoall", "iallreduce", "iscan", "iexscan", "comm_idup"), "qc"),
+    **dict.fromkeys(("ibarrier", "iallgather", "ialltoall", "iallreduce", "iscan", "iexscan"), "qc"),
     **dict.fromkeys(("bcast", "gather", "scatter", "reduce"), "co"),
     **dict.fromkeys(("ibcast", "igather", "iscatter", "ireduce"), "qco"),
-    **dict.fromkeys(("comm_dup", "comm_make", "comm_free"), "c"), "comm_split": "clk", "comm_create_group": "W",
+    "comm_dup": "c", "comm_split": "clk", "comm_make": "c", "comm_idup": "qc", "comm_free": "c",
+    "comm_create_group": "W",
     "=got": "dt", "=chose": "R", "=done": "rdt", "=gone": "r", "=kept": "r", "=comm": "CW", "=idup": "CrW",
     "=none": "", "=apart": "CW", "=failed": "",
 }  # fmt: skip
@@ -99,7 +103,9 @@ def letters_of(word, fields):
 
 
 def is_formed(letter, field, ranks):
-    return field in NAMES.get(letter, ()) or is_number(field, LOWEST[letter], ranks - 1 if letter == "W" else MOST)
+    return field in NAMES.get(letter, ()) or is_number(
+        field, LOWEST[letter], ranks - 1 if letter == "W" else MOST
+    )
 
 
 def is_number(field, low, high):
@@ -126,7 +132,10 @@ class Checker:
 
     def __init__(self, rank, ranks):
         self.rank, self.ranks = str(rank), ranks
-        self.groups = {"0": [str(each) for each in range(ranks)], "1": [self.rank]}  # by the rank's own numbers
+        self.groups = {
+            "0": [str(each) for each in range(ranks)],
+            "1": [self.rank],
+        }  # by the rank's own numbers
         self.requests = {}  # messages too
         self.word, self.fields, self.reports = "", [], set()  # of the last call line
         self.completes = []  # what it completes, if it doesn't fail
@@ -157,7 +166,11 @@ class Checker:
                 self.requests[field] = Request(word, fields, letter == "m", wildcards)
         if word == "cancel":
             self.requests[fields[0]].is_cancelled = True
-        elif word in WAITS and (word in ("wait", "test") or len(fields) == 1) or word in ("mrecv", "request_free"):
+        elif (
+            word in WAITS
+            and (word in ("wait", "test") or len(fields) == 1)
+            or word in ("mrecv", "request_free")
+        ):
             self.completes = fields
         elif word == "imrecv":
             self.completes = fields[1:]
@@ -174,7 +187,11 @@ class Checker:
     # ---- What is reported ------------------------------------------------------------------------
 
     def _report(self, word, fields):
-        named = fields if word == "=chose" else [field for letter, field in zip(FORMS[word], fields) if letter == "r"]
+        named = (
+            fields
+            if word == "=chose"
+            else [field for letter, field in zip(FORMS[word], fields) if letter == "r"]
+        )
         known = [(field, self.requests[field]) for field in named if field in self.requests]
         known = [(field, request) for field, request in known if not request.is_message]
         need(self._can_have(word, fields) and all(self._fits(word, *pair) for pair in known), "J7")
@@ -213,7 +230,13 @@ class Checker:
         need(fields[0] not in self.groups, "J9")
         is_of_group = word == "=comm" and self.word == "comm_create_group"
         need(not is_of_group or group == self.fields, "J10")
-        parent = known[0][1].parent if word == "=idup" else "0" if word == "=apart" or is_of_group else self.fields[0]
+        parent = (
+            known[0][1].parent
+            if word == "=idup"
+            else "0"
+            if word == "=apart" or is_of_group
+            else self.fields[0]
+        )
         need(self._is_group(group, self.groups[parent]), "J10")
         self.groups[fields[0]] = group
 

@@ -47,7 +47,8 @@ class Call:
         if self.word in ("recv", "irecv", "probe"):
             return f"from {self._peer(fields[1])} with tag {fields[2]}"
         if self.word == "sendrecv":
-            return (f"to {self._peer(fields[1])} with tag {fields[2]}, from {self._peer(fields[3])} with tag {fields[4]}")
+            sent, received = (f"{self._peer(fields[at])} with tag {fields[at + 1]}" for at in (1, 3))
+            return f"to {sent}, from {received}"
         return ""
 
     def peers(self):
@@ -84,7 +85,9 @@ class Run:
         self.recording = json.loads((self.folder / "recording.json").read_text())
         head = lines_of(self.folder / "head")
         self.ranks = int(head[0].split(" ")[1])
-        self._groups = [list(range(self.ranks))] + [[int(rank) for rank in line.split(" ")[1:]] for line in head[1:]]
+        self._groups = [list(range(self.ranks))] + [
+            [int(rank) for rank in line.split(" ")[1:]] for line in head[1:]
+        ]
         self.places = Places(self.folder)
         self.trace = cache(lambda rank: lines_of(self.folder / f"r{rank}"))
         self.calls = cache(lambda rank: lines_of(self.folder / f"calls{rank}"))
@@ -112,7 +115,7 @@ class Run:
         return self._groups[comm]
 
     def in_wave(self, comm, wave, rank):
-        """The call of a rank that is the wave-th, from 0, of those that all members of a communicator make."""
+        """The wave-th call of a rank, from 0, of those that all members of a communicator make."""
         for at, line in enumerate(self.trace(rank)):
             if is_collective(line, comm):
                 if wave == 0:
@@ -127,7 +130,9 @@ def lines_of(path):
 
 def is_collective(line, comm):
     word, *fields = line.split(" ")
-    if word in ("finalize", "open", "sendrecv", "send", "ssend", "bsend", "recv", "probe") or word.startswith("wait"):
+    if word in ("finalize", "open", "sendrecv", "send", "ssend", "bsend", "recv", "probe") or word.startswith(
+        "wait"
+    ):
         return False
     if word in STARTS:
         return False
@@ -144,21 +149,27 @@ class Places:
     def where(self, rank, site):
         """One line for a place: the first frame whose line is known, and what called it."""
         frames = self.frames(rank, site)
-        return ", called from ".join(frames[:1] + [frame for frame in frames[1:] if ":" in frame]) if frames else ""
+        return (
+            ", called from ".join(frames[:1] + [frame for frame in frames[1:] if ":" in frame])
+            if frames
+            else ""
+        )
 
     def frames(self, rank, site):
         return [self._looked_up(frame) for frame in self._sites(rank).get(site, [])]
 
 
 def look_up(frame):
-    """`FILE:LINE` for a frame `MODULE+0xOFFSET`, where that is known; else the function, where one has a symbol, and
-    the frame. The offset is that of the return, which may be in the line after that of the call."""
+    """`FILE:LINE` for a frame `MODULE+0xOFFSET`, where that is known; else the function, where one has a
+    symbol, and the frame. The offset is that of the return, which may be in the line after that of the call."""
     module, plus, offset = frame.rpartition("+0x")
     if not plus:
         return short(frame)
     place = int(offset, 16) - 1
     line = re.sub(r" \(discriminator \d+\)$", "", said_by("addr2line", "-e", module, hex(place)).rstrip("\n"))
-    if not line.startswith("??") and line.rpartition(":")[2].isdecimal():  # else `??:0', or `FILE:?' without -g
+    if (
+        not line.startswith("??") and line.rpartition(":")[2].isdecimal()
+    ):  # else `??:0', or `FILE:?' without -g
         return short(line)
     name = printable(f"{Path(module).name}+0x{offset}")
     function = next((function for start, end, function in functions(module) if start <= place < end), None)
@@ -168,7 +179,11 @@ def look_up(frame):
 @cache
 def functions(module):
     """The functions that a module's tables of symbols have: beginning, end and name."""
-    lines = [line.split(" ", 3) for table in ("-a", "-D") for line in said_by("nm", table, "-CS", module).split("\n")]
+    lines = [
+        line.split(" ", 3)
+        for table in ("-a", "-D")
+        for line in said_by("nm", table, "-CS", module).split("\n")
+    ]
     sized = [line for line in lines if len(line) == 4 and line[2] in set("tTwW")]
     return [(int(start, 16), int(start, 16) + int(size, 16), name) for start, size, _, name in sized]
 
@@ -195,9 +210,13 @@ def short(line):
 
 
 def printable(text):
-    """A name of a file as one line: a byte that is no character is written as `\\xHH`, and what no line shows likewise."""
+    """A name of a file as one line: what is no character, or none to be seen, is written as `\\xHH`."""
     return "".join(one if one.isprintable() else escaped(one) for one in text)
 
 
 def escaped(one):
-    return f"\\x{ord(one) - 0xDC00:02x}" if "\udc80" <= one <= "\udcff" else one.encode("unicode_escape").decode()
+    return (
+        f"\\x{ord(one) - 0xDC00:02x}"
+        if "\udc80" <= one <= "\udcff"
+        else one.encode("unicode_escape").decode()
+    )

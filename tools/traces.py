@@ -117,7 +117,7 @@ class Trace:
             raise CannotBe(f"names tag {tag}")
 
     def _received(self, local, source, tag, reported):
-        """The source and the tag of a receive or probe, where those of a wildcard were reported; else None."""
+        """The source and the tag of a receive or probe; None where those of a wildcard weren't reported."""
         self._look_at(local, source, tag, WORDS)
         if source == "null":
             return source, "0" if tag == "any" else tag
@@ -259,7 +259,9 @@ class Trace:
         request, local, *roots = entry.fields
         for root in roots:
             self._look_at(local, root, words=())
-        self._start("ibarrier" if entry.word == "comm_idup" else entry.word, request, self._comm(local), *roots)
+        self._start(
+            "ibarrier" if entry.word == "comm_idup" else entry.word, request, self._comm(local), *roots
+        )
 
     def _make(self, entry):
         self._comm(entry.fields[0])
@@ -295,4 +297,5 @@ HANDLERS = {
 
 
 def described(source, tag):
-    return f"{'any source' if source == 'any' else f'source {source}'}, {'any tag' if tag == 'any' else f'tag {tag}'}"
+    named = "any source" if source == "any" else f"source {source}"
+    return f"{named}, {'any tag' if tag == 'any' else f'tag {tag}'}"

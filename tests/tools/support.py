@@ -54,4 +54,6 @@ class Folders(unittest.TestCase):
     def command(self, name, *words, **environment):
         """Runs a script of tools/ to its end."""
         words = [sys.executable, str(TOOLS / name), *map(str, words)]
-        return subprocess.run(words, capture_output=True, text=True, check=False, cwd=self.folder, **environment)
+        return subprocess.run(
+            words, capture_output=True, text=True, check=False, cwd=self.folder, **environment
+        )

@@ -34,7 +34,9 @@ class Limits(Folders):
 
     def test_each_size(self):
         self.write("head", "ranks 2\n")
-        self.write("r0", "send 0 1 0 8\nisend 0 0 1 0 9\nsendrecv 0 1 0 1 0 4\nssend 0 1 0\nsend 0 1 0\nfinalize\n")
+        self.write(
+            "r0", "send 0 1 0 8\nisend 0 0 1 0 9\nsendrecv 0 1 0 1 0 4\nssend 0 1 0\nsend 0 1 0\nfinalize\n"
+        )
         self.write("r1", "open\n")
         table = "limit   verdict\nnone    hang\n0       hang\n4       hang\n8       free\n9       free\n"
         self.assertEqual(self.said("."), (0, table + "the least limit with the verdict free is 8\n"))

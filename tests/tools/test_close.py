@@ -182,18 +182,28 @@ class Closing(Folders):
             self.assertEqual(self.close(calls), [lines(trace)])
         self.assertEqual(self.read("head"), "ranks 1\ncomm 0\ncomm 0\n")
         stops = json.loads(self.read("recording.json"))["ranks"][0]["stops"]
-        self.assertEqual((stops["why"], stops["later"]), ("is on a communicator beyond those that a head may name", 1))
+        self.assertEqual(
+            (stops["why"], stops["later"]), ("is on a communicator beyond those that a head may name", 1)
+        )
 
     def test_a_trace_has_so_many_lines(self):
         with mock.patch.object(traces, "MOST_LINES", 3):
-            self.assertEqual(self.close("barrier 0 / barrier 0 / finalize"), ["barrier 0\nbarrier 0\nfinalize\n"])
+            self.assertEqual(
+                self.close("barrier 0 / barrier 0 / finalize"), ["barrier 0\nbarrier 0\nfinalize\n"]
+            )
             self.again()
-            self.assertEqual(self.close("barrier 0 / barrier 0 / barrier 0"), ["barrier 0\nbarrier 0\nopen\n"])
+            self.assertEqual(
+                self.close("barrier 0 / barrier 0 / barrier 0"), ["barrier 0\nbarrier 0\nopen\n"]
+            )
             self.again()
-            self.assertEqual(self.close("barrier 0 / improbe 1 0 0 0 / barrier 0"), ["barrier 0\nprobe 0 0 0\nopen\n"])
+            self.assertEqual(
+                self.close("barrier 0 / improbe 1 0 0 0 / barrier 0"), ["barrier 0\nprobe 0 0 0\nopen\n"]
+            )
 
     def test_the_calls_of_a_trace(self):
-        self.close("=apart 2 0 / comm_make 0 @4 / =none / isendrecv 1 2 2 0 3 0 3 @5 / wait 1 2 @6 / finalize")
+        self.close(
+            "=apart 2 0 / comm_make 0 @4 / =none / isendrecv 1 2 2 0 3 0 3 @5 / wait 1 2 @6 / finalize"
+        )
         wanted = "0 MPI_Init / 4 a call that makes communicators / 5 MPI_Isendrecv / 5 MPI_Isendrecv / 6 MPI_Waitall"
         self.assertEqual(self.read("calls0"), lines(wanted + " / 0 MPI_Finalize"))
 
@@ -205,11 +215,17 @@ class Recording(Folders):
         return json.loads(self.read("recording.json"))
 
     def test_what_it_says(self):
-        (first, second, third) = self.recorded("init @1 / barrier 0 @2 / finalize", None, "barrier 0 @3 / stopped for a reason")["ranks"]
+        (first, second, third) = self.recorded(
+            "init @1 / barrier 0 @2 / finalize", None, "barrier 0 @3 / stopped for a reason"
+        )["ranks"]
         last = {"call": "MPI_Finalize", "site": 0}
-        self.assertEqual(first, {"seen": True, "calls": 2, "last": last, "end": "finalize", "stops": None, "left_out": []})
+        self.assertEqual(
+            first, {"seen": True, "calls": 2, "last": last, "end": "finalize", "stops": None, "left_out": []}
+        )
         self.assertEqual((second["seen"], second["calls"], second["end"]), (False, 1, "cut"))
-        self.assertEqual((third["last"], third["end"]), ({"call": "MPI_Barrier", "site": 3}, "stopped for a reason"))
+        self.assertEqual(
+            (third["last"], third["end"]), ({"call": "MPI_Barrier", "site": 3}, "stopped for a reason")
+        )
 
     def test_where_a_trace_ends_before_its_journal(self):
         for calls, call, why, later in (
@@ -217,7 +233,12 @@ class Recording(Folders):
             ("recv 0 0 0 / =failed / barrier 0 / finalize", "MPI_Recv", "answered an error", 2),
             ("recv 0 any any", "MPI_Recv", "never came back: any source, any tag", 0),
             ("irecv 1 0 0 any / finalize", "MPI_Irecv", "was completed by no call: source 0, any tag", 1),
-            ("isend 1 0 0 0 / cancel 1", "MPI_Cancel", "cancels a call, and whether that was done all the same isn't known", 0),
+            (
+                "isend 1 0 0 0 / cancel 1",
+                "MPI_Cancel",
+                "cancels a call, and whether that was done all the same isn't known",
+                0,
+            ),
         ):
             with self.subTest(calls):
                 stops = self.recorded(calls)["ranks"][0]["stops"]
@@ -230,7 +251,9 @@ class Recording(Folders):
         self.run_of("finalize")
         self.write("journal/unrecorded", "spawned\nspawned\nanother library\n")
         CLOSE.close(self.folder)
-        self.assertEqual(json.loads(self.read("recording.json"))["unrecorded"], {"spawned": 2, "another library": 1})
+        self.assertEqual(
+            json.loads(self.read("recording.json"))["unrecorded"], {"spawned": 2, "another library": 1}
+        )
 
 
 class Failing(Folders):

@@ -74,13 +74,19 @@ class Explaining(Folders):
         self.assertIn("MPI_Recv at /\u00e9.py:8", first)
         ascii_only = {"LC_ALL": "C", "PYTHONUTF8": "0", "PYTHONCOERCECLOCALE": "0"}
         second = self.said("--json", "said.json", "--html", "page.html", env=plain | ascii_only)
-        self.assertIn("rank 0 waits in MPI_Send at /a \\t\\n\\x0c\\xe2\\x80\\xa8\\xff\\.py:7 to rank 1", second)
+        self.assertIn(
+            "rank 0 waits in MPI_Send at /a \\t\\n\\x0c\\xe2\\x80\\xa8\\xff\\.py:7 to rank 1", second
+        )
         self.assertIn("MPI_Recv at /\\xc3\\xa9.py:8", second)
 
     def test_titles(self):
         for report, calls, title in (
             (FREE, "finalize", "verdict free: every rank comes to its MPI_Finalize"),
-            (UNFINISHED, "barrier 0", "verdict unfinished: no rank surely hangs, and not all came to their MPI_Finalize"),
+            (
+                UNFINISHED,
+                "barrier 0",
+                "verdict unfinished: no rank surely hangs, and not all came to their MPI_Finalize",
+            ),
             (
                 UNFINISHED,
                 "irecv 1 0 any any / finalize",
@@ -141,7 +147,9 @@ class Explaining(Folders):
                 meanings["P"]: ["3 calls of another thread (rank 1)"],
                 meanings["W"]: ["13 MPI_Put (ranks 0 and 1)"],
                 meanings["N"]: ["9 MPI_Test (rank 0)"],
-                "Processes that weren't recorded, and of which no verdict speaks": ["1 process: it was spawned"],
+                "Processes that weren't recorded, and of which no verdict speaks": [
+                    "1 process: it was spawned"
+                ],
             },
         )
 
@@ -151,7 +159,9 @@ class Explaining(Folders):
         self.judged(report, "recv 0 1 0 @1 / finalize", "finalize")
         self.assertEqual(
             self.story()[1]["The cause"],
-            ["rank 0 waits in MPI_Recv at /src/a.py:7 from rank 1 with tag 0 (its call 0), for a send that rank 1 never makes"],
+            [
+                "rank 0 waits in MPI_Recv at /src/a.py:7 from rank 1 with tag 0 (its call 0), for a send that rank 1 never makes"
+            ],
         )
 
     def test_a_near_miss(self):
@@ -195,7 +205,9 @@ class InWords(unittest.TestCase):
     def test_ranks(self):
         self.assertEqual(EXPLAIN.numbers([4, 0, 1, 2]), "0 to 2 and 4")
         self.assertEqual(EXPLAIN.ranks_named([3]), "rank 3")
-        self.assertEqual(EXPLAIN.numbers(range(0, 40, 2)), "0, 2, 4, 6, 8, 10, 12, 14, 16, 18, 20, 22 and 8 more")
+        self.assertEqual(
+            EXPLAIN.numbers(range(0, 40, 2)), "0, 2, 4, 6, 8, 10, 12, 14, 16, 18, 20, 22 and 8 more"
+        )
 
 
 if __name__ == "__main__":

@@ -30,15 +30,28 @@ class Reading(Folders):
         found = Entry(2, "isend 4 0 1 5 8 @77")
         self.assertEqual((found.word, found.fields, found.site), ("isend", ["4", "0", "1", "5", "8"], 77))
         found = Entry(2, "stopped a file @9 is gone")
-        self.assertEqual((found.word, found.fields, found.site), ("stopped", ["a", "file", "@9", "is", "gone"], 0))
+        self.assertEqual(
+            (found.word, found.fields, found.site), ("stopped", ["a", "file", "@9", "is", "gone"], 0)
+        )
 
     def test_a_call_came_back_if_something_says_so(self):
         calls = "=apart 2 0 / recv 0 0 1 / =apart 3 0 / recv 0 0 2 / =got 0 2 / test 4 / barrier 0"
-        self.assertEqual([entry.came_back for entry in self.entries(journal(0, 1, calls))], [True] * 4 + [False])
-        self.assertEqual([entry.came_back for entry in self.entries(journal(0, 1, "barrier 0 / =apart 3 0"))], [True, False])
-        self.assertEqual([entry.came_back for entry in self.entries(journal(0, 1, "barrier 0", "o"))], [True, True])
-        self.assertEqual([entry.came_back for entry in self.entries(journal(0, 1, "barrier 0 / =failed"))], [True, True])
-        self.assertEqual([entry.came_back for entry in self.entries(journal(0, 1, "iprobe 0 0 1"))], [True, True])
+        self.assertEqual(
+            [entry.came_back for entry in self.entries(journal(0, 1, calls))], [True] * 4 + [False]
+        )
+        self.assertEqual(
+            [entry.came_back for entry in self.entries(journal(0, 1, "barrier 0 / =apart 3 0"))],
+            [True, False],
+        )
+        self.assertEqual(
+            [entry.came_back for entry in self.entries(journal(0, 1, "barrier 0", "o"))], [True, True]
+        )
+        self.assertEqual(
+            [entry.came_back for entry in self.entries(journal(0, 1, "barrier 0 / =failed"))], [True, True]
+        )
+        self.assertEqual(
+            [entry.came_back for entry in self.entries(journal(0, 1, "iprobe 0 0 1"))], [True, True]
+        )
 
     def test_what_was_counted(self):
         self.write("left0", b"W 000000000012 MPI_Put\nP 000000000003 calls of another thread\n\0\0\0")
@@ -73,7 +86,9 @@ class Headers(Folders):
 
     def test_journals_of_one_run(self):
         self.write_two("journal 2 0 3 a-run i y\n", "journal 2 1 3 a-run o z z\n")
-        self.assertEqual([one.header is not None for one in checked_journals(self.folder)], [True, True, False])
+        self.assertEqual(
+            [one.header is not None for one in checked_journals(self.folder)], [True, True, False]
+        )
 
     def test_another_run(self):
         self.write_two("journal 2 0 2 a-run i y\n", "journal 2 1 2 b-run i y\n")
@@ -93,7 +108,13 @@ class Headers(Folders):
 
     def test_an_empty_one(self):
         self.write("journal0", b"\0" * 100)
-        self.assertIn("isn't there or is empty", self.refused())
+        self.assertIn("nothing was recorded", self.refused())
+
+    def test_a_run_whose_first_rank_was_not_recorded(self):
+        self.write("journal1", "journal 2 1 3 a-run i y\n")
+        self.assertEqual(
+            [one.header is not None for one in checked_journals(self.folder)], [False, True, False]
+        )
 
     def test_an_empty_folder(self):
         self.assertIn("nothing was recorded", self.refused())

@@ -148,6 +148,29 @@ Owner module_of(const void *address) {
     return question.owner;
 }
 
+typedef struct {
+    const void *address;
+    const char *name;
+    unsigned long base;
+} Place;
+
+static int take_place(struct dl_phdr_info *module, size_t size, void *state) {
+    (void)size;
+    Place *place = state;
+    if (!has_address(module, (uintptr_t)place->address))
+        return 0;
+    place->name = module->dlpi_name;
+    place->base = module->dlpi_addr;
+    return 1;
+}
+
+const char *module_at(const void *address, unsigned long *base) {
+    Place place = {.address = address};
+    dl_iterate_phdr(take_place, &place);
+    *base = place.base;
+    return place.name;
+}
+
 static int compare(struct dl_phdr_info *module, size_t size, void *name) {
     (void)size;
     return has_prefix(base_name(module->dlpi_name), name);

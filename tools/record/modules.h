@@ -12,6 +12,10 @@
 typedef enum { OF_PROGRAM = 1, OF_MPI, OF_TOOL } Owner;
 Owner module_of(const void *address);
 
+/* The path of the module at an address, empty for the program itself, and where it lies in memory; NULL where there is
+ * none. */
+const char *module_at(const void *address, unsigned long *base);
+
 /* Whether a library with a name that begins so is loaded. */
 bool is_loaded(const char *name);
 

@@ -8,8 +8,6 @@
 #include "sites.h"
 #include "journal.h"
 #include "modules.h"
-#include <dlfcn.h>
-#include <link.h>
 #include <stdint.h>
 #include <stdio.h>
 #include <stdlib.h>
@@ -138,22 +136,21 @@ static void *guess(void *caller, void **place) {
 /* ---- Sites ------------------------------------------------------------------------------------- */
 
 static void tell_frame(void *address) {
-    Dl_info found;
-    struct link_map *module = NULL;
-    if (dladdr1(address, &found, (void **)&module, RTLD_DL_LINKMAP) && module) {
-        char path[4096];
-        const char *name = module->l_name;
-        if (!*name) { /* the program itself */
-            ssize_t length = readlink("/proc/self/exe", path, sizeof path - 1);
-            path[length > 0 ? length : 0] = '\0';
-            name = path;
-        }
-        fputc('\t', sites);
-        put_name(name);
-        fprintf(sites, "+0x%lx", (unsigned long)address - (unsigned long)module->l_addr);
-    } else {
+    unsigned long base;
+    const char *name = module_at(address, &base);
+    char path[4096];
+    if (!name) {
         fprintf(sites, "\t?+%p", address);
+        return;
     }
+    if (!*name) { /* the program itself */
+        ssize_t length = readlink("/proc/self/exe", path, sizeof path - 1);
+        path[length > 0 ? length : 0] = '\0';
+        name = path;
+    }
+    fputc('\t', sites);
+    put_name(name);
+    fprintf(sites, "+0x%lx", (unsigned long)address - base);
 }
 
 static int site_of_frames(uint64_t key, void *const frames[], int count) {

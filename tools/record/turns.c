@@ -15,6 +15,9 @@ static struct {
     bool is_of_first; /* of the thread of MPI_Init */
 } turn;
 
+/* After so many calls it is asked whether modules were loaded. */
+enum { CALLS_UNTIL_LOOK = 8 };
+
 static pthread_mutex_t lock = PTHREAD_MUTEX_INITIALIZER;
 static pthread_t first;
 static bool several; /* threads may call at once */
@@ -80,6 +83,8 @@ bool take_turn(void) {
         return false;
     }
     own.turn = turn.now = ++turn.last;
+    if (turn.last % CALLS_UNTIL_LOOK == 0)
+        find_new_bypasses();
     turn.is_of_first = pthread_equal(pthread_self(), first);
     own.site = -1;
     journal_begin();
