@@ -18,8 +18,7 @@ WORDS = {
 # The fields of each line, one letter each:
 # q, m: a new request, a new message; r, n: an earlier one, not completed; R: one or more r
 # c: a communicator; C: a new one; W: one or more ranks of the world
-# d: a destination, s: a source; t: a tag, u: one of a receive; o: a root; l, k: a colour, a key
-# b: bytes, if known
+# d: a destination, s: a source; t: a tag, u: one of a receive; o: a root; l, k: colour, key; b: bytes
 FORMS = {
     **dict.fromkeys(("init", "finalize", "abort", "exit", "full"), ""),
     "send": "cdtb", "isend": "qcdtb", "recv": "csu", "irecv": "qcsu",

@@ -161,7 +161,8 @@ class Places:
 
 def look_up(frame):
     """`FILE:LINE` for a frame `MODULE+0xOFFSET`, where that is known; else the function, where one has a
-    symbol, and the frame. The offset is that of the return, which may be in the line after that of the call."""
+    symbol, and the frame. The offset is that of the return, which may be in the line after that of the
+    call."""
     module, plus, offset = frame.rpartition("+0x")
     if not plus:
         return short(frame)
