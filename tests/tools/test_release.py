@@ -189,6 +189,10 @@ class Script(unittest.TestCase):
         self.assertEqual(self.run_script("run"), (5, f"check {files}"))
         self.assertEqual(self.run_script("check", "--eager", "4", "run"), (5, f"check --eager 4 {files}"))
 
+    def test_the_program_answers_also_where_unproved_code_may(self):
+        self.assertEqual(self.run_script("--unproved", "run"), (5, "check run/head run/r0 run/r1"))
+        self.assertEqual(self.run_script("--unproved", "lint", "run/r0"), (5, "lint run/r0"))
+
     def test_other_words_are_the_programs(self):
         for words in ("check --json run/head run/r0", "lint run", "--help", "check", ""):
             self.assertEqual(self.run_script(*words.split()), (5, words))
