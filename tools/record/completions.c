@@ -54,7 +54,8 @@ static void look_at(Asked *asked, Named *named) {
         return;
     if (!request || !request->number) {
         asked->has_others = true;
-        left_out(WAITS, others);
+        if (!journal_is_full)
+            left_out(WAITS, others);
         return;
     }
     named->number = request->number;

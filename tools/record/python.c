@@ -2,13 +2,16 @@
  *
  * Python's functions may be called only by the thread that has its lock, and another thread that has the lock may wait
  * for this one. So Python is asked where this thread has the lock, or where it is the only one that Python knows: then
- * nobody else has it. Modules such as mpi4py let the lock go around their calls.
+ * nobody else has it. Modules such as mpi4py let the lock go around their calls, and other threads may run then. Of
+ * Python 3.11 the line is read then where it lies in memory: while a thread is in a call of MPI its own frames stay as
+ * they are. What was asked before has to have been the same as what was read.
  */
 #define _GNU_SOURCE
 #include "sites.h"
 #include <dlfcn.h>
 #include <stdbool.h>
 #include <stddef.h>
+#include <string.h>
 
 /* Python's own functions, where the process has them. They are asked for by name, since the recorder
  * isn't linked with Python. */
@@ -29,9 +32,117 @@ static struct {
     void *(*attribute)(void *, const char *);
     const char *(*text)(void *);
     void (*drop)(void *);
+    const char *(*version)(void);
+    int (*last)(void *);
+    int (*line_at)(void *, int);
 } python;
 
 #define FIND(member, name) ((*(void **)&python.member = dlsym(RTLD_DEFAULT, name)) != NULL)
+
+/* ---- Read -------------------------------------------------------------------------------------- */
+
+/* Where Python 3.11 has what is read, in bytes. */
+enum {
+    STATE_FRAMES = 56, /* of a thread's state: where its frames are, */
+    FRAMES_LAST = 8,   /* there the innermost one, */
+    FRAME_CODE = 32,   /* its code, */
+    FRAME_AT = 56,     /* and the instruction that it is at */
+    CODE_FILE = 112,   /* of code: the name of its file */
+    TEXT_STATE = 32,   /* of a text: a word with what it is, */
+    TEXT_ASCII = 3 << 5,
+    TEXT_BYTES = 48 /* and its bytes, if it is such a one */
+};
+
+static struct {
+    bool is_other; /* another version, or it was wrong once */
+    bool is_right; /* it was compared */
+    long code_size; /* how far behind the beginning of code its first instruction is */
+} layout;
+
+typedef struct {
+    char *code, *at, *file;
+} Line;
+
+static void *word_at(const void *place, int offset) { return *(void **)((char *)place + offset); }
+
+static bool read_line(const void *state, Line *line) {
+    const void *frames = word_at(state, STATE_FRAMES), *frame = frames ? word_at(frames, FRAMES_LAST) : NULL;
+    if (!frame)
+        return false;
+    line->code = word_at(frame, FRAME_CODE);
+    line->at = word_at(frame, FRAME_AT);
+    line->file = line->code ? word_at(line->code, CODE_FILE) : NULL;
+    return line->file;
+}
+
+static const char *bytes_of(const char *text) {
+    int state = *(const int *)(text + TEXT_STATE);
+    return (state & TEXT_ASCII) == TEXT_ASCII ? text + TEXT_BYTES : NULL;
+}
+
+/* What was asked is also read, and has to be the same; the first time it isn't asked how long code is. */
+static void compare(const void *frame, const void *code, const void *file, const char *name) {
+    Line line;
+    if (layout.is_other)
+        return;
+    bool is_same = read_line(python.state(), &line) && line.code == code && line.file == file;
+    const char *bytes = is_same ? bytes_of(line.file) : NULL;
+    long size = is_same ? line.at - line.code - python.last((void *)frame) : 0;
+    is_same = is_same && size > 0 && (!bytes || bytes == name) && (!layout.is_right || size == layout.code_size);
+    layout.code_size = size;
+    layout.is_other = !is_same;
+    layout.is_right = is_same;
+}
+
+static int read_site(const void *state) {
+    Line line;
+    if (!layout.is_right || !read_line(state, &line))
+        return 0;
+    const char *name = bytes_of(line.file);
+    return name ? site_of_line(name, python.line_at(line.code, line.at - line.code - layout.code_size)) : 0;
+}
+
+/* ---- Asked ------------------------------------------------------------------------------------- */
+
+/* 0 where no Python code runs. */
+static int ask_line(void) {
+    void *frame = python.frame();
+    if (!frame)
+        return 0;
+    int site = 0;
+    void *code = python.code(frame), *file = python.attribute(code, "co_filename");
+    const char *name = file ? python.text(file) : NULL;
+    if (name) {
+        site = site_of_line(name, python.line(frame));
+        compare(frame, code, file, name);
+    }
+    if (file)
+        python.drop(file);
+    python.drop(code);
+    return site;
+}
+
+/* Who has the lock can't be asked where there are several interpreters. */
+static bool can_ask(void *state) {
+    void *interpreter = python.first_interpreter();
+    if (!interpreter || python.next_interpreter(interpreter))
+        return false;
+    bool is_alone = python.first_state(interpreter) == state && !python.next_state(state);
+    return is_alone || python.has_lock();
+}
+
+int site_of_python(void) {
+    if (!python.is_there || !python.is_initialized())
+        return 0;
+    void *state = python.state();
+    if (!state)
+        return 0;
+    if (!can_ask(state))
+        return read_site(state);
+    int lock = python.take_lock(), site = ask_line();
+    python.give_lock(lock);
+    return site;
+}
 
 void find_python(void) {
     python.is_there = FIND(is_initialized, "Py_IsInitialized") && FIND(has_lock, "PyGILState_Check") &&
@@ -43,39 +154,6 @@ void find_python(void) {
                       FIND(frame, "PyEval_GetFrame") && FIND(line, "PyFrame_GetLineNumber") &&
                       FIND(code, "PyFrame_GetCode") && FIND(attribute, "PyObject_GetAttrString") &&
                       FIND(text, "PyUnicode_AsUTF8") && FIND(drop, "Py_DecRef");
-}
-
-/* 0 where no Python code runs. */
-static int ask_line(void) {
-    void *frame = python.frame();
-    if (!frame)
-        return 0;
-    int site = 0;
-    void *code = python.code(frame), *file = python.attribute(code, "co_filename");
-    const char *name = file ? python.text(file) : NULL;
-    if (name)
-        site = site_of_line(name, python.line(frame));
-    if (file)
-        python.drop(file);
-    python.drop(code);
-    return site;
-}
-
-static bool is_alone(void *state) {
-    void *interpreter = python.first_interpreter();
-    return interpreter && !python.next_interpreter(interpreter) && python.first_state(interpreter) == state &&
-           !python.next_state(state);
-}
-
-int site_of_python(void) {
-    if (!python.is_there || !python.is_initialized())
-        return 0;
-    void *state = python.state();
-    if (!state)
-        return 0;
-    if (!is_alone(state))
-        return python.has_lock() ? ask_line() : 0;
-    int lock = python.take_lock(), site = ask_line();
-    python.give_lock(lock);
-    return site;
+    layout.is_other = !(python.is_there && FIND(version, "Py_GetVersion") && FIND(last, "PyFrame_GetLasti") &&
+                        FIND(line_at, "PyCode_Addr2Line") && strncmp(python.version(), "3.11.", 5) == 0);
 }
