@@ -185,14 +185,14 @@ class Communicators:
         self.named = set()  # by a call other than that which makes it
         # By rank and line: of a call that all members make the parent and how many came before; of one that
         # makes a communicator its key.
-        self.waves, self.told = {}, {}
+        self.waves, self.brings = {}, {}
         for journal, own in zip(journals, self.owns):
             for entry in journal.entries:
                 self._call(entry, (journal.rank, entry.line), own)
                 for word, *fields in entry.reports:
                     self._report(word, fields, (journal.rank, entry.line), own)
         self.in_wave = {}  # by parent and count: the ranks that report a communicator, and its key
-        for (rank, line), key in self.told.items():
+        for (rank, line), key in self.brings.items():
             if self.keys[key].way == "made":
                 self.in_wave.setdefault(self.waves[rank, line], []).append((rank, key))
         for journal in journals:
@@ -229,16 +229,16 @@ class Communicators:
                 own.idups[entry.fields[0]] = self.waves[place]
         elif entry.word == "comm_create_group":
             group = entry.fields
-            self.told[place] = self._place("group", -1, own.count("group", *group), group)
-            self.named.add(self.told[place])
-            own.got(self.told[place])
+            self.brings[place] = self._place("group", -1, own.count("group", *group), group)
+            self.named.add(self.brings[place])
+            own.got(self.brings[place])
 
     def _report(self, word, fields, place, own):
-        if word == "=comm" and place in self.told:
-            own.local[int(fields[0])] = self.told[place]  # by comm_create_group
+        if word == "=comm" and place in self.brings:
+            own.local[int(fields[0])] = self.brings[place]  # by comm_create_group
         elif word == "=comm":
-            self.told[place] = self._place("made", *self.waves[place], fields[1:])
-            own.got(self.told[place], fields[0])
+            self.brings[place] = self._place("made", *self.waves[place], fields[1:])
+            own.got(self.brings[place], fields[0])
         elif word == "=idup":
             own.got(self._place("idup", *own.idups[fields[1]], fields[2:]), fields[0])
         elif word == "=apart":
@@ -253,7 +253,7 @@ class Communicators:
             others = sorted(self.in_wave.get(self.waves[place], []))
             for _, key in others:
                 if journal.rank in self.group(key):
-                    self.told[place] = key
+                    self.brings[place] = key
                     self.owns[journal.rank].got(key)
                     return
 
@@ -400,7 +400,7 @@ class List:
         self.active[request] = heapq.heappop(self.free)
 
     def standing(self, requests):
-        """Of some requests those that stand, by those that stand for them."""
+        """Of some requests those that weren't cancelled, each by what is in the trace for it."""
         return [self.same.get(request, request) for request in requests if request not in self.journal.gone]
 
     def wait_for(self, requests):
@@ -536,7 +536,7 @@ class List:
     def make(self, entry):
         place, all_of = (self.journal.rank, entry.line), self.communicators
         parent = self.numbered(entry.fields[0])
-        mine = all_of.told.get(place)
+        mine = all_of.brings.get(place)
         number = None if mine is None else all_of.number(mine)
         _, colour, rank = entry.fields if entry.word == "comm_split" else (None, None, "0")
         in_wave = all_of.in_wave.get(all_of.waves[place], [])
@@ -553,7 +553,7 @@ class List:
             self.put("split", parent, of_parent.index(group[0]), group.index(self.journal.rank), number)
 
     def make_of_group(self, entry):
-        number = self.communicators.number(self.communicators.told[self.journal.rank, entry.line])
+        number = self.communicators.number(self.communicators.brings[self.journal.rank, entry.line])
         if number is None:
             raise Left("no number")
         self.start_or_put(entry, "barrier", number)

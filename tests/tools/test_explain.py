@@ -58,11 +58,11 @@ class Explaining(Folders):
     def test_a_hang(self):
         self.judged(HANG, *BOTH)
         self.assertEqual(self.said("--json", "said.json", "--html", "page.html"), TEXT)
-        told = json.loads(self.read("said.json"))
-        self.assertEqual((told["verdict"], told["title"]), ("hang", "verdict hang: 2 of 2 ranks wait"))
+        said_as_json = json.loads(self.read("said.json"))
+        self.assertEqual((said_as_json["verdict"], said_as_json["title"]), ("hang", "verdict hang: 2 of 2 ranks wait"))
         waits = {"rank": 1, "at": 1, "mpi": "MPI_Recv", "where": "/src/a.py:8"}
-        self.assertEqual(told["ranks"][0]["waits"], [waits])
-        self.assertEqual(told["ranks"][0]["frames"], ["/src/a.py:7"])
+        self.assertEqual(said_as_json["ranks"][0]["waits"], [waits])
+        self.assertEqual(said_as_json["ranks"][0]["frames"], ["/src/a.py:7"])
         self.assertIn("<h1>verdict hang: 2 of 2 ranks wait</h1>", self.read("page.html"))
 
     def test_any_byte_of_a_file_in_any_locale(self):
