@@ -8,15 +8,17 @@ import tempfile
 import unittest
 from pathlib import Path
 
-TOOLS = Path(__file__).resolve().parents[2] / "tools"
+TOP = Path(__file__).resolve().parents[2]
+TOOLS = TOP / "tools"
 sys.path.insert(0, str(TOOLS))
 sys.dont_write_bytecode = True
 
 
-def script(name):
-    """A script of tools/ as a module."""
-    loader = importlib.machinery.SourceFileLoader(name.replace("-", "_"), str(TOOLS / name))
+def script(name, folder=TOOLS):
+    """A script as a module."""
+    loader = importlib.machinery.SourceFileLoader(f"script_{name}".replace("-", "_"), str(folder / name))
     module = importlib.util.module_from_spec(importlib.util.spec_from_loader(loader.name, loader))
+    sys.modules[loader.name] = module
     loader.exec_module(module)
     return module
 

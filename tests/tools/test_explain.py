@@ -58,11 +58,13 @@ class Explaining(Folders):
     def test_a_hang(self):
         self.judged(HANG, *BOTH)
         self.assertEqual(self.said("--json", "said.json", "--html", "page.html"), TEXT)
-        said_as_json = json.loads(self.read("said.json"))
-        self.assertEqual((said_as_json["verdict"], said_as_json["title"]), ("hang", "verdict hang: 2 of 2 ranks wait"))
+        answer = json.loads(self.read("said.json"))
+        self.assertEqual(
+            (answer["verdict"], answer["title"]), ("hang", "verdict hang: 2 of 2 ranks wait")
+        )
         waits = {"rank": 1, "at": 1, "mpi": "MPI_Recv", "where": "/src/a.py:8"}
-        self.assertEqual(said_as_json["ranks"][0]["waits"], [waits])
-        self.assertEqual(said_as_json["ranks"][0]["frames"], ["/src/a.py:7"])
+        self.assertEqual(answer["ranks"][0]["waits"], [waits])
+        self.assertEqual(answer["ranks"][0]["frames"], ["/src/a.py:7"])
         self.assertIn("<h1>verdict hang: 2 of 2 ranks wait</h1>", self.read("page.html"))
 
     def test_any_byte_of_a_file_in_any_locale(self):
