@@ -2,6 +2,7 @@
 
 import importlib.machinery
 import importlib.util
+import re
 import subprocess
 import sys
 import tempfile
@@ -26,6 +27,18 @@ def script(name, folder=TOOLS):
 def lines(text):
     """The text of lines that are written with ` / ' between them."""
     return "".join(line + "\n" for line in text.split(" / ")) if text else ""
+
+
+def closings(name):
+    """The cases of a file in journals/: a title, the calls of each rank, and the head and the traces that are
+    wanted. There, lines are folded, and ` / ' is between calls."""
+    text = (Path(__file__).parent / "journals" / name).read_text(encoding="ascii")
+    for case in re.sub(r"\n +", " ", text).strip().split("\n\n"):
+        title, *fields = case.split("\n")
+        calls = [one.partition(":")[2].strip() if ":" in one else None for one in fields if "journal" in one]
+        groups = [lines("comm " + one.removeprefix("comm: ")) for one in fields if one.startswith("comm")]
+        traces = [lines(one.partition(": ")[2]) for one in fields if one.startswith("trace")]
+        yield title.removeprefix("# "), calls, ["".join([f"ranks {len(calls)}\n", *groups]), *traces]
 
 
 def journal(rank, ranks, calls, state="i"):

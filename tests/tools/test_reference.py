@@ -7,31 +7,10 @@ import os
 import unittest
 from unittest import mock
 
-from support import TOP, Folders, lines
-from support import script
-from test_close import OF_ONE, OF_SEVERAL
+from support import TOP, Folders, closings, script
 
 JOURNALS = script("journals.py", TOP / "bench")
 
-WENT = {
-    "send 0 0 0 3 / rsend 0 0 1 / ssend 0 0 2 / bsend 0 0 3 / recv 0 any any / =got 0 7 / bcast 0 0 / finalize":
-        "isend 0 0 0 0 3 / isend 1 0 0 1 / issend 2 0 0 2 / ibsend 3 0 0 3 / irecv 4 0 0 7 / ibcast 5 0 0 / finalize",
-    "sendrecv 0 0 4 0 5 6 / sendrecv 0 0 4 0 5 6": "isend 0 0 0 4 6 / irecv 1 0 0 5 / sendrecv 0 0 4 0 5 6 / open",
-    "probe 0 0 0 / isend 1 0 0 0 / isend 2 0 0 0 / test 2 / waitany 1 / =chose 1 / barrier 0":
-        "isend 0 0 0 0 / isend 1 0 0 0 / barrier 0 / open",
-    "mprobe 4 0 0 3 / mrecv 4 / improbe 5 0 0 3 / imrecv 6 5 / wait 6": "irecv 0 0 0 3 / irecv 1 0 0 3 / wait 1 / open",
-    "mprobe 4 0 0 3": "probe 0 0 3 / irecv 0 0 0 3 / open",
-    "comm_create_group 0 / =comm 2 0 / comm_dup 2 / =comm 3 0 / barrier 3 / recv 3 0 0":
-        "split 0 0 0 1 / ibarrier 0 1 / dup 1 2 / ibarrier 1 2 / recv 2 0 0 / open",
-    "isend 1 0 0 0 / isend 2 0 0 0 / waitany 1 2 / barrier 0": "isend 0 0 0 0 / isend 1 0 0 0 / open",
-    "recv 0 0 3 / =apart 4 0": "recv 0 0 3 / open",
-}  # fmt: skip
-PASS = {
-    "isend 1 0 null 0 4 / test 1 / recv 0 null 0 / finalize": "isend 0 0 null 0 4 / recv 0 null 0 / wait 0 / finalize",
-    "isendrecv 1 2 0 0 0 0 0 / isend 3 0 0 1 / ibarrier 4 0 / test 3 4 / test 1 2 / exit":
-        "isend 0 0 0 0 / irecv 1 0 0 0 / isend 2 0 0 1 / ibarrier 3 0 / wait 3 / wait 1 / waitall 2 0 / finalize",
-    "isend 1 0 0 0 / test 1 / isend 2 0 0 0 / abort": "isend 0 0 0 0 / isend 1 0 0 0 / open",
-}  # fmt: skip
 LEFT = {
     "recv 0 any 4": "never came back", "irecv 1 0 any 4": "never told", "abort": "aborted", "full": "full",
     "stopped for a reason": "stopped", "send 0 7 0": "cannot be", "barrier 0 / =failed": "failed",
@@ -66,23 +45,18 @@ class Reference(Folders):
             return self.run_program("judge", *words, self.folder / "journal")
 
     def test_the_same_as_close(self):
-        for ranks, groups, wanted in [([one], None, [trace]) for one, trace in OF_ONE.items()] + OF_SEVERAL:
-            with self.subTest(ranks):
-                head, *traces = self.close(*ranks)
-                self.assertEqual(traces, [lines(trace) for trace in wanted])
-                if groups is not None:
-                    named = [f"comm {group}" for group in groups]
-                    self.assertEqual(head, lines(" / ".join([f"ranks {len(ranks)}", *named])))
+        self.compare("closed")
 
     def test_as_it_went(self):
-        for calls, trace in WENT.items():
-            with self.subTest(calls):
-                self.assertEqual(self.close(calls, words=("--calls", "went"))[1], lines(trace))
+        self.compare("as-it-went", "--calls", "went")
 
     def test_tests_that_wait_at_the_end(self):
-        for calls, trace in PASS.items():
-            with self.subTest(calls):
-                self.assertEqual(self.close(calls, words=("--tests", "pass"))[1], lines(trace))
+        self.compare("tests-at-the-end", "--tests", "pass")
+
+    def compare(self, name, *words):
+        for title, ranks, wanted in closings(name):
+            with self.subTest(title):
+                self.assertEqual(self.close(*ranks, words=words), wanted)
 
     def test_why_a_list_ends(self):
         report = {"causes": [], "findings": [], "ranks": [], "verdict": "unfinished"}
@@ -106,7 +80,8 @@ class Reference(Folders):
         status, said, _ = self.judged(report, "--json")
         report_of = json.loads(said)
         self.assertEqual((status, report_of["left"]), (1, []))
-        self.assertEqual(report_of["lines"], [[0, 0, 2], [0, 1, 4], [0, 2, 5], [0, 3, 6], [1, 0, 2], [1, 1, 3]])
+        places = [[0, 0, 2], [0, 1, 4], [0, 2, 5], [0, 3, 6], [1, 0, 2], [1, 1, 3]]
+        self.assertEqual(report_of["lines"], places)
         text = "verdict hang\nrank 0 at 3 waitall 0 1 waits rank 1 call 1\n"
         text += "rank 0 at 3 waitall 0 1 waits rank 1 none\nmissing 0 1\n"
         findings = "finding kind 0 0 1 barrier bcast\nfinding request 0 1 0\n"
