@@ -86,31 +86,40 @@ class Journal:
 
 
 def bytes_of(folder, rank):
-    """None of a journal that isn't there."""
-    path = folder / f"journal{rank}"
+    """What can be read of a journal, and whether that is all; None of one that isn't there."""
+    path = os.path.join(folder, f"journal{rank}")
+    if rank > 0 and not os.path.lexists(path):
+        return None, True
     try:
-        with open(path, "rb", buffering=0) as file:
-            return file.read()
-    except FileNotFoundError:
-        if rank > 0 and not os.path.lexists(path):
-            return None
-        raise Named(f"fault open {path}", 4) from None
-    except IsADirectoryError:
-        raise Named(f"fault rank {rank} line 1 E2 read failed", 4) from None
+        file = os.open(path, os.O_RDONLY | os.O_CLOEXEC)
     except OSError:
         raise Named(f"fault open {path}", 4) from None
+    data = bytearray()
+    try:
+        while b"\0" not in data and (more := os.read(file, 1 << 24)):
+            data += more
+    except OSError:
+        return bytes(data), False
+    finally:
+        os.close(file)
+    return bytes(data), True
 
 
-def journal_of(data, rank, first):
-    """The journal of a rank; `first` is the header of that of rank 0."""
+def journal_of(folder, rank, first):
+    """The header and the journal of a rank; `first` is the header of that of rank 0."""
+    data, is_whole = bytes_of(folder, rank)
+    if data is None:
+        return None, Journal(rank, False, [Entry(1, "init", [])])
     lines = lines_of(data)
     try:
-        header = header_of(lines)
-        if header[0] != rank or first and header[1:3] != first[1:3]:
+        header = header_of(lines) if lines or is_whole else None
+        if header and (header[0] != rank or first and header[1:3] != first[1:3]):
             raise Fault(1, "J1")
-        check(lines, rank, header[1])
+        check(lines, rank, header[1] if header else 1)
     except Fault as fault:
         raise Named(f"refused rank {rank} {fault}", 2) from None
+    if not is_whole:
+        raise Named(f"fault rank {rank} line {len(lines) + 1} E2 read failed", 4)
     return header, Journal(rank, True, entries_of(lines, header[3] == b"o"))
 
 
@@ -133,13 +142,8 @@ def entries_of(lines, is_outside):
 
 
 def journals_in(folder):
-    first, found = journal_of(bytes_of(folder, 0), 0, None)
-    journals = [found]
-    for rank in range(1, first[1]):
-        data = bytes_of(folder, rank)
-        absent = Journal(rank, False, [Entry(1, "init", [])])
-        journals.append(absent if data is None else journal_of(data, rank, first)[1])
-    return journals
+    first, journal = journal_of(folder, 0, None)
+    return [journal, *(journal_of(folder, rank, first)[1] for rank in range(1, first[1]))]
 
 
 # ---- Communicators -------------------------------------------------------------------------------
@@ -185,14 +189,14 @@ class Communicators:
         self.named = set()  # by a call other than that which makes it
         # By rank and line: of a call that all members make the parent and how many came before; of one that
         # makes a communicator its key.
-        self.waves, self.told = {}, {}
+        self.waves, self.brings = {}, {}
         for journal, own in zip(journals, self.owns):
             for entry in journal.entries:
                 self._call(entry, (journal.rank, entry.line), own)
                 for word, *fields in entry.reports:
                     self._report(word, fields, (journal.rank, entry.line), own)
         self.in_wave = {}  # by parent and count: the ranks that report a communicator, and its key
-        for (rank, line), key in self.told.items():
+        for (rank, line), key in self.brings.items():
             if self.keys[key].way == "made":
                 self.in_wave.setdefault(self.waves[rank, line], []).append((rank, key))
         for journal in journals:
@@ -229,16 +233,16 @@ class Communicators:
                 own.idups[entry.fields[0]] = self.waves[place]
         elif entry.word == "comm_create_group":
             group = entry.fields
-            self.told[place] = self._place("group", -1, own.count("group", *group), group)
-            self.named.add(self.told[place])
-            own.got(self.told[place])
+            self.brings[place] = self._place("group", -1, own.count("group", *group), group)
+            self.named.add(self.brings[place])
+            own.got(self.brings[place])
 
     def _report(self, word, fields, place, own):
-        if word == "=comm" and place in self.told:
-            own.local[int(fields[0])] = self.told[place]  # by comm_create_group
+        if word == "=comm" and place in self.brings:
+            own.local[int(fields[0])] = self.brings[place]  # by comm_create_group
         elif word == "=comm":
-            self.told[place] = self._place("made", *self.waves[place], fields[1:])
-            own.got(self.told[place], fields[0])
+            self.brings[place] = self._place("made", *self.waves[place], fields[1:])
+            own.got(self.brings[place], fields[0])
         elif word == "=idup":
             own.got(self._place("idup", *own.idups[fields[1]], fields[2:]), fields[0])
         elif word == "=apart":
@@ -253,7 +257,7 @@ class Communicators:
             others = sorted(self.in_wave.get(self.waves[place], []))
             for _, key in others:
                 if journal.rank in self.group(key):
-                    self.told[place] = key
+                    self.brings[place] = key
                     self.owns[journal.rank].got(key)
                     return
 
@@ -400,7 +404,7 @@ class List:
         self.active[request] = heapq.heappop(self.free)
 
     def standing(self, requests):
-        """Of some requests those that stand, by those that stand for them."""
+        """Of some requests those that weren't cancelled, each by what is in the trace for it."""
         return [self.same.get(request, request) for request in requests if request not in self.journal.gone]
 
     def wait_for(self, requests):
@@ -536,7 +540,7 @@ class List:
     def make(self, entry):
         place, all_of = (self.journal.rank, entry.line), self.communicators
         parent = self.numbered(entry.fields[0])
-        mine = all_of.told.get(place)
+        mine = all_of.brings.get(place)
         number = None if mine is None else all_of.number(mine)
         _, colour, rank = entry.fields if entry.word == "comm_split" else (None, None, "0")
         in_wave = all_of.in_wave.get(all_of.waves[place], [])
@@ -553,7 +557,7 @@ class List:
             self.put("split", parent, of_parent.index(group[0]), group.index(self.journal.rank), number)
 
     def make_of_group(self, entry):
-        number = self.communicators.number(self.communicators.told[self.journal.rank, entry.line])
+        number = self.communicators.number(self.communicators.brings[self.journal.rank, entry.line])
         if number is None:
             raise Left("no number")
         self.start_or_put(entry, "barrier", number)
@@ -583,27 +587,35 @@ class Recording:
 
     def write(self, out):
         try:
-            out.mkdir()
+            os.mkdir(out)
         except OSError:
             raise Named(f"fault make {out}", 4) from None
         try:
-            (out / "head").write_text(self.communicators.head())
+            write(os.path.join(out, "head"), self.communicators.head())
             for rank, one in enumerate(self.lists):
-                (out / f"r{rank}").write_text("".join(line + "\n" for line in one.lines))
+                write(os.path.join(out, f"r{rank}"), "".join(line + "\n" for line in one.lines))
         except OSError:
             raise Named("fault write", 4) from None
 
-    def checked(self, *words):
-        """What `mpiwait check' says of it."""
+    def report(self, words):
+        """The status and the report of `mpiwait check', by its JSON."""
         with tempfile.TemporaryDirectory() as folder:
-            out = Path(folder) / "out"
+            out = os.path.join(folder, "out")
             self.write(out)
-            files = [out / "head", *(out / f"r{rank}" for rank in range(len(self.lists)))]
-            command = [os.environ.get("MPIWAIT") or HERE.parent / "mpiwait", "check", *words, *files]
+            files = [
+                os.path.join(out, name) for name in ("head", *(f"r{rank}" for rank in range(len(self.lists))))
+            ]
+            program = os.environ.get("MPIWAIT") or HERE.parent / "mpiwait"
+            eager = [] if words.eager is None else ["--eager", words.eager]
+            command = [program, "check", "--json", *eager, *files]
             said = subprocess.run(command, capture_output=True, text=True, check=False)
         if said.returncode not in (0, 1, 5):
             raise Named((said.stdout + said.stderr).rstrip("\n"), said.returncode)
-        return said.returncode, said.stdout
+        report = json.loads(said.stdout)
+        kept = (
+            [] if words.calls == "went" else [one for one in report["findings"] if not self.is_of_freed(one)]
+        )
+        return said.returncode, report | {"findings": kept, "left": self.left()}
 
     def left(self):
         return [[rank, *one.left] for rank, one in enumerate(self.lists) if one.left]
@@ -632,18 +644,18 @@ class Recording:
         return [[rank, at, self.lists[rank].places[at]] for rank, at in sorted(places)]
 
     def starts_of(self, rank, at):
-        """The starts of the requests that a wait completes."""
-        word, *numbers = self.lists[rank].lines[at].split(" ")
-        if word == "waitany":
-            numbers = [numbers[1 + int(numbers[0])]]
+        """The starts of the requests that a wait completes: the last ones before it with these numbers."""
+        lines = self.lists[rank].lines
+        word, *numbers = lines[at].split(" ")
         if word not in ("wait", "waitall", "waitany"):
             return
-        for number in numbers:
-            earlier = (place for place in self.lists[rank].starts if place < at)
-            yield max(place for place in earlier if self.number_at(rank, place) == number)
-
-    def number_at(self, rank, place):
-        return self.lists[rank].lines[place].split(" ")[1]
+        wanted = {numbers[1 + int(numbers[0])]} if word == "waitany" else set(numbers)
+        for place in range(at - 1, -1, -1):
+            if not wanted:
+                return
+            if place in self.lists[rank].starts and (number := lines[place].split(" ")[1]) in wanted:
+                wanted.remove(number)
+                yield place
 
     def places_of(self, finding):
         kind, *fields = finding.split(" ")
@@ -667,26 +679,35 @@ def comm_of(word, fields):
     return fields[1] if word in STARTED_COLLECTIVES else None
 
 
+def write(path, text):
+    with open(path, "x", encoding="ascii") as file:
+        file.write(text)
+
+
 def judge(words):
     recording = Recording(words)
-    eager = [] if words.eager is None else ["--eager", words.eager]
-    status, said = recording.checked("--json", *eager)
-    report = json.loads(said)
-    findings = (
-        [] if words.calls == "went" else [one for one in report["findings"] if not recording.is_of_freed(one)]
-    )
-    report["findings"] = findings
+    status, report = recording.report(words)
     if words.json:
-        report |= {"left": recording.left(), "lines": recording.lines(report)}
+        report["lines"] = recording.lines(report)
         print(json.dumps(report, sort_keys=True, separators=(",", ":")))
     else:
-        lines = [
-            line for line in recording.checked(*eager)[1].splitlines() if not line.startswith("finding ")
-        ]
-        lines += [f"finding {one}" for one in findings]
-        lines += ["left " + spelled(one) for one in recording.left()]
-        print("\n".join(lines))
+        print("".join(line + "\n" for line in text_of(report)), end="")
     return status
+
+
+def text_of(report):
+    yield f"verdict {report['verdict']}"
+    for stuck in report["ranks"]:
+        for rank, call in stuck["needs"]:
+            awaited = "none" if call is None else f"call {call}"
+            yield f"rank {stuck['rank']} at {stuck['at']} {stuck['call']} waits rank {rank} {awaited}"
+    for cause in report["causes"]:
+        (kind, numbers), *_ = cause.items()
+        yield f"{kind} {spelled(numbers)}"
+    for finding in report["findings"]:
+        yield f"finding {finding}"
+    for left in report["left"]:
+        yield f"left {spelled(left)}"
 
 
 def close(words):
@@ -694,8 +715,14 @@ def close(words):
     return 0
 
 
+class Words(argparse.ArgumentParser):
+    def error(self, message):
+        print(message, file=sys.stderr)
+        sys.exit(3)
+
+
 def words_of(argv):
-    parser = argparse.ArgumentParser(description="What a run's journals stand for, by definition.")
+    parser = Words(description="What a run's journals stand for, by definition.")
     commands = parser.add_subparsers(dest="command", required=True)
     for command in (judge, close):
         sub = commands.add_parser(command.__name__)
@@ -705,9 +732,9 @@ def words_of(argv):
         if command is judge:
             sub.add_argument("--json", action="store_true")
             sub.add_argument("--eager", metavar="N")
-        sub.add_argument("folder", metavar="FOLDER", type=Path)
+        sub.add_argument("folder", metavar="FOLDER")
         if command is close:
-            sub.add_argument("out", metavar="OUT", type=Path)
+            sub.add_argument("out", metavar="OUT")
     return parser.parse_args(argv)
 
 
@@ -717,7 +744,8 @@ def main():
         return words.run(words)
     except Named as named:
         text, status = named.args
-        print(text, file=sys.stdout if status == 2 else sys.stderr)
+        output = sys.stdout if status == 2 else sys.stderr
+        output.buffer.write(os.fsencode(text + "\n"))
         return status
 
 

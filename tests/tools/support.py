@@ -2,21 +2,24 @@
 
 import importlib.machinery
 import importlib.util
+import re
 import subprocess
 import sys
 import tempfile
 import unittest
 from pathlib import Path
 
-TOOLS = Path(__file__).resolve().parents[2] / "tools"
+TOP = Path(__file__).resolve().parents[2]
+TOOLS = TOP / "tools"
 sys.path.insert(0, str(TOOLS))
 sys.dont_write_bytecode = True
 
 
-def script(name):
-    """A script of tools/ as a module."""
-    loader = importlib.machinery.SourceFileLoader(name.replace("-", "_"), str(TOOLS / name))
+def script(name, folder=TOOLS):
+    """A script as a module."""
+    loader = importlib.machinery.SourceFileLoader(f"script_{name}".replace("-", "_"), str(folder / name))
     module = importlib.util.module_from_spec(importlib.util.spec_from_loader(loader.name, loader))
+    sys.modules[loader.name] = module
     loader.exec_module(module)
     return module
 
@@ -24,6 +27,18 @@ def script(name):
 def lines(text):
     """The text of lines that are written with ` / ' between them."""
     return "".join(line + "\n" for line in text.split(" / ")) if text else ""
+
+
+def closings(name):
+    """The cases of a file in journals/: a title, the calls of each rank, and the head and the traces that are
+    wanted. There, lines are folded, and ` / ' is between calls."""
+    text = (Path(__file__).parent / "journals" / name).read_text(encoding="ascii")
+    for case in re.sub(r"\n +", " ", text).strip().split("\n\n"):
+        title, *fields = case.split("\n")
+        calls = [one.partition(":")[2].strip() if ":" in one else None for one in fields if "journal" in one]
+        groups = [lines("comm " + one.removeprefix("comm: ")) for one in fields if one.startswith("comm")]
+        traces = [lines(one.partition(": ")[2]) for one in fields if one.startswith("trace")]
+        yield title.removeprefix("# "), calls, ["".join([f"ranks {len(calls)}\n", *groups]), *traces]
 
 
 def journal(rank, ranks, calls, state="i"):

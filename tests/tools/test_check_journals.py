@@ -94,8 +94,9 @@ WORDS = {
     "J9": "communicator", "J10": "group",
 }  # fmt: skip
 HEADERS = [
-    "", "journal 1 0 1 x i y\n", "journal 2 0 0 x i y\n", "journal 2 0 1025 x i y\n", "journal 2 00 1 x i y\n",
-    "journal 2 0 1  i y\n", "journal 2 0 1 x i\n", "journal 2 0 1 x I y\n", "journal 2 1 2 x i y\n",
+    "", "journal 1 0 1 x i y\n", "journal 2 0 0 x i y\n", "journal 2 0 1025 x i y\n",
+    "journal 2 00 1 x i y\n", "journal 2 0 1  i y\n", "journal 2 0 1 x i\n", "journal 2 0 1 x I y\n",
+    "journal 2 1 2 x i y\n",
     "journal 2 0 1 x i y",
 ]  # fmt: skip
 

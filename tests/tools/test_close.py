@@ -4,175 +4,38 @@ import json
 import unittest
 from unittest import mock
 
-from support import Folders, lines, script
+from support import Folders, closings, lines, script
 import communicators
 import traces
 
 CLOSE = script("close")
 
-ITSELF = "finalize"
 MANY = range(1, 66)
-STARTS = " / ".join(f"irecv {one} 0 null 0" for one in MANY)
-
-# Of one rank: its calls, and its trace.
-OF_ONE = {
-    # Messages.
-    "send 0 0 0 3 / rsend 0 0 1 / ssend 0 null 2 / bsend 0 0 3 / recv 0 0 0 / abort":
-        "send 0 0 0 3 / send 0 0 1 / ssend 0 null 2 / bsend 0 0 3 / recv 0 0 0 / open",
-    "sendrecv 0 0 5 0 6 9 / sendrecv 0 null 5 any any / =got 0 6 / finalize":
-        "sendrecv 0 0 5 0 6 9 / sendrecv 0 null 5 0 6 / finalize",
-    "isend 9 0 0 0 3 / irsend 7 0 0 1 / issend 5 0 0 2 / ibsend 3 0 0 3 / irecv 4 0 0 4 / full":
-        "isend 0 0 0 0 3 / isend 1 0 0 1 / issend 2 0 0 2 / ibsend 3 0 0 3 / irecv 4 0 0 4 / open",
-    "isendrecv 8 2 0 0 5 0 6 7 / wait 2 / irecv 3 0 0 0 / wait 8 3 / finalize":
-        "isend 0 0 0 5 7 / irecv 1 0 0 6 / wait 1 / irecv 1 0 0 0 / waitall 0 1 / finalize",
-    "recv 0 null any / irecv 1 0 null any / wait 1 / finalize":
-        "recv 0 null 0 / irecv 0 0 null 0 / wait 0 / finalize",
-    "iprobe 0 0 3 / probe 0 any any / =got 0 4 / finalize": "probe 0 0 3 / probe 0 0 4 / finalize",
-    "improbe 4 0 0 3 / mprobe 2 0 any 5 / =got 0 5 / imrecv 7 4 / wait 7 / mrecv 2 / finalize":
-        "probe 0 0 3 / irecv 0 0 0 3 / probe 0 0 5 / irecv 1 0 0 5 / wait 0 / wait 1 / finalize",
-    "improbe 4 0 0 3 / imrecv 7 4 / irecv 8 0 0 1 / waitany 8 7 / =chose 7 / finalize":
-        "probe 0 0 3 / irecv 0 0 0 3 / irecv 1 0 0 1 / waitany 1 1 0 / finalize",
-    # Waits.
-    "isend 1 0 0 0 / isend 2 0 0 1 / waitany 1 2 / =chose 2 / waitsome 1 / =chose 1 / finalize":
-        "isend 0 0 0 0 / isend 1 0 0 1 / waitany 1 0 1 / wait 0 / finalize",
-    "irecv 1 0 null 0 / irecv 2 0 null 0 / irecv 3 0 null 0 / waitsome 1 2 3 / =chose 3 1 / test 2 / exit":
-        "irecv 0 0 null 0 / irecv 1 0 null 0 / irecv 2 0 null 0 / waitall 2 0 / wait 1 / finalize",
-    "irecv 1 0 null 0 / irecv 2 0 null 0 / wait 2 / irecv 3 0 null 0 / irecv 4 0 null 0 / request_free 1 / finalize":
-        "irecv 0 0 null 0 / irecv 1 0 null 0 / wait 1 / irecv 1 0 null 0 / irecv 2 0 null 0 / finalize",
-    STARTS + " / wait " + " ".join(map(str, MANY)) + " / finalize":
-        " / ".join(f"irecv {one - 1} 0 null 0" for one in MANY)
-        + " / waitall " + " ".join(map(str, range(64))) + " / wait 64 / finalize",
-    STARTS + " / waitany " + " ".join(map(str, MANY)) + " / =chose 65 / finalize":
-        " / ".join(f"irecv {one - 1} 0 null 0" for one in MANY) + " / wait 64 / finalize",
-    # Calls that were cancelled, and requests that were freed.
-    "isend 1 0 0 0 / cancel 1 / wait 1 / =gone 1 / finalize": ITSELF,
-    "isend 1 0 0 5 / cancel 1 / recv 0 0 5 / wait 1 / =kept 1 / finalize":
-        "isend 0 0 0 5 / recv 0 0 5 / wait 0 / finalize",
-    "irecv 1 0 0 1 / irecv 2 0 0 2 / cancel 1 / waitany 1 2 / =chose 1 / =gone 1 / wait 2 / finalize":
-        "irecv 0 0 0 2 / wait 0 / finalize",
-    "barrier 0 / ibsend 1 0 0 5 / cancel 1 / finalize": "barrier 0 / ibsend 0 0 0 5 / open",
-    # Collectives, and communicators that a call on a parent doesn't make.
-    "bcast 0 0 / ibcast 1 0 0 / exscan 0 / wait 1 / finalize": "bcast 0 0 / ibcast 0 0 0 / exscan 0 / wait 0 / finalize",
-    "comm_idup 1 0 / barrier 0 / test 1 / =idup 2 1 0 / barrier 2 / finalize":
-        "split 0 0 0 1 / ibarrier 0 0 / barrier 0 / wait 0 / barrier 1 / finalize",
-    "comm_create_group 0 / =apart 3 0 / =comm 2 0 / barrier 3 / finalize":
-        "split 0 0 0 1 / split 0 0 0 2 / barrier 1 / barrier 2 / finalize",
-    "comm_dup 0 / =comm 2 0 / comm_free 2 / comm_dup 0 / =comm 3 0 / barrier 3 / finalize":
-        "barrier 0 / dup 0 1 / barrier 1 / finalize",
-    "comm_split 0 -5 0 / =comm 2 0 / barrier 2 / finalize": "split 0 2147483643 0 1 / barrier 1 / finalize",
-    # Where it isn't known what a call did, or what it names can't be.
-    "recv 0 any 4": "open",
-    "send 0 0 0 / irecv 1 0 any 4 / recv 0 0 9": "send 0 0 0 / open",
-    "isendrecv 1 2 0 0 3 any 4 8 / wait 1 2": "isend 0 0 0 3 8 / open",
-    "sendrecv 0 0 3 any 4 8 / barrier 0": "open",
-    "irecv 1 0 null 0 / irecv 2 0 null 0 / waitsome 1 2 / barrier 0": "irecv 0 0 null 0 / irecv 1 0 null 0 / open",
-    "irecv 1 0 0 0 / waitany 1": "irecv 0 0 0 0 / wait 0 / open",
-    "barrier 0 / =failed / barrier 0 / finalize": "open",
-    "isend 1 0 0 3 / recv 0 0 3 / wait 1 / =failed / wait 1 / finalize": "isend 0 0 0 3 / recv 0 0 3 / open",
-    "send 0 1 0 / finalize": "open",
-    "sendrecv 0 null 0 0 -1 / finalize": "open",
-    "bcast 0 -1 / finalize": "open",
-    "recv 0 any any / =got 1 9 / finalize": "open",
-    "irecv 1 0 any any / wait 1 / barrier 0 / full / =done 1 0 6": "irecv 0 0 0 6 / wait 0 / barrier 0 / open",
-    "stopped a file @9 is gone / barrier 0 / finalize": "open",
-    "barrier 0 / exit": "barrier 0 / finalize",
-    "": "open",
-}  # fmt: skip
-
-# Of several ranks: the calls of each, the groups in the head, and the traces.
-OF_SEVERAL = [
-    (  # Each wildcard has its own message.
-        ["irecv 1 0 any any / irecv 2 0 1 7 / wait 2 / wait 1 / =done 1 1 3 / finalize", "send 0 0 3 / send 0 0 7 / finalize"],
-        [],
-        ["irecv 0 0 1 3 / irecv 1 0 1 7 / wait 1 / wait 0 / finalize", "send 0 0 3 / send 0 0 7 / finalize"],
-    ),
-    (  # A split into two.
-        ["comm_split 0 0 0 / =comm 2 0 / barrier 2 / finalize", "comm_split 0 1 0 / =comm 2 1 / barrier 2 / finalize"],
-        ["0", "1"],
-        ["split 0 0 0 1 / barrier 1 / finalize", "split 0 1 0 2 / barrier 2 / finalize"],
-    ),
-    (  # One of a rank alone.
-        ["barrier 1 / finalize", "finalize"],
-        ["0"],
-        ["split 0 0 0 1 / barrier 1 / finalize", "split 0 undefined 0 none / finalize"],
-    ),
-    (  # A rank beyond the group.
-        ["comm_dup 0 / =comm 2 0 1 / send 2 5 0 / finalize", "comm_dup 0 / =comm 2 0 1 / finalize"],
-        ["0 1"],
-        ["dup 0 1 / open", "dup 0 1 / finalize"],
-    ),
-    (  # Another order of the group.
-        ["comm_make 0 / =comm 5 1 0 / send 5 0 3 / finalize", "comm_make 0 / =comm 2 1 0 / recv 2 1 3 / finalize"],
-        ["1 0"],
-        ["split 0 1 1 1 / send 1 0 3 / finalize", "split 0 1 0 1 / recv 1 1 3 / finalize"],
-    ),
-    (  # Who gets none in a wave that brings one.
-        ["comm_make 0 / =none / finalize", "comm_make 0 / =comm 2 1 / barrier 2 / finalize"],
-        ["1"],
-        ["split 0 undefined 0 none / finalize", "split 0 1 0 1 / barrier 1 / finalize"],
-    ),
-    (  # A group, whether or not it was reported.
-        ["comm_create_group 1 0", "comm_create_group 1 0 / =comm 2 1 0 / finalize"],
-        ["1 0"],
-        ["split 0 0 1 1 / barrier 1 / open", "split 0 0 0 1 / barrier 1 / finalize"],
-    ),
-    (  # A call that never came back made what the other rank reports.
-        ["comm_dup 0", "comm_dup 0 / =comm 2 0 1 / barrier 2"],
-        ["0 1"],
-        ["dup 0 1 / open", "dup 0 1 / barrier 1 / open"],
-    ),
-    (  # A rank without a journal.
-        ["comm_dup 0", None],
-        [],
-        ["barrier 0 / open", "open"],
-    ),
-    (  # The same number of the call on the parent isn't enough: the group is another.
-        ["comm_split 0 0 0 / =comm 2 0 / comm_dup 0 / =comm 3 0 1 / barrier 3 / finalize",
-         "comm_split 0 undefined 0 / =none / comm_dup 0 / =comm 2 0 1 / barrier 2 / finalize"],
-        ["0 1"],
-        ["barrier 0 / dup 0 1 / barrier 1 / finalize", "barrier 0 / dup 0 1 / barrier 1 / finalize"],
-    ),
-    (  # Collectives of both forms count, and nonblocking duplicates.
-        ["comm_idup 1 0 / ibarrier 2 0 / comm_dup 0 / =comm 2 0 1 / wait 1 2 / =idup 3 1 0 1 / barrier 2 / finalize",
-         "comm_idup 5 0 / ibarrier 6 0 / comm_dup 0 / =comm 2 0 1 / wait 6 5 / =idup 3 5 0 1 / barrier 2 / finalize"],
-        ["0 1"],
-        ["ibarrier 0 0 / ibarrier 1 0 / dup 0 1 / waitall 0 1 / barrier 1 / finalize",
-         "ibarrier 0 0 / ibarrier 1 0 / dup 0 1 / waitall 1 0 / barrier 1 / finalize"],
-    ),
-    (  # Those that no call on a parent makes: in the first line without a common member.
-        ["=apart 2 1 0 / barrier 2 / barrier 1 / finalize",
-         "=apart 2 1 0 / =apart 3 1 2 / barrier 2 / barrier 3 / finalize", "=apart 3 1 2 / barrier 3 / finalize"],
-        ["0", "1 0", "1 2"],
-        ["split 0 0 0 1 / split 0 0 1 2 / barrier 2 / barrier 1 / finalize",
-         "split 0 1 0 3 / split 0 0 0 2 / barrier 2 / barrier 3 / finalize",
-         "split 0 1 1 3 / split 0 undefined 0 none / barrier 3 / finalize"],
-    ),
-]  # fmt: skip
+STARTS = [f"irecv {one} 0 null 0" for one in MANY]
 
 
 class Closing(Folders):
     def close(self, *ranks):
+        """The traces of journals; the folder has no other run."""
+        self.doCleanups()
+        self.setUp()
         self.run_of(*ranks)
         CLOSE.close(self.folder)
         return [self.read(f"r{rank}") for rank in range(len(ranks))]
 
-    def again(self):
-        self.doCleanups()
-        self.setUp()
+    def test_each_kind_of_call(self):
+        for title, ranks, wanted in closings("closed"):
+            with self.subTest(title):
+                traces_found = self.close(*ranks)
+                self.assertEqual([self.read("head"), *traces_found], wanted)
 
-    def test_one_rank(self):
-        for calls, trace in OF_ONE.items():
-            with self.subTest(calls[:80]):
-                self.assertEqual(self.close(calls), [lines(trace)])
-                self.again()
-
-    def test_several_ranks(self):
-        for ranks, groups, wanted in OF_SEVERAL:
-            with self.subTest(ranks):
-                self.assertEqual(self.close(*ranks), [lines(trace) for trace in wanted])
-                head = lines(" / ".join([f"ranks {len(ranks)}", *("comm " + group for group in groups)]))
-                self.assertEqual(self.read("head"), head)
-                self.again()
+    def test_waits_for_more_requests_than_a_line_has(self):
+        named = " ".join(map(str, MANY))
+        starts = "".join(f"irecv {one - 1} 0 null 0\n" for one in MANY)
+        waits = "waitall " + " ".join(map(str, range(64))) + "\nwait 64\nfinalize\n"
+        self.assertEqual(self.close(" / ".join([*STARTS, f"wait {named}", "finalize"])), [starts + waits])
+        chosen = [*STARTS, f"waitany {named}", "=chose 65", "finalize"]
+        self.assertEqual(self.close(" / ".join(chosen)), [starts + "wait 64\nfinalize\n"])
 
     def test_more_communicators_than_a_head_may_name(self):
         dup = "comm_dup 0 / =comm {0} 0 / barrier {0}"
@@ -191,11 +54,9 @@ class Closing(Folders):
             self.assertEqual(
                 self.close("barrier 0 / barrier 0 / finalize"), ["barrier 0\nbarrier 0\nfinalize\n"]
             )
-            self.again()
             self.assertEqual(
                 self.close("barrier 0 / barrier 0 / barrier 0"), ["barrier 0\nbarrier 0\nopen\n"]
             )
-            self.again()
             self.assertEqual(
                 self.close("barrier 0 / improbe 1 0 0 0 / barrier 0"), ["barrier 0\nprobe 0 0 0\nopen\n"]
             )
@@ -204,8 +65,8 @@ class Closing(Folders):
         self.close(
             "=apart 2 0 / comm_make 0 @4 / =none / isendrecv 1 2 2 0 3 0 3 @5 / wait 1 2 @6 / finalize"
         )
-        wanted = "0 MPI_Init / 4 a call that makes communicators / 5 MPI_Isendrecv / 5 MPI_Isendrecv / 6 MPI_Waitall"
-        self.assertEqual(self.read("calls0"), lines(wanted + " / 0 MPI_Finalize"))
+        wanted = "0 MPI_Init / 4 a call that makes communicators / 5 MPI_Isendrecv / 5 MPI_Isendrecv"
+        self.assertEqual(self.read("calls0"), lines(wanted + " / 6 MPI_Waitall / 0 MPI_Finalize"))
 
 
 class Recording(Folders):

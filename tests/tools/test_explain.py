@@ -22,16 +22,20 @@ HANG = {
 FREE = {"causes": [], "findings": [], "ranks": [], "verdict": "free"}
 UNFINISHED = FREE | {"verdict": "unfinished"}
 
-TEXT = """\
+WAITS = "rank {0} waits in MPI_Send at /src/a.py:7 to rank {1} with tag 0 (its call 0), "
+UNTIL = "until rank {1} comes to MPI_Recv at /src/a.py:8 (its call 1)"
+SENDS = "A standard send of more than 3 bytes waits until it is received. "
+BUFFERS = "MPI allows that, and a library that buffers the message goes on."
+TEXT = f"""\
 verdict hang: 2 of 2 ranks wait
 
 The cause:
   ranks 0 and 1 wait for each other:
-      rank 0 waits in MPI_Send at /src/a.py:7 to rank 1 with tag 0 (its call 0), until rank 1 comes to MPI_Recv at /src/a.py:8 (its call 1)
-      rank 1 waits in MPI_Send at /src/a.py:7 to rank 0 with tag 0 (its call 0), until rank 0 comes to MPI_Recv at /src/a.py:8 (its call 1)
+      {(WAITS + UNTIL).format(0, 1)}
+      {(WAITS + UNTIL).format(1, 0)}
 
 What this assumes:
-  A standard send of more than 3 bytes waits until it is received. MPI allows that, and a library that buffers the message goes on.
+  {SENDS}{BUFFERS}
 """
 
 
@@ -58,11 +62,11 @@ class Explaining(Folders):
     def test_a_hang(self):
         self.judged(HANG, *BOTH)
         self.assertEqual(self.said("--json", "said.json", "--html", "page.html"), TEXT)
-        told = json.loads(self.read("said.json"))
-        self.assertEqual((told["verdict"], told["title"]), ("hang", "verdict hang: 2 of 2 ranks wait"))
+        answer = json.loads(self.read("said.json"))
+        self.assertEqual((answer["verdict"], answer["title"]), ("hang", "verdict hang: 2 of 2 ranks wait"))
         waits = {"rank": 1, "at": 1, "mpi": "MPI_Recv", "where": "/src/a.py:8"}
-        self.assertEqual(told["ranks"][0]["waits"], [waits])
-        self.assertEqual(told["ranks"][0]["frames"], ["/src/a.py:7"])
+        self.assertEqual(answer["ranks"][0]["waits"], [waits])
+        self.assertEqual(answer["ranks"][0]["frames"], ["/src/a.py:7"])
         self.assertIn("<h1>verdict hang: 2 of 2 ranks wait</h1>", self.read("page.html"))
 
     def test_any_byte_of_a_file_in_any_locale(self):
@@ -102,8 +106,8 @@ class Explaining(Folders):
 
     def test_how_ranks_ended(self):
         self.judged(
-            UNFINISHED, "finalize", "recv 0 any 4 @2", "barrier 0 @1 / abort @2", "barrier 0 / exit", "full @1",
-            "send 0 1 0 @1 / stopped the disk is full", None, "barrier 0 @1", "barrier 0 @1",
+            UNFINISHED, "finalize", "recv 0 any 4 @2", "barrier 0 @1 / abort @2", "barrier 0 / exit",
+            "full @1", "send 0 1 0 @1 / stopped the disk is full", None, "barrier 0 @1", "barrier 0 @1",
         )  # fmt: skip
         title = "Ranks that didn't come to MPI_Finalize in this run, and their last calls"
         self.assertEqual(
@@ -127,8 +131,10 @@ class Explaining(Folders):
             self.story()[1],
             {
                 title: [
-                    "ranks 0 and 1: MPI_Irecv at /src/a.py:7 was completed by no call: any source, tag 3 (2 later calls)",
-                    "rank 2: MPI_Send names rank 7, which is none of the 3 ranks of its communicator (1 later call)",
+                    "ranks 0 and 1: MPI_Irecv at /src/a.py:7 was completed by no call: any source, tag 3 "
+                    "(2 later calls)",
+                    "rank 2: MPI_Send names rank 7, which is none of the 3 ranks of its communicator (1 "
+                    "later call)",
                 ]
             },
         )
@@ -160,7 +166,8 @@ class Explaining(Folders):
         self.assertEqual(
             self.story()[1]["The cause"],
             [
-                "rank 0 waits in MPI_Recv at /src/a.py:7 from rank 1 with tag 0 (its call 0), for a send that rank 1 never makes"
+                "rank 0 waits in MPI_Recv at /src/a.py:7 from rank 1 with tag 0 (its call 0), for a send "
+                "that rank 1 never makes"
             ],
         )
 
@@ -171,8 +178,10 @@ class Explaining(Folders):
         self.assertEqual(
             self.story()[1]["The cause"],
             [
-                "rank 0 waits in MPI_Recv at /src/a.py:7 from rank 1 with tag 0 (its call 0), for a send that rank 1 hasn't made so far",
-                "    rank 1 sends to it in MPI_Isend at /src/a.py:8 (call 0), with tag 9 on communicator 0, and no call receives that",
+                "rank 0 waits in MPI_Recv at /src/a.py:7 from rank 1 with tag 0 (its call 0), for a send "
+                "that rank 1 hasn't made so far",
+                "    rank 1 sends to it in MPI_Isend at /src/a.py:8 (call 0), with tag 9 on communicator "
+                "0, and no call receives that",
             ],
         )
 
@@ -183,7 +192,8 @@ class Explaining(Folders):
         self.assertEqual(
             self.story()[1]["Findings, which change no verdict"],
             [
-                "different calls meet on communicator 0: rank 0's MPI_Bcast at /src/a.py:7 (`bcast 0 0') and rank 1's MPI_Barrier at /src/a.py:8 (`barrier 0')",
+                "different calls meet on communicator 0: rank 0's MPI_Bcast at /src/a.py:7 (`bcast 0 0') "
+                "and rank 1's MPI_Barrier at /src/a.py:8 (`barrier 0')",
                 "nobody receives what rank 0 sends to rank 1 with tag 4 in MPI_Send at /src/a.py:8",
                 "rank 0 never waits for what it starts in MPI_Irecv at /src/a.py:7",
             ],

@@ -1,0 +1,119 @@
+"""What bench/journals.py makes of journals: the same as tools/close, and what only that can do."""
+
+import contextlib
+import io
+import json
+import os
+import unittest
+from unittest import mock
+
+from support import TOP, Folders, closings, script
+
+JOURNALS = script("journals.py", TOP / "bench")
+
+LEFT = {
+    "recv 0 any 4": "never came back", "irecv 1 0 any 4": "never told", "abort": "aborted", "full": "full",
+    "stopped for a reason": "stopped", "send 0 7 0": "cannot be", "barrier 0 / =failed": "failed",
+    "isend 1 0 0 0 / cancel 1": "never told",
+}  # fmt: skip
+
+
+class Reference(Folders):
+    def run_program(self, *words):
+        """Its status and what it prints."""
+        outputs = [io.TextIOWrapper(io.BytesIO(), write_through=True) for _ in range(2)]
+        with contextlib.redirect_stdout(outputs[0]), contextlib.redirect_stderr(outputs[1]):
+            with mock.patch("sys.argv", ["journals.py", *map(str, words)]):
+                status = JOURNALS.main()
+        return status, *(output.buffer.getvalue().decode() for output in outputs)
+
+    def close(self, *ranks, words=()):
+        self.doCleanups()
+        self.setUp()
+        self.run_of(*ranks)
+        out = self.folder / "out"
+        self.assertEqual(self.run_program("close", *words, self.folder / "journal", out), (0, "", ""))
+        return [(out / name).read_text() for name in ("head", *(f"r{rank}" for rank in range(len(ranks))))]
+
+    def judged(self, report, *words):
+        """What it says of a run, of which the checker has this report."""
+        self.write("said", json.dumps(report) + "\n")
+        status = {"free": 0, "hang": 1, "unfinished": 5}[report["verdict"]]
+        self.write("checker", f"#!/bin/sh\ncat {self.folder}/said\nexit {status}\n")
+        (self.folder / "checker").chmod(0o755)
+        with mock.patch.dict(os.environ, MPIWAIT=str(self.folder / "checker")):
+            return self.run_program("judge", *words, self.folder / "journal")
+
+    def test_the_same_as_close(self):
+        self.compare("closed")
+
+    def test_as_it_went(self):
+        self.compare("as-it-went", "--calls", "went")
+
+    def test_tests_that_wait_at_the_end(self):
+        self.compare("tests-at-the-end", "--tests", "pass")
+
+    def compare(self, name, *words):
+        for title, ranks, wanted in closings(name):
+            with self.subTest(title):
+                self.assertEqual(self.close(*ranks, words=words), wanted)
+
+    def test_why_a_list_ends(self):
+        report = {"causes": [], "findings": [], "ranks": [], "verdict": "unfinished"}
+        for calls, why in LEFT.items():
+            with self.subTest(calls):
+                self.doCleanups()
+                self.setUp()
+                self.run_of("=apart 2 0 / " + calls)
+                line = 3 + calls.count(" / ") - ("=failed" in calls)
+                self.assertEqual(self.judged(report)[:2], (5, f"verdict unfinished\nleft 0 {line} {why}\n"))
+
+    def test_lines(self):
+        report = {
+            "causes": [{"missing": [0, 1]}],
+            "findings": ["kind 0 0 1 barrier bcast", "request 0 1 0"],
+            "ranks": [{"at": 3, "call": "waitall 0 1", "needs": [[1, 1], [1, None]], "rank": 0}],
+            "verdict": "hang",
+        }
+        calls = "barrier 0 / init / irecv 7 0 1 0 / isend 9 0 1 0 / wait 7 9 / finalize"
+        self.run_of(calls, "bcast 0 0 / recv 0 0 0 / finalize")
+        status, said, _ = self.judged(report, "--json")
+        report_of = json.loads(said)
+        self.assertEqual((status, report_of["left"]), (1, []))
+        places = [[0, 0, 2], [0, 1, 4], [0, 2, 5], [0, 3, 6], [1, 0, 2], [1, 1, 3]]
+        self.assertEqual(report_of["lines"], places)
+        text = "verdict hang\nrank 0 at 3 waitall 0 1 waits rank 1 call 1\n"
+        text += "rank 0 at 3 waitall 0 1 waits rank 1 none\nmissing 0 1\n"
+        findings = "finding kind 0 0 1 barrier bcast\nfinding request 0 1 0\n"
+        self.assertEqual(self.judged(report)[1], text + findings)
+        self.assertEqual(self.judged(report, "--calls", "went")[1], text)
+
+    def test_a_freed_request_is_no_finding(self):
+        report = {
+            "causes": [],
+            "findings": ["request 0 0 0", "request 0 1 1"],
+            "ranks": [],
+            "verdict": "free",
+        }
+        self.run_of("isend 1 0 0 3 / isend 2 0 0 4 / request_free 1 / finalize")
+        self.assertEqual(self.judged(report), (0, "verdict free\nfinding request 0 1 1\n", ""))
+
+    def test_faults(self):
+        self.run_of("finalize", "barrier 0 / foo")
+        folder = self.folder / "journal"
+        out = self.folder / "out"
+        said = "refused rank 1 line 3 J2 unknown word\n"
+        self.assertEqual(self.run_program("close", folder, out), (2, said, ""))
+        self.assertFalse(out.exists())
+        (folder / "journal1").unlink()
+        self.assertEqual(self.run_program("close", folder, folder), (4, "", f"fault make {folder}\n"))
+        (folder / "journal1").mkdir()
+        said = "fault rank 1 line 1 E2 read failed\n"
+        self.assertEqual(self.run_program("close", folder, out), (4, "", said))
+        (folder / "journal0").unlink()
+        said = f"fault open {folder}/journal0\n"
+        self.assertEqual(self.run_program("close", folder, out), (4, "", said))
+
+
+if __name__ == "__main__":
+    unittest.main()
