@@ -65,9 +65,8 @@ def mpi_name(word, fields=()):
 
 def written(path):
     """The lines of a text up to its first zero byte: the recorder wrote nothing after it."""
-    data = path.read_bytes() if path.exists() else b""
-    end = data.find(b"\0")
-    return (data if end < 0 else data[:end]).decode(errors="surrogateescape").split("\n")[:-1]
+    data = path.read_bytes().partition(b"\0")[0] if path.exists() else b""
+    return data.decode(errors="surrogateescape").split("\n")[:-1]
 
 
 class Entry:
@@ -99,20 +98,18 @@ class Entry:
 
 
 class Journal:
-    """The journal of one rank."""
+    """The journal of one rank. Its lines are read when they are asked for, and not kept."""
 
     def __init__(self, folder, rank):
         self.folder = Path(folder)
         self.rank = rank
         self.path = self.folder / f"journal{rank}"
-        lines = written(self.path)
-        self.header = header_of(self.path, lines[0]) if lines else None
-        self.lines = lines[1:]
+        self.header = header_of(self.path)
 
     def entries(self):
         """The calls. The first one stands for what was reported before any call."""
         entry = Entry(1, "init")
-        for number, line in enumerate(self.lines, 2):
+        for number, line in enumerate(written(self.path)[1:], 2):
             if line.startswith("="):
                 report = line.split(" ")
                 entry.reports.append(report)
@@ -156,14 +153,22 @@ class Header:
         self.is_outside = state == "o"  # of the last call
 
 
-HEADER = re.compile(r"journal 2 (0|[1-9][0-9]{0,3}) ([1-9][0-9]{0,3}) ([^ ]+) ([io]) .+", re.DOTALL)
+LONGEST_LINE = 32_768
+HEADER = re.compile(rb"journal 2 (0|[1-9][0-9]{0,3}) ([1-9][0-9]{0,3}) ([^ ]+) ([io]) .+", re.DOTALL)
 
 
-def header_of(path, line):
+def header_of(path):
+    """None where there is no journal, or not yet a line in it."""
+    if not path.exists():
+        return None
+    with open(path, "rb") as file:
+        line, end, _ = file.readline(LONGEST_LINE).partition(b"\0")[0].partition(b"\n")
+    if not end:
+        return None
     found = HEADER.fullmatch(line)
     if not found:
-        fail(f"{path}: its first line isn't that of a journal of version 2: {ascii(line[:80])}")
-    return Header(*found.groups())
+        fail(f"{path}: its first line isn't that of a journal of version 2: {ascii(line[:80])[1:]}")
+    return Header(*(field.decode(errors="surrogateescape") for field in found.groups()))
 
 
 def checked_journals(folder):
