@@ -29,7 +29,7 @@ BYTES = {
     "docs/DECISIONS.md": 25_600,
     "docs/DEFINITIONS.md": 22_000,
     "docs/FORMATS.md": 30_500,
-    "docs/PROOFS.md": 19_000,
+    "docs/PROOFS.md": 19_500,
     "docs/TESTING.md": 10_240,
     "tools/README.md": 20_500,
 }
@@ -114,7 +114,8 @@ class Documents(unittest.TestCase):
     def each(self, found):
         """Fails with all that was found, by a line each."""
         lines = list(found)
-        self.assertFalse(lines, "\n" + "\n".join(lines))
+        if lines:
+            self.fail("\n" + "\n".join(lines))
 
     def test_words(self):
         words = re.compile(rf"\b({'|'.join(DIALECT)})\b", re.I)
@@ -163,10 +164,10 @@ class Checks(unittest.TestCase):
         self.assertEqual(prose("see `behind` and `x`"), "see CODE and CODE")
 
     def test_cells_items_and_lines(self):
-        self.assertEqual(paragraphs("| a | b |\n|---|---|\n\nc\nd\n- e\n  f"), ["a", "b", "---", "---", "c d", "- e f"])
+        self.assertEqual(paragraphs("| a | b |\n\nc\nd\n- e\n  f"), ["a", "b", "c d", "- e f"])
 
     def test_sentences_are_cut(self):
-        self.assertEqual(sentences("One. Two `a. B` three. It is 4.0 here."), ["One.", "Two CODE three.", "It is 4.0 here."])
+        self.assertEqual(sentences("Two `a. B` three. It is 4.0."), ["Two CODE three.", "It is 4.0."])
 
     def test_anchors(self):
         self.assertEqual(anchors("## What `rt` finds, and why\n"), {"what-rt-finds-and-why"})
