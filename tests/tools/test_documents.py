@@ -34,6 +34,8 @@ BYTES = {
     "tools/README.md": 20_500,
 }
 ALL_BYTES = 140_000
+# Where a document is read, if that isn't its own folder: the one of a release lies at its top.
+PLACES = {"release/README.md": TOP}
 
 LINK = re.compile(r"!?\[([^\]]*)\]\(([^)\s]*)\)")
 
@@ -103,7 +105,7 @@ def broken_links(name):
         path, _, anchor = target.partition("#")
         if re.match(r"[a-z]+:", target):
             continue
-        file = (TOP / name).parent / path if path else TOP / name
+        file = PLACES.get(name, (TOP / name).parent) / path if path else TOP / name
         if not file.exists():
             yield f"{name}: there is no {target}"
         elif anchor and file.suffix == ".md" and anchor not in anchors(file.read_text(encoding="utf-8")):
