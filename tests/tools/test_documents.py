@@ -41,13 +41,13 @@ LINK = re.compile(r"!?\[([^\]]*)\]\(([^)\s]*)\)")
 
 
 def documents():
-    """The paths of all documents that git knows or would take in, by their names below the repository; of all that
-    are there, where git can't say."""
+    """The names of all documents that git knows or would take in; of all that are there, where git can't say."""
     words = ["git", "ls-files", "--cached", "--others", "--exclude-standard", "*.md"]
-    found = subprocess.run(words, cwd=TOP, check=False, capture_output=True, text=True)
-    names = found.stdout.split("\n")
-    if found.returncode != 0:
-        names = [str(path.relative_to(TOP)) for path in TOP.rglob("*.md")]
+    try:
+        names = subprocess.run(words, cwd=TOP, check=True, capture_output=True, text=True).stdout.split("\n")
+    except (OSError, subprocess.CalledProcessError):
+        found = [path.relative_to(TOP) for path in TOP.rglob("*.md")]
+        names = [str(path) for path in found if not {"out", ".git"} & set(path.parts)]
     return sorted({name for name in names if name and (TOP / name).is_file()})
 
 
