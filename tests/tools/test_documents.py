@@ -41,7 +41,7 @@ LINK = re.compile(r"!?\[([^\]]*)\]\(([^)\s]*)\)")
 
 
 def documents():
-    """The names of all documents that git knows or would take in; of all that are there, where git can't say."""
+    """The names of all documents that git knows or would take in; without git, of all that are there."""
     words = ["git", "ls-files", "--cached", "--others", "--exclude-standard", "*.md"]
     try:
         names = subprocess.run(words, cwd=TOP, check=True, capture_output=True, text=True).stdout.split("\n")
