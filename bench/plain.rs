@@ -349,7 +349,7 @@ impl<'a> Fields<'a> {
         Some((self.next_comm()?, self.next_peer()?, self.next_tag()?))
     }
 
-    /// The bytes that a send tells, where there is a field more.
+    /// The bytes that a send records, if there is a further field.
     fn next_bytes(&mut self) -> Option<Option<u32>> {
         match self.next() {
             None => Some(None),
@@ -412,7 +412,7 @@ impl<'a> Iterator for Fields<'a> {
     }
 }
 
-/// Reads what an operation's word has behind it: blocking, or started with a request.
+/// Reads what follows an operation's word: blocking, or started with a request.
 #[inline(always)]
 fn read_operation(operation: Operation, req: Option<u32>, mut fields: Fields<'_>, into: &mut Call) -> Option<()> {
     match operation {
@@ -511,7 +511,7 @@ fn read_end_record(call: Call, fields: Fields<'_>, into: &mut Call) -> Option<()
     Some(())
 }
 
-/// Reads the call of a word and the fields behind it, if there is one, and else leaves the place alone.
+/// Reads the call of a word and the fields after it, if there is one, and else leaves the place alone.
 fn read_behind(word: Word, mut fields: Fields<'_>, into: &mut Call) -> Option<()> {
     match word {
         Word::Blocking(operation) => read_operation(operation, None, fields, into),
@@ -605,7 +605,7 @@ fn read_into(line: &[u8], into: &mut Record) -> Result<(), LineFault> {
     read_fields(Fields::of(body), &mut into.call).ok_or_else(|| fault_of_fields(Fields::of(body)))
 }
 
-/// The C library's search for a byte, which stands here for the crate `memchr` of the proved reader.
+/// The C library's search for a byte, in place of the crate `memchr` of the proved reader.
 fn memchr(wanted: u8, bytes: &[u8]) -> Option<usize> {
     mod c {
         unsafe extern "C" {
@@ -633,7 +633,7 @@ impl Window {
         &self.buffer[self.start..self.end]
     }
 
-    /// Makes room behind the held bytes; they go to the buffer's front where that is needed.
+    /// Makes room after the held bytes; they go to the buffer's front where that is needed.
     fn make_room(&mut self) {
         if self.start == self.end {
             self.start = 0;
@@ -646,7 +646,7 @@ impl Window {
         }
     }
 
-    /// Reads once, straight behind the held bytes, and says how many bytes came.
+    /// Reads once, straight after the held bytes, and answers how many bytes came.
     fn fill(&mut self, input: &mut impl Read) -> io::Result<usize> {
         self.make_room();
         let count = input.read(&mut self.buffer[self.end..])?;
@@ -726,7 +726,7 @@ impl<I: Read> Source<I> {
         Ok(())
     }
 
-    /// Looks for bytes behind the end record.
+    /// Looks for bytes after the end record.
     fn read_end(&mut self) -> Result<(), SourceFault> {
         match self.window.has_more(&mut self.input) {
             Ok(false) => {

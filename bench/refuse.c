@@ -1,7 +1,7 @@
 // Refuses memory or the start of a thread to the program that loads this by LD_PRELOAD, for bench/refuse.
 //
 // REFUSE_MEMORY=N refuses the Nth call of malloc, calloc or realloc, counted from 1, and REFUSE_THREAD=N the Nth
-// call of pthread_create. With REFUSE_ALL set, all calls behind it are refused as well. Where one was refused, the
+// call of pthread_create. With REFUSE_ALL set, all later calls are refused as well. If one was refused, the
 // file that REFUSE_TOLD names is there when the program ends. For Linux with glibc.
 #define _GNU_SOURCE
 #include <dlfcn.h>

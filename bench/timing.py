@@ -1,4 +1,4 @@
-"""Makes large runs once, and tells what a program uses on them."""
+"""Makes large runs once, and measures what a program uses on them."""
 import os
 import resource
 
