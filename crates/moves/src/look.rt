@@ -11,9 +11,9 @@ ghost use Rattle.moves.specs.Waiting.{message_needs, open_wave, AreWaves, IsNoEx
 use crate::need::{is_reached, stand_of};
 use crate::progress::Progress;
 use crate::reading::{Reading, sends_freely};
+use callnotes::call_ref::CallRef;
 use callnotes::envelope::Half;
 use callnotes::often::{COLL, IRECV, ISEND, RECV, SEND, WAIT, WAITALL};
-use callnotes::stored::StoredCall;
 use mpicall::does::Does;
 use pairing::pairs::Pairs;
 
@@ -39,7 +39,7 @@ fn is_half_met(
     rank: u16,
     place: u32,
     half: Half,
-    call: &StoredCall<'_>,
+    call: &CallRef<'_>,
 ) -> bool
     ensures { result ≡ list_all (is_met stands.now) (half_needs pairs.now.groups pairs.now.recording rank place half call.now) }
 {
@@ -51,7 +51,7 @@ fn is_half_met(
 
 /// Whether a probe has what it needs: the send that the next receive of its envelope would get. Every other call
 /// has.
-fn is_probe_met(pairs: &Pairs, stands: &[u32], rank: u16, place: u32, call: &StoredCall<'_>) -> bool
+fn is_probe_met(pairs: &Pairs, stands: &[u32], rank: u16, place: u32, call: &CallRef<'_>) -> bool
     ensures { result ≡ list_all (is_met stands.now) (probe_needs pairs.now.groups pairs.now.recording rank place call.now) }
 {
     match call.probed() {
@@ -69,7 +69,7 @@ fn are_messages_met(
     stands: &[u32],
     rank: u16,
     place: u32,
-    call: &StoredCall<'_>,
+    call: &CallRef<'_>,
 ) -> bool
     ensures { result ≡ list_all (is_met stands.now) (message_needs reading pairs.now.groups pairs.now.recording rank place call.now) }
 {
@@ -88,7 +88,7 @@ fn open_wave(
     progress: &Progress,
     rank: u16,
     place: u32,
-    call: &StoredCall<'_>,
+    call: &CallRef<'_>,
 ) -> Option<u16>
     requires { slice_get (calls_of pairs.now.recording rank) place ≡ Some call.now }
     ensures { result ≡ open_wave pairs.now.groups pairs.now.recording progress.now rank place }
@@ -108,7 +108,7 @@ fn look_at_operation(
     progress: &Progress,
     rank: u16,
     place: u32,
-    call: &StoredCall<'_>,
+    call: &CallRef<'_>,
 ) -> Look
     requires waves { AreWaves pairs.now.groups pairs.now.recording stands.now progress.now IsNoException }
     requires call { slice_get (calls_of pairs.now.recording rank) place ≡ Some call.now }
@@ -132,7 +132,7 @@ fn look_at_any_operation(
     progress: &Progress,
     rank: u16,
     place: u32,
-    call: StoredCall<'_>,
+    call: CallRef<'_>,
 ) -> Look
     requires waves { AreWaves pairs.now.groups pairs.now.recording stands.now progress.now IsNoException }
     requires call { slice_get (calls_of pairs.now.recording rank) place ≡ Some call }
@@ -150,7 +150,7 @@ fn look_at_operation_of<const KIND: u8>(
     progress: &Progress,
     rank: u16,
     place: u32,
-    call: StoredCall<'_>,
+    call: CallRef<'_>,
 ) -> Look
     requires waves { AreWaves pairs.now.groups pairs.now.recording stands.now progress.now IsNoException }
     requires call { slice_get (calls_of pairs.now.recording rank) place ≡ Some call }
@@ -214,7 +214,7 @@ fn look_at_requests(
     progress: &Progress,
     rank: u16,
     place: u32,
-    call: &StoredCall<'_>,
+    call: &CallRef<'_>,
 ) -> Look
     requires waves { AreWaves pairs.now.groups pairs.now.recording stands.now progress.now IsNoException }
     requires call { slice_get (calls_of pairs.now.recording rank) place ≡ Some call.now }
@@ -238,7 +238,7 @@ fn look_at_any_call(
     progress: &Progress,
     rank: u16,
     place: u32,
-    call: StoredCall<'_>,
+    call: CallRef<'_>,
 ) -> Look
     requires waves { AreWaves pairs.now.groups pairs.now.recording stands.now progress.now IsNoException }
     requires call { slice_get (calls_of pairs.now.recording rank) place ≡ Some call }
@@ -262,7 +262,7 @@ fn look_at_call_of<const KIND: u8>(
     progress: &Progress,
     rank: u16,
     place: u32,
-    call: StoredCall<'_>,
+    call: CallRef<'_>,
 ) -> Look
     requires waves { AreWaves pairs.now.groups pairs.now.recording stands.now progress.now IsNoException }
     requires call { slice_get (calls_of pairs.now.recording rank) place ≡ Some call }
@@ -297,7 +297,7 @@ fn look_at_call(
     progress: &Progress,
     rank: u16,
     place: u32,
-    call: StoredCall<'_>,
+    call: CallRef<'_>,
 ) -> Look
     requires waves { AreWaves pairs.now.groups pairs.now.recording stands.now progress.now IsNoException }
     requires call { slice_get (calls_of pairs.now.recording rank) place ≡ Some call }

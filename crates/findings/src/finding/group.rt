@@ -16,8 +16,8 @@ use crate::finding::Finding;
 use crate::finding::kind::is_same_word;
 use crate::finding::making::{Making, making_call, making_of};
 use crate::finding::wave::call_of_member;
+use callnotes::call_ref::CallRef;
 use callnotes::comm::makes;
-use callnotes::stored::StoredCall;
 use moves::need::members;
 use mpicall::call::Call;
 use mpigroup::split::colour_group;
@@ -131,7 +131,7 @@ fn member_makes(pairs: &Pairs, comm: u16, wave: u32, new: u16, g: u16) -> bool
     ensures { result ≡ member_makes pairs.now.groups pairs.now.recording comm wave new g }
 {
     match call_of_member(pairs, comm, wave, g) {
-        Some(call) => makes(call.as_call()) == Some(new),
+        Some(call) => makes(&call) == Some(new),
         None => false,
     }
 }
@@ -324,7 +324,7 @@ fn is_wrong_stored(
     pairs: &Pairs,
     rank: u16,
     place: u32,
-    call: &StoredCall<'_>,
+    call: &CallRef<'_>,
 ) -> Result<bool, AllocError>
     requires { IsKnown pairs.now.groups pairs.now.recording known.old }
     ensures value { IfOk result (λ is. is ≡ option_map_or (is_wrong_group pairs.now.groups pairs.now.recording call.now) (wave_of pairs.now.recording rank place) false) }
