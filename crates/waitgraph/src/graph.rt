@@ -76,13 +76,9 @@ fn is_stuck_at(pairs: &Pairs, stands: &[u32], rank: u16) -> bool
 fn stuck_at(alloc: Global, pairs: &Pairs, stands: &[u32]) -> Result<Vec<u16>, AllocError>
     ensures { IfOk result (λ stuck. stuck.items ≡ stuck_at pairs.now.recording stands.now) }
 {
-    let mut stuck = Vec::new(alloc);
-    for rank in 0..pairs.head().ranks() {
-        if is_stuck_at(pairs, stands, rank) {
-            stuck.push(rank)?;
-        }
-    }
-    Ok(stuck)
+    (0..pairs.head().ranks())
+        .filter(|rank| is_stuck_at(pairs, stands, *rank))
+        .collect(alloc)
 }
 
 fn waits_at(
