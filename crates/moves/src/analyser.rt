@@ -192,6 +192,13 @@ impl Analyser {
         &self.world.pairs
     }
 
+    /// Where the ranks stand, the lowest first.
+    pub fn stands(&self) -> &[u32]
+        ensures { result.now ≡ self.now.stands }
+    {
+        self.positions.stands.as_slice()
+    }
+
     /// Where a rank stands: how many of its calls it has completed. None where there is no such rank.
     pub fn stand(&self, rank: u16) -> Option<u32>
         ensures { result ≡ slice_get self.now.stands rank }

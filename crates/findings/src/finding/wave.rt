@@ -11,12 +11,11 @@ ghost use Rattle.findings.specs.Comparisons.{comparison_of, kind_in, AreFirstKin
 ghost use Rattle.findings.specs.declared.finding.wave.Compared.{Compared};
 ghost use Rattle.findings.specs.declared.finding.wave.TheConstants.{WAVES_A_BLOCK};
 
-use crate::extent::{comms, waves};
+use crate::extent::{comms, members, waves};
 use crate::finding::Finding;
 use crate::finding::kind::kind_found;
 use crate::finding::root::root_found;
 use callnotes::call_ref::CallRef;
-use moves::need::members;
 use mpicall::call::{Call, Kind};
 use mpicall::record::Record;
 use pairing::pairs::Pairs;
