@@ -1,27 +1,29 @@
-//! Which communicators a rank holds.
+//! The communicator that a call names, and the one that it makes.
 
 ghost use Rattle.std.specs.Prelude.{◌≡◌};
-ghost use Rattle.mpicall.specs.Does.{does_of};
-ghost use Rattle.mpicall.specs.declared.call.Call.{Call as CallValue};
-ghost use Rattle.callnotes.specs.Communicators.{makes};
+ghost use Rattle.callnotes.specs.Communicators.{comm_of, makes};
 
-use mpicall::call::Call;
 use mpicall::does::Does;
+use mpicall::record::Record;
 
-/// The communicator that a call which does this makes for its rank, if it makes one.
+/// The communicator over which the call is made, if it names one.
 #[inline(always)]
-pub(crate) fn made_by(does: &Does) -> Option<u16>
-    ensures { (call : CallValue) → does_of call ≡ does.now → result ≡ makes call }
+pub fn comm_of(call: &Record) -> Option<u16>
+    ensures { result ≡ comm_of call.now }
 {
-    match *does {
-        Does::Joins { made, .. } => made,
-        _ => None,
+    match call.as_call().does() {
+        Does::Exchanges { comm, .. } | Does::Joins { comm, .. } => Some(comm),
+        Does::Alone => None,
     }
 }
 
 /// The communicator that the call makes for its rank, if it makes one.
-pub fn makes(call: &Call) -> Option<u16>
+#[inline(always)]
+pub fn makes(call: &Record) -> Option<u16>
     ensures { result ≡ makes call.now }
 {
-    made_by(&call.does())
+    match call.as_call().does() {
+        Does::Joins { made, .. } => made,
+        _ => None,
+    }
 }

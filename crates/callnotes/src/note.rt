@@ -1,23 +1,15 @@
-//! A noted call, seen in place.
+//! A noted call, with what is kept beside it.
 
 ghost use Rattle.std.specs.Prelude.{◌≡◌, ◌==◌, length, slice_get, find};
-ghost use Rattle.mpicall.specs.Does.{does_of};
-ghost use Rattle.mpicall.specs.Ending.{ends_list};
-ghost use Rattle.callnotes.specs.Envelopes.{message_of, probed_message};
 ghost use Rattle.callnotes.specs.Beside.{partner_in, wave_in};
-ghost use Rattle.callnotes.specs.Requests.{starts, completes};
-ghost use Rattle.callnotes.specs.Waves.{joins};
-ghost use Rattle.callnotes.specs.Kinds.{bytes_told, kind_of, mode_of};
-ghost use Rattle.callnotes.specs.Often.{kind_no};
+ghost use Rattle.callnotes.specs.Requests.{completes};
 ghost use Rattle.callnotes.specs.Notes.{completed_starts, start_of};
 ghost use Rattle.callnotes.specs.Packed.{IsStored, req_at, noted_of};
 
-use crate::envelope::{Half, Message};
+use crate::call_ref::CallRef;
+use crate::envelope::Half;
 use crate::packed::{Entry, Packed};
-use crate::packing::{req_at, unpack, unpack_starts};
-use mpicall::call::{Kind, Mode};
-use mpicall::does::Does;
-use mpicall::record::Record;
+use crate::packing::{req_at, unpack_starts};
 use std::marker::Model;
 use std::slice::from_ref;
 
@@ -62,101 +54,12 @@ impl<'a> Note<'a> {
         }
     }
 
-    /// The same note once more.
+    /// The call in its place.
     #[inline(always)]
-    pub(crate) fn again(&self) -> Note<'a>
-        ensures { result ≡ self.now }
-    {
-        Note::of(self.entry, self.entries, self.starts)
-    }
-
-    /// The call as a record.
-    pub(crate) fn record(&self) -> Record
+    pub fn call(&self) -> CallRef<'a>
         ensures { result ≡ self.now.call }
     {
-        Record::new(unpack(&self.entry.call, self.entries, self.starts)).unwrap()
-    }
-
-    /// What the call does over its communicator.
-    #[inline(always)]
-    pub(crate) fn does(&self) -> Does
-        ensures { result ≡ does_of self.now.call }
-    {
-        self.entry.call.does()
-    }
-
-    /// The message that a half of the call sends or receives. None where the call has no such half, and
-    /// where its peer is MPI_PROC_NULL.
-    #[inline(always)]
-    pub fn message(&self, half: Half) -> Option<Message>
-        ensures { result ≡ message_of half self.now.call }
-    {
-        self.entry.call.message(half)
-    }
-
-    /// The message that the call probes for. None where it is no probe, and where its source is
-    /// MPI_PROC_NULL.
-    #[inline(always)]
-    pub fn probed(&self) -> Option<Message>
-        ensures { result ≡ probed_message self.now.call }
-    {
-        self.entry.call.probed()
-    }
-
-    /// The mode of a call that sends, blocking or not; None for every other call, MPI_Sendrecv too.
-    #[inline(always)]
-    pub(crate) fn mode(&self) -> Option<Mode>
-        ensures { result ≡ mode_of self.now.call }
-    {
-        self.entry.call.mode()
-    }
-
-    /// How many bytes a call that sends tells of its message; None where it tells none, and for every other
-    /// call.
-    #[inline(always)]
-    pub(crate) fn bytes(&self) -> Option<u32>
-        ensures { result ≡ bytes_told self.now.call }
-    {
-        self.entry.call.bytes()
-    }
-
-    /// The kind of a collective that isn't started alone; None for every other call.
-    pub(crate) fn kind(&self) -> Option<Kind>
-        ensures { result ≡ kind_of self.now.call }
-    {
-        self.entry.call.kind()
-    }
-
-    /// The number of the call's kind.
-    #[inline(always)]
-    pub(crate) fn kind_no(&self) -> u8
-        ensures { result ≡ kind_no self.now.call }
-    {
-        self.entry.call.kind_no()
-    }
-
-    /// The request that the call starts, if it starts one.
-    #[inline(always)]
-    pub(crate) fn starts_request(&self) -> Option<u32>
-        ensures { result ≡ starts self.now.call }
-    {
-        self.entry.call.starts()
-    }
-
-    /// The communicator whose members all make the call, if there is one.
-    #[inline(always)]
-    pub fn joins(&self) -> Option<u16>
-        ensures { result ≡ joins self.now.call }
-    {
-        self.entry.call.joins()
-    }
-
-    /// Whether no call of the rank comes behind this one.
-    #[inline(always)]
-    pub fn ends_list(&self) -> bool
-        ensures { result ≡ ends_list self.now.call }
-    {
-        self.entry.call.ends_list()
+        CallRef::of(self.entry, self.entries, self.starts)
     }
 
     /// The place of a half's partner that is kept beside the call.
@@ -205,15 +108,6 @@ impl<'a> Note<'a> {
         ensures { result ≡ length (completes self.now.call) }
     {
         self.completed_starts().len()
-    }
-
-    /// The request with that index, from 0, among those that the call completes.
-    pub(crate) fn completed_req(&self, index: usize) -> Option<u32>
-        ensures { result ≡ slice_get (completes self.now.call) index }
-    {
-        let entries = self.entries;
-        let start = self.completed_start(index)?;
-        Some(req_at(entries, start))
     }
 
     /// The place that started the request with that index among those that the call completes.

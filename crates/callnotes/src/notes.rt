@@ -20,6 +20,7 @@ pub struct Notes {
     lists: Vec<RankNotes>,
 }
 
+// By hand: a derived drop is proved again at each exit of a function that owns one.
 impl Drop for Notes {
     fn drop(self) {
         let Notes { lists: _ } = self;

@@ -44,3 +44,22 @@ pub fn kind_no(call: &Call) -> u8
         _ => ANY,
     }
 }
+
+/// Calls the function that is built for the kind, where the kind comes often; further arms say what is done for any
+/// other. The kinds are listed here alone. Such a function asks for the kind of its call again: where it is only assumed,
+/// the compiler forgets it before it builds what the function calls, and makes one function of all kinds again.
+#[macro_export]
+macro_rules! by_kind {
+    ($kind:expr, $($path:ident).+($($word:expr),+), $($others:tt)+) => {
+        match $kind {
+            $crate::often::SEND => $($path).+::<{ $crate::often::SEND }>($($word),+),
+            $crate::often::RECV => $($path).+::<{ $crate::often::RECV }>($($word),+),
+            $crate::often::ISEND => $($path).+::<{ $crate::often::ISEND }>($($word),+),
+            $crate::often::IRECV => $($path).+::<{ $crate::often::IRECV }>($($word),+),
+            $crate::often::COLL => $($path).+::<{ $crate::often::COLL }>($($word),+),
+            $crate::often::WAIT => $($path).+::<{ $crate::often::WAIT }>($($word),+),
+            $crate::often::WAITALL => $($path).+::<{ $crate::often::WAITALL }>($($word),+),
+            $($others)+
+        }
+    };
+}

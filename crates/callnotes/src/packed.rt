@@ -4,20 +4,13 @@
 ghost use Rattle.std.specs.Prelude.{◌≡◌, List, ℕ, unwrap_or};
 ghost use Rattle.mpicall.specs.declared.call.Call.TheVariants.{Finalize};
 ghost use Rattle.mpicall.specs.Does.{does_of};
-ghost use Rattle.mpicall.specs.Ending.{ends_list};
-ghost use Rattle.callnotes.specs.Envelopes.{message_of, probed_message};
 ghost use Rattle.callnotes.specs.Requests.{starts};
-ghost use Rattle.callnotes.specs.Waves.{joins};
-ghost use Rattle.callnotes.specs.Kinds.{bytes_told, kind_of, mode_of};
-ghost use Rattle.callnotes.specs.Often.{kind_no};
 ghost use Rattle.callnotes.specs.Packed.{request_of, plain_of, unpack};
 ghost use Rattle.callnotes.specs.declared.packed.Entry.{Entry};
 
 use crate::beside::Beside;
-use crate::envelope::{Half, Message, message_by, probed_by};
-use crate::often::{ANY, COLL, IRECV, ISEND, RECV, SEND, WAIT, WAITALL};
 use crate::slots::{PackedBytes, PackedPeer};
-use mpicall::call::{Call, Kind, Mode, Peer};
+use mpicall::call::{Call, Kind, Mode};
 use mpicall::does::Does;
 use mpicall::laid::Laid;
 use mpicall::word::{Name, root_of};
@@ -229,85 +222,6 @@ impl Packed {
         }
     }
 
-    /// The message that a half of the call sends or receives. None where the call has no such half, and
-    /// where its peer is MPI_PROC_NULL.
-    #[inline(always)]
-    pub(crate) fn message(&self, half: Half) -> Option<Message>
-        ensures { (entries : List Entry) (starts : List ℕ) → result ≡ message_of half (unpack entries starts self.now) }
-    {
-        message_by(half, &self.does())
-    }
-
-    /// The message that the call probes for. None where it is no probe, and where its source is
-    /// MPI_PROC_NULL.
-    #[inline(always)]
-    pub(crate) fn probed(&self) -> Option<Message>
-        ensures { (entries : List Entry) (starts : List ℕ) → result ≡ probed_message (unpack entries starts self.now) }
-    {
-        probed_by(&self.does())
-    }
-
-    /// The mode of a call that sends, blocking or not; None for every other call, MPI_Sendrecv too.
-    #[inline(always)]
-    pub(crate) fn mode(&self) -> Option<Mode>
-        ensures { (entries : List Entry) (starts : List ℕ) → result ≡ mode_of (unpack entries starts self.now) }
-    {
-        match *self {
-            Packed::Send { mode, .. } | Packed::Isend { mode, .. } => Some(mode),
-            _ => None,
-        }
-    }
-
-    /// How many bytes a call that sends tells of its message; None where it tells none, and for every other
-    /// call.
-    #[inline(always)]
-    pub(crate) fn bytes(&self) -> Option<u32>
-        ensures { (entries : List Entry) (starts : List ℕ) → result ≡ bytes_told (unpack entries starts self.now) }
-    {
-        match *self {
-            Packed::Send { bytes, .. }
-            | Packed::Isend { bytes, .. }
-            | Packed::Exchange {
-                name: Name::Sendrecv,
-                bytes,
-                ..
-            } => bytes.bytes(),
-            _ => None,
-        }
-    }
-
-    /// The kind of a collective that isn't started alone; None for every other call.
-    #[inline(always)]
-    pub(crate) fn kind(&self) -> Option<Kind>
-        ensures { (entries : List Entry) (starts : List ℕ) → result ≡ kind_of (unpack entries starts self.now) }
-    {
-        match *self {
-            Packed::Coll { kind, .. } => Some(kind),
-            _ => None,
-        }
-    }
-
-    /// The number of the call's kind.
-    #[inline(always)]
-    #[tactic(auto, using(crate::proofs::PackedLemmas::kind_unpacked))]
-    pub(crate) fn kind_no(&self) -> u8
-        ensures { (entries : List Entry) (starts : List ℕ) → result ≡ kind_no (unpack entries starts self.now) }
-    {
-        match *self {
-            Packed::Send { .. } => SEND,
-            Packed::Recv { source, .. } => match source.peer() {
-                Peer::Rank(_) => RECV,
-                Peer::Null => ANY,
-            },
-            Packed::Isend { .. } => ISEND,
-            Packed::Irecv { .. } => IRECV,
-            Packed::Coll { .. } => COLL,
-            Packed::Wait { .. } => WAIT,
-            Packed::Waitall { .. } => WAITALL,
-            _ => ANY,
-        }
-    }
-
     /// The request that the call starts, if it starts one.
     #[inline(always)]
     pub(crate) fn starts(&self) -> Option<u32>
@@ -320,32 +234,5 @@ impl Packed {
             }
             _ => None,
         }
-    }
-
-    /// The communicator whose members all make the call, if there is one.
-    #[inline(always)]
-    pub(crate) fn joins(&self) -> Option<u16>
-        ensures { (entries : List Entry) (starts : List ℕ) → result ≡ joins (unpack entries starts self.now) }
-    {
-        match *self {
-            Packed::Coll { comm, .. } | Packed::Icoll { comm, .. } => Some(comm),
-            _ => match self.does() {
-                Does::Joins { comm, .. } => Some(comm),
-                _ => None,
-            },
-        }
-    }
-
-    /// Whether no call of the rank comes behind this one.
-    #[inline(always)]
-    pub(crate) fn ends_list(&self) -> bool
-        ensures { (entries : List Entry) (starts : List ℕ) → result ≡ ends_list (unpack entries starts self.now) }
-    {
-        matches!(
-            *self,
-            Packed::Nothing {
-                name: Name::Finalize | Name::Open
-            }
-        )
     }
 }

@@ -37,6 +37,7 @@ pub(crate) struct RankNotes {
     starts: Vec<u32>,
 }
 
+// By hand: a derived drop is proved again at each exit of a function that owns one.
 impl Drop for RankNotes {
     fn drop(self) {
         let RankNotes {

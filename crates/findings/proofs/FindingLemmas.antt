@@ -1,9 +1,7 @@
 -- Lists that are made from a range of numbers, one number at a time.
-use Rattle.std.proofs.Common.{◌≡◌, ℕ, ◌+◌, ◌-◌, ◌≤◌, Bool, true, List, [], ◌∷◌, ◌++◌, map, refl, sym, ap, ◌∙◌, append_assoc, append-nil, arith}
-use Rattle.std.specs.List.{flat_map, list_all, range_with_len}
-use Rattle.std.proofs.lemmas.List.FromFn.{map-range_with_len_more}
+use Rattle.std.proofs.Common.{◌≡◌, ℕ, ◌+◌, ◌-◌, ◌≤◌, List, [], ◌∷◌, ◌++◌, ap, ◌∙◌, append_assoc, append-nil, arith}
+use Rattle.std.specs.List.{flat_map, range_with_len}
 use Rattle.std.proofs.lemmas.List.Concat.{flat_map-append}
-use Rattle.std.proofs.lemmas.List.Folds.{list_all-append}
 use Rattle.mpigroup.proofs.ListLemmas.{range_more}
 
 -- one number more
@@ -22,11 +20,3 @@ listed_next listed a n j e =
 pub one_more : {A : Type 0} (listed : ℕ → List A) (a n j : ℕ) (before so_far later : List A) → so_far ≡ before ++ flat_map listed (range_with_len a n) → later ≡ so_far ++ listed j → a + n ≡ j → later ≡ before ++ flat_map listed (range_with_len a (n + 1))
 one_more listed a n j before so_far later h pushed e =
     rw (pushed, h, listed_next listed a n j e) (append_assoc before (flat_map listed (range_with_len a n)) (listed j))
-
--- one more of a list with an element for each number
-pub one_mapped : {A : Type 0} (made : ℕ → A) (n : ℕ) (so_far later : List A) (element : A) → so_far ≡ map made (range_with_len 0 n) → later ≡ so_far ++ element ∷ [] → element ≡ made n → later ≡ map made (range_with_len 0 (n + 1))
-one_mapped made n so_far later element h pushed is = rw (pushed, h, is) (sym (map-range_with_len_more made 0 n n (omega arith)))
-
--- what holds of one number more
-pub all_next : (test : ℕ → Bool) (a n j : ℕ) → a + n ≡ j → list_all test (range_with_len a n) ≡ true → test j ≡ true → list_all test (range_with_len a (n + 1)) ≡ true
-all_next test a n j e all here = ap (list_all test) (range_next a n j e) ∙ list_all-append test (range_with_len a n) (j ∷ []) ∙ rw (all, here) refl

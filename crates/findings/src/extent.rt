@@ -2,7 +2,7 @@
 
 ghost use Rattle.std.specs.Prelude.{◌≡◌, ◌≤◌, length};
 ghost use Rattle.std.specs.Option.{option_map_or};
-ghost use Rattle.mpigroup.specs.Groups.{world_rank_of};
+ghost use Rattle.mpigroup.specs.Groups.{group_of, world_rank_of};
 ghost use Rattle.callnotes.specs.Limits.{most_calls};
 ghost use Rattle.callnotes.specs.Recordings.{calls_of};
 ghost use Rattle.findings.specs.Findings.{waves_in};
@@ -21,6 +21,13 @@ pub(crate) fn comms(pairs: &Pairs) -> u16
     ensures { result ≡ length pairs.now.groups }
 {
     pairs.head().comms()
+}
+
+/// How many members a communicator has.
+pub(crate) fn members(pairs: &Pairs, comm: u16) -> u16
+    ensures { result ≡ length (group_of pairs.now.groups comm) }
+{
+    pairs.head().size(comm).unwrap_or(0)
 }
 
 /// How many calls a rank has.

@@ -4,12 +4,12 @@ ghost use Rattle.std.specs.Prelude.{◌≡◌};
 ghost use Rattle.findings.specs.LeftOpen.{is_left_open, leaves_open};
 
 use crate::extent::calls;
-use callnotes::stored::StoredCall;
+use callnotes::call_ref::CallRef;
 use mpicall::call::Call;
 use pairing::pairs::Pairs;
 
 /// Whether the call says that its rank's list was left open.
-pub fn leaves_open(call: &StoredCall<'_>) -> bool
+pub fn leaves_open(call: &CallRef<'_>) -> bool
     ensures { result ≡ leaves_open call.now }
 {
     matches!(call.record().as_call(), Call::Open)

@@ -17,7 +17,7 @@ use crate::texts::{
 use crate::waits::{question_in, tell_findings, tell_of_waits};
 use crate::words::{Numbers, first_word, number_in, numbers_in, short};
 use arenalist::lists::Lists;
-use callnotes::stored::StoredCall;
+use callnotes::call_ref::CallRef;
 use moves::analyser::Analyser;
 use moves::reading::Reading;
 use mpicall::record::Record;
@@ -61,7 +61,7 @@ fn no_pairs(alloc: Global, head: &[u8]) -> Result<Pairs, Fault> {
 }
 
 /// The record of a stored call, if there is one.
-fn record_of_call(call: Option<StoredCall<'_>>) -> Option<Record> {
+fn record_of_call(call: Option<CallRef<'_>>) -> Option<Record> {
     match call {
         Some(call) => Some(call.record()),
         None => None,

@@ -14,11 +14,11 @@ ghost use Rattle.moves.specs.Stands.{stands_of, is_at_end};
 ghost use Rattle.moves.specs.Arrivals.{IsKeptOn};
 ghost use Rattle.moves.specs.Analysed.{most_touches, ranks_waiting};
 
-use crate::need::stand_of;
 use crate::progress::Progress;
 use crate::reading::Reading;
 use crate::settle::arrive;
 use crate::waiters::Waiters;
+use crate::world::{Positions, World};
 use mpicall::record::Record;
 use mpigroup::head::Head;
 pub use pairing::added::PairFault as OfferFault;
@@ -32,34 +32,37 @@ use std::marker::Model;
 /// much was done in the arena in which waiting ranks are linked, and how often waiting ranks and waves were
 /// touched: what that arena counts, and the changes of how far waves are.
 pub struct Analyser {
-    reading: Reading,
-    pairs: Pairs,
-    stands: Vec<u32>,
-    progress: Progress,
-    waiters: Waiters,
+    world: World,
+    positions: Positions,
 }
 
+// By hand: a derived drop is proved again at each exit of a function that owns one.
 impl Drop for Analyser {
     fn drop(self) {
         let Analyser {
-            reading: _,
-            pairs: _,
-            stands: _,
-            progress: _,
-            waiters: _,
+            world: _,
+            positions: _,
         } = self;
     }
 }
 
 impl Model for Analyser {
     ghost use Rattle.moves.specs.Analysed.{Analysed};
-    ghost use Rattle.moves.specs.Waiting.{touches_of, IsSettled};
+    ghost use Rattle.moves.specs.Waiting.{touches_of};
+    ghost use Rattle.moves.specs.Positions.{AreSettled};
 
     ghost Value = { Analysed };
 
-    ghost view = { λ a. record { reading = a.reading; groups = a.pairs.groups; recording = a.pairs.recording; stands = a.stands.items; work = a.waiters.work; touches = touches_of a.progress a.waiters } };
+    ghost view = { λ a. record {
+      reading = a.world.reading;
+      groups = a.world.pairs.groups;
+      recording = a.world.pairs.recording;
+      stands = a.positions.stands.items;
+      work = a.positions.waiters.work;
+      touches = touches_of a.positions.progress a.positions.waiters;
+    } };
 
-    ghost invariant = { λ a. IsSettled a.reading a.pairs.groups a.pairs.recording a.stands.items a.progress a.waiters };
+    ghost invariant = { λ a. AreSettled a.world a.positions };
 }
 
 /// The place of the next call of a rank.
@@ -103,11 +106,12 @@ impl Analyser {
         let waiters = Waiters::new(alloc, ranks, comms)?;
         let pairs = Pairs::new(alloc, head)?;
         Ok(Analyser {
-            reading,
-            pairs,
-            stands,
-            progress,
-            waiters,
+            world: World { reading, pairs },
+            positions: Positions {
+                stands,
+                progress,
+                waiters,
+            },
         })
     }
 
@@ -130,18 +134,10 @@ impl Analyser {
         ensures touches { self.new.touches ≤ most_touches self.new.recording }
         ensures no_fewer { self.old.touches ≤ self.new.touches }
     {
-        let place = next_place(&self.pairs, rank);
-        match self.pairs.admit(rank, place, call) {
+        let place = next_place(&self.world.pairs, rank);
+        match self.world.pairs.admit(rank, place, call) {
             Ok(()) => {
-                arrive(
-                    self.reading,
-                    &self.pairs,
-                    &mut self.stands,
-                    &mut self.progress,
-                    &mut self.waiters,
-                    rank,
-                    place,
-                );
+                arrive(&self.world, &mut self.positions, rank, place);
                 Ok(())
             }
             Err(fault) => Err(fault),
@@ -158,15 +154,15 @@ impl Analyser {
         ensures least { self.now.work ≤ result }
         ensures most { result ≤ most_touches self.now.recording }
     {
-        let work = self.waiters.work();
-        work.saturating_add(self.progress.changes)
+        let work = self.positions.waiters.work();
+        work.saturating_add(self.positions.progress.changes)
     }
 
     /// By which reading the sends are read.
     pub fn reading(&self) -> Reading
         ensures { result ≡ self.now.reading }
     {
-        self.reading
+        self.world.reading
     }
 
     /// The head of the run.
@@ -176,7 +172,7 @@ impl Analyser {
         ensures ranks { length self.now.recording ≡ ranks_of self.now.groups }
         ensures lawful { IsLawful self.now.groups self.now.recording }
     {
-        self.pairs.head()
+        self.world.pairs.head()
     }
 
     /// The ranks stand where every maximal run over the calls that were accepted ends. A law: it does nothing.
@@ -184,8 +180,8 @@ impl Analyser {
         ensures end { IsTheEnd (can_move self.now.reading self.now.groups self.now.recording) (length self.now.recording) self.now.stands }
         ensures stands { self.now.stands ≡ stands_of self.now.reading self.now.groups self.now.recording }
     {
-        // A read of the stands, so that what the analyser's type says of them is known here.
-        let _stands = self.stands.len();
+        // For the proof: what the analyser's type says of the stands is known once they are read.
+        let _stands = self.positions.stands.len();
     }
 
     /// The calls that were accepted, with what each means for the others.
@@ -193,14 +189,21 @@ impl Analyser {
         ensures groups { result.now.groups ≡ self.now.groups }
         ensures recording { result.now.recording ≡ self.now.recording }
     {
-        &self.pairs
+        &self.world.pairs
+    }
+
+    /// Where the ranks stand, the lowest first.
+    pub fn stands(&self) -> &[u32]
+        ensures { result.now ≡ self.now.stands }
+    {
+        self.positions.stands.as_slice()
     }
 
     /// Where a rank stands: how many of its calls it has completed. None where there is no such rank.
     pub fn stand(&self, rank: u16) -> Option<u32>
         ensures { result ≡ slice_get self.now.stands rank }
     {
-        self.stands.get(usize::from(rank)).copied()
+        self.positions.stands.get(usize::from(rank)).copied()
     }
 
     /// Whether a rank stands at the call that ends its list, its Finalize or the end of a list that was cut off; not
@@ -208,7 +211,7 @@ impl Analyser {
     pub fn is_ended(&self, rank: u16) -> bool
         ensures { result ≡ is_at_end self.now.recording self.now.stands rank }
     {
-        match self.pairs.call(rank, stand_of(&self.stands, rank)) {
+        match self.world.pairs.call(rank, self.positions.stand(rank)) {
             Some(call) => call.ends_list(),
             None => false,
         }
@@ -218,14 +221,14 @@ impl Analyser {
     pub fn is_closed(&self) -> bool
         ensures { (result ≡ true) ↔ IsClosed self.now.recording }
     {
-        are_closed(&self.pairs)
+        are_closed(&self.world.pairs)
     }
 
     /// The call of a rank at a place; None where there is none.
     pub fn record(&self, rank: u16, place: u32) -> Option<Record>
         ensures { result ≡ slice_get (calls_of self.now.recording rank) place }
     {
-        match self.pairs.call(rank, place) {
+        match self.world.pairs.call(rank, place) {
             Some(call) => Some(call.record()),
             None => None,
         }
@@ -236,6 +239,6 @@ impl Analyser {
         ensures value { result ≡ option_map length (slice_get self.now.recording rank) }
         ensures most { IfSome result (λ count. count ≤ most_calls) }
     {
-        self.pairs.accepted(rank)
+        self.world.pairs.accepted(rank)
     }
 }

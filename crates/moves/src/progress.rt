@@ -23,6 +23,7 @@ pub(crate) struct Progress {
     pub changes: u64,
 }
 
+// By hand: a derived drop is proved again at each exit of a function that owns one.
 impl Drop for Progress {
     fn drop(self) {
         let Progress {
@@ -150,41 +151,38 @@ impl Progress {
         &mut self,
         pairs: &Pairs,
         stands: &[u32],
-        rank: u16,
-        place: u32,
+        at: (u16, u32),
         joined: Option<(u16, u32)>,
     ) -> Option<u16>
-        requires joined { joined ≡ wave_of pairs.now.recording rank place }
-        requires waves { AreWaves pairs.now.groups pairs.now.recording stands.now self.old (λ comm member. (member ≡ rank) × (wave_of pairs.now.recording rank place ≡ Some (comm, complete_of self.old comm))) }
-        requires is_there { place ≡ slice_index stands.now rank }
-        requires few { place ≤ most_calls }
+        requires joined { joined ≡ wave_of pairs.now.recording at.0 at.1 }
+        requires waves { AreWaves pairs.now.groups pairs.now.recording stands.now self.old (λ comm member. (member ≡ at.0) × (wave_of pairs.now.recording at.0 at.1 ≡ Some (comm, complete_of self.old comm))) }
+        requires is_there { at.1 ≡ slice_index stands.now at.0 }
+        requires few { at.1 ≤ most_calls }
         ensures waves { AreWaves pairs.now.groups pairs.now.recording stands.now self.new IsNoException }
         ensures others { (comm : ℕ) → result ≢ Some comm → complete_of self.new comm ≡ complete_of self.old comm }
         ensures comm { IfSome result (λ comm. comm < length pairs.now.groups) }
         ensures one { (comm : ℕ) → result ≡ Some comm → complete_of self.new comm ≡ complete_of self.old comm + 1 }
         ensures counts { self.old.changes ≤ self.new.changes }
         ensures changes { self.new.changes ≤ self.old.changes + 1 }
-        ensures none { wave_of pairs.now.recording rank place ≡ None → self.new.changes ≡ self.old.changes }
+        ensures none { wave_of pairs.now.recording at.0 at.1 ≡ None → self.new.changes ≡ self.old.changes }
     {
-        let (comm, wave) = joined?;
-        self.reach_wave(pairs, stands, rank, place, comm, wave)
+        let wave = joined?;
+        self.reach_wave(pairs, stands, at, wave)
     }
 
-    /// The same for a call that joins this wave.
+    /// Notes it for a call that joins this wave.
     #[inline(always)]
     fn reach_wave(
         &mut self,
         pairs: &Pairs,
         stands: &[u32],
-        rank: u16,
-        place: u32,
-        comm: u16,
-        wave: u32,
+        at: (u16, u32),
+        joined: (u16, u32),
     ) -> Option<u16>
-        requires joins { wave_of pairs.now.recording rank place ≡ Some (comm, wave) }
-        requires waves { AreWaves pairs.now.groups pairs.now.recording stands.now self.old (λ c member. (member ≡ rank) × (wave_of pairs.now.recording rank place ≡ Some (c, complete_of self.old c))) }
-        requires is_there { place ≡ slice_index stands.now rank }
-        requires few { place ≤ most_calls }
+        requires joins { wave_of pairs.now.recording at.0 at.1 ≡ Some joined }
+        requires waves { AreWaves pairs.now.groups pairs.now.recording stands.now self.old (λ c member. (member ≡ at.0) × (wave_of pairs.now.recording at.0 at.1 ≡ Some (c, complete_of self.old c))) }
+        requires is_there { at.1 ≡ slice_index stands.now at.0 }
+        requires few { at.1 ≤ most_calls }
         ensures waves { AreWaves pairs.now.groups pairs.now.recording stands.now self.new IsNoException }
         ensures others { (c : ℕ) → result ≢ Some c → complete_of self.new c ≡ complete_of self.old c }
         ensures comm { IfSome result (λ c. c < length pairs.now.groups) }
@@ -192,7 +190,8 @@ impl Progress {
         ensures counts { self.old.changes ≤ self.new.changes }
         ensures changes { self.new.changes ≤ self.old.changes + 1 }
     {
-        if !self.is_wanting(pairs.head(), comm, wave, rank) {
+        let (comm, wave) = joined;
+        if !self.is_wanting(pairs.head(), comm, wave, at.0) {
             return None;
         }
         self.changes = self.changes.saturating_add(1);

@@ -5,7 +5,7 @@ ghost use Rattle.std.specs.Prelude.{◌≡◌};
 ghost use Rattle.moves.specs.Readings.{is_eager};
 ghost use Rattle.moves.specs.Needs.{bytes_of, sends_freely};
 
-use callnotes::stored::StoredCall;
+use callnotes::call_ref::CallRef;
 use mpicall::call::Mode;
 
 /// Which sends in standard mode wait for their receive. Synchronous sends always do, and buffered ones never.
@@ -29,7 +29,7 @@ pub fn is_eager(reading: Reading, bytes: Option<u32>) -> bool
 }
 
 /// The bytes that a call sends in standard mode, where they are told.
-fn bytes_of(call: &StoredCall<'_>) -> Option<u32>
+fn bytes_of(call: &CallRef<'_>) -> Option<u32>
     ensures { result ≡ bytes_of call.now }
 {
     match call.mode() {
@@ -40,7 +40,7 @@ fn bytes_of(call: &StoredCall<'_>) -> Option<u32>
 
 /// Whether what the call sends needs nothing: it is buffered, or the reading lets it go at once.
 #[inline(always)]
-pub fn sends_freely(reading: Reading, call: &StoredCall<'_>) -> bool
+pub fn sends_freely(reading: Reading, call: &CallRef<'_>) -> bool
     ensures { result ≡ sends_freely reading call.now }
 {
     matches!(call.mode(), Some(Mode::Buffered)) || is_eager(reading, bytes_of(call))

@@ -5,16 +5,16 @@ ghost use Rattle.callnotes.specs.Recordings.{calls_of};
 ghost use Rattle.callnotes.specs.Limits.{most_calls};
 ghost use Rattle.pairing.specs.Partners.{partner_of};
 ghost use Rattle.callnotes.specs.declared.envelope.Half.{Half as HalfValue};
-ghost use Rattle.moves.specs.Runs.{moved, StandsNoLater};
-ghost use Rattle.moves.specs.Waiting.{comm_list, sent_to, sees, prober_of, woken_partner, woken_prober, woken_peers, woken_comm, HoldsBetweenLooks, IsNobody, IsInHand, IsSettled, IsReaching, HasArrived, touches_of, to_do};
+ghost use Rattle.moves.specs.Runs.{moved};
+ghost use Rattle.moves.specs.Waiting.{comm_list, sent_to, sees, prober_of, woken_partner, woken_prober, woken_peers, woken_comm};
+ghost use Rattle.moves.specs.Positions.{AreKept, AreReached, AreSettled, GoOn, HaveArrival, HaveInHand, HaveWoken, left_to_do};
 
 use crate::look::{Look, look_at};
-use crate::need::stand_of;
-use crate::progress::Progress;
-use crate::reading::Reading;
 use crate::waiters::Waiters;
+use crate::world::{Positions, World};
+use callnotes::by_kind;
 use callnotes::envelope::Half;
-use callnotes::often::{COLL, IRECV, ISEND, NONE, RECV, SEND, WAIT, WAITALL};
+use callnotes::often::NONE;
 use mpicall::does::Does;
 use pairing::pairs::Pairs;
 
@@ -122,41 +122,26 @@ fn wake_members(waiters: &mut Waiters, comm: Option<u16>)
 
 /// Wakes all that wait for the call at the place, which its rank has just reached. That rank is in hand then.
 #[inline(always)]
-fn reach_call(
-    reading: Reading,
-    pairs: &Pairs,
-    stands: &[u32],
-    progress: &mut Progress,
-    waiters: &mut Waiters,
-    rank: u16,
-    place: u32,
-)
-    requires { IsReaching reading pairs.now.groups pairs.now.recording stands.now progress.old waiters.old rank place }
-    ensures in_hand { IsInHand reading pairs.now.groups pairs.now.recording stands.now progress.new waiters.new rank }
-    ensures counts { touches_of progress.old waiters.old ≤ touches_of progress.new waiters.new }
+fn reach_call(world: &World, positions: &mut Positions, rank: u16, place: u32)
+    requires { AreReached world.now positions.old rank place }
+    ensures { HaveWoken world.now positions.old positions.new rank }
 {
+    let pairs = &world.pairs;
     let joined = pairs.wave_of(rank, place);
-    wake_peers(pairs, waiters, rank, place);
-    let complete = progress.reach(pairs, stands, rank, place, joined);
-    wake_members(waiters, complete);
+    wake_peers(pairs, &mut positions.waiters, rank, place);
+    let complete = positions
+        .progress
+        .reach(pairs, &positions.stands, (rank, place), joined);
+    wake_members(&mut positions.waiters, complete);
 }
 
 /// Wakes all that wait for any call at the place: the slow way, for calls that come seldom.
 #[inline(never)]
-fn reach_any(
-    reading: Reading,
-    pairs: &Pairs,
-    stands: &[u32],
-    progress: &mut Progress,
-    waiters: &mut Waiters,
-    rank: u16,
-    place: u32,
-)
-    requires { IsReaching reading pairs.now.groups pairs.now.recording stands.now progress.old waiters.old rank place }
-    ensures in_hand { IsInHand reading pairs.now.groups pairs.now.recording stands.now progress.new waiters.new rank }
-    ensures counts { touches_of progress.old waiters.old ≤ touches_of progress.new waiters.new }
+fn reach_any(world: &World, positions: &mut Positions, rank: u16, place: u32)
+    requires { AreReached world.now positions.old rank place }
+    ensures { HaveWoken world.now positions.old positions.new rank }
 {
-    reach_call(reading, pairs, stands, progress, waiters, rank, place);
+    reach_call(world, positions, rank, place);
 }
 
 /// The number of the kind of the call at the place; `NONE` where there is no call.
@@ -170,148 +155,93 @@ fn kind_at(pairs: &Pairs, rank: u16, place: u32) -> u8 {
 
 /// Wakes all that wait for a call of this kind at the place. There is one such function for each kind that comes often,
 /// built for it alone, and one for no call; another kind of call goes the slow way.
-fn reach_of<const KIND: u8>(
-    reading: Reading,
-    pairs: &Pairs,
-    stands: &[u32],
-    progress: &mut Progress,
-    waiters: &mut Waiters,
-    rank: u16,
-    place: u32,
-)
-    requires { IsReaching reading pairs.now.groups pairs.now.recording stands.now progress.old waiters.old rank place }
-    ensures in_hand { IsInHand reading pairs.now.groups pairs.now.recording stands.now progress.new waiters.new rank }
-    ensures counts { touches_of progress.old waiters.old ≤ touches_of progress.new waiters.new }
+fn reach_of<const KIND: u8>(world: &World, positions: &mut Positions, rank: u16, place: u32)
+    requires { AreReached world.now positions.old rank place }
+    ensures { HaveWoken world.now positions.old positions.new rank }
 {
-    if kind_at(pairs, rank, place) == KIND {
-        reach_call(reading, pairs, stands, progress, waiters, rank, place);
+    if kind_at(&world.pairs, rank, place) == KIND {
+        reach_call(world, positions, rank, place);
     } else {
-        reach_any(reading, pairs, stands, progress, waiters, rank, place);
+        reach_any(world, positions, rank, place);
     }
 }
 
 /// Wakes all that wait for the call at the place, by the function of its kind.
 #[inline(always)]
-fn reach(
-    reading: Reading,
-    pairs: &Pairs,
-    stands: &[u32],
-    progress: &mut Progress,
-    waiters: &mut Waiters,
-    rank: u16,
-    place: u32,
-)
-    requires { IsReaching reading pairs.now.groups pairs.now.recording stands.now progress.old waiters.old rank place }
-    ensures in_hand { IsInHand reading pairs.now.groups pairs.now.recording stands.now progress.new waiters.new rank }
-    ensures counts { touches_of progress.old waiters.old ≤ touches_of progress.new waiters.new }
+fn reach(world: &World, positions: &mut Positions, rank: u16, place: u32)
+    requires { AreReached world.now positions.old rank place }
+    ensures { HaveWoken world.now positions.old positions.new rank }
 {
-    match kind_at(pairs, rank, place) {
-        SEND => reach_of::<SEND>(reading, pairs, stands, progress, waiters, rank, place),
-        RECV => reach_of::<RECV>(reading, pairs, stands, progress, waiters, rank, place),
-        ISEND => reach_of::<ISEND>(reading, pairs, stands, progress, waiters, rank, place),
-        IRECV => reach_of::<IRECV>(reading, pairs, stands, progress, waiters, rank, place),
-        COLL => reach_of::<COLL>(reading, pairs, stands, progress, waiters, rank, place),
-        WAIT => reach_of::<WAIT>(reading, pairs, stands, progress, waiters, rank, place),
-        WAITALL => reach_of::<WAITALL>(reading, pairs, stands, progress, waiters, rank, place),
-        NONE => reach_of::<NONE>(reading, pairs, stands, progress, waiters, rank, place),
-        _ => reach_any(reading, pairs, stands, progress, waiters, rank, place),
-    }
+    by_kind!(
+        kind_at(&world.pairs, rank, place),
+        reach_of(world, positions, rank, place),
+        NONE => reach_of::<NONE>(world, positions, rank, place),
+        _ => reach_any(world, positions, rank, place)
+    )
 }
 
 /// Looks at the rank in hand, and answers whether it still is: it moves on by one, or is linked where it
 /// waits, or is let go where it rests.
 #[inline(always)]
-fn settle_one(
-    reading: Reading,
-    pairs: &Pairs,
-    stands: &mut Vec<u32>,
-    progress: &mut Progress,
-    waiters: &mut Waiters,
-    rank: u16,
-) -> bool
-    requires { IsInHand reading pairs.now.groups pairs.now.recording stands.old.items progress.old waiters.old rank }
-    ensures in_hand { result ≡ true → IsInHand reading pairs.now.groups pairs.now.recording stands.new.items progress.new waiters.new rank }
-    ensures kept { result ≡ false → HoldsBetweenLooks reading pairs.now.groups pairs.now.recording stands.new.items progress.new waiters.new IsNobody 0 }
-    ensures no_lower { StandsNoLater stands.old.items stands.new.items }
-    ensures counts { touches_of progress.old waiters.old ≤ touches_of progress.new waiters.new }
-    ensures no_more { to_do pairs.now.recording stands.new.items waiters.new ≤ to_do pairs.now.recording stands.old.items waiters.old }
-    ensures falls { result ≡ true → to_do pairs.now.recording stands.new.items waiters.new < to_do pairs.now.recording stands.old.items waiters.old }
+fn settle_one(world: &World, positions: &mut Positions, rank: u16) -> bool
+    requires { HaveInHand world.now positions.old rank }
+    ensures in_hand { result ≡ true → HaveInHand world.now positions.new rank }
+    ensures kept { result ≡ false → AreKept world.now positions.new }
+    ensures goes_on { GoOn positions.old positions.new }
+    ensures no_more { left_to_do world.now positions.new ≤ left_to_do world.now positions.old }
+    ensures falls { result ≡ true → left_to_do world.now positions.new < left_to_do world.now positions.old }
 {
-    match look_at(reading, pairs, stands, progress, rank) {
+    match look_at(world, positions, rank) {
         Look::Over => false,
         Look::Partner { place } => {
-            waiters.wait_for_partner(rank, place);
+            positions.waiters.wait_for_partner(rank, place);
             false
         }
         Look::Wave { comm } => {
-            waiters.wait_for_wave(rank, comm);
+            positions.waiters.wait_for_wave(rank, comm);
             false
         }
         Look::Moves => {
-            move_on(stands, rank);
-            let place = stand_of(stands, rank);
-            reach(reading, pairs, stands, progress, waiters, rank, place);
+            move_on(&mut positions.stands, rank);
+            let place = positions.stand(rank);
+            reach(world, positions, rank, place);
             true
         }
     }
 }
 
 /// Looks at the rank in hand until it waits or rests.
-fn settle_rank(
-    reading: Reading,
-    pairs: &Pairs,
-    stands: &mut Vec<u32>,
-    progress: &mut Progress,
-    waiters: &mut Waiters,
-    rank: u16,
-)
-    requires { IsInHand reading pairs.now.groups pairs.now.recording stands.old.items progress.old waiters.old rank }
-    ensures kept { HoldsBetweenLooks reading pairs.now.groups pairs.now.recording stands.new.items progress.new waiters.new IsNobody 0 }
-    ensures no_lower { StandsNoLater stands.old.items stands.new.items }
-    ensures counts { touches_of progress.old waiters.old ≤ touches_of progress.new waiters.new }
-    ensures no_more { to_do pairs.now.recording stands.new.items waiters.new ≤ to_do pairs.now.recording stands.old.items waiters.old }
+fn settle_rank(world: &World, positions: &mut Positions, rank: u16)
+    requires { HaveInHand world.now positions.old rank }
+    ensures kept { AreKept world.now positions.new }
+    ensures goes_on { GoOn positions.old positions.new }
+    ensures no_more { left_to_do world.now positions.new ≤ left_to_do world.now positions.old }
 {
-    while settle_one(reading, pairs, stands, progress, waiters, rank) {}
+    while settle_one(world, positions, rank) {}
 }
 
 /// Looks at ranks until none is to be looked at. It takes no memory.
-fn settle(
-    reading: Reading,
-    pairs: &Pairs,
-    stands: &mut Vec<u32>,
-    progress: &mut Progress,
-    waiters: &mut Waiters,
-)
-    requires { HoldsBetweenLooks reading pairs.now.groups pairs.now.recording stands.old.items progress.old waiters.old IsNobody 0 }
-    ensures settled { IsSettled reading pairs.now.groups pairs.now.recording stands.new.items progress.new waiters.new }
-    ensures no_lower { StandsNoLater stands.old.items stands.new.items }
-    ensures counts { touches_of progress.old waiters.old ≤ touches_of progress.new waiters.new }
+fn settle(world: &World, positions: &mut Positions)
+    requires { AreKept world.now positions.old }
+    ensures settled { AreSettled world.now positions.new }
+    ensures goes_on { GoOn positions.old positions.new }
 {
-    while let Some(rank) = waiters.next() {
-        settle_rank(reading, pairs, stands, progress, waiters, rank);
+    while let Some(rank) = positions.waiters.next() {
+        settle_rank(world, positions, rank);
     }
 }
 
 /// Moves the ranks on once a rank's call has arrived at the place, at its list's end: only where the rank
 /// stands there is any rank woken.
 #[inline(always)]
-pub(crate) fn arrive(
-    reading: Reading,
-    pairs: &Pairs,
-    stands: &mut Vec<u32>,
-    progress: &mut Progress,
-    waiters: &mut Waiters,
-    rank: u16,
-    place: u32,
-)
-    requires { HasArrived reading pairs.now.groups pairs.now.recording stands.old.items progress.old waiters.old rank place }
-    ensures settled { IsSettled reading pairs.now.groups pairs.now.recording stands.new.items progress.new waiters.new }
-    ensures no_lower { StandsNoLater stands.old.items stands.new.items }
-    ensures counts { touches_of progress.old waiters.old ≤ touches_of progress.new waiters.new }
+pub(crate) fn arrive(world: &World, positions: &mut Positions, rank: u16, place: u32)
+    requires { HaveArrival world.now positions.old rank place }
+    ensures settled { AreSettled world.now positions.new }
+    ensures goes_on { GoOn positions.old positions.new }
 {
-    if stand_of(stands, rank) == place {
-        reach(reading, pairs, stands, progress, waiters, rank, place);
-        settle_rank(reading, pairs, stands, progress, waiters, rank);
-        settle(reading, pairs, stands, progress, waiters);
+    if positions.stand(rank) == place {
+        reach(world, positions, rank, place);
+        settle_rank(world, positions, rank);
+        settle(world, positions);
     }
 }

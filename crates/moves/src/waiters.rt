@@ -16,6 +16,7 @@ pub(crate) struct Waiters {
     awaited: Vec<u32>,
 }
 
+// By hand: a derived drop is proved again at each exit of a function that owns one.
 impl Drop for Waiters {
     fn drop(self) {
         let Waiters {

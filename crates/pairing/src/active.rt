@@ -10,8 +10,9 @@ ghost use Rattle.callnotes.specs.Recordings.{Lists, calls_of, appended};
 ghost use Rattle.callnotes.specs.Requests.{started_in, is_among, is_active, does_start, HasActive};
 ghost use Rattle.pairing.specs.Starts.{cell_no, cell_in, place_at, place_in, has_place, known_front, IsActive, HasRoomToStart};
 
-use callnotes::next_call::NextCall;
+use callnotes::request::{completes, starts};
 use indexmap::IndexMap;
+use mpicall::record::Record;
 use std::alloc::{AllocError, Global};
 use std::hash::{Hash, Hasher};
 
@@ -74,11 +75,11 @@ impl Active {
 
     /// Makes room for what the call starts, if it starts something. The table says the same after it.
     #[inline(always)]
-    pub(crate) fn reserve(&mut self, call: &NextCall<'_>) -> Result<(), AllocError>
+    pub(crate) fn reserve(&mut self, call: &Record) -> Result<(), AllocError>
         ensures kept { (recording : Lists) → IsActive recording self.old → IsActive recording self.new }
         ensures ok { OnOk result (HasRoomToStart self.new call.now) }
     {
-        match call.starts() {
+        match starts(call) {
             Some(_) => self.others.reserve(1),
             None => Ok(()),
         }
@@ -156,11 +157,11 @@ impl Active {
 
     /// Puts in the request that the call at the place starts, if it starts one.
     #[inline(always)]
-    fn start(&mut self, rank: u16, place: u32, call: &NextCall<'_>)
+    fn start(&mut self, rank: u16, place: u32, call: &Record)
         requires { HasRoomToStart self.old call.now }
         ensures { (r req : ℕ) → place_in self.new r req ≡ (if r == rank && does_start req call.now then Some place else place_in self.old r req) }
     {
-        if let Some(req) = call.starts() {
+        if let Some(req) = starts(call) {
             self.insert(rank, req, place);
         }
     }
@@ -168,12 +169,12 @@ impl Active {
     /// Puts in the request that the rank's next call starts, and takes out those that it completes. It
     /// takes no memory.
     #[inline(always)]
-    pub(crate) fn put(&mut self, rank: u16, place: u32, call: &NextCall<'_>)
+    pub(crate) fn put(&mut self, rank: u16, place: u32, call: &Record)
         requires { HasRoomToStart self.old call.now }
         ensures { (recording : Lists) → IsActive recording self.old → rank < length recording →
             place ≡ length (calls_of recording rank) → IsActive (appended recording rank call.now) self.new }
     {
-        self.complete(rank, call.completes());
+        self.complete(rank, completes(call));
         self.start(rank, place, call);
     }
 

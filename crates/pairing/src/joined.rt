@@ -12,9 +12,10 @@ ghost use Rattle.callnotes.specs.Waves.{does_join, place_in_wave, member_of, is_
 
 use crate::held::Holding;
 use callnotes::limits::MOST_CALLS;
-use callnotes::next_call::NextCall;
 use callnotes::place_lists::PlaceLists;
+use callnotes::wave::joins;
 use indexmap::IndexSet;
+use mpicall::record::Record;
 use mpigroup::head::Head;
 use std::alloc::{AllocError, Global};
 use std::marker::Model;
@@ -33,6 +34,7 @@ pub(crate) struct Waves {
     lists: PlaceLists,
 }
 
+// By hand: a derived drop is proved again at each exit of a function that owns one.
 impl Drop for Waves {
     fn drop(self) {
         let Waves {
@@ -80,7 +82,7 @@ impl Waves {
             return Some(usize::from(rank));
         }
         let number = self.joined.get_index_of(&Holding { rank, comm })?;
-        // There are more lists than that, so the sum is small.
+        // For the proof: there are more lists than that, so the sum is small.
         let _lists = self.lists.len();
         Some(usize::from(self.ranks) + number)
     }
@@ -117,15 +119,11 @@ impl Waves {
     /// Makes room for the wave that a rank's call joins, and answers the number of its list; None where it
     /// joins none. All places stay.
     #[inline(always)]
-    pub(crate) fn reserve(
-        &mut self,
-        rank: u16,
-        call: &NextCall<'_>,
-    ) -> Result<Option<usize>, AllocError>
+    pub(crate) fn reserve(&mut self, rank: u16, call: &Record) -> Result<Option<usize>, AllocError>
         ensures room { IfOk result (λ list. HasRoomToJoin rank call.now list self.new) }
         ensures joined { (recording : Lists) → IsJoined recording self.old → IsJoined recording self.new }
     {
-        match call.joins() {
+        match joins(call) {
             Some(comm) => Ok(Some(self.reserve_at(rank, comm)?)),
             None => Ok(None),
         }

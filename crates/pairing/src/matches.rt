@@ -9,8 +9,8 @@ ghost use Rattle.pairing.specs.Matched.{list_no, number_in, pending_at, pending_
 
 use crate::numbering::Numbering;
 use arenalist::lists::Lists;
-use callnotes::envelope::{Envelope, Half};
-use callnotes::next_call::NextCall;
+use callnotes::envelope::{Envelope, Half, envelope_of};
+use mpicall::record::Record;
 use mpigroup::head::Head;
 use std::alloc::{AllocError, Global};
 use std::marker::Model;
@@ -49,6 +49,7 @@ pub(crate) struct Matches {
     pending: Lists<u32>,
 }
 
+// By hand: a derived drop is proved again at each exit of a function that owns one.
 impl Drop for Matches {
     fn drop(self) {
         let Matches {
@@ -162,13 +163,13 @@ impl Matches {
         &mut self,
         head: &Head,
         rank: u16,
-        call: &NextCall<'_>,
+        call: &Record,
     ) -> Result<Halves, AllocError>
         ensures grown { IsGrown self.old self.new }
         ensures room { IfOk result (λ halves. HasRoomFor head.now rank call.now halves self.new) }
     {
-        let send = self.number_half(call.envelope(head, rank, Half::Send))?;
-        let recv = self.number_half(call.envelope(head, rank, Half::Recv))?;
+        let send = self.number_half(envelope_of(head, rank, Half::Send, call))?;
+        let recv = self.number_half(envelope_of(head, rank, Half::Recv, call))?;
         self.pending.reserve(2)?;
         Ok(Halves { send, recv })
     }
@@ -186,7 +187,7 @@ impl Matches {
         ensures spare { self.old.spare ≤ self.new.spare + 1 }
         ensures work { self.new.work ≡ counted self.old.work 1 }
     {
-        // There are more lists than that, so the numbers are small.
+        // For the proof: there are more lists than that, so the numbers are small.
         let _lists = self.pending.list_count();
         let own = self.pending.list(list_no(half, number));
         let other = self.pending.list(list_no(half.other(), number));
@@ -204,7 +205,7 @@ impl Matches {
         requires { number < length self.now.keys }
         ensures { result ≡ slice_get (pending_at self.now.lists half number) 0 }
     {
-        // There are more lists than that, so the number is small.
+        // For the proof: there are more lists than that, so the number is small.
         let _lists = self.pending.list_count();
         match self.pending.first(self.pending.list(list_no(half, number))) {
             Some(node) => Some(*self.pending.get(node)),

@@ -22,6 +22,7 @@ pub(crate) struct Numbering {
     cells: Vec<u32>,
 }
 
+// By hand: a derived drop is proved again at each exit of a function that owns one.
 impl Drop for Numbering {
     fn drop(self) {
         let Numbering {
@@ -86,7 +87,7 @@ impl Numbering {
         ensures { IfSome result (λ number. number_in self.now envelope.now ≡ Some number) }
     {
         let number = *self.cells.get(cell_no(envelope))? as usize;
-        // No envelope has two numbers.
+        // For the proof: no envelope has two numbers.
         let _envelopes = self.len();
         match self.envelopes.get_index(number) {
             Some(known) if *known == *envelope => Some(number),

@@ -27,12 +27,12 @@ use crate::meeting::meet_halves;
 use crate::probes::received_by;
 use crate::probing::Probing;
 use crate::tables::{Room, Tables};
+use callnotes::by_kind;
+use callnotes::call_ref::CallRef;
 use callnotes::envelope::{Envelope, Half, rank_of_half};
-use callnotes::next_call::NextCall;
 use callnotes::notes::Notes;
-use callnotes::often::{ANY, COLL, IRECV, ISEND, RECV, SEND, WAIT, WAITALL, kind_no};
+use callnotes::often::{ANY, kind_no};
 use callnotes::request::waits_for;
-use callnotes::stored::StoredCall;
 use mpicall::limits::MOST_REQUESTS;
 use mpicall::record::Record;
 use mpigroup::head::Head;
@@ -49,6 +49,7 @@ pub struct Pairs {
     probing: Probing,
 }
 
+// By hand: a derived drop is proved again at each exit of a function that owns one.
 impl Drop for Pairs {
     fn drop(self) {
         let Pairs {
@@ -83,7 +84,7 @@ fn is_over(notes: &Notes, rank: u16) -> bool
         return false;
     }
     match notes.get(rank, count as u32 - 1) {
-        Some(note) => note.ends_list(),
+        Some(note) => note.call().ends_list(),
         None => false,
     }
 }
@@ -95,7 +96,7 @@ fn next_fault(
     notes: &Notes,
     tables: &Tables,
     rank: u16,
-    call: &NextCall<'_>,
+    call: &Record,
 ) -> Option<CallFault>
     requires is_rank { rank < length notes.now.lists }
     requires kept { IsKept head.now notes.now.lists tables.now }
@@ -121,7 +122,7 @@ fn reserve(
     notes: &mut Notes,
     tables: &mut Tables,
     rank: u16,
-    call: &NextCall<'_>,
+    call: &Record,
 ) -> Result<Room, AllocError>
     requires { rank < length notes.old.lists }
     ensures notes { notes.new.lists ≡ notes.old.lists }
@@ -129,7 +130,7 @@ fn reserve(
     ensures noted { OnOk result (HasRoom notes.new rank call.now) }
     ensures room { IfOk result (λ room. HaveRoom head.now rank call.now room tables.new) }
 {
-    notes.reserve(rank, call.record())?;
+    notes.reserve(rank, call)?;
     tables.reserve(head, rank, call)
 }
 
@@ -141,7 +142,7 @@ fn note_wait_for_one(
     notes: &mut Notes,
     tables: &Tables,
     rank: u16,
-    call: &NextCall<'_>,
+    call: &Record,
     req: u32,
     list: Option<usize>,
 )
@@ -154,9 +155,10 @@ fn note_wait_for_one(
     requires one { waits_for call.now ≡ req ∷ [] }
     ensures { GoOnBy notes.old.lists notes.new.lists rank call.now }
 {
+    // For the proof: the clauses name the head.
     let _head = head;
     match tables.active.start_of(rank, req) {
-        Some(start) => notes.note(rank, call.record(), tables.beside(list), &[start]),
+        Some(start) => notes.note(rank, call, tables.beside(list), &[start]),
         None => unreachable!(),
     }
 }
@@ -178,12 +180,11 @@ fn note_wait(
     requires active { waits_for_active (calls_of (recording_of notes.old.lists) rank) call.now ≡ true }
     ensures { GoOnBy notes.old.lists notes.new.lists rank call.now }
 {
+    // For the proof: the clauses name the head.
     let _head = head;
     let beside = tables.beside(list);
     let mut starts = [0; MOST_REQUESTS];
-    let count = tables
-        .active
-        .starts_of(rank, waits_for(call.as_call()), &mut starts);
+    let count = tables.active.starts_of(rank, waits_for(call), &mut starts);
     notes.note(rank, call, beside, &starts[..count]);
 }
 
@@ -194,7 +195,7 @@ fn note_call(
     notes: &mut Notes,
     tables: &Tables,
     rank: u16,
-    call: &NextCall<'_>,
+    call: &Record,
     list: Option<usize>,
 )
     requires is_rank { rank < length notes.old.lists }
@@ -205,10 +206,10 @@ fn note_call(
     requires active { waits_for_active (calls_of (recording_of notes.old.lists) rank) call.now ≡ true }
     ensures { GoOnBy notes.old.lists notes.new.lists rank call.now }
 {
-    match call.waits_for() {
-        [] => notes.note(rank, call.record(), tables.beside(list), &[]),
+    match waits_for(call) {
+        [] => notes.note(rank, call, tables.beside(list), &[]),
         [req] => note_wait_for_one(head, notes, tables, rank, call, *req, list),
-        _ => note_wait(head, notes, tables, rank, call.record(), list),
+        _ => note_wait(head, notes, tables, rank, call, list),
     }
 }
 
@@ -220,7 +221,7 @@ fn put(
     tables: &mut Tables,
     rank: u16,
     place: u32,
-    call: &NextCall<'_>,
+    call: &Record,
     room: &Room,
 )
     requires is_rank { rank < length notes.old.lists }
@@ -246,7 +247,7 @@ fn partner_of(head: &Head, notes: &Notes, rank: u16, place: u32, half: Half) -> 
 {
     let note = notes.get(rank, place)?;
     let there = note.partner(half)?;
-    let message = note.message(half)?;
+    let message = note.call().message(half)?;
     let other = head.world_rank(message.comm, message.peer)?;
     Some((other, there))
 }
@@ -287,7 +288,7 @@ fn probed_of(
     ensures { result ≡ probed_of head.now (recording_of notes.now.lists) rank place }
 {
     let note = notes.get(rank, place)?;
-    let envelope = received_by(head, rank, note.probed()?)?;
+    let envelope = received_by(head, rank, note.call().probed()?)?;
     let seat = probing.seat(rank, place)?;
     seen_from(head, notes, tables, rank, probing.followed(seat), &envelope)
 }
@@ -299,7 +300,7 @@ fn wave_of(notes: &Notes, rank: u16, place: u32) -> Option<(u16, u32)>
     ensures { result ≡ wave_of (recording_of notes.now.lists) rank place }
 {
     let note = notes.get(rank, place)?;
-    let comm = note.joins()?;
+    let comm = note.call().joins()?;
     Some((comm, note.joined()))
 }
 
@@ -382,12 +383,11 @@ impl Pairs {
         ensures fault { IfErr result (TellsFault (fault_of self.old.groups rank (calls_of self.old.recording rank) call.now)) }
         ensures err { OnErr result (self.new ≡ self.old) }
     {
-        // The ranks are few, so the calls are, and each probe's seat has a number of 32 bits.
+        // For the proof: the ranks are few, so the calls are, and each probe's seat has a number of 32 bits.
         let _ranks = self.head.ranks();
         if KIND != ANY && kind_no(call.as_call()) != KIND {
             unreachable!();
         }
-        let call = &NextCall::of(call);
         if let Some(fault) = next_fault(&self.head, &self.notes, &self.tables, rank, call) {
             return Err(PairFault::Refused(fault));
         }
@@ -423,16 +423,11 @@ impl Pairs {
         ensures fault { IfErr result (TellsFault (fault_of self.old.groups rank (calls_of self.old.recording rank) call.now)) }
         ensures err { OnErr result (self.new ≡ self.old) }
     {
-        match kind_no(call.as_call()) {
-            SEND => self.admit_kind::<SEND>(rank, place, call),
-            RECV => self.admit_kind::<RECV>(rank, place, call),
-            ISEND => self.admit_kind::<ISEND>(rank, place, call),
-            IRECV => self.admit_kind::<IRECV>(rank, place, call),
-            COLL => self.admit_kind::<COLL>(rank, place, call),
-            WAIT => self.admit_kind::<WAIT>(rank, place, call),
-            WAITALL => self.admit_kind::<WAITALL>(rank, place, call),
-            _ => self.admit_kind::<ANY>(rank, place, call),
-        }
+        by_kind!(
+            kind_no(call.as_call()),
+            self.admit_kind(rank, place, call),
+            _ => self.admit_kind::<ANY>(rank, place, call)
+        )
     }
 
     /// Adds the next call of a rank by the same rules, and tells the partners that it has and the wave that
@@ -484,11 +479,11 @@ impl Pairs {
 
     /// The call of a rank at a place; None where there is none.
     #[inline(always)]
-    pub fn call(&self, rank: u16, place: u32) -> Option<StoredCall<'_>>
+    pub fn call(&self, rank: u16, place: u32) -> Option<CallRef<'_>>
         ensures { result ≡ slice_get (calls_of self.now.recording rank) place }
     {
         match self.notes.get(rank, place) {
-            Some(note) => Some(StoredCall::of(note)),
+            Some(note) => Some(note.call()),
             None => None,
         }
     }

@@ -92,7 +92,7 @@ pub stuck_from : (reading : Reading) (groups : Groups) (recording : Lists) (rank
 stuck_from reading groups recording rank present = rw (present.is_present, present.is_no_end) refl
 
 -- there is a stand for each rank
-pub rank_count : (reading : Reading) (groups : Groups) (recording : Lists) → length (stands_of reading groups recording) ≡ length recording
+rank_count : (reading : Reading) (groups : Groups) (recording : Lists) → length (stands_of reading groups recording) ≡ length recording
 rank_count reading groups recording =
     reached_ranks (can_move reading groups recording) (length recording) (stands_of reading groups recording) (every_maximal_run_ends_at_the_stands reading groups recording).1.is_reached
 

@@ -3,7 +3,6 @@
 ghost use Rattle.std.specs.Prelude.{◌≡◌, ◌<◌, ℕ, length, map, IfOk, OnOk};
 ghost use Rattle.std.specs.List.{filter, range_with_len};
 ghost use Rattle.callnotes.specs.Recordings.{IsClosed};
-ghost use Rattle.moves.specs.Stands.{stands_of};
 ghost use Rattle.waitgraph.specs.Stuck.{is_stuck_at, stuck_at, stuck_of, unmet_of};
 ghost use Rattle.waitgraph.specs.Causes.{view_of, walks_in, walks_at, causes_in, causes_of};
 ghost use Rattle.waitgraph.specs.Held.{held_at, held_of, is_some_left_open, opened_of};
@@ -76,13 +75,9 @@ fn is_stuck_at(pairs: &Pairs, stands: &[u32], rank: u16) -> bool
 fn stuck_at(alloc: Global, pairs: &Pairs, stands: &[u32]) -> Result<Vec<u16>, AllocError>
     ensures { IfOk result (λ stuck. stuck.items ≡ stuck_at pairs.now.recording stands.now) }
 {
-    let mut stuck = Vec::new(alloc);
-    for rank in 0..pairs.head().ranks() {
-        if is_stuck_at(pairs, stands, rank) {
-            stuck.push(rank)?;
-        }
-    }
-    Ok(stuck)
+    (0..pairs.head().ranks())
+        .filter(|rank| is_stuck_at(pairs, stands, *rank))
+        .collect(alloc)
 }
 
 fn waits_at(
@@ -164,25 +159,11 @@ fn graph_at(
     })
 }
 
-/// The ranks' stands.
-fn stands_of(alloc: Global, analyser: &Analyser) -> Result<Vec<u32>, AllocError>
-    ensures { IfOk result (λ stands. stands.items ≡ stands_of analyser.now.reading analyser.now.groups analyser.now.recording) }
-{
-    analyser.stands_are_the_end();
-    let mut stands = Vec::new(alloc);
-    for rank in 0..analyser.head().ranks() {
-        if let Some(stand) = analyser.stand(rank) {
-            stands.push(stand)?;
-        }
-    }
-    Ok(stands)
-}
-
 impl Graph {
     /// The wait graph of a run whose calls were all accepted. It asks for each rank what its present call
     /// needs and walks from each rank once, and then looks at each call for what is wrong. It takes memory
     /// for the stuck ranks, their unmet needs, the causes and the findings, and for what its search keeps on
-    /// the way: the stands, the marks of calls, the walks, the groups and what was found of them.
+    /// the way: the marks of calls, the walks, the groups and what was found of them.
     pub fn of(alloc: Global, analyser: &Analyser) -> Result<Graph, AllocError>
         requires { IsClosed analyser.now.recording }
         ensures stuck { IfOk result (λ graph. graph.stuck ≡ stuck_of analyser.now.reading analyser.now.groups analyser.now.recording) }
@@ -193,8 +174,13 @@ impl Graph {
         ensures causes { IfOk result (λ graph. graph.causes ≡ causes_of analyser.now.reading analyser.now.groups analyser.now.recording) }
         ensures findings { IfOk result (λ graph. graph.findings ≡ findings_of analyser.now.groups analyser.now.recording) }
     {
-        let stands = stands_of(alloc, analyser)?;
-        let graph = graph_at(alloc, analyser.reading(), analyser.pairs(), &stands)?;
+        analyser.stands_are_the_end();
+        let graph = graph_at(
+            alloc,
+            analyser.reading(),
+            analyser.pairs(),
+            analyser.stands(),
+        )?;
         Ok(graph)
     }
 

@@ -151,13 +151,9 @@ pub(crate) fn held(
     requires loose { (r : ℕ) → set_of loose.now r ≡ are_loose (set_of opened.now) standings.now waits.now r }
     ensures { IfOk result (λ held. held.items ≡ filter (are_held (set_of opened.now) standings.now waits.now) (range_with_len 0 (length standings.now))) }
 {
-    let mut held = Vec::new(alloc);
-    for rank in 0..standings.len() as u16 {
-        if is_held(opened, standings, waits, loose, rank) {
-            held.push(rank)?;
-        }
-    }
-    Ok(held)
+    (0..standings.len() as u16)
+        .filter(|rank| is_held(opened, standings, waits, loose, *rank))
+        .collect(alloc)
 }
 
 /// Whether the walk goes on by the need, or ends at it.
@@ -225,7 +221,6 @@ fn onward_of(
 }
 
 /// How the walk goes on from each rank.
-#[tactic(auto, using(findings::proofs::FindingLemmas::one_mapped))]
 pub(crate) fn walks_in(
     alloc: Global,
     opened: &[bool],
@@ -237,11 +232,9 @@ pub(crate) fn walks_in(
     requires loose { (r : ℕ) → set_of loose.now r ≡ are_loose (set_of opened.now) standings.now waits.now r }
     ensures { IfOk result (λ walks. walks.items ≡ walks_in (set_of opened.now) standings.now waits.now) }
 {
-    let mut walks = Vec::new(alloc);
-    for rank in 0..standings.len() as u16 {
-        walks.push(onward_of(opened, standings, waits, loose, rank))?;
-    }
-    Ok(walks)
+    (0..standings.len() as u16)
+        .map(|rank| onward_of(opened, standings, waits, loose, rank))
+        .collect(alloc)
 }
 
 /// The loose ranks are the least set that has each rank which it makes loose.

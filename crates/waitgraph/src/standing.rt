@@ -21,15 +21,12 @@ pub enum Standing {
 }
 
 /// Of each rank, whether its list was left open.
-#[tactic(auto, using(findings::proofs::FindingLemmas::one_mapped))]
 pub(crate) fn left_open_in(alloc: Global, pairs: &Pairs) -> Result<Vec<bool>, AllocError>
     ensures { IfOk result (λ marks. marks.items ≡ left_open_in pairs.now.recording) }
 {
-    let mut marks = Vec::new(alloc);
-    for rank in 0..pairs.head().ranks() {
-        marks.push(is_left_open(pairs, rank))?;
-    }
-    Ok(marks)
+    (0..pairs.head().ranks())
+        .map(|rank| is_left_open(pairs, rank))
+        .collect(alloc)
 }
 
 /// Whether one of the lists was.
@@ -60,9 +57,7 @@ pub(crate) fn standings_at(
     ensures value { IfOk result (λ standings. standings.items ≡ standings_at pairs.now.recording stands.now) }
     ensures few { IfOk result (λ standings. length standings.items < 65536) }
 {
-    let mut standings = Vec::new(alloc);
-    for rank in 0..pairs.head().ranks() {
-        standings.push(standing_at(pairs, stands, rank))?;
-    }
-    Ok(standings)
+    (0..pairs.head().ranks())
+        .map(|rank| standing_at(pairs, stands, rank))
+        .collect(alloc)
 }

@@ -11,8 +11,8 @@ ghost use Rattle.pairing.specs.Pairs.{completed_of};
 ghost use Rattle.moves.specs.Needs.{world_of, half_needs, probe_needs, member_need, wave_needs, operation_needs, operation_needs_at, request_needs, needs_of_call, needs_of};
 ghost use Rattle.waitgraph.specs.Stuck.{comes_before, needs_in_order, is_unmet, unmet_at, UnmetNeedsAreToldInOrder, StuckRanksWaitForStuckRanks};
 
+use callnotes::call_ref::CallRef;
 use callnotes::envelope::{Half, Message};
-use callnotes::stored::StoredCall;
 use moves::need::{Need, is_met, members, stand_of};
 use moves::reading::{Reading, sends_freely};
 use mpigroup::head::Head;
@@ -85,7 +85,7 @@ fn add_half_needs(
     rank: u16,
     place: u32,
     half: Half,
-    call: &StoredCall<'_>,
+    call: &CallRef<'_>,
 ) -> Result<(), AllocError>
     ensures { OnOk result (unmet.new.items ≡ unmet.old.items ++ filter (is_unmet stands.now) (half_needs pairs.now.groups pairs.now.recording rank place half call.now)) }
 {
@@ -104,7 +104,7 @@ fn add_probe_needs(
     stands: &[u32],
     rank: u16,
     place: u32,
-    call: &StoredCall<'_>,
+    call: &CallRef<'_>,
 ) -> Result<(), AllocError>
     ensures { OnOk result (unmet.new.items ≡ unmet.old.items ++ filter (is_unmet stands.now) (probe_needs pairs.now.groups pairs.now.recording rank place call.now)) }
 {
@@ -173,7 +173,7 @@ fn add_operation_needs(
     stands: &[u32],
     rank: u16,
     place: u32,
-    call: &StoredCall<'_>,
+    call: &CallRef<'_>,
 ) -> Result<(), AllocError>
     ensures { OnOk result (unmet.new.items ≡ unmet.old.items ++ filter (is_unmet stands.now) (operation_needs reading pairs.now.groups pairs.now.recording rank place call.now)) }
 {
@@ -228,7 +228,7 @@ fn add_completed_needs(
     stands: &[u32],
     rank: u16,
     place: u32,
-    call: &StoredCall<'_>,
+    call: &CallRef<'_>,
 ) -> Result<(), AllocError>
     requires { slice_get (calls_of pairs.now.recording rank) place ≡ Some call.now }
     ensures { OnOk result (unmet.new.items ≡ unmet.old.items ++ filter (is_unmet stands.now) (flat_map (request_needs reading pairs.now.groups pairs.now.recording rank place) (completes call.now))) }
@@ -247,7 +247,7 @@ fn add_needs_of_call(
     stands: &[u32],
     rank: u16,
     place: u32,
-    call: &StoredCall<'_>,
+    call: &CallRef<'_>,
 ) -> Result<(), AllocError>
     requires { slice_get (calls_of pairs.now.recording rank) place ≡ Some call.now }
     ensures { OnOk result (unmet.new.items ≡ unmet.old.items ++ filter (is_unmet stands.now) (needs_of_call reading pairs.now.groups pairs.now.recording rank place call.now)) }

@@ -11,14 +11,13 @@ ghost use Rattle.findings.specs.Findings.{same_word, all_call_alike, choice_of, 
 ghost use Rattle.findings.specs.Makings.{is_wrong_making, is_same_making, known_of, IsKnown};
 ghost use Rattle.findings.specs.declared.finding.making.Making.{Making};
 
-use crate::extent::{calls, ranks};
+use crate::extent::{calls, members, ranks};
 use crate::finding::Finding;
 use crate::finding::kind::is_same_word;
 use crate::finding::making::{Making, making_call, making_of};
 use crate::finding::wave::call_of_member;
+use callnotes::call_ref::CallRef;
 use callnotes::comm::makes;
-use callnotes::stored::StoredCall;
-use moves::need::members;
 use mpicall::call::Call;
 use mpigroup::split::colour_group;
 use pairing::pairs::Pairs;
@@ -39,12 +38,7 @@ fn calls_alike(pairs: &Pairs, comm: u16, wave: u32, call: &Call, g: u16) -> bool
 fn all_call_alike(pairs: &Pairs, comm: u16, wave: u32, call: &Call) -> bool
     ensures { result ≡ all_call_alike pairs.now.groups pairs.now.recording comm wave call.now }
 {
-    for g in 0..members(pairs, comm) {
-        if !calls_alike(pairs, comm, wave, call, g) {
-            return false;
-        }
-    }
-    true
+    (0..members(pairs, comm)).all(|g| calls_alike(pairs, comm, wave, call, g))
 }
 
 /// The colour and the key that a member gives in a wave.
@@ -76,11 +70,9 @@ fn choices_in(
     ensures value { IfOk result (λ choices. choices.items ≡ choices_in pairs.now.groups pairs.now.recording comm wave) }
     ensures few { IfOk result (λ choices. length choices.items ≤ 65536) }
 {
-    let mut choices = Vec::new(alloc);
-    for g in 0..members(pairs, comm) {
-        choices.push(choice(pairs, comm, wave, g))?;
-    }
-    Ok(choices)
+    (0..members(pairs, comm))
+        .map(|g| choice(pairs, comm, wave, g))
+        .collect(alloc)
 }
 
 /// The members with a colour in their new order, as ranks of the old group.
@@ -108,11 +100,7 @@ fn member(pairs: &Pairs, comm: u16, g: u16) -> u16
 fn in_world(alloc: Global, pairs: &Pairs, comm: u16, ranks: &[u16]) -> Result<Vec<u16>, AllocError>
     ensures { IfOk result (λ group. group.items ≡ in_world pairs.now.groups comm ranks.now) }
 {
-    let mut group = Vec::new(alloc);
-    for g in ranks {
-        group.push(member(pairs, comm, *g))?;
-    }
-    Ok(group)
+    ranks.iter().map(|g| member(pairs, comm, *g)).collect(alloc)
 }
 
 /// The group of a communicator; empty where there is no such communicator.
@@ -131,7 +119,7 @@ fn member_makes(pairs: &Pairs, comm: u16, wave: u32, new: u16, g: u16) -> bool
     ensures { result ≡ member_makes pairs.now.groups pairs.now.recording comm wave new g }
 {
     match call_of_member(pairs, comm, wave, g) {
-        Some(call) => makes(call.as_call()) == Some(new),
+        Some(call) => makes(&call) == Some(new),
         None => false,
     }
 }
@@ -324,7 +312,7 @@ fn is_wrong_stored(
     pairs: &Pairs,
     rank: u16,
     place: u32,
-    call: &StoredCall<'_>,
+    call: &CallRef<'_>,
 ) -> Result<bool, AllocError>
     requires { IsKnown pairs.now.groups pairs.now.recording known.old }
     ensures value { IfOk result (λ is. is ≡ option_map_or (is_wrong_group pairs.now.groups pairs.now.recording call.now) (wave_of pairs.now.recording rank place) false) }

@@ -11,12 +11,11 @@ ghost use Rattle.findings.specs.Comparisons.{comparison_of, kind_in, AreFirstKin
 ghost use Rattle.findings.specs.declared.finding.wave.Compared.{Compared};
 ghost use Rattle.findings.specs.declared.finding.wave.TheConstants.{WAVES_A_BLOCK};
 
-use crate::extent::{comms, waves};
+use crate::extent::{comms, members, waves};
 use crate::finding::Finding;
 use crate::finding::kind::kind_found;
 use crate::finding::root::root_found;
-use callnotes::stored::StoredCall;
-use moves::need::members;
+use callnotes::call_ref::CallRef;
 use mpicall::call::{Call, Kind};
 use mpicall::record::Record;
 use pairing::pairs::Pairs;
@@ -52,7 +51,7 @@ fn difference(
 
 /// The call in a wave of the member with rank `g` in the communicator's group, seen in place.
 #[inline(always)]
-fn stored_of_member(pairs: &Pairs, comm: u16, wave: u32, g: u16) -> Option<StoredCall<'_>>
+fn stored_of_member(pairs: &Pairs, comm: u16, wave: u32, g: u16) -> Option<CallRef<'_>>
     ensures { result ≡ call_of_member pairs.now.groups pairs.now.recording comm wave g }
 {
     let rank = pairs.head().world_rank(comm, g)?;
@@ -78,7 +77,7 @@ fn are_same_kind(first: Kind, kind: Kind) -> bool
 /// Whether both calls are collectives of one kind. Then nothing is found of them.
 #[inline(always)]
 #[tactic(auto, using(crate::proofs::AlikeLemmas::alike))]
-fn are_alike(first: &StoredCall<'_>, call: &StoredCall<'_>) -> bool
+fn are_alike(first: &CallRef<'_>, call: &CallRef<'_>) -> bool
     ensures { IsTrue result → (compared : Compared) (comm wave member : ℕ) →
         comparison_of compared comm wave member first.now call.now ≡ [] }
 {
@@ -217,7 +216,7 @@ fn found_of_member(
     compared: Compared,
     comm: u16,
     wave: u32,
-    first: &Option<StoredCall<'_>>,
+    first: &Option<CallRef<'_>>,
     g: u16,
 ) -> Option<Finding>
     requires { first.now ≡ call_of_member pairs.now.groups pairs.now.recording comm wave 0 }
@@ -239,7 +238,7 @@ fn add_of_member(
     compared: Compared,
     comm: u16,
     wave: u32,
-    first: &Option<StoredCall<'_>>,
+    first: &Option<CallRef<'_>>,
     g: u16,
 ) -> Result<(), AllocError>
     requires { first.now ≡ call_of_member pairs.now.groups pairs.now.recording comm wave 0 }

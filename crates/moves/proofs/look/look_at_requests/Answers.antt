@@ -4,10 +4,10 @@ use Rattle.moves.proofs.look.look_at_requests.Goals as goal
 
 pub loop-index-preserved : goal.loop-index-preserved
 loop-index-preserved c =
-    let p = c.args.pairs.now in
-    request_passes c.args.reading p.groups p.recording c.args.stands.now c.args.rank c.args.place c.loop-index.index c.args.call.now c.requires.call (omega (arith, c.completed_count-index-end.ensures, c.loop-index-test.true)) c.loop-index.invariant c.in-Moves.ensures
+    let w = c.args.world.now in
+    request_passes w.reading w.pairs.groups w.pairs.recording c.args.positions.now.stands.items c.args.at.0 c.args.at.1 c.loop-index.index c.args.call.now c.requires.call (omega (arith, c.completed_count-index-end.ensures, c.loop-index-test.true)) c.loop-index.invariant c.in-Moves.ensures
 
 pub returns : goal.returns
 returns c =
-    let p = c.args.pairs.now in
-    requests_pass c.args.reading p.groups p.recording c.args.stands.now c.args.rank c.args.place c.loop-index.index c.args.call.now (omega (arith, c.completed_count-index-end.ensures, c.loop-index-test.false)) c.loop-index.invariant
+    let w = c.args.world.now in
+    requests_pass w.reading w.pairs.groups w.pairs.recording c.args.positions.now.stands.items c.args.at.0 c.args.at.1 c.loop-index.index c.args.call.now (omega (arith, c.completed_count-index-end.ensures, c.loop-index-test.false)) c.loop-index.invariant

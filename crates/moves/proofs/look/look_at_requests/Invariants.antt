@@ -6,4 +6,4 @@ use Rattle.moves.proofs.look.look_at_requests.Given as goal
 
 -- each request so far has what it needs
 abbrev pub invariant-loop-index : goal.invariant-loop-index
-invariant-loop-index l = list_all (λ req. list_all (is_met l.stands) (request_needs l.reading l.pairs.groups l.pairs.recording l.rank l.place req)) (take l.index (completes l.call)) ≡ true
+invariant-loop-index l = list_all (λ req. list_all (is_met l.positions.stands.items) (request_needs l.world.reading l.world.pairs.groups l.world.pairs.recording l.at.0 l.at.1 req)) (take l.index (completes l.call)) ≡ true

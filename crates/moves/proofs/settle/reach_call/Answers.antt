@@ -25,10 +25,16 @@ peers groups recording rank place w woken e =
     let sender : WaitLists = woken_partner w (partner_of groups recording rank place SendHalf) in
     one_by_one groups recording rank place w sender (woken_partner sender (partner_of groups recording rank place RecvHalf)) woken refl refl e
 
+pub reach-complete-requires-clause-waves : goal.reach-complete-requires-clause-waves
+reach-complete-requires-clause-waves c = rw c.deref.ensures.value c.requires.are_waves
+
+pub reach-complete-requires-clause-is_there : goal.reach-complete-requires-clause-is_there
+reach-complete-requires-clause-is_there c = rw c.deref.ensures.value c.requires.is_there
+
 pub wake_members-requires : goal.wake_members-requires
 wake_members-requires c =
-    let p = c.args.pairs.now in
-    let w = c.args.waiters.now in
+    let p = c.args.world.now.pairs in
+    let w = c.args.positions.now.waiters in
     let both = peers p.groups p.recording c.args.rank c.args.place w c.wake_peers.new.waiters c.wake_peers.ensures in
     let room = partners_room p.groups p.recording c.args.rank c.args.place w c.requires.has_lists in
     if_known c.reach-complete.result (length p.groups) (length c.wake_peers.new.waiters.awaited) (length c.wake_peers.new.waiters.lists)
@@ -37,14 +43,16 @@ wake_members-requires c =
 
 pub returns : goal.returns
 returns c =
-    let p = c.args.pairs.now in
-    let w = c.args.waiters.now in
+    let p = c.args.world.now.pairs in
+    let w = c.args.positions.now.waiters in
     let both = peers p.groups p.recording c.args.rank c.args.place w c.wake_peers.new.waiters c.wake_peers.ensures in
     let all : c.wake_members.new.waiters ≡ all_woken p.groups p.recording c.args.rank c.args.place w c.reach-complete.result = c.wake_members.ensures ∙ ap (λ (x : WaitLists). woken_comm x c.reach-complete.result) both in
     let is_known = known (length p.groups) c.reach-complete.result c.reach-complete.ensures.comm in
+    let waves = rw c.deref.ensures.value at c.reach-complete.ensures.waves in
     record {
       in_hand =
-          rw all (reach_hand c.args.reading p.groups p.recording c.args.stands.now c.args.progress.now c.reach-complete.new.self w c.args.rank c.args.place c.reach-complete.result c.requires c.reach-complete.ensures.waves c.reach-complete.ensures.others c.reach-complete.ensures.one is_known c.reach-complete.ensures.changes c.reach-complete.ensures.none);
+          rw all (reach_hand c.args.world.now.reading p.groups p.recording c.args.positions.now.stands.items c.args.positions.now.progress c.reach-complete.new.self w c.args.rank c.args.place c.reach-complete.result c.requires waves c.reach-complete.ensures.others c.reach-complete.ensures.one is_known c.reach-complete.ensures.changes c.reach-complete.ensures.none);
+      stands = refl;
       counts =
-          rw all (reach_counts c.args.reading p.groups p.recording c.args.stands.now c.args.progress.now c.reach-complete.new.self w c.args.rank c.args.place c.reach-complete.result c.requires is_known c.reach-complete.ensures.counts);
+          rw all (reach_counts c.args.world.now.reading p.groups p.recording c.args.positions.now.stands.items c.args.positions.now.progress c.reach-complete.new.self w c.args.rank c.args.place c.reach-complete.result c.requires is_known c.reach-complete.ensures.counts);
     }

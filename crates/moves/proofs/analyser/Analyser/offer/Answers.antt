@@ -15,12 +15,12 @@ use Rattle.moves.proofs.analyser.Analyser.offer.Goals as goal
 pub arrive-requires : goal.arrive-requires
 arrive-requires c =
     let a = c.self.inside in
-    let is_rank : c.args.rank < length a.pairs.recording = subst (λ (b : Analysed). c.args.rank < length b.recording) (sym c.self.view_is) c.requires.is_rank in
+    let is_rank : c.args.rank < length a.world.pairs.recording = subst (λ (b : Analysed). c.args.rank < length b.recording) (sym c.self.view_is) c.requires.is_rank in
     record {
-      before = a.pairs.recording;
+      before = a.world.pairs.recording;
       call = c.args.call.now;
       is = ap (λ (p : Paired). p.recording) c.in-Ok.ensures.ok;
-      settled = subst (λ (g : Groups). IsSettled a.reading g a.pairs.recording a.stands.items a.progress a.waiters) (sym (ap (λ (p : Paired). p.groups) c.in-Ok.ensures.ok)) c.self.invariant;
+      settled = subst (λ (g : Groups). IsSettled a.world.reading g a.world.pairs.recording a.positions.stands.items a.positions.progress a.positions.waiters) (sym (ap (λ (p : Paired). p.groups) c.in-Ok.ensures.ok)) c.self.invariant;
       is_rank = is_rank;
       is_next = c.next_place-place.ensures.value;
       few = c.next_place-place.ensures.most;
@@ -30,41 +30,41 @@ pub returns-in-Ok-clause-kept : goal.returns-in-Ok-clause-kept
 returns-in-Ok-clause-kept c other =
     let a = c.self.inside in
     subst (λ (b : Analysed). IsKeptOn b.groups b.recording c.admit.new.self.recording (c.args.rank, c.args.call.now)) c.self.view_is
-    (accepted_kept a.pairs.groups a.pairs.recording c.admit.new.self.recording c.args.rank c.args.call.now (accepted_none _ _ c.in-Ok.ensures.refused) (ap (λ (p : Paired). p.recording) c.in-Ok.ensures.ok))
+    (accepted_kept a.world.pairs.groups a.world.pairs.recording c.admit.new.self.recording c.args.rank c.args.call.now (accepted_none _ _ c.in-Ok.ensures.refused) (ap (λ (p : Paired). p.recording) c.in-Ok.ensures.ok))
 
 pub returns-in-Ok-clause-end : goal.returns-in-Ok-clause-end
 returns-in-Ok-clause-end c =
-    settled_end c.self.inside.reading c.admit.new.self.groups c.admit.new.self.recording c.arrive.new.stands.items c.arrive.new.progress c.arrive.new.waiters c.arrive.ensures.settled
+    settled_end c.self.inside.world.reading c.admit.new.self.groups c.admit.new.self.recording c.arrive.new.positions.stands.items c.arrive.new.positions.progress c.arrive.new.positions.waiters c.arrive.ensures.settled
 
 pub returns-in-Ok-clause-stands : goal.returns-in-Ok-clause-stands
 returns-in-Ok-clause-stands c =
-    end_stands c.self.inside.reading c.admit.new.self.groups c.admit.new.self.recording c.arrive.new.stands.items
-    (settled_end c.self.inside.reading c.admit.new.self.groups c.admit.new.self.recording c.arrive.new.stands.items c.arrive.new.progress c.arrive.new.waiters c.arrive.ensures.settled)
+    end_stands c.self.inside.world.reading c.admit.new.self.groups c.admit.new.self.recording c.arrive.new.positions.stands.items
+    (settled_end c.self.inside.world.reading c.admit.new.self.groups c.admit.new.self.recording c.arrive.new.positions.stands.items c.arrive.new.positions.progress c.arrive.new.positions.waiters c.arrive.ensures.settled)
 
 pub returns-in-Err-clause-kept : goal.returns-in-Err-clause-kept
 returns-in-Err-clause-kept c other =
     let a = c.self.inside in
     subst (λ (b : Analysed). IsKeptOn b.groups b.recording c.admit.new.self.recording (c.args.rank, c.args.call.now)) c.self.view_is
-    (refused_kept a.pairs.groups a.pairs.recording c.admit.new.self.recording c.args.rank c.args.call.now c.in-Err.fault c.in-Err.ensures.fault (λ e. other (ap (λ (f : PairFault). Err f) e)) (ap (λ (p : Paired). p.recording) c.in-Err.ensures.err))
+    (refused_kept a.world.pairs.groups a.world.pairs.recording c.admit.new.self.recording c.args.rank c.args.call.now c.in-Err.fault c.in-Err.ensures.fault (λ e. other (ap (λ (f : PairFault). Err f) e)) (ap (λ (p : Paired). p.recording) c.in-Err.ensures.err))
 
 pub returns-in-Err-clause-end : goal.returns-in-Err-clause-end
 returns-in-Err-clause-end c =
     let a = c.self.inside in
-    subst (λ (p : Paired). IsTheEnd (can_move a.reading p.groups p.recording) (length p.recording) a.stands.items) (sym c.in-Err.ensures.err)
-    (settled_end a.reading a.pairs.groups a.pairs.recording a.stands.items a.progress a.waiters c.self.invariant)
+    subst (λ (p : Paired). IsTheEnd (can_move a.world.reading p.groups p.recording) (length p.recording) a.positions.stands.items) (sym c.in-Err.ensures.err)
+    (settled_end a.world.reading a.world.pairs.groups a.world.pairs.recording a.positions.stands.items a.positions.progress a.positions.waiters c.self.invariant)
 
 pub returns-in-Err-clause-stands : goal.returns-in-Err-clause-stands
 returns-in-Err-clause-stands c =
     let a = c.self.inside in
-    subst (λ (p : Paired). a.stands.items ≡ stands_of a.reading p.groups p.recording) (sym c.in-Err.ensures.err)
-    (end_stands a.reading a.pairs.groups a.pairs.recording a.stands.items (settled_end a.reading a.pairs.groups a.pairs.recording a.stands.items a.progress a.waiters c.self.invariant))
+    subst (λ (p : Paired). a.positions.stands.items ≡ stands_of a.world.reading p.groups p.recording) (sym c.in-Err.ensures.err)
+    (end_stands a.world.reading a.world.pairs.groups a.world.pairs.recording a.positions.stands.items (settled_end a.world.reading a.world.pairs.groups a.world.pairs.recording a.positions.stands.items a.positions.progress a.positions.waiters c.self.invariant))
 
 pub returns-in-Ok-clause-touches : goal.returns-in-Ok-clause-touches
 returns-in-Ok-clause-touches c =
-    touches_within c.self.inside.reading c.admit.new.self.groups c.admit.new.self.recording c.arrive.new.stands.items c.arrive.new.progress c.arrive.new.waiters c.arrive.ensures.settled
+    touches_within c.self.inside.world.reading c.admit.new.self.groups c.admit.new.self.recording c.arrive.new.positions.stands.items c.arrive.new.positions.progress c.arrive.new.positions.waiters c.arrive.ensures.settled
 
 pub returns-in-Err-clause-touches : goal.returns-in-Err-clause-touches
 returns-in-Err-clause-touches c =
     let a = c.self.inside in
-    subst (λ (p : Paired). touches_of a.progress a.waiters ≤ most_touches p.recording) (sym c.in-Err.ensures.err)
-    (touches_within a.reading a.pairs.groups a.pairs.recording a.stands.items a.progress a.waiters c.self.invariant)
+    subst (λ (p : Paired). touches_of a.positions.progress a.positions.waiters ≤ most_touches p.recording) (sym c.in-Err.ensures.err)
+    (touches_within a.world.reading a.world.pairs.groups a.world.pairs.recording a.positions.stands.items a.positions.progress a.positions.waiters c.self.invariant)

@@ -10,9 +10,9 @@ use Rattle.moves.proofs.analyser.Analyser.stands_are_the_end.Goals as goal
 pub returns-clause-end : goal.returns-clause-end
 returns-clause-end c =
     let a = c.self.inside in
-    subst (λ (a : Analysed). IsTheEnd (can_move a.reading a.groups a.recording) (length a.recording) a.stands) c.self.view_is (settled_end a.reading a.pairs.groups a.pairs.recording a.stands.items a.progress a.waiters c.self.invariant)
+    subst (λ (b : Analysed). IsTheEnd (can_move b.reading b.groups b.recording) (length b.recording) b.stands) c.self.view_is (settled_end a.world.reading a.world.pairs.groups a.world.pairs.recording a.positions.stands.items a.positions.progress a.positions.waiters c.self.invariant)
 
 pub returns-clause-stands : goal.returns-clause-stands
 returns-clause-stands c =
     let a = c.self.inside in
-    subst (λ (a : Analysed). a.stands ≡ stands_of a.reading a.groups a.recording) c.self.view_is (end_stands a.reading a.pairs.groups a.pairs.recording a.stands.items (settled_end a.reading a.pairs.groups a.pairs.recording a.stands.items a.progress a.waiters c.self.invariant))
+    subst (λ (b : Analysed). b.stands ≡ stands_of b.reading b.groups b.recording) c.self.view_is (end_stands a.world.reading a.world.pairs.groups a.world.pairs.recording a.positions.stands.items (settled_end a.world.reading a.world.pairs.groups a.world.pairs.recording a.positions.stands.items a.positions.progress a.positions.waiters c.self.invariant))

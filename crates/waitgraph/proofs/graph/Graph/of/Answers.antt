@@ -19,10 +19,10 @@ returns-clause-unmet c rank =
     let recording = c.args.analyser.now.recording in
     ap (λ (waits : List (List Need)). needs_in waits rank)
     (c.in_ok-graph.ensures.waits
-    ∙ ap (λ (r : Reading). waits_at r c.pairs.result.now.groups c.pairs.result.now.recording c.deref.result.now) c.reading.ensures
-    ∙ ap (λ (g : Groups). waits_at reading g c.pairs.result.now.recording c.deref.result.now) c.pairs.ensures.groups
-    ∙ ap (λ (r : Lists). waits_at reading groups r c.deref.result.now) c.pairs.ensures.recording
-    ∙ ap (λ (s : List ℕ). waits_at reading groups recording s) (c.deref.ensures.value ∙ c.in_ok-stands.ensures))
+    ∙ ap (λ (r : Reading). waits_at r c.pairs.result.now.groups c.pairs.result.now.recording c.stands.result.now) c.reading.ensures
+    ∙ ap (λ (g : Groups). waits_at reading g c.pairs.result.now.recording c.stands.result.now) c.pairs.ensures.groups
+    ∙ ap (λ (r : Lists). waits_at reading groups r c.stands.result.now) c.pairs.ensures.recording
+    ∙ ap (λ (s : List ℕ). waits_at reading groups recording s) (c.stands.ensures ∙ c.stands_are_the_end.ensures.stands))
     ∙ waits_are reading groups recording (stands_of reading groups recording) rank
 
 pub returns-clause-held : goal.returns-clause-held
@@ -31,10 +31,10 @@ returns-clause-held c =
     let groups = c.args.analyser.now.groups in
     let recording = c.args.analyser.now.recording in
     c.in_ok-graph.ensures.held
-    ∙ ap (λ (r : Reading). held_at r c.pairs.result.now.groups c.pairs.result.now.recording c.deref.result.now) c.reading.ensures
-    ∙ ap (λ (g : Groups). held_at reading g c.pairs.result.now.recording c.deref.result.now) c.pairs.ensures.groups
-    ∙ ap (λ (r : Lists). held_at reading groups r c.deref.result.now) c.pairs.ensures.recording
-    ∙ ap (λ (s : List ℕ). held_at reading groups recording s) (c.deref.ensures.value ∙ c.in_ok-stands.ensures)
+    ∙ ap (λ (r : Reading). held_at r c.pairs.result.now.groups c.pairs.result.now.recording c.stands.result.now) c.reading.ensures
+    ∙ ap (λ (g : Groups). held_at reading g c.pairs.result.now.recording c.stands.result.now) c.pairs.ensures.groups
+    ∙ ap (λ (r : Lists). held_at reading groups r c.stands.result.now) c.pairs.ensures.recording
+    ∙ ap (λ (s : List ℕ). held_at reading groups recording s) (c.stands.ensures ∙ c.stands_are_the_end.ensures.stands)
 
 pub returns-clause-stays : goal.returns-clause-stays
 returns-clause-stays c later stands index rank there =
@@ -50,7 +50,7 @@ returns-clause-causes c =
     let groups = c.args.analyser.now.groups in
     let recording = c.args.analyser.now.recording in
     c.in_ok-graph.ensures.causes
-    ∙ ap (λ (r : Reading). causes_in (walks_at r c.pairs.result.now.groups c.pairs.result.now.recording c.deref.result.now)) c.reading.ensures
-    ∙ ap (λ (g : Groups). causes_in (walks_at reading g c.pairs.result.now.recording c.deref.result.now)) c.pairs.ensures.groups
-    ∙ ap (λ (r : Lists). causes_in (walks_at reading groups r c.deref.result.now)) c.pairs.ensures.recording
-    ∙ ap (λ (s : List ℕ). causes_in (walks_at reading groups recording s)) (c.deref.ensures.value ∙ c.in_ok-stands.ensures)
+    ∙ ap (λ (r : Reading). causes_in (walks_at r c.pairs.result.now.groups c.pairs.result.now.recording c.stands.result.now)) c.reading.ensures
+    ∙ ap (λ (g : Groups). causes_in (walks_at reading g c.pairs.result.now.recording c.stands.result.now)) c.pairs.ensures.groups
+    ∙ ap (λ (r : Lists). causes_in (walks_at reading groups r c.stands.result.now)) c.pairs.ensures.recording
+    ∙ ap (λ (s : List ℕ). causes_in (walks_at reading groups recording s)) (c.stands.ensures ∙ c.stands_are_the_end.ensures.stands)
