@@ -1,29 +1,27 @@
-//! The communicator that a call names, and the one that it makes.
+//! Which communicators a rank holds.
 
 ghost use Rattle.std.specs.Prelude.{◌≡◌};
-ghost use Rattle.callnotes.specs.Communicators.{comm_of, makes};
+ghost use Rattle.mpicall.specs.Does.{does_of};
+ghost use Rattle.mpicall.specs.declared.call.Call.{Call as CallValue};
+ghost use Rattle.callnotes.specs.Communicators.{makes};
 
+use mpicall::call::Call;
 use mpicall::does::Does;
-use mpicall::record::Record;
 
-/// The communicator over which the call is made, if it names one.
+/// The communicator that a call which does this makes for its rank, if it makes one.
 #[inline(always)]
-pub fn comm_of(call: &Record) -> Option<u16>
-    ensures { result ≡ comm_of call.now }
+pub(crate) fn made_by(does: &Does) -> Option<u16>
+    ensures { (call : CallValue) → does_of call ≡ does.now → result ≡ makes call }
 {
-    match call.as_call().does() {
-        Does::Exchanges { comm, .. } | Does::Joins { comm, .. } => Some(comm),
-        Does::Alone => None,
+    match *does {
+        Does::Joins { made, .. } => made,
+        _ => None,
     }
 }
 
 /// The communicator that the call makes for its rank, if it makes one.
-#[inline(always)]
-pub fn makes(call: &Record) -> Option<u16>
+pub fn makes(call: &Call) -> Option<u16>
     ensures { result ≡ makes call.now }
 {
-    match call.as_call().does() {
-        Does::Joins { made, .. } => made,
-        _ => None,
-    }
+    made_by(&call.does())
 }

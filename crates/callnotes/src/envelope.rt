@@ -6,9 +6,9 @@ ghost use Rattle.std.specs.Cmp.Rules.{hashing};
 ghost use Rattle.std.proofs.Common.{rules};
 ghost use Rattle.mpicall.specs.Does.{does_of};
 ghost use Rattle.mpicall.specs.declared.call.Call.{Call as CallValue};
-ghost use Rattle.callnotes.specs.Envelopes.{other_half, message, message_by, probed_message, envelope_by, envelope_of, rank_of_half};
+ghost use Rattle.callnotes.specs.Envelopes.{other_half, message, message_by, message_of, probed_message, envelope_by, envelope_of, rank_of_half};
 
-use mpicall::call::Peer;
+use mpicall::call::{Call, Peer};
 use mpicall::does::{Does, Side};
 use mpicall::record::Record;
 use mpigroup::head::Head;
@@ -107,6 +107,14 @@ pub(crate) fn message_by(half: Half, does: &Does) -> Option<Message>
     }
 }
 
+/// The message that a half of the call sends or receives. None where the call has no such half, and where
+/// its peer is MPI_PROC_NULL.
+pub fn message_of(half: Half, call: &Call) -> Option<Message>
+    ensures { result ≡ message_of half call.now }
+{
+    message_by(half, &call.does())
+}
+
 /// The message that a call which does this probes for.
 #[inline(always)]
 pub(crate) fn probed_by(does: &Does) -> Option<Message>
@@ -120,14 +128,6 @@ pub(crate) fn probed_by(does: &Does) -> Option<Message>
         } => message_with(comm, side),
         _ => None,
     }
-}
-
-/// The message that the call probes for.
-#[inline(always)]
-pub fn probed_message(call: &Record) -> Option<Message>
-    ensures { result ≡ probed_message call.now }
-{
-    probed_by(&call.as_call().does())
 }
 
 /// The envelope of a message by the half that the member with that rank in the group has of it.
@@ -152,15 +152,22 @@ pub fn envelope_by(half: Half, message: Message, own: u16) -> Envelope
     }
 }
 
+/// The envelope of the message that a half of what the rank's call does sends or receives.
+#[inline(always)]
+pub(crate) fn envelope_in(head: &Head, rank: u16, half: Half, does: &Does) -> Option<Envelope>
+    ensures { (call : CallValue) → does_of call ≡ does.now → result ≡ envelope_of head.now rank half call }
+{
+    let message = message_by(half, does)?;
+    let own = head.group_rank(message.comm, rank)?;
+    Some(envelope_by(half, message, own))
+}
+
 /// The envelope of the message that a half of the rank's call sends or receives. None where the call
 /// has no such message, and where the rank is not in the communicator's group.
-#[inline(always)]
 pub fn envelope_of(head: &Head, rank: u16, half: Half, call: &Record) -> Option<Envelope>
     ensures { result ≡ envelope_of head.now rank half call.now }
 {
-    let message = message_by(half, &call.as_call().does())?;
-    let own = head.group_rank(message.comm, rank)?;
-    Some(envelope_by(half, message, own))
+    envelope_in(head, rank, half, &call.as_call().does())
 }
 
 /// The rank of the world whose calls have that half of the envelope's messages, if there is one.

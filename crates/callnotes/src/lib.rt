@@ -6,8 +6,9 @@
 //! - `notes::Notes` has the noted calls of each rank, each with what is kept beside it: the number of its wave or
 //!   the places of its partners, and at a wait the places that started its requests. What was noted is
 //!   answered again (`Notes`). `call_ref::CallRef` shows a call in its place.
-//! - Of a record and of a kept call alike, `envelope` tells messages and their envelopes (`Envelopes`), `request`
-//!   requests (`Requests`), `comm` communicators (`Communicators`) and `wave` which wave a call joins (`Waves`).
+//! - `next_call::NextCall` is a call with what it does, found out once. `envelope` tells messages and their
+//!   envelopes (`Envelopes`), `request` requests (`Requests`), `comm` communicators (`Communicators`) and `wave`
+//!   which wave a call joins (`Waves`).
 //! - `often` numbers the kinds of calls that come often, for which the crates above have paths of their own.
 //! - `place_lists::PlaceLists` has lists of places by numbers.
 //! - Laws of waves, each on a function that does nothing: a wave has at most one call of each rank, and waves stay as
@@ -34,6 +35,7 @@ pub mod comm;
 pub mod envelope;
 mod growth;
 pub mod limits;
+pub mod next_call;
 pub mod note;
 pub mod notes;
 pub mod often;

@@ -5,15 +5,14 @@ ghost use Rattle.mpicall.specs.declared.limits.TheConstants.{MOST_REQUESTS};
 ghost use Rattle.callnotes.specs.Requests.{starts, waits_for, completes, is_among};
 
 use mpicall::call::Call;
-use mpicall::record::Record;
 use std::slice::from_ref;
 
 /// The request that the call starts, if it starts one.
 #[inline(always)]
-pub fn starts(call: &Record) -> Option<u32>
+pub fn starts(call: &Call) -> Option<u32>
     ensures { result ≡ starts call.now }
 {
-    match *call.as_call() {
+    match *call {
         Call::Isend { req, .. } | Call::Irecv { req, .. } | Call::Icoll { req, .. } => Some(req),
         _ => None,
     }
@@ -21,11 +20,11 @@ pub fn starts(call: &Record) -> Option<u32>
 
 /// The requests that a wait names, in its order; none where the call is no wait.
 #[inline(always)]
-pub fn waits_for(call: &Record) -> &[u32]
+pub fn waits_for(call: &Call) -> &[u32]
     ensures value { result.now ≡ waits_for call.now }
     ensures most { length result.now ≤ MOST_REQUESTS }
 {
-    match call.as_call() {
+    match call {
         Call::Wait { req } => from_ref(req),
         Call::Waitall { reqs } | Call::Waitany { reqs, .. } => reqs.as_slice(),
         _ => &[],
@@ -35,10 +34,10 @@ pub fn waits_for(call: &Record) -> &[u32]
 /// The requests that a wait completes, in its order: of those that MPI_Waitany names the recorded one
 /// alone.
 #[inline(always)]
-pub fn completes(call: &Record) -> &[u32]
+pub fn completes(call: &Call) -> &[u32]
     ensures { result.now ≡ completes call.now }
 {
-    match call.as_call() {
+    match call {
         Call::Wait { req } => from_ref(req),
         Call::Waitall { reqs } => reqs.as_slice(),
         Call::Waitany { chosen, reqs } => match reqs.as_slice().get(usize::from(*chosen)) {

@@ -5,8 +5,8 @@ ghost use Rattle.mpicall.specs.Does.{does_of};
 ghost use Rattle.mpicall.specs.declared.call.Call.{Call as CallValue};
 ghost use Rattle.callnotes.specs.Waves.{joins, AWaveHasOneCallOfEachRank, TheCallInAWaveJoinsIt, NoOtherCallIsInAWave, WavesStay};
 
+use mpicall::call::Call;
 use mpicall::does::Does;
-use mpicall::record::Record;
 
 /// The communicator whose members all make a call that does this, if there is one.
 #[inline(always)]
@@ -20,11 +20,10 @@ pub(crate) fn joined_by(does: &Does) -> Option<u16>
 }
 
 /// The communicator whose members all make the call, if there is one.
-#[inline(always)]
-pub fn joins(call: &Record) -> Option<u16>
+pub fn joins(call: &Call) -> Option<u16>
     ensures { result ≡ joins call.now }
 {
-    joined_by(&call.as_call().does())
+    joined_by(&call.does())
 }
 
 /// A wave has at most one call of each rank: two calls of a rank in one wave are one call.

@@ -39,22 +39,22 @@ pub(crate) enum Look {
 
 /// Whether a half of the call has what it needs: nothing where it has no message, else its partner.
 #[inline(always)]
-fn is_half_met(pairs: &Pairs, positions: &Positions, at: At, half: Half, call: &CallRef<'_>) -> bool
-    ensures { result ≡ list_all (is_met positions.now.stands.items) (half_needs pairs.now.groups pairs.now.recording at.0 at.1 half call.now) }
+fn is_half_met(pairs: &Pairs, stands: &[u32], at: At, half: Half, call: &CallRef<'_>) -> bool
+    ensures { result ≡ list_all (is_met stands.now) (half_needs pairs.now.groups pairs.now.recording at.0 at.1 half call.now) }
 {
     match call.message(half) {
-        Some(_) => is_reached(&positions.stands, pairs.partner(at.0, at.1, half)),
+        Some(_) => is_reached(stands, pairs.partner(at.0, at.1, half)),
         None => true,
     }
 }
 
 /// Whether a probe has what it needs: the send that the next receive of its envelope would get. Every other call
 /// has.
-fn is_probe_met(pairs: &Pairs, positions: &Positions, at: At, call: &CallRef<'_>) -> bool
-    ensures { result ≡ list_all (is_met positions.now.stands.items) (probe_needs pairs.now.groups pairs.now.recording at.0 at.1 call.now) }
+fn is_probe_met(pairs: &Pairs, stands: &[u32], at: At, call: &CallRef<'_>) -> bool
+    ensures { result ≡ list_all (is_met stands.now) (probe_needs pairs.now.groups pairs.now.recording at.0 at.1 call.now) }
 {
     match call.probed() {
-        Some(_) => is_reached(&positions.stands, pairs.probed(at.0, at.1)),
+        Some(_) => is_reached(stands, pairs.probed(at.0, at.1)),
         None => true,
     }
 }
@@ -65,13 +65,11 @@ fn is_probe_met(pairs: &Pairs, positions: &Positions, at: At, call: &CallRef<'_>
 fn are_messages_met(world: &World, positions: &Positions, at: At, call: &CallRef<'_>) -> bool
     ensures { result ≡ list_all (is_met positions.now.stands.items) (message_needs world.now.reading world.now.pairs.groups world.now.pairs.recording at.0 at.1 call.now) }
 {
-    if !matches!(call.does(), Does::Exchanges { .. }) {
-        return true;
-    }
     let pairs = &world.pairs;
-    (is_half_met(pairs, positions, at, Half::Send, call) || sends_freely(world.reading, call))
-        && is_half_met(pairs, positions, at, Half::Recv, call)
-        && is_probe_met(pairs, positions, at, call)
+    let stands = positions.stands.as_slice();
+    (is_half_met(pairs, stands, at, Half::Send, call) || sends_freely(world.reading, call))
+        && is_half_met(pairs, stands, at, Half::Recv, call)
+        && is_probe_met(pairs, stands, at, call)
 }
 
 /// The communicator of the wave that the call joins, where that wave is not complete.

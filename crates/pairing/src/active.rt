@@ -10,9 +10,8 @@ ghost use Rattle.callnotes.specs.Recordings.{Lists, calls_of, appended};
 ghost use Rattle.callnotes.specs.Requests.{started_in, is_among, is_active, does_start, HasActive};
 ghost use Rattle.pairing.specs.Starts.{cell_no, cell_in, place_at, place_in, has_place, known_front, IsActive, HasRoomToStart};
 
-use callnotes::request::{completes, starts};
+use callnotes::next_call::NextCall;
 use indexmap::IndexMap;
-use mpicall::record::Record;
 use std::alloc::{AllocError, Global};
 use std::hash::{Hash, Hasher};
 
@@ -75,11 +74,11 @@ impl Active {
 
     /// Makes room for what the call starts, if it starts something. The table says the same after it.
     #[inline(always)]
-    pub(crate) fn reserve(&mut self, call: &Record) -> Result<(), AllocError>
+    pub(crate) fn reserve(&mut self, call: &NextCall<'_>) -> Result<(), AllocError>
         ensures kept { (recording : Lists) → IsActive recording self.old → IsActive recording self.new }
         ensures ok { OnOk result (HasRoomToStart self.new call.now) }
     {
-        match starts(call) {
+        match call.starts() {
             Some(_) => self.others.reserve(1),
             None => Ok(()),
         }
@@ -157,11 +156,11 @@ impl Active {
 
     /// Puts in the request that the call at the place starts, if it starts one.
     #[inline(always)]
-    fn start(&mut self, rank: u16, place: u32, call: &Record)
+    fn start(&mut self, rank: u16, place: u32, call: &NextCall<'_>)
         requires { HasRoomToStart self.old call.now }
         ensures { (r req : ℕ) → place_in self.new r req ≡ (if r == rank && does_start req call.now then Some place else place_in self.old r req) }
     {
-        if let Some(req) = starts(call) {
+        if let Some(req) = call.starts() {
             self.insert(rank, req, place);
         }
     }
@@ -169,12 +168,12 @@ impl Active {
     /// Puts in the request that the rank's next call starts, and takes out those that it completes. It
     /// takes no memory.
     #[inline(always)]
-    pub(crate) fn put(&mut self, rank: u16, place: u32, call: &Record)
+    pub(crate) fn put(&mut self, rank: u16, place: u32, call: &NextCall<'_>)
         requires { HasRoomToStart self.old call.now }
         ensures { (recording : Lists) → IsActive recording self.old → rank < length recording →
             place ≡ length (calls_of recording rank) → IsActive (appended recording rank call.now) self.new }
     {
-        self.complete(rank, completes(call));
+        self.complete(rank, call.completes());
         self.start(rank, place, call);
     }
 

@@ -5,11 +5,10 @@ ghost use Rattle.std.specs.Option.{option_map_or};
 ghost use Rattle.pairing.specs.Codes.{code_of_call};
 ghost use Rattle.pairing.specs.Faults.{is_group_rank, is_peer, is_member, comm_exists, peers_exist, are_distinct, AnEndedLawfulListIsClosed, EachWaitHasItsStarts, NoTwoStartsAreActive};
 
-use callnotes::comm::comm_of;
+use callnotes::next_call::NextCall;
 use callnotes::request::is_among;
 use mpicall::call::Peer;
 use mpicall::does::{Does, Side};
-use mpicall::record::Record;
 use mpigroup::head::Head;
 use thiserror::Error;
 
@@ -109,10 +108,10 @@ pub(crate) fn is_member(head: &Head, rank: u16, comm: u16) -> bool
 
 /// Whether the communicator that the call names exists.
 #[inline(always)]
-pub(crate) fn comm_exists(head: &Head, call: &Record) -> bool
+pub(crate) fn comm_exists(head: &Head, call: &NextCall<'_>) -> bool
     ensures { result ≡ comm_exists head.now call.now }
 {
-    match comm_of(call) {
+    match call.comm() {
         Some(comm) => head.size(comm).is_some(),
         None => true,
     }
@@ -120,10 +119,10 @@ pub(crate) fn comm_exists(head: &Head, call: &Record) -> bool
 
 /// Whether each peer and root that the call names is a rank of its communicator's group.
 #[inline(always)]
-pub(crate) fn peers_exist(head: &Head, call: &Record) -> bool
+pub(crate) fn peers_exist(head: &Head, call: &NextCall<'_>) -> bool
     ensures { result ≡ peers_exist head.now call.now }
 {
-    match call.as_call().does() {
+    match *call.does() {
         Does::Exchanges {
             comm,
             sent,

@@ -11,19 +11,17 @@ ghost use Rattle.pairing.specs.Starts.{has_place, IsActive};
 use crate::active::Active;
 use crate::fault::{CallFault, are_distinct, comm_exists, is_member, peers_exist};
 use crate::held::Held;
-use callnotes::comm::comm_of;
 use callnotes::limits::MOST_CALLS;
-use callnotes::request::{starts, waits_for};
+use callnotes::next_call::NextCall;
 use mpicall::call::Call;
-use mpicall::record::Record;
 use mpigroup::head::Head;
 
 /// Whether the rank is in the group of the communicator that the call names, and holds it.
 #[inline(always)]
-fn holds_comm(head: &Head, held: &Held, rank: u16, call: &Record) -> bool
+fn holds_comm(head: &Head, held: &Held, rank: u16, call: &NextCall<'_>) -> bool
     ensures { (recording : Lists) → IsHolding recording held.now → result ≡ holds_comm head.now rank (calls_of recording rank) call.now }
 {
-    match comm_of(call) {
+    match call.comm() {
         Some(comm) => is_member(head, rank, comm) && held.holds(rank, comm),
         None => true,
     }
@@ -31,10 +29,10 @@ fn holds_comm(head: &Head, held: &Held, rank: u16, call: &Record) -> bool
 
 /// Whether the request that the call starts isn't active before.
 #[inline(always)]
-fn starts_afresh(active: &Active, rank: u16, call: &Record) -> bool
+fn starts_afresh(active: &Active, rank: u16, call: &NextCall<'_>) -> bool
     ensures { (recording : Lists) → IsActive recording active.now → result ≡ starts_afresh (calls_of recording rank) call.now }
 {
-    match starts(call) {
+    match call.starts() {
         Some(req) => active.start_of(rank, req).is_none(),
         None => true,
     }
@@ -55,10 +53,10 @@ fn are_in(active: &Active, rank: u16, reqs: &[u32]) -> bool
 
 /// Whether each request that the wait names is active.
 #[inline(always)]
-fn waits_for_active(active: &Active, rank: u16, call: &Record) -> bool
+fn waits_for_active(active: &Active, rank: u16, call: &NextCall<'_>) -> bool
     ensures { (recording : Lists) → IsActive recording active.now → result ≡ waits_for_active (calls_of recording rank) call.now }
 {
-    are_in(active, rank, waits_for(call))
+    are_in(active, rank, call.waits_for())
 }
 
 /// Whether the rank may come to hold the communicator: not the world, with the rank in its group, and not
@@ -72,7 +70,7 @@ fn is_fresh_comm(head: &Head, held: &Held, rank: u16, comm: u16) -> bool
 
 /// Whether what the call makes is such a communicator; a split makes one just where it has a colour.
 #[inline(always)]
-fn makes_afresh(head: &Head, held: &Held, rank: u16, call: &Record) -> bool
+fn makes_afresh(head: &Head, held: &Held, rank: u16, call: &NextCall<'_>) -> bool
     ensures { (recording : Lists) → IsHolding recording held.now → result ≡ makes_afresh head.now rank (calls_of recording rank) call.now }
 {
     match *call.as_call() {
@@ -99,7 +97,7 @@ pub(crate) fn first_fault(
     rank: u16,
     count: usize,
     is_over: bool,
-    call: &Record,
+    call: &NextCall<'_>,
 ) -> Option<CallFault>
     ensures value { (recording : Lists) → IsHolding recording held.now → IsActive recording active.now →
         count ≡ length (calls_of recording rank) → is_over ≡ has_end (calls_of recording rank) →
@@ -118,7 +116,7 @@ pub(crate) fn first_fault(
         Some(CallFault::PeerOutOfGroup)
     } else if !starts_afresh(active, rank, call) {
         Some(CallFault::RequestInUse)
-    } else if !are_distinct(waits_for(call)) {
+    } else if !are_distinct(call.waits_for()) {
         Some(CallFault::RequestRepeated)
     } else if !waits_for_active(active, rank, call) {
         Some(CallFault::RequestNotActive)

@@ -8,9 +8,8 @@ ghost use Rattle.callnotes.specs.Recordings.{Lists, calls_of, appended};
 ghost use Rattle.callnotes.specs.Communicators.{holds, makes, NoneIsMade, HasMade};
 ghost use Rattle.pairing.specs.Holdings.{has_holding, IsHolding, HasRoomToHold};
 
-use callnotes::comm::makes;
+use callnotes::next_call::NextCall;
 use indexmap::IndexSet;
-use mpicall::record::Record;
 use std::alloc::{AllocError, Global};
 use std::hash::{Hash, Hasher};
 
@@ -51,11 +50,11 @@ impl Held {
 
     /// Makes room for what the call makes, if it makes something. The table says the same after it.
     #[inline(always)]
-    pub(crate) fn reserve(&mut self, call: &Record) -> Result<(), AllocError>
+    pub(crate) fn reserve(&mut self, call: &NextCall<'_>) -> Result<(), AllocError>
         ensures kept { (recording : Lists) → IsHolding recording self.old → IsHolding recording self.new }
         ensures ok { OnOk result (HasRoomToHold self.new call.now) }
     {
-        match makes(call) {
+        match call.makes() {
             Some(_) => self.pairs.reserve(1),
             None => Ok(()),
         }
@@ -63,12 +62,12 @@ impl Held {
 
     /// Puts in what the rank's next call makes, if it makes something. It takes no memory.
     #[inline(always)]
-    pub(crate) fn put(&mut self, rank: u16, call: &Record)
+    pub(crate) fn put(&mut self, rank: u16, call: &NextCall<'_>)
         requires { HasRoomToHold self.old call.now }
         ensures { (recording : Lists) → IsHolding recording self.old → rank < length recording →
             IsHolding (appended recording rank call.now) self.new }
     {
-        if let Some(comm) = makes(call) {
+        if let Some(comm) = call.makes() {
             self.pairs.insert(Holding { rank, comm }).unwrap();
         }
     }

@@ -12,10 +12,9 @@ ghost use Rattle.callnotes.specs.Waves.{does_join, place_in_wave, member_of, is_
 
 use crate::held::Holding;
 use callnotes::limits::MOST_CALLS;
+use callnotes::next_call::NextCall;
 use callnotes::place_lists::PlaceLists;
-use callnotes::wave::joins;
 use indexmap::IndexSet;
-use mpicall::record::Record;
 use mpigroup::head::Head;
 use std::alloc::{AllocError, Global};
 use std::marker::Model;
@@ -119,11 +118,15 @@ impl Waves {
     /// Makes room for the wave that a rank's call joins, and answers the number of its list; None where it
     /// joins none. All places stay.
     #[inline(always)]
-    pub(crate) fn reserve(&mut self, rank: u16, call: &Record) -> Result<Option<usize>, AllocError>
+    pub(crate) fn reserve(
+        &mut self,
+        rank: u16,
+        call: &NextCall<'_>,
+    ) -> Result<Option<usize>, AllocError>
         ensures room { IfOk result (λ list. HasRoomToJoin rank call.now list self.new) }
         ensures joined { (recording : Lists) → IsJoined recording self.old → IsJoined recording self.new }
     {
-        match joins(call) {
+        match call.joins() {
             Some(comm) => Ok(Some(self.reserve_at(rank, comm)?)),
             None => Ok(None),
         }

@@ -9,8 +9,8 @@ ghost use Rattle.pairing.specs.Matched.{list_no, number_in, pending_at, pending_
 
 use crate::numbering::Numbering;
 use arenalist::lists::Lists;
-use callnotes::envelope::{Envelope, Half, envelope_of};
-use mpicall::record::Record;
+use callnotes::envelope::{Envelope, Half};
+use callnotes::next_call::NextCall;
 use mpigroup::head::Head;
 use std::alloc::{AllocError, Global};
 use std::marker::Model;
@@ -163,13 +163,13 @@ impl Matches {
         &mut self,
         head: &Head,
         rank: u16,
-        call: &Record,
+        call: &NextCall<'_>,
     ) -> Result<Halves, AllocError>
         ensures grown { IsGrown self.old self.new }
         ensures room { IfOk result (λ halves. HasRoomFor head.now rank call.now halves self.new) }
     {
-        let send = self.number_half(envelope_of(head, rank, Half::Send, call))?;
-        let recv = self.number_half(envelope_of(head, rank, Half::Recv, call))?;
+        let send = self.number_half(call.envelope(head, rank, Half::Send))?;
+        let recv = self.number_half(call.envelope(head, rank, Half::Recv))?;
         self.pending.reserve(2)?;
         Ok(Halves { send, recv })
     }

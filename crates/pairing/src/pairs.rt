@@ -30,6 +30,7 @@ use crate::tables::{Room, Tables};
 use callnotes::by_kind;
 use callnotes::call_ref::CallRef;
 use callnotes::envelope::{Envelope, Half, rank_of_half};
+use callnotes::next_call::NextCall;
 use callnotes::notes::Notes;
 use callnotes::often::{ANY, kind_no};
 use callnotes::request::waits_for;
@@ -96,7 +97,7 @@ fn next_fault(
     notes: &Notes,
     tables: &Tables,
     rank: u16,
-    call: &Record,
+    call: &NextCall<'_>,
 ) -> Option<CallFault>
     requires is_rank { rank < length notes.now.lists }
     requires kept { IsKept head.now notes.now.lists tables.now }
@@ -122,7 +123,7 @@ fn reserve(
     notes: &mut Notes,
     tables: &mut Tables,
     rank: u16,
-    call: &Record,
+    call: &NextCall<'_>,
 ) -> Result<Room, AllocError>
     requires { rank < length notes.old.lists }
     ensures notes { notes.new.lists ≡ notes.old.lists }
@@ -130,7 +131,7 @@ fn reserve(
     ensures noted { OnOk result (HasRoom notes.new rank call.now) }
     ensures room { IfOk result (λ room. HaveRoom head.now rank call.now room tables.new) }
 {
-    notes.reserve(rank, call)?;
+    notes.reserve(rank, call.record())?;
     tables.reserve(head, rank, call)
 }
 
@@ -142,7 +143,7 @@ fn note_wait_for_one(
     notes: &mut Notes,
     tables: &Tables,
     rank: u16,
-    call: &Record,
+    call: &NextCall<'_>,
     req: u32,
     list: Option<usize>,
 )
@@ -158,7 +159,7 @@ fn note_wait_for_one(
     // For the proof: the clauses name the head.
     let _head = head;
     match tables.active.start_of(rank, req) {
-        Some(start) => notes.note(rank, call, tables.beside(list), &[start]),
+        Some(start) => notes.note(rank, call.record(), tables.beside(list), &[start]),
         None => unreachable!(),
     }
 }
@@ -184,7 +185,9 @@ fn note_wait(
     let _head = head;
     let beside = tables.beside(list);
     let mut starts = [0; MOST_REQUESTS];
-    let count = tables.active.starts_of(rank, waits_for(call), &mut starts);
+    let count = tables
+        .active
+        .starts_of(rank, waits_for(call.as_call()), &mut starts);
     notes.note(rank, call, beside, &starts[..count]);
 }
 
@@ -195,7 +198,7 @@ fn note_call(
     notes: &mut Notes,
     tables: &Tables,
     rank: u16,
-    call: &Record,
+    call: &NextCall<'_>,
     list: Option<usize>,
 )
     requires is_rank { rank < length notes.old.lists }
@@ -206,10 +209,10 @@ fn note_call(
     requires active { waits_for_active (calls_of (recording_of notes.old.lists) rank) call.now ≡ true }
     ensures { GoOnBy notes.old.lists notes.new.lists rank call.now }
 {
-    match waits_for(call) {
-        [] => notes.note(rank, call, tables.beside(list), &[]),
+    match call.waits_for() {
+        [] => notes.note(rank, call.record(), tables.beside(list), &[]),
         [req] => note_wait_for_one(head, notes, tables, rank, call, *req, list),
-        _ => note_wait(head, notes, tables, rank, call, list),
+        _ => note_wait(head, notes, tables, rank, call.record(), list),
     }
 }
 
@@ -221,7 +224,7 @@ fn put(
     tables: &mut Tables,
     rank: u16,
     place: u32,
-    call: &Record,
+    call: &NextCall<'_>,
     room: &Room,
 )
     requires is_rank { rank < length notes.old.lists }
@@ -388,6 +391,7 @@ impl Pairs {
         if KIND != ANY && kind_no(call.as_call()) != KIND {
             unreachable!();
         }
+        let call = &NextCall::of(call);
         if let Some(fault) = next_fault(&self.head, &self.notes, &self.tables, rank, call) {
             return Err(PairFault::Refused(fault));
         }

@@ -14,9 +14,9 @@ ghost use Rattle.pairing.specs.Probed.{probed_envelope, HasProbesIf};
 ghost use Rattle.pairing.specs.Probing.{seat_for, Seating, AreSeated, HasRoomToSit, Sits, Follows};
 
 use crate::matches::Numbered;
-use callnotes::envelope::{Envelope, Half, Message, envelope_by, probed_message};
+use callnotes::envelope::{Envelope, Half, Message, envelope_by};
+use callnotes::next_call::NextCall;
 use indexmap::IndexMap;
-use mpicall::record::Record;
 use mpigroup::head::Head;
 use std::alloc::{AllocError, Global};
 
@@ -32,10 +32,10 @@ pub(crate) fn received_by(head: &Head, rank: u16, message: Message) -> Option<En
 
 /// The envelope of the message that the rank's call probes for.
 #[inline(always)]
-pub(crate) fn probed_envelope(head: &Head, rank: u16, call: &Record) -> Option<Envelope>
+pub(crate) fn probed_envelope(head: &Head, rank: u16, call: &NextCall<'_>) -> Option<Envelope>
     ensures { result ≡ probed_envelope head.now rank call.now }
 {
-    let message = probed_message(call)?;
+    let message = call.probed()?;
     received_by(head, rank, message)
 }
 

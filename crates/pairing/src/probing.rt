@@ -12,9 +12,9 @@ ghost use Rattle.pairing.specs.Seated.{seat_in, IsProbing, HasRoomForProbe, HasR
 
 use crate::matches::Halves;
 use crate::probes::{Probes, probed_envelope};
-use callnotes::envelope::{Envelope, probed_message};
+use callnotes::envelope::Envelope;
+use callnotes::next_call::NextCall;
 use indexmap::IndexMap;
-use mpicall::record::Record;
 use mpigroup::head::Head;
 use std::alloc::{AllocError, Global};
 
@@ -77,11 +77,11 @@ impl Probing {
 
     /// Makes room for the call, if it is a probe. The table says the same after it.
     #[inline(always)]
-    pub(crate) fn reserve(&mut self, call: &Record) -> Result<(), AllocError>
+    pub(crate) fn reserve(&mut self, call: &NextCall<'_>) -> Result<(), AllocError>
         ensures kept { (groups : Groups) (recording : Lists) → IsProbing groups recording self.old → IsProbing groups recording self.new }
         ensures ok { OnOk result (HasRoomToProbe self.new call.now) }
     {
-        if probed_message(call).is_some() {
+        if call.probed().is_some() {
             self.reserve_seat()
         } else {
             Ok(())
@@ -101,7 +101,14 @@ impl Probing {
 
     /// Puts in the rank's next call, at its place, with the halves that it has. It takes no memory.
     #[inline(always)]
-    pub(crate) fn put(&mut self, head: &Head, rank: u16, place: u32, call: &Record, halves: &Halves)
+    pub(crate) fn put(
+        &mut self,
+        head: &Head,
+        rank: u16,
+        place: u32,
+        call: &NextCall<'_>,
+        halves: &Halves,
+    )
         requires room { HasRoomToProbe self.old call.now }
         requires few { length self.old.probes.seats.items < 2 ^ 32 }
         requires received { option_map (λ half. half.envelope) halves.now.recv ≡ envelope_of head.now rank RecvHalf call.now }

@@ -16,7 +16,7 @@ use crate::held::Held;
 use crate::joined::Waves;
 use crate::matches::{Halves, Matches};
 use callnotes::beside::Beside;
-use mpicall::record::Record;
+use callnotes::next_call::NextCall;
 use mpigroup::head::Head;
 use std::alloc::{AllocError, Global};
 
@@ -67,7 +67,7 @@ impl Tables {
         &mut self,
         head: &Head,
         rank: u16,
-        call: &Record,
+        call: &NextCall<'_>,
     ) -> Result<Room, AllocError>
         ensures kept { (recording : Lists) → AreTables head.now recording self.old → AreTables head.now recording self.new }
         ensures ok { IfOk result (λ room. HaveRoom head.now rank call.now room self.new) }
@@ -82,7 +82,7 @@ impl Tables {
     /// Puts in the rank's next call, at its place, where its wave has that list. Its halves stay as they are. It
     /// takes no memory.
     #[inline(always)]
-    pub(crate) fn put(&mut self, rank: u16, place: u32, call: &Record, list: Option<usize>)
+    pub(crate) fn put(&mut self, rank: u16, place: u32, call: &NextCall<'_>, list: Option<usize>)
         requires is_list { IsListFor rank call.now self.old.waves list }
         requires joined { IfSome list (HasRoomIn self.old.waves.lists) }
         requires held { HasRoomToHold self.old.held call.now }

@@ -119,7 +119,7 @@ fn member_makes(pairs: &Pairs, comm: u16, wave: u32, new: u16, g: u16) -> bool
     ensures { result ≡ member_makes pairs.now.groups pairs.now.recording comm wave new g }
 {
     match call_of_member(pairs, comm, wave, g) {
-        Some(call) => makes(&call) == Some(new),
+        Some(call) => makes(call.as_call()) == Some(new),
         None => false,
     }
 }

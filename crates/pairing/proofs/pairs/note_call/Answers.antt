@@ -21,7 +21,7 @@ returns-in-empty c =
     let none : waits_for c.args.call.now ≡ [] = sym reqs ∙ nil_from_length c.waits_for.result.now (omega (arith, c.in-empty.len_below)) in
     record {
       noted = record { call = c.args.call.now; beside = c.beside.result; starts = [] };
-      added = c.note.ensures;
+      added = rw c.record.ensures at c.note.ensures;
       is_call = refl;
       is_noted = record {
         wave = λ comm joined. beside.wave comm joined ∙ ap (λ (before : List Call). length (places (does_join comm) before)) recorded;

@@ -15,7 +15,7 @@ use Rattle.pairing.proofs.pairs.note_wait.Goals as goal
 pub note-requires-clause-starts : goal.note-requires-clause-starts
 note-requires-clause-starts c =
     let calls = calls_of (recording_of c.args.notes.now.lists) c.args.rank in
-    let reqs : c.waits_for.result.now ≡ waits_for c.args.call.now = c.waits_for.ensures.value in
+    let reqs : c.waits_for.result.now ≡ waits_for c.args.call.now = c.waits_for.ensures.value ∙ ap (λ (call : Call). waits_for call) c.as_call.ensures.value in
     let all = c.starts_of-count.ensures.all (recording_of c.args.notes.now.lists) c.requires.tables.others.active (rw reqs c.requires.active) in
     (subst (λ (before : List Call). AreStarts before c.args.call.now (take c.starts_of-count.result c.starts_of-count.new.into)) (calls_of-recorded c.args.notes.now.lists c.args.rank)
     (are_starts calls (take c.starts_of-count.result c.starts_of-count.new.into) (waits_for c.args.call.now) (rw reqs at all.1)))
@@ -25,7 +25,7 @@ returns c =
     let recording = recording_of c.args.notes.now.lists in
     let calls = calls_of recording c.args.rank in
     let recorded = calls_of-recorded c.args.notes.now.lists c.args.rank in
-    let reqs : c.waits_for.result.now ≡ waits_for c.args.call.now = c.waits_for.ensures.value in
+    let reqs : c.waits_for.result.now ≡ waits_for c.args.call.now = c.waits_for.ensures.value ∙ ap (λ (call : Call). waits_for call) c.as_call.ensures.value in
     let all = c.starts_of-count.ensures.all recording c.requires.tables.others.active (rw reqs c.requires.active) in
     let few : length (calls_of (recording_of c.args.notes.now.lists) c.args.rank) ≤ most_calls = omega (arith, count_noted c.args.notes.now.lists c.args.rank, c.requires.few) in
     let beside = c.beside-beside.ensures c.args.head.now recording c.args.rank c.args.call.now c.requires.tables c.requires.is_list few in

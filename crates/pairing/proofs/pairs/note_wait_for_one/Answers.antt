@@ -18,6 +18,7 @@ note-requires-clause-starts c =
     let calls = calls_of recording c.args.rank in
     let start : started_in calls c.args.req ≡ Some c.in-Some.start = sym (c.start_of.ensures.value recording c.requires.tables.others.active) ∙ c.in-Some.is in
     let all : map (λ place. Some place) (c.in-Some.start ∷ []) ≡ map (started_in calls) (waits_for c.args.call.now) = rw (c.requires.one, start) refl in
+    rw c.record.ensures
     (subst (λ (before : List Call). AreStarts before c.args.call.now (c.in-Some.start ∷ [])) (calls_of-recorded c.args.notes.now.lists c.args.rank)
     (are_starts calls (c.in-Some.start ∷ []) (waits_for c.args.call.now) all))
 
@@ -32,7 +33,7 @@ returns c =
     let beside = c.beside.ensures c.args.head.now recording c.args.rank c.args.call.now c.requires.tables c.requires.is_list few in
     record {
       noted = record { call = c.args.call.now; beside = c.beside.result; starts = c.in-Some.start ∷ [] };
-      added = c.note.ensures;
+      added = rw c.record.ensures at c.note.ensures;
       is_call = refl;
       is_noted = record {
         wave = λ comm joined. beside.wave comm joined ∙ ap (λ (before : List Call). length (places (does_join comm) before)) recorded;
