@@ -13,10 +13,9 @@ use crate::need::is_reached;
 use crate::progress::Progress;
 use crate::reading::sends_freely;
 use crate::world::{Positions, World};
-use callnotes::by_kind;
 use callnotes::call_ref::CallRef;
 use callnotes::envelope::Half;
-use callnotes::often::{IRECV, ISEND};
+use callnotes::often::{COLL, IRECV, ISEND, RECV, SEND, WAIT, WAITALL};
 use mpicall::does::Does;
 use pairing::pairs::Pairs;
 
@@ -219,14 +218,16 @@ fn look_at_call(world: &World, positions: &Positions, at: At, call: CallRef<'_>)
     requires call { IsCallAt world.now at call }
     ensures { CallTells world.now positions.now at call.entry result }
 {
-    if call.starts().is_some() {
-        return Look::Moves;
+    // Not by_kind!: functions for starts that are never called would be second callers of those for a started request.
+    match call.kind_no() {
+        ISEND | IRECV if call.starts().is_some() => Look::Moves,
+        SEND => look_at_call_of::<SEND>(world, positions, at, call),
+        RECV => look_at_call_of::<RECV>(world, positions, at, call),
+        COLL => look_at_call_of::<COLL>(world, positions, at, call),
+        WAIT => look_at_call_of::<WAIT>(world, positions, at, call),
+        WAITALL => look_at_call_of::<WAITALL>(world, positions, at, call),
+        _ => look_at_any_call(world, positions, at, call),
     }
-    by_kind!(
-        call.kind_no(),
-        look_at_call_of(world, positions, at, call),
-        _ => look_at_any_call(world, positions, at, call)
-    )
 }
 
 #[inline(always)]
