@@ -37,6 +37,8 @@ static bool has_turn(void) { return own.turn != 0 && __atomic_load_n(&turn.now, 
 
 bool is_recorded(void) { return own.inside == 1 && has_turn(); }
 
+bool is_of_program(void) { return own.inside == 1; }
+
 int site(void) {
     if (own.site < 0)
         own.site = site_of(own.caller, own.frame);
@@ -130,6 +132,7 @@ bool begins_quietly(void *caller, void *frame) {
         return false;
     own.frame = frame;
     own.caller = caller;
+    own.has_barrier = false;
     return recording && take_turn();
 }
 
@@ -164,6 +167,20 @@ int over(int result) {
     return result;
 }
 
+/* ---- Barriers of strict runs ------------------------------------------------------------------- */
+
+void want_barrier(MPI_Comm comm) {
+    own.has_barrier = true;
+    own.barrier = comm;
+}
+
+bool take_barrier(MPI_Comm *comm) {
+    bool had_one = own.has_barrier;
+    *comm = own.barrier;
+    own.has_barrier = false;
+    return had_one;
+}
+
 /* ---- Error handlers ---------------------------------------------------------------------------- */
 
 /* Gets the lock, as long as this thread has the turn: another may wait within MPI for what this one has there. */
@@ -186,6 +203,10 @@ Thread leave_by_error(void) {
         if (own.is_locked)
             give_lock();
     }
+    MPI_Comm comm;
+    if (take_barrier(&comm))
+        REAL(Barrier)(comm);
+    before.has_barrier = false;
     own.inside = 0;
     return before;
 }
