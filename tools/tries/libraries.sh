@@ -30,10 +30,13 @@ python_of() {
     return 1
 }
 
+# The headers of MPICH make gcc warn of MPI_STATUSES_IGNORE and MPI_UNWEIGHTED.
+quiet=(-Wno-stringop-overflow -Wno-stringop-overread)
+
 compile() {
     local compiler=$1
     shift
-    "$compiler" -g -O0 -Wno-stringop-overflow -Wno-stringop-overread "$@"
+    "$compiler" -g -O0 "$@"
 }
 
 build_module() {
@@ -82,8 +85,8 @@ build() {
 build_with() {
     local compiler=$1 source=$2
     case $source in
-    */) compile "$compiler" -o "$work/program" "$source"*.c ;;
+    */) compile "$compiler" "${quiet[@]}" -o "$work/program" "$source"*.c ;;
     *.f90) compile "$compiler" -J "$work" -o "$work/program" "$source" ;;
-    *) compile "$compiler" -o "$work/program" "$source" -lpthread -ldl ;;
+    *) compile "$compiler" "${quiet[@]}" -o "$work/program" "$source" -lpthread -ldl ;;
     esac
 }
