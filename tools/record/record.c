@@ -155,7 +155,10 @@ ALSO_PMPI(Init_thread)
 
 /* From here on nothing is recorded, whatever the program has MPI call at its end. */
 int MPI_Finalize(void) {
-    if (BEGINS) {
+    bool begun = BEGINS;
+    if (!begun && recording && is_of_program())
+        journal_stop("MPI_Finalize was called by a thread that isn't recorded");
+    if (begun) {
         find_bypasses();
         journal_call("finalize", 0, NULL, site());
         journal_close();

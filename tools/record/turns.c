@@ -16,7 +16,7 @@ static struct {
 } turn;
 
 /* After so many calls it is asked whether modules were loaded. */
-enum { CALLS_UNTIL_LOOK = 8 };
+enum { CALLS_UNTIL_LOOK = 8, NEAR = 1 << 16 };
 
 static pthread_mutex_t lock = PTHREAD_MUTEX_INITIALIZER;
 static pthread_t first;
@@ -101,17 +101,17 @@ static void end_turn(void) {
 
 /* ---- Calls ------------------------------------------------------------------------------------- */
 
-/* Where a call of the recorder's returns to is next to its frame. */
+/* Where a call of the recorder's returns to is next to its frame; near to another frame it can be read still. */
 #if defined __x86_64__ || defined __aarch64__
-static bool is_overwritten(void) { return own.frame[1] != own.caller; }
+static bool is_overwritten(void **frame) { return own.frame - frame < NEAR && own.frame[1] != own.caller; }
 #else
-static bool is_overwritten(void) { return false; }
+static bool is_overwritten(void **frame) { return (void)frame, false; }
 #endif
 
 /* Whether the call that this thread is in was left by a jump or an exception: another begins above it on the stack, or
  * over it, where more is on the stack for its arguments. */
 static bool was_left(const void *caller, void **frame) {
-    return frame >= own.frame || (is_overwritten() && module_of(caller) != OF_MPI);
+    return frame >= own.frame || (is_overwritten(frame) && module_of(caller) != OF_MPI);
 }
 
 /* What a call did that was left isn't known. */
