@@ -78,17 +78,28 @@ class Checker:
     """Runs mpiwait: the one that the variable MPIWAIT names, or else the repository's."""
 
     def __init__(self):
-        self.path = os.environ.get("MPIWAIT") or str(Path(__file__).resolve().parent.parent / "mpiwait")
+        path = os.environ.get("MPIWAIT") or str(Path(__file__).resolve().parent.parent / "mpiwait")
+        self.path = os.path.abspath(path) if "/" in path else path
         # A check has a file open for each rank.
         most = resource.getrlimit(resource.RLIMIT_NOFILE)[1]
         resource.setrlimit(resource.RLIMIT_NOFILE, (most, most))
 
-    def run(self, *words):
+    def run(self, *words, folder=None):
+        """Runs it in a folder, if one is named."""
         try:
             words = [self.path, *map(str, words)]
-            return subprocess.run(words, capture_output=True, text=True, errors="replace", check=False)
+            return subprocess.run(
+                words, capture_output=True, text=True, errors="replace", check=False, cwd=folder
+            )
         except OSError as fault:
             return fail(f"the checker can't be run: {fault}")
+
+    def check(self, *words, files):
+        """Has files checked. It takes names in UTF-8 alone, so those of one folder are named from there."""
+        folders = {Path(file).parent for file in files}
+        if len(folders) > 1:
+            return self.run("check", *words, *files)
+        return self.run("check", *words, *(Path(file).name for file in files), folder=folders.pop())
 
 
 def files_of(folder):

@@ -40,7 +40,7 @@ class Run(unittest.TestCase):
         return done.returncode, asked.read_text().splitlines() if asked.exists() else [], done.stderr
 
     def test_without_a_proof_it_asks_once(self):
-        words = f"--unproved check --json --eager 8 {self.folder}/run/head {self.folder}/run/r0"
+        words = "--unproved check --json --eager 8 head r0"
         self.assertEqual(self.run_again("--unproved", "--eager", "8"), (0, [words], ""))
 
     def test_else_it_asks_before_the_run_too(self):

@@ -28,8 +28,8 @@ class Limits(Folders):
         self.write("checker", CHECKER)
         os.chmod(self.folder / "checker", 0o755)
 
-    def said(self, *words):
-        done = self.command("limits", *words, env=os.environ | {"MPIWAIT": str(self.folder / "checker")})
+    def said(self, *words, checker="./checker"):
+        done = self.command("limits", *words, env=os.environ | {"MPIWAIT": checker})
         return done.returncode, done.stdout
 
     def test_each_size(self):
@@ -46,6 +46,16 @@ class Limits(Folders):
         self.write("r0", "recv 0 0 0\nfinalize\n")
         table = "limit   verdict\nnone    hang\n0       hang\nno limit has the verdict free\n"
         self.assertEqual(self.said(self.folder / "head", self.folder / "r0"), (1, table))
+
+    def test_a_folder_whose_name_is_no_text(self):
+        folder = os.path.join(os.fsencode(self.folder), b"a\n\xff")
+        os.mkdir(folder)
+        for name, text in ((b"head", "ranks 1\n"), (b"r0", "recv 0 0 0\nfinalize\n")):
+            self.write(os.fsdecode(os.path.join(folder, name)), text)
+        checker = "#!/bin/sh\ncase \"$*\" in\n'check head r0') exit 0 ;;\nesac\nexit 1\n"
+        self.write("checker", checker)
+        wanted = "limit   verdict\nnone    free\n0       hang\nthe verdict is free without a limit\n"
+        self.assertEqual(self.said(os.fsdecode(folder)), (0, wanted))
 
     def test_failing(self):
         self.write("bad", "")

@@ -11,6 +11,7 @@
  *   persistent.c      persistent ones
  *   probes.c          probes and the messages that they take
  *   collectives.c     collectives
+ *   strict.c          strict runs
  */
 #ifndef MPIWAIT_CALLS_H
 #define MPIWAIT_CALLS_H
@@ -57,19 +58,27 @@ bool begins_quietly(void *caller, void *frame);
 /* The same for MPI_Init, which is recorded when it comes back. */
 bool take_turn(void);
 
+/* Whether the program called, and not MPI. */
+bool is_of_program(void);
+
+/* A barrier is to follow the call, also where an error handler of the program's leaves it. */
+void want_barrier(MPI_Comm comm);
+bool take_barrier(MPI_Comm *comm);
+
 /* Whether the call is recorded still. */
 bool is_recorded(void);
 
 /* Calls MPI. */
 void leave_recorder(void);
 void enter_recorder(void);
-#define CALL(Name, args) \
+#define OUTSIDE(expression) \
     ({ \
         leave_recorder(); \
-        __typeof__(REAL(Name) args) result_ = REAL(Name) args; \
+        __typeof__(expression) result_ = (expression); \
         enter_recorder(); \
         result_; \
     })
+#define CALL(Name, args) OUTSIDE(REAL(Name) args)
 
 /* The call comes back with this result. */
 int over(int result);
@@ -81,6 +90,8 @@ typedef struct {
     void **frame, *caller;
     unsigned long turn;
     int site;
+    bool has_barrier;
+    MPI_Comm barrier;
 } Thread;
 Thread leave_by_error(void);
 void come_back_to_error(Thread before);

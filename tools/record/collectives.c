@@ -1,8 +1,11 @@
 /* Collectives, in both forms. See calls.h. */
 #define _GNU_SOURCE
-#include "calls.h"
+#include "strict.h"
+#include <string.h>
 
 static const char unnumbered[] = "collectives on communicators that have no number";
+
+static inline bool is_barrier(const char *word) { return strcmp(word, "barrier") == 0; }
 
 /* Both forms of a collective. */
 #define BOTH(Name, Iname, word, root, params, args) \
@@ -10,7 +13,10 @@ static const char unnumbered[] = "collectives on communicators that have no numb
         int number = BEGINS ? numbered(comm, unnumbered) : UNNUMBERED; \
         if (number != UNNUMBERED) \
             PUT(word, number, root); \
-        return over(CALL(Name, (UNPACK args comm))); \
+        is_barrier(word) ? (void)0 : collective_begins(comm); \
+        int result = CALL(Name, (UNPACK args comm)); \
+        collective_ends(result); \
+        return over(result); \
     } \
     ALSO_PMPI(Name) \
     int MPI_##Iname(UNPACK params MPI_Comm comm, MPI_Request *handle) { \

@@ -101,6 +101,11 @@ void left_out(Meaning meaning, const char *what);
 int create_text(const char *folder, const char *name, int rank);
 char *map_text(int file, long start, unsigned long size);
 
+enum { LONGEST_ID = 40 };
+
+/* Whether the launcher gives the ID of the run and the rank before MPI begins: into LONGEST_ID bytes, and a number. */
+bool run_is_given(char *id, int *rank);
+
 /* The folder of the run whose journals this process writes, and the run's ID. Answers why there is none, or NULL. */
 const char *run_open(const char *named, int ranks, char *folder, unsigned long room, const char **id);
 

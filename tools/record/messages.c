@@ -1,6 +1,7 @@
 /* Sends and receives. See messages.h. */
 #define _GNU_SOURCE
 #include "messages.h"
+#include "strict.h"
 
 const char unnumbered[] = "sends, receives and probes on communicators that have no number";
 
@@ -14,54 +15,58 @@ Field bytes(long long count, MPI_Datatype type) {
     return count * size;
 }
 
-void tell_message(int number, int result, const MPI_Status *status) {
-    if (number != UNNUMBERED && result == MPI_SUCCESS && is_recorded() && status->MPI_SOURCE != MPI_PROC_NULL)
+void tell_message(int number, int source, int result, const MPI_Status *status) {
+    if (number != UNNUMBERED && source != MPI_PROC_NULL && result == MPI_SUCCESS && is_recorded())
         TOLD("=got", status->MPI_SOURCE, status->MPI_TAG);
 }
 
 /* ---- Sends ------------------------------------------------------------------------------------- */
 
-#define SEND(Name, Count, word) \
+/* Of a standard send `Synchronous` is the one that it is in a strict run; of others it is themselves. */
+#define CALL_SEND(Name, Synchronous, args) \
+    (sends_synchronously(comm) ? CALL(Synchronous, args) : CALL(Name, args))
+
+#define SEND(Name, Synchronous, Count, word) \
     int MPI_##Name(const void *data, Count count, MPI_Datatype type, int dest, int tag, MPI_Comm comm) { \
         int number = BEGINS ? numbered(comm, unnumbered) : UNNUMBERED; \
         if (number != UNNUMBERED) \
             PUT(word, number, receiver(dest), tag, is_standard(word) ? bytes(count, type) : UNKNOWN); \
-        return over(CALL(Name, (data, count, type, dest, tag, comm))); \
+        return over(CALL_SEND(Name, Synchronous, (data, count, type, dest, tag, comm))); \
     } \
     ALSO_PMPI(Name)
 
-#define ISEND(Name, Count, word) \
+#define ISEND(Name, Synchronous, Count, word) \
     int MPI_##Name(const void *data, Count count, MPI_Datatype type, int dest, int tag, MPI_Comm comm, \
                    MPI_Request *handle) { \
         int number = BEGINS ? numbered(comm, unnumbered) : UNNUMBERED; \
         int request = number == UNNUMBERED ? 0 : new_number(); \
         if (request) \
             PUT(word, request, number, receiver(dest), tag, is_standard(word) ? bytes(count, type) : UNKNOWN); \
-        int result = CALL(Name, (data, count, type, dest, tag, comm, handle)); \
+        int result = CALL_SEND(Name, Synchronous, (data, count, type, dest, tag, comm, handle)); \
         if (is_recorded() && result == MPI_SUCCESS) \
             started(handle, request); \
         return over(result); \
     } \
     ALSO_PMPI(Name)
 
-SEND(Send, int, "send")
-SEND(Ssend, int, "ssend")
-SEND(Bsend, int, "bsend")
-SEND(Rsend, int, "rsend")
-ISEND(Isend, int, "isend")
-ISEND(Issend, int, "issend")
-ISEND(Ibsend, int, "ibsend")
-ISEND(Irsend, int, "irsend")
+SEND(Send, Ssend, int, "send")
+SEND(Ssend, Ssend, int, "ssend")
+SEND(Bsend, Bsend, int, "bsend")
+SEND(Rsend, Rsend, int, "rsend")
+ISEND(Isend, Issend, int, "isend")
+ISEND(Issend, Issend, int, "issend")
+ISEND(Ibsend, Ibsend, int, "ibsend")
+ISEND(Irsend, Irsend, int, "irsend")
 
 #ifdef HAS_Send_c
-SEND(Send_c, MPI_Count, "send")
-SEND(Ssend_c, MPI_Count, "ssend")
-SEND(Bsend_c, MPI_Count, "bsend")
-SEND(Rsend_c, MPI_Count, "rsend")
-ISEND(Isend_c, MPI_Count, "isend")
-ISEND(Issend_c, MPI_Count, "issend")
-ISEND(Ibsend_c, MPI_Count, "ibsend")
-ISEND(Irsend_c, MPI_Count, "irsend")
+SEND(Send_c, Ssend_c, MPI_Count, "send")
+SEND(Ssend_c, Ssend_c, MPI_Count, "ssend")
+SEND(Bsend_c, Bsend_c, MPI_Count, "bsend")
+SEND(Rsend_c, Rsend_c, MPI_Count, "rsend")
+ISEND(Isend_c, Issend_c, MPI_Count, "isend")
+ISEND(Issend_c, Issend_c, MPI_Count, "issend")
+ISEND(Ibsend_c, Ibsend_c, MPI_Count, "ibsend")
+ISEND(Irsend_c, Irsend_c, MPI_Count, "irsend")
 #endif
 
 /* ---- Receives ---------------------------------------------------------------------------------- */
@@ -74,7 +79,7 @@ ISEND(Irsend_c, MPI_Count, "irsend")
         if (number != UNNUMBERED) \
             PUT("recv", number, sender(source), tag_of_receive(tag)); \
         int result = CALL(Name, (data, count, type, source, tag, comm, number == UNNUMBERED ? status : told)); \
-        tell_message(number, result, told); \
+        tell_message(number, source, result, told); \
         return over(result); \
     } \
     ALSO_PMPI(Name)
@@ -105,15 +110,19 @@ IRECV(Irecv_c, MPI_Count)
 /* ---- Both -------------------------------------------------------------------------------------- */
 
 /* The count and the type are those of what is sent. */
-#define EXCHANGE(Name, params, args) \
+#define EXCHANGE(Name, params, args, become, in_data, received, received_type) \
     int MPI_##Name(UNPACK params MPI_Comm comm, MPI_Status *status) { \
         MPI_Status mine, *told = status == MPI_STATUS_IGNORE ? &mine : status; \
         int number = BEGINS ? numbered(comm, unnumbered) : UNNUMBERED; \
         if (number != UNNUMBERED) \
             PUT("sendrecv", number, receiver(dest), out_tag, sender(source), tag_of_receive(in_tag), \
                 bytes(count, type)); \
-        int result = CALL(Name, (UNPACK args comm, number == UNNUMBERED ? status : told)); \
-        tell_message(number, result, told); \
+        MPI_Status *place = number == UNNUMBERED ? status : told; \
+        Half out = {(void *)data, count, type, dest, out_tag}; \
+        Half taken = {in_data, received, received_type, source, in_tag}; \
+        int result = sends_synchronously(comm) ? OUTSIDE(become(out, taken, comm, place)) \
+                                               : CALL(Name, (UNPACK args comm, place)); \
+        tell_message(number, source, result, told); \
         return over(result); \
     } \
     ALSO_PMPI(Name)
@@ -143,12 +152,12 @@ IRECV(Irecv_c, MPI_Count)
     (void *data, Count count, MPI_Datatype type, int dest, int out_tag, int source, int in_tag, )
 #define REPLACE_ARGS (data, count, type, dest, out_tag, source, in_tag, )
 
-EXCHANGE(Sendrecv, EXCHANGE_PARAMS(int), EXCHANGE_ARGS)
-EXCHANGE(Sendrecv_replace, REPLACE_PARAMS(int), REPLACE_ARGS)
+EXCHANGE(Sendrecv, EXCHANGE_PARAMS(int), EXCHANGE_ARGS, strict_exchange, in, in_count, in_type)
+EXCHANGE(Sendrecv_replace, REPLACE_PARAMS(int), REPLACE_ARGS, strict_replace, data, count, type)
 
 #ifdef HAS_Sendrecv_c
-EXCHANGE(Sendrecv_c, EXCHANGE_PARAMS(MPI_Count), EXCHANGE_ARGS)
-EXCHANGE(Sendrecv_replace_c, REPLACE_PARAMS(MPI_Count), REPLACE_ARGS)
+EXCHANGE(Sendrecv_c, EXCHANGE_PARAMS(MPI_Count), EXCHANGE_ARGS, strict_exchange, in, in_count, in_type)
+EXCHANGE(Sendrecv_replace_c, REPLACE_PARAMS(MPI_Count), REPLACE_ARGS, strict_replace, data, count, type)
 #endif
 #ifdef HAS_Isendrecv
 IEXCHANGE(Isendrecv, EXCHANGE_PARAMS(int), EXCHANGE_ARGS)

@@ -29,8 +29,8 @@ static inline bool is_standard(const char *word) { return strcmp(word, "send") =
 /* How many bytes a message has, or UNKNOWN. */
 Field bytes(long long count, MPI_Datatype type);
 
-/* The message that a call on this communicator took or saw. */
-void tell_message(int number, int result, const MPI_Status *status);
+/* The message that a call on this communicator took or saw; from MPI_PROC_NULL there is none. */
+void tell_message(int number, int source, int result, const MPI_Status *status);
 
 #pragma GCC visibility pop
 

@@ -1,6 +1,7 @@
 /* Persistent sends and receives. See calls.h. */
 #define _GNU_SOURCE
 #include "messages.h"
+#include "strict.h"
 
 /* Each start is written as the nonblocking call. */
 static void keep_template(MPI_Request *handle, Template template) {
@@ -16,11 +17,12 @@ static void keep_template(MPI_Request *handle, Template template) {
     request->template = kept;
 }
 
-#define INIT(Name, params, args, ...) \
+#define INIT(Name, Synchronous, params, args, ...) \
     int MPI_##Name(UNPACK params MPI_Comm comm, MPI_Request *handle) { \
         int number = BEGINS ? numbered(comm, unnumbered) : UNNUMBERED; \
         Template template = __VA_ARGS__; \
-        int result = CALL(Name, (UNPACK args comm, handle)); \
+        int result = sends_synchronously(comm) ? CALL(Synchronous, (UNPACK args comm, handle)) \
+                                               : CALL(Name, (UNPACK args comm, handle)); \
         if (is_recorded() && result == MPI_SUCCESS && number != UNNUMBERED) \
             keep_template(handle, template); \
         else if (is_recorded() && result == MPI_SUCCESS) \
@@ -29,26 +31,26 @@ static void keep_template(MPI_Request *handle, Template template) {
     } \
     ALSO_PMPI(Name)
 
-#define SEND_INIT(Name, Count, word) \
-    INIT(Name, (const void *data, Count count, MPI_Datatype type, int dest, int tag, ), \
+#define SEND_INIT(Name, Synchronous, Count, word) \
+    INIT(Name, Synchronous, (const void *data, Count count, MPI_Datatype type, int dest, int tag, ), \
          (data, count, type, dest, tag, ), \
          {word, {number, receiver(dest), tag, is_standard(word) ? bytes(count, type) : UNKNOWN}, false})
 #define RECV_INIT(Name, Count) \
-    INIT(Name, (void *data, Count count, MPI_Datatype type, int source, int tag, ), \
+    INIT(Name, Name, (void *data, Count count, MPI_Datatype type, int source, int tag, ), \
          (data, count, type, source, tag, ), \
          {"irecv", {number, sender(source), tag_of_receive(tag), UNKNOWN}, is_wild(source, tag)})
 
-SEND_INIT(Send_init, int, "isend")
-SEND_INIT(Ssend_init, int, "issend")
-SEND_INIT(Bsend_init, int, "ibsend")
-SEND_INIT(Rsend_init, int, "irsend")
+SEND_INIT(Send_init, Ssend_init, int, "isend")
+SEND_INIT(Ssend_init, Ssend_init, int, "issend")
+SEND_INIT(Bsend_init, Bsend_init, int, "ibsend")
+SEND_INIT(Rsend_init, Rsend_init, int, "irsend")
 RECV_INIT(Recv_init, int)
 
 #ifdef HAS_Send_init_c
-SEND_INIT(Send_init_c, MPI_Count, "isend")
-SEND_INIT(Ssend_init_c, MPI_Count, "issend")
-SEND_INIT(Bsend_init_c, MPI_Count, "ibsend")
-SEND_INIT(Rsend_init_c, MPI_Count, "irsend")
+SEND_INIT(Send_init_c, Ssend_init_c, MPI_Count, "isend")
+SEND_INIT(Ssend_init_c, Ssend_init_c, MPI_Count, "issend")
+SEND_INIT(Bsend_init_c, Bsend_init_c, MPI_Count, "ibsend")
+SEND_INIT(Rsend_init_c, Rsend_init_c, MPI_Count, "irsend")
 RECV_INIT(Recv_init_c, MPI_Count)
 #endif
 

@@ -49,7 +49,7 @@ int MPI_Probe(int source, int tag, MPI_Comm comm, MPI_Status *status) {
     if (number != UNNUMBERED)
         PUT("probe", number, sender(source), tag_of_receive(tag));
     int result = CALL(Probe, (source, tag, comm, number == UNNUMBERED ? status : told));
-    tell_message(number, result, told);
+    tell_message(number, source, result, told);
     return over(result);
 }
 ALSO_PMPI(Probe)
@@ -61,15 +61,19 @@ int MPI_Mprobe(int source, int tag, MPI_Comm comm, MPI_Message *message, MPI_Sta
     if (taken)
         PUT("mprobe", taken, number, sender(source), tag_of_receive(tag));
     int result = CALL(Mprobe, (source, tag, comm, message, number == UNNUMBERED ? status : told));
-    tell_message(number, result, told);
+    tell_message(number, source, result, told);
     if (is_recorded() && result == MPI_SUCCESS)
         keep_message(*message, taken);
     return over(result);
 }
 ALSO_PMPI(Mprobe)
 
-/* What a probe found that doesn't wait; of MPI_PROC_NULL nobody's message. */
-static Field tag_found(const MPI_Status *status) { return status->MPI_SOURCE == MPI_PROC_NULL ? 0 : status->MPI_TAG; }
+/* What a probe found that doesn't wait: from MPI_PROC_NULL nobody's message, whatever the status says. */
+static Field source_found(int source, const MPI_Status *status) {
+    return source == MPI_PROC_NULL ? NULL_PEER : status->MPI_SOURCE;
+}
+
+static Field tag_found(int source, const MPI_Status *status) { return source == MPI_PROC_NULL ? 0 : status->MPI_TAG; }
 
 int MPI_Iprobe(int source, int tag, MPI_Comm comm, int *found, MPI_Status *status) {
     MPI_Status mine, *told = status == MPI_STATUS_IGNORE ? &mine : status;
@@ -78,7 +82,7 @@ int MPI_Iprobe(int source, int tag, MPI_Comm comm, int *found, MPI_Status *statu
     if (number == UNNUMBERED || result != MPI_SUCCESS || !is_recorded())
         return over(result);
     if (*found) {
-        PUT("iprobe", number, receiver(told->MPI_SOURCE), tag_found(told));
+        PUT("iprobe", number, source_found(source, told), tag_found(source, told));
     } else {
         left_out(NOTHING, "MPI_Iprobe, found nothing");
         journal_polled(IPROBE, site());
@@ -96,7 +100,7 @@ int MPI_Improbe(int source, int tag, MPI_Comm comm, int *found, MPI_Message *mes
     if (*found) {
         int taken = number == UNNUMBERED ? 0 : new_number();
         if (taken)
-            PUT("improbe", taken, number, receiver(told->MPI_SOURCE), tag_found(told));
+            PUT("improbe", taken, number, source_found(source, told), tag_found(source, told));
         keep_message(*message, taken);
     } else if (number != UNNUMBERED) {
         left_out(NOTHING, "MPI_Improbe, found nothing");

@@ -13,6 +13,7 @@
 #define _GNU_SOURCE
 #include "calls.h"
 #include "modules.h"
+#include "strict.h"
 #include <stdio.h>
 #include <string.h>
 #include <pthread.h>
@@ -90,8 +91,10 @@ static void not_recorded(const char *folder, int rank, const char *why) {
 static pid_t process; /* the one that called MPI_Init */
 
 static const char *open_texts(const char *named, int rank, int ranks, char *folder, unsigned long room) {
+    char words[128];
     const char *id, *why = run_open(named, ranks, folder, room, &id);
-    return why ? why : journal_open(folder, id, rank, ranks, version);
+    snprintf(words, sizeof words, "%s%s", version, is_strict() ? " strict" : "");
+    return why ? why : journal_open(folder, id, rank, ranks, words);
 }
 
 static void start(void) {
@@ -102,6 +105,7 @@ static void start(void) {
     REAL(Comm_rank)(MPI_COMM_WORLD, &rank);
     REAL(Comm_size)(MPI_COMM_WORLD, &ranks);
     REAL(Comm_get_parent)(&parent);
+    strict_open(ranks);
     if (!named || !*named)
         why = "the variable MPIWAIT_JOURNAL names no folder";
     else if (parent != MPI_COMM_NULL)
@@ -130,15 +134,20 @@ static int initialized(int result) {
     return over(result);
 }
 
-int MPI_Init(int *argc, char ***argv) {
+static void before_mpi(void) {
     refuse_other_library();
+    strict_announce(getenv("MPIWAIT_JOURNAL"));
+}
+
+int MPI_Init(int *argc, char ***argv) {
+    before_mpi();
     BEGINS;
     return initialized(CALL(Init, (argc, argv)));
 }
 ALSO_PMPI(Init)
 
 int MPI_Init_thread(int *argc, char ***argv, int required, int *provided) {
-    refuse_other_library();
+    before_mpi();
     BEGINS;
     return initialized(CALL(Init_thread, (argc, argv, required, provided)));
 }
@@ -146,7 +155,10 @@ ALSO_PMPI(Init_thread)
 
 /* From here on nothing is recorded, whatever the program has MPI call at its end. */
 int MPI_Finalize(void) {
-    if (BEGINS) {
+    bool begun = BEGINS;
+    if (!begun && recording && is_of_program())
+        journal_stop("MPI_Finalize was called by a thread that isn't recorded");
+    if (begun) {
         find_bypasses();
         journal_call("finalize", 0, NULL, site());
         journal_close();

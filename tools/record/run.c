@@ -18,7 +18,7 @@
 #include <time.h>
 #include <unistd.h>
 
-enum { LONGEST_ID = 40, MOST_ANCESTORS = 32 };
+enum { MOST_ANCESTORS = 32 };
 static const char claimed[] = "claimed-";
 
 static uint64_t hash_of(const char *text) {
@@ -99,32 +99,53 @@ static const char *of_one_rank(int ranks, char *text, size_t room) {
     return text;
 }
 
-/* Whether the launcher gives an ID. The first that does is asked; MPICH's own comes first for MPICH's programs, since
- * they may be run by a program of the other library's mpirun. */
+/* What the launcher gives: of which kind, in which words, and the variable that has the rank. */
+typedef struct {
+    const char *kind, *words, *rank;
+} Given;
+
+static bool is_given(Given *given, const char *kind, const char *words, const char *rank) {
+    *given = (Given){kind, words, rank};
+    return words;
+}
+
+/* The first that gives something is taken. MPICH's own comes first for MPICH's programs, since they may be run by a
+ * program of the other library's mpirun. */
+static bool ask_launcher(Given *given, char *text, size_t room) {
+    bool is_mpich = true;
+#ifdef OPEN_MPI
+    is_mpich = false;
+#endif
+    if (is_mpich && is_given(given, "hydra", of_hydra(text, room), "PMI_RANK"))
+        return true;
+    return is_given(given, "pmix", of_pmix(text, room), "PMIX_RANK") ||
+           (!is_mpich && is_given(given, "hydra", of_hydra(text, room), "PMI_RANK")) ||
+           is_given(given, "pmi", of_variables("PMI_JOBID", NULL, text, room), "PMI_RANK") ||
+           is_given(given, "slurm", of_variables("SLURM_JOB_ID", "SLURM_STEP_ID", text, room), "SLURM_PROCID");
+}
+
+static void make_id(const char *kind, const char *words, char id[LONGEST_ID]) {
+    snprintf(id, LONGEST_ID, "%s-%016llx", kind, (unsigned long long)hash_of(words));
+}
+
+bool run_is_given(char *id, int *rank) {
+    char text[4096];
+    Given given;
+    if (!ask_launcher(&given, text, sizeof text) || !getenv(given.rank))
+        return false;
+    make_id(given.kind, given.words, id);
+    *rank = atoi(getenv(given.rank));
+    return true;
+}
+
 static bool give_id(int ranks, char id[LONGEST_ID]) {
     char text[4096];
-    const char *kind, *found;
-#ifdef OPEN_MPI
-    if ((found = of_pmix(text, sizeof text)))
-        kind = "pmix";
-    else if ((found = of_hydra(text, sizeof text)))
-        kind = "hydra";
-#else
-    if ((found = of_hydra(text, sizeof text)))
-        kind = "hydra";
-    else if ((found = of_pmix(text, sizeof text)))
-        kind = "pmix";
-#endif
-    else if ((found = of_variables("PMI_JOBID", NULL, text, sizeof text)))
-        kind = "pmi";
-    else if ((found = of_variables("SLURM_JOB_ID", "SLURM_STEP_ID", text, sizeof text)))
-        kind = "slurm";
-    else if ((found = of_one_rank(ranks, text, sizeof text)))
-        kind = "alone";
-    else
-        return false;
-    snprintf(id, LONGEST_ID, "%s-%016llx", kind, (unsigned long long)hash_of(found));
-    return true;
+    Given given;
+    bool found = ask_launcher(&given, text, sizeof text) ||
+                 is_given(&given, "alone", of_one_rank(ranks, text, sizeof text), "");
+    if (found)
+        make_id(given.kind, given.words, id);
+    return found;
 }
 
 /* ---- The folder -------------------------------------------------------------------------------- */
@@ -169,15 +190,15 @@ const char *run_open(const char *named, int ranks, char *folder, unsigned long r
     static char mine[LONGEST_ID];
     char first[LONGEST_ID] = "";
     static const char wrong[] = "no journal can be made in the folder that MPIWAIT_JOURNAL names";
-    bool is_given = give_id(ranks, mine);
-    if (!is_given)
+    bool is_known = give_id(ranks, mine);
+    if (!is_known)
         snprintf(mine, sizeof mine, "%s%lx", claimed, (long)getpid());
     *id = mine;
     if (!read_claim(named, first) && !(claim(named, mine) && read_claim(named, first)))
         return wrong;
-    if (!is_given && strncmp(first, claimed, strlen(claimed)) == 0)
+    if (!is_known && strncmp(first, claimed, strlen(claimed)) == 0)
         strcpy(mine, first);
-    else if (!is_given)
+    else if (!is_known)
         snprintf(mine, sizeof mine, "%s0", claimed);
     if (strcmp(first, mine) == 0)
         return snprintf(folder, room, "%s", named) < (int)room ? NULL : wrong;

@@ -16,7 +16,7 @@ static struct {
 } turn;
 
 /* After so many calls it is asked whether modules were loaded. */
-enum { CALLS_UNTIL_LOOK = 8 };
+enum { CALLS_UNTIL_LOOK = 8, NEAR = 1 << 16 };
 
 static pthread_mutex_t lock = PTHREAD_MUTEX_INITIALIZER;
 static pthread_t first;
@@ -36,6 +36,8 @@ static void give_lock(void) {
 static bool has_turn(void) { return own.turn != 0 && __atomic_load_n(&turn.now, __ATOMIC_RELAXED) == own.turn; }
 
 bool is_recorded(void) { return own.inside == 1 && has_turn(); }
+
+bool is_of_program(void) { return own.inside == 1; }
 
 int site(void) {
     if (own.site < 0)
@@ -99,17 +101,17 @@ static void end_turn(void) {
 
 /* ---- Calls ------------------------------------------------------------------------------------- */
 
-/* Where a call of the recorder's returns to is next to its frame. */
+/* Where a call of the recorder's returns to is next to its frame; near to another frame it can be read still. */
 #if defined __x86_64__ || defined __aarch64__
-static bool is_overwritten(void) { return own.frame[1] != own.caller; }
+static bool is_overwritten(void **frame) { return own.frame - frame < NEAR && own.frame[1] != own.caller; }
 #else
-static bool is_overwritten(void) { return false; }
+static bool is_overwritten(void **frame) { return (void)frame, false; }
 #endif
 
 /* Whether the call that this thread is in was left by a jump or an exception: another begins above it on the stack, or
  * over it, where more is on the stack for its arguments. */
 static bool was_left(const void *caller, void **frame) {
-    return frame >= own.frame || (is_overwritten() && module_of(caller) != OF_MPI);
+    return frame >= own.frame || (is_overwritten(frame) && module_of(caller) != OF_MPI);
 }
 
 /* What a call did that was left isn't known. */
@@ -130,6 +132,7 @@ bool begins_quietly(void *caller, void *frame) {
         return false;
     own.frame = frame;
     own.caller = caller;
+    own.has_barrier = false;
     return recording && take_turn();
 }
 
@@ -164,6 +167,20 @@ int over(int result) {
     return result;
 }
 
+/* ---- Barriers of strict runs ------------------------------------------------------------------- */
+
+void want_barrier(MPI_Comm comm) {
+    own.has_barrier = true;
+    own.barrier = comm;
+}
+
+bool take_barrier(MPI_Comm *comm) {
+    bool had_one = own.has_barrier;
+    *comm = own.barrier;
+    own.has_barrier = false;
+    return had_one;
+}
+
 /* ---- Error handlers ---------------------------------------------------------------------------- */
 
 /* Gets the lock, as long as this thread has the turn: another may wait within MPI for what this one has there. */
@@ -186,6 +203,10 @@ Thread leave_by_error(void) {
         if (own.is_locked)
             give_lock();
     }
+    MPI_Comm comm;
+    if (take_barrier(&comm))
+        REAL(Barrier)(comm);
+    before.has_barrier = false;
     own.inside = 0;
     return before;
 }

@@ -111,7 +111,7 @@ void step_cancelled(void) {
     if (rank != me || !is_member(comm, me))
         return;
     bool is_persistent = mine(3) == 0;
-    int source = mine(2) ? 0 : MPI_ANY_SOURCE;
+    int source = mine(2) ? 0 : any_source(0);
     if (is_persistent) {
         MPI_Recv_init(&data, 1, MPI_INT, source, tag, comms[comm].handle, &handle);
         MPI_Start(&handle);
@@ -139,8 +139,9 @@ void step_kept(void) {
     MPI_Status status;
     if (from == to || !is_clear(comm, from, to))
         return;
+    int source = is_member(comm, me) ? place_in(comm, from) : 0;
     if (to == me)
-        MPI_Irecv(&data, 1, MPI_INT, mine(2) ? place_in(comm, from) : MPI_ANY_SOURCE, tag, comms[comm].handle, &handle);
+        MPI_Irecv(&data, 1, MPI_INT, mine(2) ? source : any_source(source), tag, comms[comm].handle, &handle);
     if (from == me)
         MPI_Ssend(&data, 1, MPI_INT, place_in(comm, to), tag, comms[comm].handle);
     barrier_of(comm);

@@ -98,8 +98,8 @@ void check_message(const Message *message, const int *data, const MPI_Status *st
 static Asked asked_for(const Message *message) {
     Asked asked = {message->source, message->tag, comms[message->comm].handle};
     switch (mine(4)) {
-    case 0: asked.source = MPI_ANY_SOURCE; break;
-    case 1: asked.tag = MPI_ANY_TAG; break;
+    case 0: asked.source = any_source(asked.source); break;
+    case 1: asked.tag = any_tag(asked.tag); break;
     }
     return asked;
 }

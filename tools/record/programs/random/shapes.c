@@ -40,7 +40,7 @@ static bool any_place(Place *place) {
 static void both_started(const Place *place, int *out, int *in) {
     MPI_Request handles[2];
     MPI_Status statuses[2];
-    int source = mine(2) || place->from == MPI_PROC_NULL ? place->from : MPI_ANY_SOURCE;
+    int source = mine(2) || place->from == MPI_PROC_NULL ? place->from : any_source(place->from);
     MPI_Irecv(in, 1, MPI_INT, source, place->tag_from, place->comm, &handles[0]);
     MPI_Isend(out, 1, MPI_INT, place->to, place->tag_to, place->comm, &handles[1]);
     complete(2, handles, statuses);
@@ -49,7 +49,8 @@ static void both_started(const Place *place, int *out, int *in) {
 static void one_started(const Place *place, int *out, int *in) {
     MPI_Request handle;
     if (mine(2)) {
-        MPI_Irecv(in, 1, MPI_INT, place->from, mine(2) ? place->tag_from : MPI_ANY_TAG, place->comm, &handle);
+        int tag = mine(2) ? place->tag_from : any_tag(place->tag_from);
+        MPI_Irecv(in, 1, MPI_INT, place->from, tag, place->comm, &handle);
         MPI_Send(out, 1, MPI_INT, place->to, place->tag_to, place->comm);
     } else {
         MPI_Isend(out, 1, MPI_INT, place->to, place->tag_to, place->comm, &handle);
@@ -82,8 +83,9 @@ static void both_in_one(const Place *place, int *out, int *in) {
 }
 
 static void exchange(const Place *place, int *out, int *in) {
-    int form = mine(6), source = mine(3) || place->from == MPI_PROC_NULL ? place->from : MPI_ANY_SOURCE;
-    int tag = mine(3) || source == MPI_ANY_SOURCE ? place->tag_from : MPI_ANY_TAG;
+    int form = mine(6), is_wild = place->from != MPI_PROC_NULL && mine(3) == 0;
+    int source = is_wild ? any_source(place->from) : place->from;
+    int tag = is_wild || mine(3) ? place->tag_from : any_tag(place->tag_from);
     if (form == 0) {
         MPI_Sendrecv(out, 1, MPI_INT, place->to, place->tag_to, in, 1, MPI_INT, source, tag, place->comm,
                      mine(2) ? MPI_STATUS_IGNORE : &(MPI_Status){0});
@@ -180,8 +182,9 @@ void step_crossed(void) {
         MPI_Issend(&data[1], 1, MPI_INT, place_in(comm, to), second, handle, &handles[1]);
         complete(2, handles, statuses);
     } else if (to == me) {
-        MPI_Recv(&data[0], 1, MPI_INT, mine(2) ? MPI_ANY_SOURCE : place_in(comm, from), second, handle, &statuses[0]);
-        MPI_Recv(&data[1], 1, MPI_INT, place_in(comm, from), first, handle, MPI_STATUS_IGNORE);
+        int source = place_in(comm, from);
+        MPI_Recv(&data[0], 1, MPI_INT, mine(2) ? any_source(source) : source, second, handle, &statuses[0]);
+        MPI_Recv(&data[1], 1, MPI_INT, source, first, handle, MPI_STATUS_IGNORE);
         if (data[0] != 2 || data[1] != 1)
             complain("crossed messages came otherwise");
     }
@@ -192,7 +195,7 @@ static void take_matched(int source, int tag, MPI_Comm comm) {
     int first = 0, second = 0;
     MPI_Message taken;
     MPI_Request handle;
-    MPI_Mprobe(mine(2) ? source : MPI_ANY_SOURCE, tag, comm, &taken, MPI_STATUS_IGNORE);
+    MPI_Mprobe(mine(2) ? source : any_source(source), tag, comm, &taken, MPI_STATUS_IGNORE);
     MPI_Recv(&second, 1, MPI_INT, source, tag, comm, MPI_STATUS_IGNORE);
     if (mine(2)) {
         MPI_Mrecv(&first, 1, MPI_INT, &taken, MPI_STATUS_IGNORE);

@@ -1,0 +1,10 @@
+/* A plugin that calls MPI: rank 0 sends, rank 1 receives. See deep-plugin.c. */
+#include <mpi.h>
+
+void pass_on(int rank) {
+    int data = 0;
+    if (rank == 0)
+        MPI_Ssend(&data, 1, MPI_INT, 1, 2, MPI_COMM_WORLD);
+    else
+        MPI_Recv(&data, 1, MPI_INT, 0, 2, MPI_COMM_WORLD, MPI_STATUS_IGNORE);
+}

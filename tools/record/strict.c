@@ -1,0 +1,192 @@
+/* Strict runs. See strict.h.
+ *
+ * Which members of a communicator make the barrier is the same for all of them, whether or not they are recorded:
+ * those of a communicator in which each is a rank of this world that has a strict recorder. A process says so by a
+ * file before it begins MPI, and looks for the others' behind that. No process comes out of MPI_Init before all have
+ * come into it, in the libraries that the recorder is for: they exchange their addresses there. So all see the same
+ * files, and a rank that has no recorder is waited for by no barrier of ours.
+ */
+#define _GNU_SOURCE
+#include "strict.h"
+#include <errno.h>
+#include <fcntl.h>
+#include <stdio.h>
+#include <string.h>
+#include <sys/stat.h>
+#include <unistd.h>
+
+enum { FOR_NONE = 1, FOR_ALL = 2 };
+
+static bool strict;
+static char marks[4096]; /* the folder of the files, empty where there is none */
+static bool *has_recorder; /* of each rank of the world */
+static int world_size, answer_key = MPI_KEYVAL_INVALID;
+static MPI_Group world;
+
+bool is_strict(void) { return strict; }
+
+/* ---- Who has a recorder ------------------------------------------------------------------------ */
+
+void strict_announce(const char *folder) {
+    char id[LONGEST_ID], path[4096 + 16];
+    int rank;
+    const char *wanted = getenv("MPIWAIT_STRICT");
+    strict = wanted && *wanted && strcmp(wanted, "0") != 0;
+    if (!strict || !folder || !*folder || !run_is_given(id, &rank))
+        return;
+    if (snprintf(marks, sizeof marks, "%s/strict-%s", folder, id) >= (int)sizeof marks) {
+        marks[0] = '\0';
+        return;
+    }
+    mkdir(marks, 0777);
+    snprintf(path, sizeof path, "%s/%d", marks, rank);
+    int file = open(path, O_WRONLY | O_CREAT | O_CLOEXEC, 0666);
+    if (file >= 0)
+        close(file);
+}
+
+/* The answer for a communicator is kept with it. */
+void strict_open(int ranks) {
+    if (!strict || !*marks || !(has_recorder = calloc(ranks, sizeof *has_recorder)))
+        return;
+    world_size = ranks;
+    for (int rank = 0; rank < ranks; rank++) {
+        char path[4096 + 16];
+        snprintf(path, sizeof path, "%s/%d", marks, rank);
+        has_recorder[rank] = access(path, F_OK) == 0;
+    }
+    REAL(Comm_group)(MPI_COMM_WORLD, &world);
+    REAL(Comm_create_keyval)(MPI_COMM_NULL_COPY_FN, MPI_COMM_NULL_DELETE_FN, &answer_key, NULL);
+}
+
+static bool all_have_recorders(MPI_Group group) {
+    int size = 0;
+    REAL(Group_size)(group, &size);
+    for (int place = 0; place < size; place++) {
+        int rank = MPI_UNDEFINED;
+        REAL(Group_translate_ranks)(group, 1, &place, world, &rank);
+        if (rank == MPI_UNDEFINED || rank >= world_size || !has_recorder[rank])
+            return false;
+    }
+    return true;
+}
+
+static bool is_intracommunicator(MPI_Comm comm) {
+    int inter = 1;
+    return comm != MPI_COMM_NULL && REAL(Comm_test_inter)(comm, &inter) == MPI_SUCCESS && !inter;
+}
+
+static bool has_barriers(MPI_Comm comm) {
+    void *answer = NULL;
+    int found = 0;
+    MPI_Group group;
+    if (answer_key == MPI_KEYVAL_INVALID || !is_intracommunicator(comm))
+        return false;
+    REAL(Comm_get_attr)(comm, answer_key, &answer, &found);
+    if (found)
+        return (intptr_t)answer == FOR_ALL;
+    REAL(Comm_group)(comm, &group);
+    bool all = all_have_recorders(group);
+    REAL(Group_free)(&group);
+    REAL(Comm_set_attr)(comm, answer_key, (void *)(intptr_t)(all ? FOR_ALL : FOR_NONE));
+    return all;
+}
+
+/* ---- Collectives ------------------------------------------------------------------------------- */
+
+void collective_begins(MPI_Comm comm) {
+    if (!strict || !is_of_program() || !is_intracommunicator(comm))
+        return;
+    if (has_barriers(comm))
+        want_barrier(comm);
+    else if (is_recorded())
+        left_out(NOTHING, "collectives of a strict run without a barrier after them");
+}
+
+void collective_ends(int result) {
+    MPI_Comm comm;
+    if (!is_of_program() || !take_barrier(&comm))
+        return;
+    if (result != MPI_SUCCESS && is_recorded())
+        journal_failed();
+    OUTSIDE(REAL(Barrier)(comm));
+}
+
+/* ---- Sends ------------------------------------------------------------------------------------- */
+
+#ifdef HAS_Send_c
+#define BY_COUNT(Name) REAL(Name##_c)
+typedef MPI_Count Size;
+#else
+#define BY_COUNT(Name) REAL(Name)
+typedef int Size;
+#endif
+
+bool sends_synchronously(MPI_Comm comm) { return strict && is_of_program() && is_intracommunicator(comm); }
+
+/* Persistent requests answer the errors of arguments before anything is sent or received. */
+static int check_halves(Half out, Half in, MPI_Comm comm) {
+    MPI_Request request;
+    int result = BY_COUNT(Ssend_init)(out.data, out.count, out.type, out.rank, out.tag, comm, &request);
+    if (result != MPI_SUCCESS)
+        return result;
+    REAL(Request_free)(&request);
+    result = BY_COUNT(Recv_init)(in.data, in.count, in.type, in.rank, in.tag, comm, &request);
+    return result == MPI_SUCCESS ? REAL(Request_free)(&request) : result;
+}
+
+/* That of nobody's message; MPICH 4.0 writes nothing there for a nonblocking receive. */
+static void set_status_of_nobody(MPI_Status *status) {
+    if (status == MPI_STATUS_IGNORE)
+        return;
+    REAL(Status_set_elements)(status, MPI_BYTE, 0);
+    REAL(Status_set_cancelled)(status, 0);
+    status->MPI_SOURCE = MPI_PROC_NULL;
+    status->MPI_TAG = MPI_ANY_TAG;
+}
+
+static int exchange(Half out, Half in, MPI_Comm comm, MPI_Status *status) {
+    MPI_Request sent, received;
+    int result = BY_COUNT(Irecv)(in.data, in.count, in.type, in.rank, in.tag, comm, &received);
+    if (result != MPI_SUCCESS)
+        return result;
+    result = BY_COUNT(Issend)(out.data, out.count, out.type, out.rank, out.tag, comm, &sent);
+    int sending = result == MPI_SUCCESS ? REAL(Wait)(&sent, MPI_STATUS_IGNORE) : result;
+    int receiving = REAL(Wait)(&received, status);
+    if (in.rank == MPI_PROC_NULL)
+        set_status_of_nobody(status);
+    return receiving == MPI_SUCCESS ? sending : receiving;
+}
+
+int strict_exchange(Half out, Half in, MPI_Comm comm, MPI_Status *status) {
+    int result = check_halves(out, in, comm);
+    return result == MPI_SUCCESS ? exchange(out, in, comm, status) : result;
+}
+
+/* What is sent is packed, so that what is received may take its place. */
+static char *pack(Half *out, MPI_Comm comm) {
+    Size size = 0, end = 0;
+    if (BY_COUNT(Pack_size)(out->count, out->type, comm, &size) != MPI_SUCCESS)
+        return NULL;
+    char *packed = malloc(size > 0 ? size : 1);
+    if (packed && BY_COUNT(Pack)(out->data, out->count, out->type, packed, size, &end, comm) == MPI_SUCCESS) {
+        out->data = packed;
+        out->count = end;
+        out->type = MPI_PACKED;
+        return packed;
+    }
+    free(packed);
+    return NULL;
+}
+
+int strict_replace(Half out, Half in, MPI_Comm comm, MPI_Status *status) {
+    int result = check_halves(out, in, comm);
+    if (result != MPI_SUCCESS)
+        return result;
+    char *packed = pack(&out, comm);
+    if (!packed)
+        return BY_COUNT(Sendrecv_replace)(in.data, in.count, in.type, out.rank, out.tag, in.rank, in.tag, comm, status);
+    result = exchange(out, in, comm, status);
+    free(packed);
+    return result;
+}

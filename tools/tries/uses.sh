@@ -1,0 +1,247 @@
+# Tries of how tools/run is used: signals, several runs, names, launchers, other tools, full disks. A part of tools/try,
+# which reads it.
+# shellcheck shell=bash
+
+mounted=''
+
+end_tries() {
+    [[ -z $mounted ]] || umount "$mounted" 2>/dev/null || :
+}
+
+# The program of a source for so many ranks, in `command'.
+prepare() {
+    launch "$1" "$3"
+    build "$1" "$2"
+}
+
+# The processes of the program that still run.
+left_over() {
+    local file
+    for file in /proc/[0-9]*/cmdline; do
+        ! tr '\0' ' ' 2>/dev/null <"$file" | grep -q "^$work/program" || echo "${file//[!0-9]/}"
+    done
+}
+
+# Waits for something, for a minute at most.
+wait_until() {
+    local left=300
+    until "$@" >/dev/null 2>&1; do
+        ((left-- > 0)) || return 1
+        sleep 0.2
+    done
+}
+
+# ---- Signals --------------------------------------------------------------------------------------
+
+has_begun() {
+    grep -aq '^send' "$work/run/journal/journal0" && grep -aq '^send' "$work/run/journal/journal1"
+}
+
+is_left_over() {
+    [[ -z $(left_over) ]]
+}
+
+try_signals() {
+    local library=$1 signal running name
+    for signal in TERM HUP INT; do
+        name="$library: SIG$signal to tools/run"
+        rm -rf -- "$work/run"
+        prepare "$library" large-messages.c 2
+        env --default-signal=INT "$here/run" --folder "$work/run" "${command[@]}" >"$work/said" 2>&1 </dev/null &
+        running=$!
+        wait_until has_begun || fails "$name: the run didn't begin"
+        kill "-$signal" "$running"
+        status=0
+        wait "$running" || status=$?
+        if [[ $status != 1 ]] || ! wait_until is_left_over; then
+            cat -- "$work/said" >&2
+            fails "$name: status $status, left over: $(left_over)"
+        else
+            check_journals "$name"
+            echo "$name: the ranks ended, and the hang is reported"
+        fi
+    done
+}
+
+# ---- Several runs ---------------------------------------------------------------------------------
+
+# How many lines of the report are this one.
+count_lines() {
+    grep -c -x -- "$1" "$work/report" || :
+}
+
+try_two_runs() {
+    local library=$1 name free=() hang=()
+    prepare "$library" persistent.c 4
+    mv -- "$work/program" "$work/free"
+    free=("${command[@]:0:${#command[@]}-1}" "$work/free")
+    prepare "$library" head-to-head.c 2
+    hang=("${command[@]}")
+    # shellcheck disable=SC2016
+    compare "$library: two runs, one after the other" "$programs/two-runs.report" \
+        env SECOND="$(printf '%q ' "${hang[@]}")" sh -c '"$@"; eval "$SECOND"' sh "${free[@]}"
+    name="$library: two runs at once"
+    # shellcheck disable=SC2016
+    run_with sh -c '"$@" & "$@" & wait' sh "${free[@]}"
+    check_journals "$name"
+    if [[ $status == 0 && $(count_lines 'verdict free: every rank comes to its MPI_Finalize') == 2 ]]; then
+        echo "$name: both are free"
+    else
+        cat -- "$work/said" "$work/errors" >&2
+        fails "$name: status $status"
+    fi
+}
+
+# ---- Names ----------------------------------------------------------------------------------------
+
+# A file and a folder whose names have a line feed, a tab, a form feed, U+2028 and a byte that is no text.
+try_names() {
+    local library=$1 name=$'a\nb\tc\fd\342\200\250e\377f' status=0
+    mkdir -p -- "$work/$name"
+    cp head-to-head.c "$work/$name/$name.c"
+    launch "$library" 2
+    compile "mpicc.$library" -o "$work/$name/$name" "$work/$name/$name.c"
+    "$here/run" --folder "$work/$name/run" --json "$work/$name/json" "${command[@]}" "$work/$name/$name" \
+        >"$work/said" 2>"$work/errors" </dev/null || status=$?
+    rm -rf -- "$work/run"
+    mv -- "$work/$name/run" "$work/run"
+    check_journals "$library: names"
+    if [[ $status == 1 && $(grep -c 'c:9 to rank' "$work/said") == 2 && -s $work/$name/json ]]; then
+        echo "$library: names of any bytes: the lines are reported"
+    else
+        cat -- "$work/said" "$work/errors" >&2
+        fails "$library: names of any bytes: status $status"
+    fi
+}
+
+# ---- Libraries and launchers ----------------------------------------------------------------------
+
+expect_hang() {
+    local name=$1
+    check_journals "$name"
+    if [[ $status == 1 ]]; then
+        echo "$name: recorded"
+    else
+        cat -- "$work/said" "$work/errors" >&2
+        fails "$name: status $status"
+    fi
+}
+
+try_paths() {
+    local library=$1 folder
+    prepare "$library" head-to-head.c 2
+    for folder in libmpich-build libmpi.so.40-build libmpich.so.12; do
+        mkdir -p -- "$work/$folder"
+        cp -- "$work/program" "$work/$folder/program"
+        run_with "${command[@]:0:${#command[@]}-1}" "$work/$folder/program"
+        expect_hang "$library: a path with $folder in it"
+    done
+}
+
+try_launcher() {
+    local library=$1 name
+    prepare "$library" head-to-head.c 2
+    name="$library: a launcher of another name and a script"
+    # shellcheck disable=SC2016
+    printf '#!/bin/sh\nexec %s "$@"\n' "${command[*]:0:${#command[@]}-3}" >"$work/start"
+    printf '#!/bin/sh\nexec %s\n' "$work/program" >"$work/script"
+    chmod +x "$work/start" "$work/script"
+    run_with "$work/start" -n 2 "$work/script"
+    [[ $status == 3 ]] && grep -q -e '--mpi' "$work/errors" || fails "$name: status $status without --mpi"
+    run_with --mpi "$library" "$work/start" -n 2 "$work/script"
+    expect_hang "$name"
+}
+
+# ---- Another tool ---------------------------------------------------------------------------------
+
+# Its own lines are there, and the run is recorded.
+expect_tool() {
+    local name=$1
+    expect_hang "$name"
+    [[ $(grep -c '^tool: rank . sent 1 times' "$work/errors") == 2 ]] ||
+        fails "$name: the other tool wasn't called: $(cat -- "$work/errors")"
+}
+
+try_tool() {
+    local library=$1 tool=$work/tool.so words=()
+    prepare "$library" head-to-head.c 2
+    compile "mpicc.$library" -shared -fPIC -o "$tool" tool.c
+    LD_PRELOAD=$tool run_with "${command[@]}"
+    expect_tool "$library: another tool in LD_PRELOAD"
+    run_with "${command[@]:0:${#command[@]}-1}" env LD_PRELOAD="$tool" "$work/program"
+    expect_tool "$library: another tool by env"
+    words=(-genv LD_PRELOAD "$tool")
+    [[ $library == mpich ]] || words=(-x "LD_PRELOAD=$tool")
+    run_with "${command[@]:0:${#command[@]}-3}" "${words[@]}" -n 2 "$work/program"
+    expect_tool "$library: another tool by ${words[0]}"
+}
+
+# ---- Without recorder or room ---------------------------------------------------------------------
+
+try_unrecorded() {
+    local library=$1
+    prepare "$library" head-to-head.c 1
+    compare "$library: a rank that isn't recorded" "$programs/unrecorded.report" --for 60 \
+        "${command[@]}" : -n 1 env -u LD_PRELOAD "$work/program"
+    prepare "$library" strict-forms.c 1
+    run_with --strict --for 60 "${command[@]}" : -n 1 env -u LD_PRELOAD "$work/program"
+    check_journals "$library: a rank that isn't recorded, --strict"
+    if grep -q 'the run was ended' "$work/errors"; then
+        fails "$library: a rank that isn't recorded, --strict: the run hung"
+    else
+        echo "$library: a rank that isn't recorded, --strict: the run ended"
+    fi
+}
+
+# The ranks' own journals, where there is so much room for them.
+record_into() {
+    local library=$1 folder=$2
+    status=0
+    timeout 120 env LD_PRELOAD="$here/record/out/$library/record.so" MPIWAIT_JOURNAL="$folder" "${command[@]}" \
+        >"$work/said" 2>"$work/errors" </dev/null || status=$?
+}
+
+try_no_room() {
+    local library=$1 name="$1: a full disk"
+    prepare "$library" many-calls.c 1
+    run_with true 2>/dev/null || :
+    mkdir -p -- "$work/small"
+    mount -t tmpfs -o size=1m none "$work/small" 2>/dev/null || { echo "$name: passed over: it can't be mounted"; return; }
+    mounted=$work/small
+    rm -rf -- "$work/run"
+    mkdir -p -- "$work/small/journal" "$work/run"
+    record_into "$library" "$work/small/journal"
+    touch -- "$work/run/.mpiwait-run"
+    cp -r -- "$work/small/journal" "$work/run/journal"
+    umount "$mounted"
+    mounted=''
+    [[ $status == 0 ]] || fails "$name: the program ended with $status: $(cat -- "$work/errors")"
+    compare "$name" "$programs/no-room.report" --again
+}
+
+try_no_folder() {
+    local library=$1 name="$1: no folder for the journals"
+    prepare "$library" head-to-head.c 2
+    record_into "$library" "$work/none/journal"
+    if [[ $status == 0 ]] && grep -q "isn't recorded" "$work/errors"; then
+        echo "$name: the program runs, and that is reported"
+    else
+        cat -- "$work/errors" >&2
+        fails "$name: status $status"
+    fi
+}
+
+# A journal has at most 32 bytes a line, and nothing is added behind the last call line.
+try_bounds() {
+    local library=$1 name="$1: the size of a journal" lines bytes
+    prepare "$library" many-wildcards.c 1
+    run_with "${command[@]}"
+    check_journals "$name"
+    lines=$(tr -d '\0' <"$work/run/journal/journal0" | wc -l)
+    bytes=$(stat -c %s "$work/run/journal/journal0")
+    if ((bytes <= 32 * lines && lines <= 1400000)); then
+        echo "$name: $lines lines, $bytes bytes"
+    else
+        fails "$name: $lines lines, $bytes bytes"
+    fi
+}
