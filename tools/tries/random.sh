@@ -34,7 +34,7 @@ try_strict_random() {
 try_fault() {
     local name=$1 ended
     shift
-    run_with --strict --for 20 "$@"
+    run_with --strict --for 10 "$@"
     check_journals "$name"
     ended=$(sed -n 's/^tools\/run: the run ended with status \([0-9]*\)$/\1/p' "$work/errors")
     hung=$(grep -c 'the run was ended after' "$work/errors" || :)
