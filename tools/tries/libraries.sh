@@ -9,8 +9,9 @@ has() {
 launch() {
     local words=("mpirun.$1")
     if [[ $1 == openmpi ]]; then
+        words+=(--oversubscribe)
         # Its ranks wait busily: on a machine that has other work they would take minutes.
-        words+=(--oversubscribe --mca mpi_yield_when_idle 1)
+        [[ -n ${is_measured-} ]] || words+=(--mca mpi_yield_when_idle 1)
         [[ $(id -u) != 0 ]] || words+=(--allow-run-as-root)
     fi
     command=("${words[@]}" -n "$2")
