@@ -1,5 +1,5 @@
-# What a recorded call costs: nanoseconds a call in loops of two ranks, recorded less plain, each the best of nine.
-# A part of tools/try, which reads it.
+# What a recorded call costs: nanoseconds a call in loops of two ranks, recorded less plain, each the best of
+# nine. A part of tools/try, which reads it.
 # shellcheck shell=bash
 
 times=${TIMES:-9} # how often each loop is measured
