@@ -235,6 +235,24 @@ try_no_folder() {
     fi
 }
 
+# Without memory for the recorder the program runs all the same, and nothing is free or a hang.
+try_no_memory() {
+    local library=$1 name calls
+    prepare "$library" forms.c 4
+    compile "mpicc.$library" -shared -fPIC -o "$work/no-memory.so" no-memory.c -ldl
+    for calls in 0 1 2 4 8 16 32; do
+        name="$library: no memory behind $calls calls for it"
+        NO_MEMORY=$calls LD_PRELOAD=$work/no-memory.so run_with --for 100 "${command[@]}"
+        check_journals "$name"
+        if [[ $status =~ [05] ]] && ! grep -q 'the run \(was \)\?ended' "$work/errors"; then
+            echo "$name: $(head -n 1 "$work/report")"
+        else
+            cat -- "$work/said" "$work/errors" >&2
+            fails "$name: status $status"
+        fi
+    done
+}
+
 # A journal has at most 32 bytes a line, and nothing is added behind the last call line.
 try_bounds() {
     local library=$1 name="$1: the size of a journal" lines bytes
