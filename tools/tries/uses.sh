@@ -1,5 +1,5 @@
-# Tries of how tools/run is used: signals, several runs, names, launchers, other tools, full disks. A part of tools/try,
-# which reads it.
+# Tries of how tools/run is used: signals, several runs, names, launchers, other tools, full disks. A part of
+# tools/try, which reads it.
 # shellcheck shell=bash
 
 mounted=''
@@ -47,7 +47,8 @@ try_signals() {
         name="$library: SIG$signal to tools/run"
         rm -rf -- "$work/run"
         prepare "$library" large-messages.c 2
-        env --default-signal=INT "$here/run" --folder "$work/run" "${command[@]}" >"$work/said" 2>&1 </dev/null &
+        env --default-signal=INT "$here/run" --folder "$work/run" "${command[@]}" \
+            >"$work/said" 2>&1 </dev/null &
         running=$!
         wait_until has_begun || fails "$name: the run didn't begin"
         kill "-$signal" "$running"
@@ -197,8 +198,8 @@ try_unrecorded() {
 record_into() {
     local library=$1 folder=$2
     status=0
-    timeout 120 env LD_PRELOAD="$here/record/out/$library/record.so" MPIWAIT_JOURNAL="$folder" "${command[@]}" \
-        >"$work/said" 2>"$work/errors" </dev/null || status=$?
+    timeout 120 env LD_PRELOAD="$here/record/out/$library/record.so" MPIWAIT_JOURNAL="$folder" \
+        "${command[@]}" >"$work/said" 2>"$work/errors" </dev/null || status=$?
 }
 
 try_no_room() {
@@ -206,7 +207,10 @@ try_no_room() {
     prepare "$library" many-calls.c 1
     run_with true 2>/dev/null || :
     mkdir -p -- "$work/small"
-    mount -t tmpfs -o size=1m none "$work/small" 2>/dev/null || { echo "$name: passed over: it can't be mounted"; return; }
+    if ! mount -t tmpfs -o size=1m none "$work/small" 2>/dev/null; then
+        echo "$name: passed over: it can't be mounted"
+        return
+    fi
     mounted=$work/small
     rm -rf -- "$work/run"
     mkdir -p -- "$work/small/journal" "$work/run"
@@ -229,6 +233,24 @@ try_no_folder() {
         cat -- "$work/errors" >&2
         fails "$name: status $status"
     fi
+}
+
+# Without memory for the recorder the program runs all the same, and nothing is free or a hang.
+try_no_memory() {
+    local library=$1 name calls
+    prepare "$library" forms.c 4
+    compile "mpicc.$library" -shared -fPIC -o "$work/no-memory.so" no-memory.c -ldl
+    for calls in 0 1 2 4 8 16 32; do
+        name="$library: no memory behind $calls calls for it"
+        NO_MEMORY=$calls LD_PRELOAD=$work/no-memory.so run_with --for 100 "${command[@]}"
+        check_journals "$name"
+        if [[ $status =~ [05] ]] && ! grep -q 'the run \(was \)\?ended' "$work/errors"; then
+            echo "$name: $(head -n 1 "$work/report")"
+        else
+            cat -- "$work/said" "$work/errors" >&2
+            fails "$name: status $status"
+        fi
+    done
 }
 
 # A journal has at most 32 bytes a line, and nothing is added behind the last call line.
