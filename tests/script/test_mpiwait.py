@@ -1,0 +1,150 @@
+"""The script mpiwait and tools/unproved, with a command `rt` that only plays what a test gives it."""
+
+import os
+import shutil
+import stat
+import subprocess
+import tempfile
+import unittest
+from pathlib import Path
+
+TOP = Path(__file__).resolve().parents[2]
+LINE = "mpiwait: this answer comes of code that isn't proved on this machine\n"
+# It notes its words, one a line, and plays a try; asked to run the program, it makes one that shows its own.
+RT = f"""#!/bin/sh
+printf '%s\\n' "$@" > "$PLAYED/words"
+if [ "$1" = run ]; then
+    mkdir -p out && cp {shutil.which("echo")} out/mpiwait
+    exit
+fi
+cat "$PLAYED/out"
+cat "$PLAYED/err" >&2
+exit "$(cat "$PLAYED/status")"
+"""
+
+
+class Script(unittest.TestCase):
+    def setUp(self):
+        kept = tempfile.TemporaryDirectory()
+        self.addCleanup(kept.cleanup)
+        self.folder = Path(kept.name).resolve()
+        self.top = self.folder / "top"
+        crate = self.top / "crates/mpiwait"
+        for name in ("src", "specs", "proofs"):
+            (crate / name).mkdir(parents=True)
+        shutil.copytree(TOP / "tools/texts", self.top / "tools/texts")
+        for name in ("mpiwait", "tools/unproved", "HANDLES", "crates.txt"):
+            shutil.copy(TOP / name, self.top / name)
+        self.here = self.folder / "here"
+        self.here.mkdir()
+        for name in ("head", "r0", "8", "-x"):
+            (self.here / name).write_text("finalize\n")
+        (self.folder / "bin").mkdir()
+        rt = self.folder / "bin/rt"
+        rt.write_text(RT)
+        rt.chmod(rt.stat().st_mode | stat.S_IXUSR)
+
+    def play(self, out="", err="", status=0, notes=None):
+        """What the next try gives: by default an answer of the program."""
+        if notes is None:
+            notes = f"checked: ended status={status}\nraces: not looked for\n" \
+                f"run=ended status={status} runners=1 races=unchecked proved=no\n"
+        for name, text in (("out", out), ("err", err + notes), ("status", str(status))):
+            (self.folder / name).write_text(text)
+
+    def run_script(self, *words, path=None):
+        (self.folder / "words").unlink(missing_ok=True)
+        path = f"{self.folder / 'bin'}:{os.environ['PATH']}" if path is None else path
+        environment = {**os.environ, "PLAYED": str(self.folder), "PATH": path}
+        done = subprocess.run([self.top / "mpiwait", *words], cwd=self.here, env=environment, text=True,
+                              capture_output=True, stdin=subprocess.DEVNULL, check=False)
+        return done.returncode, done.stdout, done.stderr
+
+    def given(self):
+        """The words that `rt` was given; none where it wasn't called."""
+        path = self.folder / "words"
+        return path.read_text().splitlines() if path.exists() else None
+
+    def test_the_answer_is_the_programs(self):
+        for status, out in ((0, "verdict free\n"), (1, '{"verdict":"hang"}'), (2, "refused\n\n"), (5, "")):
+            self.play(out, status=status)
+            self.assertEqual(self.run_script("--unproved", "check", "head", "r0"), (status, out, LINE))
+
+    def test_paths_have_names_of_the_scripts(self):
+        self.play()
+        self.run_script("--unproved", "check", "--eager", "8", "--json", "head", "r0", "8", "none")
+        data = [f"mpiwait-file-{at}.={self.here / name}" for at, name in enumerate(("head", "r0", "8"))]
+        self.assertEqual(self.given()[:9], ["try", "--seconds", "600", "--data", data[0], "--data", data[1],
+                                            "--data", data[2]])
+        names = [f"mpiwait-file-{at}." for at in range(4)]
+        self.assertEqual(self.given()[9:], ["--", "check", "--eager", "8", "--json", *names])
+
+    def test_words_after_two_dashes_are_paths(self):
+        self.play()
+        self.run_script("--unproved", "check", "--", "-x", "--eager", "8")
+        names = [f"mpiwait-file-{at}." for at in range(3)]
+        self.assertEqual(self.given()[-5:], ["check", "--", *names])
+
+    def test_messages_name_the_callers_paths(self):
+        place = f"{self.folder}/no & such.[r]*\\1"
+        self.play(err="fault open mpiwait-file-1.\n", status=4)
+        self.assertEqual(self.run_script("--unproved", "check", "head", place),
+                         (4, "", f"{LINE}fault open {place}\n"))
+
+    def test_eleven_files_are_told_apart(self):
+        self.play(err="fault open mpiwait-file-10.\n", status=4)
+        paths = [f"none{at}" for at in range(11)]
+        said = self.run_script("--unproved", "check", *paths)
+        self.assertEqual(said, (4, "", f"{LINE}fault open none10\n"))
+
+    def test_lines_like_those_of_rt_stay(self):
+        said = "error: x\nchecked: ended status=0\n\nend\n"
+        self.play(err=said, status=3)
+        self.assertEqual(self.run_script("--unproved", "chekc", "\nchecked: "), (3, "", LINE + said))
+
+    def test_a_folder_has_its_files(self):
+        (self.here / "run").mkdir()
+        (self.here / "run/head").write_text("ranks 2\n")
+        self.play("verdict hang\n", status=1)
+        self.assertEqual(self.run_script("--unproved", "run")[:2], (1, "verdict hang\n"))
+        self.assertEqual(self.given()[-4:], ["check", *[f"mpiwait-file-{at}." for at in range(3)]])
+
+    def test_a_pipe_is_no_answer(self):
+        os.mkfifo(self.here / "pipe")
+        status, out, err = self.run_script("--unproved", "check", "head", "pipe")
+        self.assertEqual((status, out, self.given()), (4, "", None))
+        self.assertIn("pipe: ", err)
+
+    def test_no_answer_of_rt_is_none_of_the_scripts(self):
+        for notes in ("run=no-answer proved=no\n", "", "run=none proved=no\n", "run=fault proved=no\n"):
+            for status in (0, 1, 2, 5, 6):
+                self.play("verdict free\n", status=status, notes=notes)
+                self.assertEqual(self.run_script("--unproved", "check", "head", "r0")[:2], (4, ""))
+
+    def test_without_rt_the_status_is_3(self):
+        tools = self.folder / "tools"
+        tools.mkdir()
+        for name in ("bash", "env", "dirname", "readlink", "mktemp", "rm", "cat", "find"):
+            (tools / name).symlink_to(shutil.which(name))
+        said = self.run_script("--unproved", "check", "head", "r0", path=str(tools))
+        self.assertEqual(said[:2], (3, ""))
+
+    def test_help_needs_no_build(self):
+        said = (TOP / "tools/texts/check-help").read_text()
+        self.assertEqual(self.run_script("--unproved", "check", "--help"), (0, said, ""))
+        self.assertIsNone(self.given())
+
+    def test_the_first_build_names_the_way_without_a_proof(self):
+        status, out, err = self.run_script("check", "head", "r0")
+        self.assertEqual((status, out), (0, "check head r0\n"))
+        self.assertIn("proving and building it, this first time only: half an hour; "
+                      "./mpiwait --unproved .. answers in a minute\n", err)
+
+    def test_the_proved_program_is_used_where_it_is_built(self):
+        self.run_script("check", "head", "r0")
+        self.assertEqual(self.run_script("--unproved", "check", "head"), (0, "check head\n", ""))
+        self.assertIsNone(self.given())
+
+
+if __name__ == "__main__":
+    unittest.main()
