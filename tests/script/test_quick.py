@@ -38,7 +38,7 @@ class Quick(unittest.TestCase):
 
     def rt(self, ending):
         """A command `rt` that wants a case and what must come of it, and then ends so."""
-        write(self.top / "bin/rt", f'#!/bin/sh\n[ "$1 $2 $3 $4" = "try --seconds 400 --cases" ] &&\n'
+        write(self.top / "bin/rt", f'#!/bin/sh\n[ "$1 $2 $3 $4" = "try --seconds 1500 --cases" ] &&\n'
               f'grep -q row "$5/rows" && grep -q rows "$5/rows.stdout" && {ending}\n')
 
     def run_quick(self, *words, path=None):
