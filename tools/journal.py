@@ -148,13 +148,27 @@ def unescaped(frame):
 class Header:
     """The first line of a journal: `journal 2 R P ID S LIBRARY`."""
 
-    def __init__(self, rank, ranks, run, state):
+    def __init__(self, rank, ranks, run, state, library):
         self.rank, self.ranks, self.run = int(rank), int(ranks), run
         self.is_outside = state == "o"  # of the last call
+        found = LIBRARY.fullmatch(library)
+        self.is_strict = found[1] is not None
+        self.polls = polls_of(*found.groups()[1:]) if found[2] else None
+
+
+def polls_of(site, call, count):
+    """The last of the tests and probes that found nothing since the last call line, and how many those are.
+    None where there were none."""
+    site, call, count = (int(field, 16) for field in (site, call, count))
+    return {"call": POLLS[call], "site": site, "count": count} if call in POLLS and count else None
 
 
 LONGEST_LINE = 32_768
-HEADER = re.compile(rb"journal 2 (0|[1-9][0-9]{0,3}) ([1-9][0-9]{0,3}) ([^ ]+) ([io]) .+", re.DOTALL)
+HEADER = re.compile(rb"journal 2 (0|[1-9][0-9]{0,3}) ([1-9][0-9]{0,3}) ([^ ]+) ([io]) (.+)", re.DOTALL)
+LIBRARY = re.compile(r".+?( strict)?(?: polls ([0-9a-f]{8}) ([0-9a-f]{2}) ([0-9a-f]{16}))?", re.DOTALL)
+POLLS = dict(
+    enumerate(("MPI_Test", "MPI_Testall", "MPI_Testany", "MPI_Testsome", "MPI_Iprobe", "MPI_Improbe"), 1)
+)
 
 
 def header_of(path):

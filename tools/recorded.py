@@ -107,6 +107,17 @@ class Run:
     def is_whole(self):
         return all(map(self.is_closed, range(self.ranks)))
 
+    @property
+    def strictness(self):
+        """Whether the recorded ranks were strict; None where only some of them were."""
+        found = {said["strict"] for said in self.recording["ranks"] if said["seen"]}
+        return None if len(found) > 1 else True in found
+
+    def polls(self):
+        """The ranks whose last calls were tests or probes that found nothing: the last of these, by rank."""
+        said = enumerate(self.recording["ranks"])
+        return {rank: one["polls"] for rank, one in said if one["polls"]}
+
     def files(self):
         """The head and the traces, as a check wants them."""
         return files_of(self.folder)

@@ -41,8 +41,8 @@ def closings(name):
         yield title.removeprefix("# "), calls, ["".join([f"ranks {len(calls)}\n", *groups]), *traces]
 
 
-def journal(rank, ranks, calls, state="i"):
-    return f"journal 2 {rank} {ranks} a-run {state} a library\n" + lines(calls)
+def journal(rank, ranks, calls, state="i", library="a library"):
+    return f"journal 2 {rank} {ranks} a-run {state} {library}\n" + lines(calls)
 
 
 class Folders(unittest.TestCase):
@@ -53,12 +53,14 @@ class Folders(unittest.TestCase):
         self.addCleanup(folder.cleanup)
         self.folder = Path(folder.name)
 
-    def run_of(self, *ranks, state="i"):
-        """Writes the journals of a run; None for a rank without one."""
+    def run_of(self, *ranks, state="i", after=()):
+        """Writes the journals of a run; None for a rank without one. `after` has the words that some ranks have
+        after the library."""
         (self.folder / "journal").mkdir()
         for rank, calls in enumerate(ranks):
             if calls is not None:
-                self.write(f"journal/journal{rank}", journal(rank, len(ranks), calls, state))
+                library = "a library" + dict(after).get(rank, "")
+                self.write(f"journal/journal{rank}", journal(rank, len(ranks), calls, state, library))
 
     def write(self, name, text):
         (self.folder / name).write_bytes(text if isinstance(text, bytes) else text.encode())

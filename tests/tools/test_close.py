@@ -70,8 +70,8 @@ class Closing(Folders):
 
 
 class Recording(Folders):
-    def recorded(self, *ranks):
-        self.run_of(*ranks)
+    def recorded(self, *ranks, **words):
+        self.run_of(*ranks, **words)
         CLOSE.close(self.folder)
         return json.loads(self.read("recording.json"))
 
@@ -80,9 +80,8 @@ class Recording(Folders):
             "init @1 / barrier 0 @2 / finalize", None, "barrier 0 @3 / stopped for a reason"
         )["ranks"]
         last = {"call": "MPI_Finalize", "site": 0}
-        self.assertEqual(
-            first, {"seen": True, "calls": 2, "last": last, "end": "finalize", "stops": None, "left_out": []}
-        )
+        said = {"seen": True, "calls": 2, "last": last, "end": "finalize", "stops": None, "left_out": []}
+        self.assertEqual(first, said | {"strict": False, "polls": None})
         self.assertEqual((second["seen"], second["calls"], second["end"]), (False, 1, "cut"))
         self.assertEqual(
             (third["last"], third["end"]), ({"call": "MPI_Barrier", "site": 3}, "stopped for a reason")
@@ -107,6 +106,39 @@ class Recording(Folders):
                 self.assertEqual((stops["call"], stops["why"], stops["later"]), (call, why, later))
                 self.doCleanups()
                 self.setUp()
+
+    def test_strict_ranks(self):
+        none = " polls 00000000 00 0000000000000000"
+        after = {0: " strict", 1: " strict" + none, 3: none, 4: " strict mode", 5: " strict polls"}
+        ranks = self.recorded(*["finalize"] * 6, None, after=after)["ranks"]
+        self.assertEqual([one["strict"] for one in ranks], [True, True] + [False] * 4 + [False])
+        self.assertEqual({one["polls"] for one in ranks}, {None})
+
+    def test_polls(self):
+        last = " polls 0000001f 0{} 00000000000f4240"
+        after = {rank: last.format(rank + 1) for rank in range(7)} | {6: " strict" + last.format(1)}
+        ranks = self.recorded(*["barrier 0"] * 7, state="o", after=after)["ranks"]
+        names = ["Test", "Testall", "Testany", "Testsome", "Iprobe", "Improbe", "Test"]
+        self.assertEqual(
+            [one["polls"] for one in ranks],
+            [{"call": "MPI_" + name, "site": 31, "count": 1_000_000} for name in names],
+        )
+
+    def test_words_that_are_no_polls(self):
+        after = dict(enumerate((
+            " polls 0000001f 07 0000000000000001", " polls 0000001f 00 0000000000000001",
+            " polls 0000001f 01 0000000000000000", " polls 1f 01 01", " polls 0000001F 01 0000000000000001",
+            " polls 0000001f 01 0000000000000001 more",
+        )))  # fmt: skip
+        ranks = self.recorded(*["barrier 0"] * 6, state="o", after=after)["ranks"]
+        self.assertEqual([one["polls"] for one in ranks], [None] * 6)
+
+    def test_polls_before_the_end_of_a_journal(self):
+        """They are the last calls of a journal that was cut off alone."""
+        ends = ["finalize", "exit", "abort", "full", "stopped two threads called MPI at once"]
+        after = dict.fromkeys(range(5), " polls 00000001 01 0000000000000001")
+        ranks = self.recorded(*ends, state="o", after=after)["ranks"]
+        self.assertEqual([one["polls"] for one in ranks], [None] * 5)
 
     def test_processes_that_were_not_recorded(self):
         self.run_of("finalize")

@@ -40,9 +40,9 @@ What this assumes:
 
 
 class Explaining(Folders):
-    def judged(self, report, *ranks, sites=b"1\t/src/a.py:7\n2\t/src/a.py:8\n"):
+    def judged(self, report, *ranks, sites=b"1\t/src/a.py:7\n2\t/src/a.py:8\n", **words):
         """A run that was closed, with the report of its check."""
-        self.run_of(*ranks)
+        self.run_of(*ranks, **words)
         for rank in range(len(ranks)):
             self.write(f"journal/sites{rank}", sites)
         CLOSE.close(self.folder)
@@ -209,6 +209,162 @@ class Explaining(Folders):
         done = self.command("explain", "--eager", 3, "--json", "none/said.json", ".")
         self.assertEqual((done.returncode, done.stdout), (4, TEXT))
         self.assertIn("none/said.json", done.stderr)
+
+
+TITLE = "Ranks that didn't come to MPI_Finalize in this run, and their last calls"
+ASSUMES = "What this assumes"
+STRICT = (
+    "This run was strict: standard sends were passed on as synchronous ones, and blocking collectives were "
+    "followed by a barrier. So a test that completed a send has waited for its receive, and nothing is "
+    "said of tests."
+)
+TESTED = "A test that completed its requests waits for them, as it went in this run."
+COLLECTIVE = "A collective call waits until every member calls it."
+
+
+def stuck_in(calls):
+    """A report in which two ranks wait for each other, in their calls at place 1."""
+    ranks = [
+        {"at": 1, "call": call, "needs": [[1 - rank, None]], "rank": rank} for rank, call in enumerate(calls)
+    ]
+    return HANG | {"ranks": ranks}
+
+
+class StrictRuns(Explaining):
+    def assumed(self, report, *ranks, strict=(0, 1)):
+        """What is assumed, by its first sentences; of a run with these ranks strict."""
+        self.doCleanups()
+        self.setUp()
+        self.judged(report, *ranks, after=dict.fromkeys(strict, " strict"))
+        return self.story()[1].get(ASSUMES, [])
+
+    def test_what_a_strict_run_assumes(self):
+        self.assertEqual(self.assumed(FREE, "finalize", "finalize"), [STRICT])
+        self.assertEqual(self.assumed(HANG, *BOTH), [STRICT, SENDS + BUFFERS])
+        self.assertEqual(self.assumed(FREE, "finalize", "finalize", strict=()), [])
+        self.assertEqual(self.assumed(HANG, *BOTH, strict=()), [SENDS + BUFFERS])
+        self.assertEqual(self.assumed(FREE, "finalize", None, strict=(0,)), [STRICT])
+
+    def test_collectives_without_a_barrier(self):
+        self.run_of("finalize", after={0: " strict"})
+        unfollowed = "collectives of a strict run without a barrier after them"
+        self.write("journal/left0", f"N 000000000003 {unfollowed}\n")
+        CLOSE.close(self.folder)
+        self.write("report.json", json.dumps(FREE))
+        counted = "followed by a barrier, but for those that are counted below."
+        self.assertEqual(self.story()[1][ASSUMES], [STRICT.replace("followed by a barrier.", counted)])
+
+    def test_tests_taken_as_waits(self):
+        calls = [f"isend 1 0 {peer} 0 4 / test 1" for peer in (1, 0)]
+        report = stuck_in(["wait 0", "wait 0"])
+        said = self.assumed(report, *calls, strict=())
+        self.assertTrue(any(line.startswith(TESTED) for line in said), said)
+        self.assertEqual(self.assumed(report, *calls), [STRICT, SENDS + BUFFERS])
+
+    def test_a_hang_by_nonblocking_collectives(self):
+        rests = "The hang rests on waits for nonblocking collectives (ranks 0 and 1). "
+        for start, wait in (("ibcast 1 0 0", "wait 1"), ("iscan 1 0", "test 1"), ("comm_idup 1 0", "wait 1")):
+            with self.subTest(start):
+                report = stuck_in(["wait 0", "wait 0"])
+                said = self.assumed(report, *[f"{start} / {wait}"] * 2)
+                self.assertEqual(said[0], STRICT)
+                self.assertTrue(said[1].startswith(rests), said)
+                self.assertTrue(said[2].startswith(COLLECTIVE), said)
+                said = self.assumed(report, *[f"{start} / {wait}"] * 2, strict=())
+                self.assertFalse(any(line.startswith("The hang rests") for line in said), said)
+
+    def test_a_hang_by_calls_that_are_forced_to_wait(self):
+        for calls in (["ibarrier 1 0 / wait 1"] * 2, ["ibcast 1 0 0 / bcast 0 0"] * 2):
+            with self.subTest(calls):
+                last = "wait 0" if "wait" in calls[0] else "bcast 0 0"
+                said = self.assumed(stuck_in([last, last]), *calls)
+                self.assertEqual([line[:20] for line in said], [STRICT[:20], COLLECTIVE[:20]])
+
+    def test_one_of_two_causes_by_nonblocking_collectives(self):
+        calls = ["ibcast 1 0 0 / wait 1"] * 2 + ["barrier 0 / barrier 0"] * 2
+        report = stuck_in(["wait 0", "wait 0"])
+        report["ranks"] += [
+            {"at": 1, "call": "barrier 0", "needs": [[5 - rank, None]], "rank": rank} for rank in (2, 3)
+        ]
+        said = self.assumed(
+            report | {"causes": [{"cycle": [0, 1]}, {"missing": [2, 3]}]}, *calls, strict=range(4)
+        )
+        rests = "1 of 2 causes rest on waits for nonblocking collectives (ranks 0 and 1). "
+        self.assertTrue(said[1].startswith(rests), said)
+
+    def test_only_some_ranks(self):
+        calls = [f"isend 1 0 {peer} 0 4 / test 1" for peer in (1, 0)]
+        strict = dict.fromkeys((0, 2), " strict")
+        self.judged(stuck_in(["wait 0", "wait 0"]), *calls, "finalize", None, after=strict)
+        title, sections = self.story()
+        self.assertEqual(title, "verdict hang: 2 of 4 ranks wait")
+        self.assertTrue(any(line.startswith(TESTED) for line in sections[ASSUMES]))
+        self.assertNotIn(STRICT, sections[ASSUMES])
+        self.assertEqual(
+            sections["Only some ranks were strict, so this is reported as a run that wasn't"],
+            [
+                "ranks 0 and 2: strict",
+                "rank 1: not strict: a send may have been buffered, and a collective with such a member "
+                "wasn't followed by a barrier",
+            ],
+        )
+
+    def test_json(self):
+        for strict, wanted in (((0, 1), True), ((), False), ((1,), None)):
+            with self.subTest(strict):
+                self.assumed(FREE, "finalize", "finalize", strict=strict)
+                self.said("--json", "said.json")
+                self.assertIs(json.loads(self.read("said.json"))["strict"], wanted)
+
+
+class Polling(Explaining):
+    def polled(self, calls, **polls):
+        """A run whose ranks asked: for each its site, call and count."""
+        after = {
+            int(rank[1:]): " polls {:08x} {:02x} {:016x}".format(*fields) for rank, fields in polls.items()
+        }
+        self.judged(UNFINISHED, *calls, state="o", after=after)
+        return self.story()[1][TITLE]
+
+    def test_a_rank_that_asks_again_and_again(self):
+        said = self.polled(["barrier 0 @1", "irecv 1 0 0 4 @1"], r1=(2, 1, 1234))
+        self.assertEqual(
+            said,
+            [
+                "rank 0: MPI_Barrier at /src/a.py:7",
+                "rank 1 asked again and again: MPI_Test at /src/a.py:8 (1,234 times, found nothing); before "
+                "that: MPI_Irecv at /src/a.py:7",
+            ],
+        )
+
+    def test_ranks_that_ask_in_the_same_line(self):
+        said = self.polled(["barrier 0"] * 4, r0=(1, 5, 20), r1=(1, 5, 1000), r2=(2, 5, 20), r3=(0, 6, 1))
+        self.assertEqual(
+            said,
+            [
+                "ranks 0 and 1 asked again and again: MPI_Iprobe at /src/a.py:7 (20 to 1,000 times, found "
+                "nothing); before that: MPI_Barrier",
+                "rank 2 asked again and again: MPI_Iprobe at /src/a.py:8 (20 times, found nothing); before "
+                "that: MPI_Barrier",
+                "rank 3 asked once: MPI_Improbe (found nothing); before that: MPI_Barrier",
+            ],
+        )
+
+    def test_a_receive_with_a_wildcard_that_is_asked_for(self):
+        said = self.polled(["irecv 1 0 any any @1"], r0=(2, 1, 7))
+        self.assertEqual(
+            said,
+            [
+                "rank 0 asked again and again: MPI_Test at /src/a.py:8 (7 times, found nothing); before "
+                "that: MPI_Irecv at /src/a.py:7 was completed by no call: any source, any tag"
+            ],
+        )
+
+    def test_json(self):
+        self.polled(["barrier 0", "barrier 0"], r1=(2, 1, 1234))
+        self.said("--json", "said.json")
+        polls = [{"rank": 1, "mpi": "MPI_Test", "count": 1234, "frames": ["/src/a.py:8"]}]
+        self.assertEqual(json.loads(self.read("said.json"))["polls"], polls)
 
 
 class InWords(unittest.TestCase):

@@ -12,6 +12,7 @@
  *   probes.c          probes and the messages that they take
  *   collectives.c     collectives
  *   strict.c          strict runs
+ *   strict_pairs.c    their nonblocking calls that both send and receive
  */
 #ifndef MPIWAIT_CALLS_H
 #define MPIWAIT_CALLS_H
@@ -34,8 +35,8 @@ enum { WORLD = 0, SELF = 1, UNNUMBERED = -1 };
         found_; \
     })
 
-/* Bindings for Fortran call `PMPI_Send`: Open MPI's all, MPICH's of mpi_f08 some; so do other tools. So the recorder
- * stands under that name too. */
+/* Bindings for Fortran call `PMPI_Send`: Open MPI's all, MPICH's of mpi_f08 some; so do other tools. So the
+ * recorder has that name too. */
 #define ALSO_PMPI(Name) extern __typeof__(MPI_##Name) PMPI_##Name __attribute__((alias("MPI_" #Name)));
 
 /* None of these is seen by the program. */
@@ -45,9 +46,10 @@ void *found_in_library(const char *name);
 
 /* ---- Turns ------------------------------------------------------------------------------------- */
 
-/* Each function of the recorder begins with BEGINS and ends with `over`. A call that is recorded has the turn from
- * one to the other, and the recorder's lock but for the time within MPI: calls of several threads come one after the
- * other, and what they write and look up is one thread's. A call within another call isn't the program's. */
+/* Each function of the recorder begins with BEGINS and ends with `over`. A call that is recorded has the turn
+ * from one to the other, and the recorder's lock but for the time within MPI: calls of several threads come
+ * one after the other, and what they write and look up is one thread's. A call within another call isn't the
+ * program's. */
 bool begins(void *caller, void *frame);
 #define BEGINS begins(__builtin_return_address(0), __builtin_frame_address(0))
 
@@ -112,7 +114,7 @@ bool nobody_calls(void);
 
 #define FIELDS(...) sizeof((Field[]){__VA_ARGS__}) / sizeof(Field), (Field[]){__VA_ARGS__}
 #define PUT(word, ...) journal_call(word, FIELDS(__VA_ARGS__), site())
-#define TOLD(word, ...) journal_told(word, FIELDS(__VA_ARGS__))
+#define REPORT(word, ...) journal_report(word, FIELDS(__VA_ARGS__))
 
 /* Numbers the world and MPI_COMM_SELF, once MPI has begun. */
 void number_communicators(void);
@@ -123,13 +125,15 @@ int numbered(MPI_Comm comm, const char *call);
 /* A call that made communicator `comm`: `=idup` with the number of its request. */
 void adopt_duplicate(int request, MPI_Comm comm);
 
-static inline uintptr_t bits(MPI_Request handle) { return handle == MPI_REQUEST_NULL ? 0 : (uintptr_t)handle; }
+static inline uintptr_t bits(MPI_Request handle) {
+    return handle == MPI_REQUEST_NULL ? 0 : (uintptr_t)handle;
+}
 
 /* The number of the next request or message: 0 where no call line is written any more. */
 int new_number(void);
 
-/* A call started a request; its number is 0 where no line says the call. What the table has of it, to be filled in,
- * or NULL where the recording stopped. */
+/* A call started a request; its number is 0 where no line says the call. What the table has of it, to be
+ * filled in, or NULL where the recording stopped. */
 Request *started(MPI_Request *handle, int number);
 
 /* A call made a persistent request that isn't recorded. */

@@ -50,8 +50,8 @@ void number_communicators(void) {
 
 /* ---- Groups ------------------------------------------------------------------------------------ */
 
-/* The members of a group by their ranks in the world, behind `before` fields; or NULL, where one is of another world
- * or there is no memory. */
+/* The members of a group by their ranks in the world, after `before` fields; or NULL, where one is of another
+ * world or there is no memory. */
 static Field *members_of(MPI_Group group, int before, int *size) {
     REAL(Group_size)(group, size);
     size_t count = *size;
@@ -75,9 +75,9 @@ static Field *members_of(MPI_Group group, int before, int *size) {
     return NULL;
 }
 
-/* Gives a communicator the next number and tells its group, behind the request that made it, if there is one. One with
- * members of another world isn't told. */
-static void tell_group(const char *word, int request, MPI_Comm comm) {
+/* Gives a communicator the next number and reports its group, after the request that made it, if there is
+ * one. One with members of another world isn't reported. */
+static void report_group(const char *word, int request, MPI_Comm comm) {
     MPI_Group group;
     int size, before = request ? 2 : 1;
     REAL(Comm_group)(comm, &group);
@@ -88,7 +88,7 @@ static void tell_group(const char *word, int request, MPI_Comm comm) {
     fields[0] = next_comm;
     if (request)
         fields[1] = request;
-    journal_told(word, before + size, fields);
+    journal_report(word, before + size, fields);
     set_number(comm, next_comm++);
     free(fields);
 }
@@ -97,13 +97,13 @@ static void adopt_by(const char *word, int request, MPI_Comm new) {
     int inter = 0;
     REAL(Comm_test_inter)(new, &inter);
     if (!inter && !journal_is_full)
-        tell_group(word, request, new);
+        report_group(word, request, new);
 }
 
 /* A call made a communicator, or gave this rank none. */
 static void adopt(const char *word, MPI_Comm new) {
     if (new == MPI_COMM_NULL)
-        journal_told("=none", 0, NULL);
+        journal_report("=none", 0, NULL);
     else
         adopt_by(word, 0, new);
 }
@@ -148,8 +148,8 @@ MAKER(Dist_graph_create_adjacent, "comm_make",
        const int out_weights[], MPI_Info info, int reorder, MPI_Comm *new),
       (comm, in, sources, in_weights, out, dests, out_weights, info, reorder, new))
 
-/* The communicator is there when its request is complete. Some libraries give its handle at once; where they don't,
- * it is read later where the program has it, as C's programs do. */
+/* The communicator is there when its request is complete. Some libraries give its handle at once; where they
+ * don't, it is read later where the program has it, as C's programs do. */
 #define IDUP(Name, params, args) \
     int MPI_##Name(UNPACK params, MPI_Comm *new, MPI_Request *handle) { \
         int number = BEGINS ? numbered(comm, unnumbered) : UNNUMBERED; \
@@ -159,7 +159,7 @@ MAKER(Dist_graph_create_adjacent, "comm_make",
         int result = CALL(Name, (UNPACK args, new, handle)); \
         Request *known = is_recorded() && result == MPI_SUCCESS ? started(handle, request) : NULL; \
         if (known && *new != MPI_COMM_NULL) \
-            known->comm = (uintptr_t)*new; \
+            known->comm = (uintptr_t) * new; \
         else if (known) \
             known->place = new; \
         return over(result); \
@@ -181,7 +181,8 @@ static bool put_create_group(MPI_Group group) {
     if (fields)
         journal_call("comm_create_group", size, fields, site());
     else
-        left_out(rank == MPI_UNDEFINED ? NOTHING : WAITS, "MPI_Comm_create_group of a group that isn't of the world");
+        left_out(rank == MPI_UNDEFINED ? NOTHING : WAITS,
+                 "MPI_Comm_create_group of a group that isn't of the world");
     free(fields);
     return fields;
 }

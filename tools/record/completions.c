@@ -20,8 +20,8 @@ typedef struct {
     bool has_others;    /* active ones of calls that aren't recorded */
     int named, pairs;   /* how many active ones are, and how many of these send and receive */
     Line line;
-    MPI_Status *told; /* where its statuses go, */
-    bool is_for_all;  /* and whether there is one for each request, in their order */
+    MPI_Status *place; /* where its statuses go, */
+    bool is_for_all;   /* and whether there is one for each request, in their order */
     Named *requests;
     Field *packed;
     MPI_Status *statuses;
@@ -85,7 +85,7 @@ static void ask(Asked *asked, bool begun, int count, const MPI_Request handles[]
 
 /* The statuses go to the program's own place, or ours where it wants none and we do. */
 static MPI_Status *place_for(Asked *asked, MPI_Status *theirs, const MPI_Status *none) {
-    return asked->told = asked->needed && theirs == none ? asked->statuses : theirs;
+    return asked->place = asked->needed && theirs == none ? asked->statuses : theirs;
 }
 
 /* Whether the call is recorded still, now that it came back. */
@@ -120,8 +120,8 @@ static void put_list(const char *word, const Asked *asked, int count, const int 
     }
 }
 
-/* A wait for one or some. Where it may be over by a request that has no number, or one line doesn't hold it, none says
- * it before it comes back. A wait for one request that sends and receives is a wait for both. */
+/* A wait for one or some. Where it may be over by a request that has no number, or one line doesn't hold it,
+ * none says it before it comes back. A wait for one request that sends and receives is a wait for both. */
 static void put_choice(const char *word, bool is_for_one, Asked *asked) {
     if (!asked->begun || asked->has_others || asked->named == 0 || asked->named > MOST_FIELDS / 2)
         return;
@@ -132,23 +132,23 @@ static void put_choice(const char *word, bool is_for_one, Asked *asked) {
 }
 
 /* Those that it chose. */
-static void tell_choice(Asked *asked, int count, const int places[]) {
+static void report_choice(Asked *asked, int count, const int places[]) {
     if (asked->line == NO_LINE)
         put_list("test", asked, count, places);
     else if (asked->line == CHOICE_LINE)
-        journal_told("=chose", pack(asked, count, places), asked->packed);
+        journal_report("=chose", pack(asked, count, places), asked->packed);
 }
 
 /* ---- Completed requests ------------------------------------------------------------------------ */
 
-static void tell_end(int number, bool wild, const Request *request, const MPI_Status *status) {
+static void report_end(int number, bool wild, const Request *request, const MPI_Status *status) {
     int gone = 0;
     if (request->cancelled)
         REAL(Test_cancelled)(status, &gone);
     if (wild && !gone)
         journal_done(number, status->MPI_SOURCE, status->MPI_TAG);
     else if (request->cancelled)
-        TOLD(gone ? "=gone" : "=kept", number);
+        REPORT(gone ? "=gone" : "=kept", number);
 }
 
 /* A request isn't in use any more; a persistent one may be started again. */
@@ -174,9 +174,9 @@ static void finish(uintptr_t handle, const MPI_Status *status) {
         return;
     int number = request->number;
     if (number && status) {
-        tell_end(number, request->wild && !request->second, request, status);
+        report_end(number, request->wild && !request->second, request, status);
         if (request->second)
-            tell_end(request->second, request->wild, request, status);
+            report_end(request->second, request->wild, request, status);
     }
     MPI_Comm made = made_by(request);
     drop(handle);
@@ -187,25 +187,27 @@ static void finish(uintptr_t handle, const MPI_Status *status) {
 /* The requests at these places (NULL: all) completed. */
 static void finish_all(const Asked *asked, int count, const int places[]) {
     for (int i = 0; i < count; i++)
-        finish(asked->requests[places ? places[i] : i].handle, asked->needed ? &asked->told[i] : NULL);
+        finish(asked->requests[places ? places[i] : i].handle, asked->needed ? &asked->place[i] : NULL);
 }
 
-/* The call answered an error: of some requests the statuses may say that they completed; others are null now. */
+/* The call answered an error: of some requests the statuses may say that they completed; others are null now.
+ */
 static void sort_out(const Asked *asked, int result, const MPI_Request handles[]) {
     int class = MPI_SUCCESS;
     REAL(Error_class)(result, &class);
-    bool is_told = asked->is_for_all && asked->needed && class == MPI_ERR_IN_STATUS;
+    bool is_known = asked->is_for_all && asked->needed && class == MPI_ERR_IN_STATUS;
     journal_failed();
     for (int i = 0; i < asked->count; i++) {
-        if (is_told && asked->told[i].MPI_ERROR == MPI_SUCCESS)
-            finish(asked->requests[i].handle, &asked->told[i]);
+        if (is_known && asked->place[i].MPI_ERROR == MPI_SUCCESS)
+            finish(asked->requests[i].handle, &asked->place[i]);
         else if (asked->requests[i].handle != 0 && bits(handles[i]) == 0)
             drop(asked->requests[i].handle);
     }
 }
 
 /* A test that found nothing, or answered an error. */
-static void found_none(const Asked *asked, Poll poll, const char *what, int result, const MPI_Request handles[]) {
+static void found_none(const Asked *asked, Poll poll, const char *what, int result,
+                       const MPI_Request handles[]) {
     if (result == MPI_SUCCESS) {
         left_out(NOTHING, what);
         journal_polled(poll, site());
@@ -215,12 +217,12 @@ static void found_none(const Asked *asked, Poll poll, const char *what, int resu
     sort_out(asked, result, handles);
 }
 
-/* The library knows none of these as active: MPICH takes a persistent request from MPI_PROC_NULL so. They wait for
- * nobody. */
+/* The library knows none of these as active: MPICH takes a persistent request from MPI_PROC_NULL so. They
+ * wait for nobody. */
 static void none_active(Asked *asked) {
     int all = pack(asked, asked->count, NULL), chosen = asked->line == CHOICE_LINE;
     if (chosen)
-        journal_told("=chose", 1, asked->packed);
+        journal_report("=chose", 1, asked->packed);
     if (all > chosen && asked->line != WAIT_LINE)
         journal_call("test", all - chosen, asked->packed + chosen, site());
     for (int i = 0; i < asked->count; i++)
@@ -232,10 +234,10 @@ static void none_active(Asked *asked) {
 int MPI_Wait(MPI_Request *handle, MPI_Status *status) {
     Asked asked;
     ask(&asked, BEGINS, 1, handle);
-    MPI_Status *told = place_for(&asked, status, MPI_STATUS_IGNORE);
+    MPI_Status *place = place_for(&asked, status, MPI_STATUS_IGNORE);
     if (asked.named)
         put_list("wait", &asked, 1, NULL);
-    int result = CALL(Wait, (handle, told));
+    int result = CALL(Wait, (handle, place));
     if (is_back(&asked) && result == MPI_SUCCESS)
         finish_all(&asked, 1, NULL);
     else if (is_back(&asked))
@@ -248,10 +250,10 @@ int MPI_Waitall(int count, MPI_Request handles[], MPI_Status statuses[]) {
     Asked asked;
     ask(&asked, BEGINS, count, handles);
     asked.is_for_all = true;
-    MPI_Status *told = place_for(&asked, statuses, MPI_STATUSES_IGNORE);
+    MPI_Status *place = place_for(&asked, statuses, MPI_STATUSES_IGNORE);
     if (asked.named)
         put_list("wait", &asked, count, NULL);
-    int result = CALL(Waitall, (count, handles, told));
+    int result = CALL(Waitall, (count, handles, place));
     if (is_back(&asked) && result == MPI_SUCCESS)
         finish_all(&asked, count, NULL);
     else if (is_back(&asked))
@@ -263,15 +265,15 @@ ALSO_PMPI(Waitall)
 int MPI_Waitany(int count, MPI_Request handles[], int *chosen, MPI_Status *status) {
     Asked asked;
     ask(&asked, BEGINS, count, handles);
-    MPI_Status *told = place_for(&asked, status, MPI_STATUS_IGNORE);
+    MPI_Status *place = place_for(&asked, status, MPI_STATUS_IGNORE);
     put_choice("waitany", true, &asked);
-    int result = CALL(Waitany, (count, handles, chosen, told));
+    int result = CALL(Waitany, (count, handles, chosen, place));
     if (is_back(&asked) && result != MPI_SUCCESS) {
         sort_out(&asked, result, handles);
     } else if (is_back(&asked) && *chosen == MPI_UNDEFINED) {
         none_active(&asked);
     } else if (is_back(&asked)) {
-        tell_choice(&asked, 1, chosen);
+        report_choice(&asked, 1, chosen);
         finish_all(&asked, 1, chosen);
     }
     return done(&asked, result);
@@ -281,15 +283,15 @@ ALSO_PMPI(Waitany)
 int MPI_Waitsome(int count, MPI_Request handles[], int *some, int places[], MPI_Status statuses[]) {
     Asked asked;
     ask(&asked, BEGINS, count, handles);
-    MPI_Status *told = place_for(&asked, statuses, MPI_STATUSES_IGNORE);
+    MPI_Status *place = place_for(&asked, statuses, MPI_STATUSES_IGNORE);
     put_choice("waitsome", false, &asked);
-    int result = CALL(Waitsome, (count, handles, some, places, told));
+    int result = CALL(Waitsome, (count, handles, some, places, place));
     if (is_back(&asked) && result != MPI_SUCCESS) {
         sort_out(&asked, result, handles);
     } else if (is_back(&asked) && *some == MPI_UNDEFINED) {
         none_active(&asked);
     } else if (is_back(&asked)) {
-        tell_choice(&asked, *some, places);
+        report_choice(&asked, *some, places);
         finish_all(&asked, *some, places);
     }
     return done(&asked, result);
@@ -301,8 +303,8 @@ ALSO_PMPI(Waitsome)
 int MPI_Test(MPI_Request *handle, int *found, MPI_Status *status) {
     Asked asked;
     ask(&asked, BEGINS, 1, handle);
-    MPI_Status *told = place_for(&asked, status, MPI_STATUS_IGNORE);
-    int result = CALL(Test, (handle, found, told));
+    MPI_Status *place = place_for(&asked, status, MPI_STATUS_IGNORE);
+    int result = CALL(Test, (handle, found, place));
     if (is_back(&asked) && (result != MPI_SUCCESS || !*found)) {
         found_none(&asked, TEST, "MPI_Test, found nothing", result, handle);
     } else if (is_back(&asked)) {
@@ -313,15 +315,15 @@ int MPI_Test(MPI_Request *handle, int *found, MPI_Status *status) {
 }
 ALSO_PMPI(Test)
 
-/* Where no statuses are wanted of more than 64 requests, MPICH 4.0 takes all for those of sends and receives, which
- * ours aren't (starts.c). */
+/* Where no statuses are wanted of more than 64 requests, MPICH 4.0 takes all for those of sends and receives,
+ * which ours aren't (starts.c). */
 int MPI_Testall(int count, MPI_Request handles[], int *found, MPI_Status statuses[]) {
     Asked asked;
     ask(&asked, BEGINS, count, handles);
     asked.needed = asked.begun && (asked.needed || count > 64);
     asked.is_for_all = true;
-    MPI_Status *told = place_for(&asked, statuses, MPI_STATUSES_IGNORE);
-    int result = CALL(Testall, (count, handles, found, told));
+    MPI_Status *place = place_for(&asked, statuses, MPI_STATUSES_IGNORE);
+    int result = CALL(Testall, (count, handles, found, place));
     if (is_back(&asked) && (result != MPI_SUCCESS || !*found)) {
         found_none(&asked, TESTALL, "MPI_Testall, found nothing", result, handles);
     } else if (is_back(&asked)) {
@@ -335,8 +337,8 @@ ALSO_PMPI(Testall)
 int MPI_Testany(int count, MPI_Request handles[], int *chosen, int *found, MPI_Status *status) {
     Asked asked;
     ask(&asked, BEGINS, count, handles);
-    MPI_Status *told = place_for(&asked, status, MPI_STATUS_IGNORE);
-    int result = CALL(Testany, (count, handles, chosen, found, told));
+    MPI_Status *place = place_for(&asked, status, MPI_STATUS_IGNORE);
+    int result = CALL(Testany, (count, handles, chosen, found, place));
     if (is_back(&asked) && (result != MPI_SUCCESS || !*found)) {
         found_none(&asked, TESTANY, "MPI_Testany, found nothing", result, handles);
     } else if (is_back(&asked) && *chosen == MPI_UNDEFINED) {
@@ -352,8 +354,8 @@ ALSO_PMPI(Testany)
 int MPI_Testsome(int count, MPI_Request handles[], int *some, int places[], MPI_Status statuses[]) {
     Asked asked;
     ask(&asked, BEGINS, count, handles);
-    MPI_Status *told = place_for(&asked, statuses, MPI_STATUSES_IGNORE);
-    int result = CALL(Testsome, (count, handles, some, places, told));
+    MPI_Status *place = place_for(&asked, statuses, MPI_STATUSES_IGNORE);
+    int result = CALL(Testsome, (count, handles, some, places, place));
     if (is_back(&asked) && (result != MPI_SUCCESS || *some == 0)) {
         found_none(&asked, TESTSOME, "MPI_Testsome, found nothing", result, handles);
     } else if (is_back(&asked) && *some == MPI_UNDEFINED) {

@@ -1,8 +1,8 @@
 /* Error handlers of the program's. See calls.h.
  *
- * A handler may jump, or throw an exception, and never come back to MPI. So the program's functions are called by ones
- * of ours, which write first that the call failed. These hand on what they get, as it may be C's, C++'s or Fortran's;
- * a C function that takes more than it is given finds the same there as without us.
+ * A handler may jump, or throw an exception, and never come back to MPI. So the program's functions are
+ * called by ones of ours, which write first that the call failed. These hand on what they get, as it may be
+ * C's, C++'s or Fortran's; a C function that takes more than it is given finds the same there as without us.
  */
 #define _GNU_SOURCE
 #include "calls.h"
@@ -30,8 +30,8 @@ ALL(ONE)
 #define NAME(place) handler##place,
 static Handler *const ours[MOST_HANDLERS] = {ALL(NAME)};
 
-/* The function of ours that calls theirs. Where there are none left it is theirs: then a jump is seen only when the
- * next call begins. */
+/* The function of ours that calls theirs. Where there are none left it is theirs: then a jump is seen only
+ * when the next call begins. */
 static void *ours_for(void *theirs) {
     int place = 0;
     while (place < MOST_HANDLERS && handlers[place] && handlers[place] != (Handler *)theirs)
@@ -57,4 +57,5 @@ CREATE(Win_create_errhandler, MPI_Win_errhandler_function)
 #undef MPI_Errhandler_create
 #undef PMPI_Errhandler_create
 #define MPI_Errhandler_create old_create
-int old_create(MPI_Comm_errhandler_function *function, MPI_Errhandler *handler) __asm__("MPI_Errhandler_create");
+int old_create(MPI_Comm_errhandler_function *function,
+               MPI_Errhandler *handler) __asm__("MPI_Errhandler_create");

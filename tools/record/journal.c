@@ -167,7 +167,8 @@ void journal_begin(void) {
     call.failed = false;
 }
 
-/* Where there are more calls than a trace holds, the line `full` is in the place of the first one after them. */
+/* Where there are more calls than a trace holds, the line `full` is in the place of the first one after them.
+ */
 void journal_call(const char *word, int count, const Field *fields, int site) {
     if (journal_is_full || !has_room(count))
         return;
@@ -182,7 +183,7 @@ void journal_call(const char *word, int count, const Field *fields, int site) {
         call.first_end = place();
 }
 
-void journal_told(const char *word, int count, const Field *fields) {
+void journal_report(const char *word, int count, const Field *fields) {
     if (!journal_is_full && has_room(count))
         put_line(word, count, fields, 0);
 }
@@ -199,7 +200,7 @@ void journal_failed(void) {
     call.failed = true;
     if (call.lines > 1)
         cut_from(call.first_end);
-    journal_told("=failed", 0, NULL);
+    journal_report("=failed", 0, NULL);
 }
 
 void journal_came_back(void) {

@@ -8,12 +8,13 @@
  * it wrote. A line's first byte is written last, so a line is there whole or not at all; zero bytes
  * follow the last one.
  *
- * journalR begins with `journal 2 R P ID S LIBRARY`: the rank, the number of ranks, the run's ID, one byte that
- * is `i` while the rank is inside the call of its last call line and `o` once that came back, and the MPI library
- * in words. It ends with ` strict` where standard sends were passed on as synchronous ones, and then with
- * ` polls SSSSSSSS WW CCCCCCCCCCCCCCCC`, hexadecimal digits: while the rank's last calls were tests or probes that
- * found nothing, the site of the last one, which call it was (journal.h's Poll) and how many there were since the
- * last call line; all zeros otherwise. S and these digits are written over where they stand.
+ * journalR begins with `journal 2 R P ID S LIBRARY`: the rank, the number of ranks, the run's ID, one byte
+ * that is `i` while the rank is inside the call of its last call line and `o` once that came back, and the
+ * MPI library in words. It ends with ` strict` where standard sends were passed on as synchronous ones, and
+ * then with ` polls SSSSSSSS WW CCCCCCCCCCCCCCCC`, hexadecimal digits: while the rank's last calls were tests
+ * or probes that found nothing, the site of the last one, which call it was (journal.h's Poll) and how many
+ * there were since the last call line; all zeros otherwise. S and these digits are written over where they
+ * stand.
  *
  * A line of leftR is `M NNNNNNNNNNNN WORDS`: a letter of Meaning, how often, and which calls.
  *
@@ -21,9 +22,9 @@
  * `MODULE+0xOFFSET` or, in Python code, `FILE:LINE`. Backslashes and bytes below 32 of a name, and 127, stand
  * as `\xHH`.
  *
- * The folder of the run is the one that MPIWAIT_JOURNAL names: the file `run` there has the ID of the first run
- * that came. The ranks of another run write into its folder `run-ID`. A process that isn't recorded has a line in
- * the file `unrecorded` of one of these folders that says why.
+ * The folder of the run is the one that MPIWAIT_JOURNAL names: the file `run` there has the ID of the first
+ * run that came. The ranks of another run write into its folder `run-ID`. A process that isn't recorded has a
+ * line in the file `unrecorded` of one of these folders that says why.
  */
 #ifndef MPIWAIT_JOURNAL_H
 #define MPIWAIT_JOURNAL_H
@@ -47,7 +48,8 @@ enum { MOST_FIELDS = 2600 };
 /* Whether calls are recorded: from MPI_Init to MPI_Finalize, unless the recording stops before. */
 extern bool recording;
 
-/* Whether the journal has as many calls as a trace: no other call is written, and no request gets a number. */
+/* Whether the journal has as many calls as a trace: no other call is written, and no request gets a number.
+ */
 extern bool journal_is_full;
 
 /* Why the journal can't be begun, or NULL. */
@@ -60,7 +62,7 @@ void journal_begin(void);
 void journal_call(const char *word, int count, const Field *fields, int site);
 
 /* What the call reported, and what became of the request of an earlier one: the words begin with `=`. */
-void journal_told(const char *word, int count, const Field *fields);
+void journal_report(const char *word, int count, const Field *fields);
 
 /* A receive with a wildcard has its message: the one such line that is written of a full journal too. */
 void journal_done(int number, Field source, Field tag);
@@ -103,16 +105,18 @@ char *map_text(int file, long start, unsigned long size);
 
 enum { LONGEST_ID = 40 };
 
-/* Whether the launcher gives the ID of the run and the rank before MPI begins: into LONGEST_ID bytes, and a number. */
+/* Whether the launcher gives the ID of the run and the rank before MPI begins: into LONGEST_ID bytes, and a
+ * number. */
 bool run_is_given(char *id, int *rank);
 
-/* The folder of the run whose journals this process writes, and the run's ID. Answers why there is none, or NULL. */
+/* The folder of the run whose journals this process writes, and the run's ID. Answers why there is none, or
+ * NULL. */
 const char *run_open(const char *named, int ranks, char *folder, unsigned long room, const char **id);
 
 void sites_open(const char *folder, int rank);
 
-/* The number, from 1, of the place from which the recorder was called: where its function returns to, and that
- * function's frame, which has this behind its first word. 0 where none is known. */
+/* The number, from 1, of the place from which the recorder was called: where its function returns to, and
+ * that function's frame, which has this after its first word. 0 where none is known. */
 int site_of(void *caller, void **frame);
 
 #pragma GCC visibility pop

@@ -24,13 +24,15 @@ static inline bool is_wild(int source, int tag) {
 }
 
 /* Whether a send may be buffered: then its bytes are written. */
-static inline bool is_standard(const char *word) { return strcmp(word, "send") == 0 || strcmp(word, "isend") == 0; }
+static inline bool is_standard(const char *word) {
+    return strcmp(word, "send") == 0 || strcmp(word, "isend") == 0;
+}
 
 /* How many bytes a message has, or UNKNOWN. */
 Field bytes(long long count, MPI_Datatype type);
 
 /* The message that a call on this communicator took or saw; from MPI_PROC_NULL there is none. */
-void tell_message(int number, int source, int result, const MPI_Status *status);
+void report_message(int number, int source, int result, const MPI_Status *status);
 
 #pragma GCC visibility pop
 

@@ -9,8 +9,8 @@
 
 /* What the files of the libraries and of their bindings for other languages are called. */
 static const char *const mpi_names[] = {
-    "libmpi.so",      "libmpich.so",        "libmpichfort.so", "libmpichcxx.so", "libmpifort.so", "libmpicxx.so",
-    "libmpi_mpifh.so", "libmpi_usempi",     "libmpi_cxx.so",   "libmpi_java.so", "libopen-",      "mca_",
+    "libmpi.so",       "libmpich.so",   "libmpichfort.so", "libmpichcxx.so", "libmpifort.so", "libmpicxx.so",
+    "libmpi_mpifh.so", "libmpi_usempi", "libmpi_cxx.so",   "libmpi_java.so", "libopen-",      "mca_",
     "libmca_",
 };
 
@@ -19,7 +19,9 @@ static const char *base_name(const char *path) {
     return slash ? slash + 1 : path;
 }
 
-static bool has_prefix(const char *text, const char *prefix) { return strncmp(text, prefix, strlen(prefix)) == 0; }
+static bool has_prefix(const char *text, const char *prefix) {
+    return strncmp(text, prefix, strlen(prefix)) == 0;
+}
 
 static bool is_of_mpi(const struct dl_phdr_info *module) {
     const char *name = base_name(module->dlpi_name);
@@ -44,18 +46,18 @@ static bool has_address(const struct dl_phdr_info *module, uintptr_t address) {
 /* What a module says of itself for its linking. */
 typedef struct {
     uintptr_t base;
-    const ElfW(Sym) *symbols;
+    const ElfW(Sym) * symbols;
     const char *names;
     const uint32_t *hashes; /* as GNU has them */
-    const ElfW(Rela) *relocations[2];
+    const ElfW(Rela) * relocations[2];
     size_t sizes[2];
 } Dynamic;
 
-static uintptr_t value_of(const ElfW(Dyn) *entry, uintptr_t base) {
+static uintptr_t value_of(const ElfW(Dyn) * entry, uintptr_t base) {
     return entry->d_un.d_ptr < base ? base + entry->d_un.d_ptr : entry->d_un.d_ptr;
 }
 
-static void take_entry(Dynamic *dynamic, const ElfW(Dyn) *entry) {
+static void take_entry(Dynamic *dynamic, const ElfW(Dyn) * entry) {
     const void *at = (const void *)value_of(entry, dynamic->base);
     switch (entry->d_tag) {
     case DT_SYMTAB: dynamic->symbols = at; break;
@@ -88,8 +90,9 @@ static uint32_t gnu_hash(const char *name) {
     return hash;
 }
 
-/* Whether a module defines a symbol, by its table: the number of buckets, that of the first symbol in it, the number
- * of words of a filter and its shift; the filter, the buckets, and the hashes, of which the last of a bucket is odd. */
+/* Whether a module defines a symbol, by its table: the number of buckets, that of the first symbol in it, the
+ * number of words of a filter and its shift; the filter, the buckets, and the hashes, of which the last of a
+ * bucket is odd. */
 static bool defines(const Dynamic *dynamic, const char *name) {
     const uint32_t *table = dynamic->hashes;
     if (!table || table[0] == 0)
@@ -111,7 +114,8 @@ static bool defines(const Dynamic *dynamic, const char *name) {
 
 /* ---- Whose code is at an address --------------------------------------------------------------- */
 
-/* Answers that are known already. A module that is unloaded may give its addresses to another: then none is. */
+/* Answers that are known already. A module that is unloaded may give its addresses to another: then none is.
+ */
 enum { MOST_KNOWN = 1 << 12 };
 static struct {
     const void *address;
@@ -198,9 +202,9 @@ static int take_ends(struct dl_phdr_info *module, size_t size, void *state) {
     return 0;
 }
 
-/* Whether a relocation binds a function that the recorder has to the library's. One that isn't bound yet leads into
- * its own module. */
-static bool leads_past(const Dynamic *dynamic, const ElfW(Rela) *relocation, const Ends *ends) {
+/* Whether a relocation binds a function that the recorder has to the library's. One that isn't bound yet
+ * leads into its own module. */
+static bool leads_past(const Dynamic *dynamic, const ElfW(Rela) * relocation, const Ends *ends) {
 #if __ELF_NATIVE_CLASS == 64
     size_t symbol = ELF64_R_SYM(relocation->r_info);
 #else
@@ -225,23 +229,23 @@ static bool goes_past(const struct dl_phdr_info *module, const Ends *ends) {
     return false;
 }
 
-/* The names of those that were told: their texts stay, as the counts want. */
-enum { MOST_TOLD = 16 };
-static char told[MOST_TOLD][128];
-static int told_count;
+/* What was counted: these texts stay, as the counts want. */
+enum { MOST_NOTED = 16 };
+static char noted[MOST_NOTED][128];
+static int noted_count;
 
-static void tell(const char *name) {
+static void note(const char *name) {
     char text[128];
     int length = snprintf(text, sizeof text, "calls of %.80s that go past the recorder", name);
     for (int i = 0; i < length; i++)
         if ((unsigned char)text[i] < ' ' || text[i] == 127)
             text[i] = '?';
-    for (int i = 0; i < told_count; i++)
-        if (strcmp(told[i], text) == 0)
+    for (int i = 0; i < noted_count; i++)
+        if (strcmp(noted[i], text) == 0)
             return;
-    if (told_count < MOST_TOLD) {
-        strcpy(told[told_count], text);
-        left_out(PARTNERS, told[told_count++]);
+    if (noted_count < MOST_NOTED) {
+        strcpy(noted[noted_count], text);
+        left_out(PARTNERS, noted[noted_count++]);
     } else {
         left_out(PARTNERS, "calls of other modules that go past the recorder");
     }
@@ -253,9 +257,10 @@ static int look_at(struct dl_phdr_info *module, size_t size, void *state) {
     (void)size;
     const Ends *ends = state;
     loaded = module->dlpi_adds;
-    bool is_end = module->dlpi_addr == ends->recorder.dlpi_addr || module->dlpi_addr == ends->library.dlpi_addr;
+    bool is_end =
+        module->dlpi_addr == ends->recorder.dlpi_addr || module->dlpi_addr == ends->library.dlpi_addr;
     if (!is_end && !is_of_mpi(module) && goes_past(module, ends))
-        tell(*module->dlpi_name ? base_name(module->dlpi_name) : "the program");
+        note(*module->dlpi_name ? base_name(module->dlpi_name) : "the program");
     return 0;
 }
 

@@ -7,19 +7,20 @@
 /* None of these is seen by the program. */
 #pragma GCC visibility push(hidden)
 
-/* Whose code is at an address: the program's, the MPI library's with its bindings, or that of another tool, which stands
+/* Whose code is at an address: the program's, the MPI library's with its bindings, or that of another tool
  * between the two. */
 typedef enum { OF_PROGRAM = 1, OF_MPI, OF_TOOL } Owner;
 Owner module_of(const void *address);
 
-/* The path of the module at an address, empty for the program itself, and where it lies in memory; NULL where there is
- * none. */
+/* The path of the module at an address, empty for the program itself, and where it lies in memory; NULL where
+ * there is none. */
 const char *module_at(const void *address, unsigned long *base);
 
 /* Whether a library with a name that begins so is loaded. */
 bool is_loaded(const char *name);
 
-/* Counts each module of the program's whose calls of MPI don't lead to the recorder but to the library itself. */
+/* Counts each module of the program's whose calls of MPI don't lead to the recorder but to the library
+ * itself. */
 void find_bypasses(void);
 
 /* The same, if modules were loaded since. */

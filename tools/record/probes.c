@@ -6,7 +6,7 @@
 static struct {
     MPI_Message handle;
     int number;
-} *messages;
+} * messages;
 static int message_count, message_room;
 
 /* A number of 0 is that of a message that isn't recorded. */
@@ -44,24 +44,24 @@ static int take_message(MPI_Message handle) {
 /* ---- Probes ------------------------------------------------------------------------------------ */
 
 int MPI_Probe(int source, int tag, MPI_Comm comm, MPI_Status *status) {
-    MPI_Status mine, *told = status == MPI_STATUS_IGNORE ? &mine : status;
+    MPI_Status mine, *seen = status == MPI_STATUS_IGNORE ? &mine : status;
     int number = BEGINS ? numbered(comm, unnumbered) : UNNUMBERED;
     if (number != UNNUMBERED)
         PUT("probe", number, sender(source), tag_of_receive(tag));
-    int result = CALL(Probe, (source, tag, comm, number == UNNUMBERED ? status : told));
-    tell_message(number, source, result, told);
+    int result = CALL(Probe, (source, tag, comm, number == UNNUMBERED ? status : seen));
+    report_message(number, source, result, seen);
     return over(result);
 }
 ALSO_PMPI(Probe)
 
 int MPI_Mprobe(int source, int tag, MPI_Comm comm, MPI_Message *message, MPI_Status *status) {
-    MPI_Status mine, *told = status == MPI_STATUS_IGNORE ? &mine : status;
+    MPI_Status mine, *seen = status == MPI_STATUS_IGNORE ? &mine : status;
     int number = BEGINS ? numbered(comm, unnumbered) : UNNUMBERED;
     int taken = number == UNNUMBERED ? 0 : new_number();
     if (taken)
         PUT("mprobe", taken, number, sender(source), tag_of_receive(tag));
-    int result = CALL(Mprobe, (source, tag, comm, message, number == UNNUMBERED ? status : told));
-    tell_message(number, source, result, told);
+    int result = CALL(Mprobe, (source, tag, comm, message, number == UNNUMBERED ? status : seen));
+    report_message(number, source, result, seen);
     if (is_recorded() && result == MPI_SUCCESS)
         keep_message(*message, taken);
     return over(result);
@@ -73,16 +73,18 @@ static Field source_found(int source, const MPI_Status *status) {
     return source == MPI_PROC_NULL ? NULL_PEER : status->MPI_SOURCE;
 }
 
-static Field tag_found(int source, const MPI_Status *status) { return source == MPI_PROC_NULL ? 0 : status->MPI_TAG; }
+static Field tag_found(int source, const MPI_Status *status) {
+    return source == MPI_PROC_NULL ? 0 : status->MPI_TAG;
+}
 
 int MPI_Iprobe(int source, int tag, MPI_Comm comm, int *found, MPI_Status *status) {
-    MPI_Status mine, *told = status == MPI_STATUS_IGNORE ? &mine : status;
+    MPI_Status mine, *seen = status == MPI_STATUS_IGNORE ? &mine : status;
     int number = BEGINS ? numbered(comm, unnumbered) : UNNUMBERED;
-    int result = CALL(Iprobe, (source, tag, comm, found, number == UNNUMBERED ? status : told));
+    int result = CALL(Iprobe, (source, tag, comm, found, number == UNNUMBERED ? status : seen));
     if (number == UNNUMBERED || result != MPI_SUCCESS || !is_recorded())
         return over(result);
     if (*found) {
-        PUT("iprobe", number, source_found(source, told), tag_found(source, told));
+        PUT("iprobe", number, source_found(source, seen), tag_found(source, seen));
     } else {
         left_out(NOTHING, "MPI_Iprobe, found nothing");
         journal_polled(IPROBE, site());
@@ -92,15 +94,15 @@ int MPI_Iprobe(int source, int tag, MPI_Comm comm, int *found, MPI_Status *statu
 ALSO_PMPI(Iprobe)
 
 int MPI_Improbe(int source, int tag, MPI_Comm comm, int *found, MPI_Message *message, MPI_Status *status) {
-    MPI_Status mine, *told = status == MPI_STATUS_IGNORE ? &mine : status;
+    MPI_Status mine, *seen = status == MPI_STATUS_IGNORE ? &mine : status;
     int number = BEGINS ? numbered(comm, unnumbered) : UNNUMBERED;
-    int result = CALL(Improbe, (source, tag, comm, found, message, number == UNNUMBERED ? status : told));
+    int result = CALL(Improbe, (source, tag, comm, found, message, number == UNNUMBERED ? status : seen));
     if (result != MPI_SUCCESS || !is_recorded())
         return over(result);
     if (*found) {
         int taken = number == UNNUMBERED ? 0 : new_number();
         if (taken)
-            PUT("improbe", taken, number, source_found(source, told), tag_found(source, told));
+            PUT("improbe", taken, number, source_found(source, seen), tag_found(source, seen));
         keep_message(*message, taken);
     } else if (number != UNNUMBERED) {
         left_out(NOTHING, "MPI_Improbe, found nothing");

@@ -1,10 +1,11 @@
 /* The line of Python code from which MPI was called. See sites.c.
  *
- * Python's functions may be called only by the thread that has its lock, and another thread that has the lock may wait
- * for this one. So Python is asked where this thread has the lock, or where it is the only one that Python knows: then
- * nobody else has it. Modules such as mpi4py let the lock go around their calls, and other threads may run then. Of
- * Python 3.11 the line is read then where it lies in memory: while a thread is in a call of MPI its own frames stay as
- * they are. What was asked before has to have been the same as what was read.
+ * Python's functions may be called only by the thread that has its lock, and another thread that has the lock
+ * may wait for this one. So Python is asked where this thread has the lock, or where it is the only one that
+ * Python knows: then nobody else has it. Modules such as mpi4py let the lock go around their calls, and other
+ * threads may run then. Of Python 3.11 the line is read then where it lies in memory: while a thread is in a
+ * call of MPI its own frames stay as they are. What was asked before has to have been the same as what was
+ * read.
  */
 #define _GNU_SOURCE
 #include "sites.h"
@@ -54,9 +55,9 @@ enum {
 };
 
 static struct {
-    bool is_other; /* another version, or it was wrong once */
-    int right;     /* how often what was read was right, one after the other */
-    long code_size; /* how far behind the beginning of code its first instruction is */
+    bool is_other;  /* another version, or it was wrong once */
+    int right;      /* how often what was read was right, one after the other */
+    long code_size; /* how far after the start of code its first instruction is */
 } layout;
 
 typedef struct {
@@ -155,15 +156,15 @@ int site_of_python(void) {
 }
 
 void find_python(void) {
-    python.is_there = FIND(is_initialized, "Py_IsInitialized") && FIND(has_lock, "PyGILState_Check") &&
-                      FIND(take_lock, "PyGILState_Ensure") && FIND(give_lock, "PyGILState_Release") &&
-                      FIND(state, "PyGILState_GetThisThreadState") &&
-                      FIND(first_interpreter, "PyInterpreterState_Head") &&
-                      FIND(next_interpreter, "PyInterpreterState_Next") &&
-                      FIND(first_state, "PyInterpreterState_ThreadHead") && FIND(next_state, "PyThreadState_Next") &&
-                      FIND(frame, "PyEval_GetFrame") && FIND(line, "PyFrame_GetLineNumber") &&
-                      FIND(code, "PyFrame_GetCode") && FIND(attribute, "PyObject_GetAttrString") &&
-                      FIND(text, "PyUnicode_AsUTF8") && FIND(drop, "Py_DecRef");
+    python.is_there =
+        FIND(is_initialized, "Py_IsInitialized") && FIND(has_lock, "PyGILState_Check") &&
+        FIND(take_lock, "PyGILState_Ensure") && FIND(give_lock, "PyGILState_Release") &&
+        FIND(state, "PyGILState_GetThisThreadState") && FIND(first_interpreter, "PyInterpreterState_Head") &&
+        FIND(next_interpreter, "PyInterpreterState_Next") &&
+        FIND(first_state, "PyInterpreterState_ThreadHead") && FIND(next_state, "PyThreadState_Next") &&
+        FIND(frame, "PyEval_GetFrame") && FIND(line, "PyFrame_GetLineNumber") &&
+        FIND(code, "PyFrame_GetCode") && FIND(attribute, "PyObject_GetAttrString") &&
+        FIND(text, "PyUnicode_AsUTF8") && FIND(drop, "Py_DecRef");
     layout.is_other = !(python.is_there && FIND(version, "Py_GetVersion") && FIND(last, "PyFrame_GetLasti") &&
                         FIND(line_at, "PyCode_Addr2Line") && strncmp(python.version(), "3.11.", 5) == 0);
 }

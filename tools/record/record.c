@@ -1,11 +1,11 @@
 /* Records the MPI calls of a program in one journal a rank, from which `tools/close` makes what mpiwait
  * reads. An unproved companion of mpiwait, as all of tools/.
  *
- * It is preloaded, and stands between the program and its MPI library (MPI 4.0, section 15.2): it defines
+ * It is preloaded, and comes between the program and its MPI library (MPI 4.0, section 15.2): it defines
  * `MPI_Send` and others, and calls the library's own. It never communicates, and waits for nobody. The
  * variable MPIWAIT_JOURNAL names the folder for the journals.
  *
- * A call is written when it begins, so that one that never comes back is there; what it tells (the source
+ * A call is written when it begins, so that one that never comes back is there; what it reports (the source
  * of a wildcard, the request that completed, a new communicator) is written when it comes back. A test
  * that finds nothing is only counted. tools/README.md has the table of all calls. This file has how it begins
  * and ends, and the calls that are only counted; calls.h says what the others have.
@@ -22,7 +22,9 @@
 void *found_in_library(const char *name) {
     void *found = dlsym(RTLD_NEXT, name);
     if (!found) {
-        fprintf(stderr, "mpiwait-record: there is no %s behind the recorder: it can't be run with this program\n", name);
+        fprintf(stderr,
+                "mpiwait-record: there is no %s after the recorder: it can't be run with this program\n",
+                name);
         exit(3);
     }
     return found;
@@ -30,8 +32,8 @@ void *found_in_library(const char *name) {
 
 /* ---- Calls that are only counted --------------------------------------------------------------- */
 
-/* The Makefile makes these lists from the library's own mpi.h. Of a call that starts a request, or makes a persistent
- * one, the request is known all the same. */
+/* The Makefile makes these lists from the library's own mpi.h. Of a call that starts a request, or makes a
+ * persistent one, the request is known all the same. */
 #define COUNT(Name, meaning, params, args, then) \
     int MPI_##Name params { \
         if (BEGINS) \
@@ -71,12 +73,14 @@ static const char version[] = "MPICH " MPICH_VERSION;
 static void refuse_other_library(void) {
     if (!is_loaded(other_library))
         return;
-    fprintf(stderr, "mpiwait-record: this is the recorder for %s, and the program loads %s: it can't be run with it\n",
-            library, other_library);
+    fprintf(
+        stderr,
+        "mpiwait-record: this is the recorder for %s, and the program loads %s: it can't be run with it\n",
+        library, other_library);
     exit(3);
 }
 
-/* Said, and left for tools/close to tell with the report. */
+/* Said, and left for the report. */
 static void not_recorded(const char *folder, int rank, const char *why) {
     char path[4096];
     fprintf(stderr, "mpiwait-record: rank %d isn't recorded: %s\n", rank, why);

@@ -5,9 +5,7 @@
 static Request *places;
 static size_t room, used; /* room is a power of two */
 
-static size_t home(uintptr_t handle) {
-    return ((uint64_t)handle * 0x9e3779b97f4a7c15u >> 20) & (room - 1);
-}
+static size_t home(uintptr_t handle) { return ((uint64_t)handle * 0x9e3779b97f4a7c15u >> 20) & (room - 1); }
 
 /* Where the handle is, or the free place where it would be. */
 static Request *place_of(uintptr_t handle) {
@@ -49,7 +47,7 @@ Request *requests_add(uintptr_t handle) {
     return new;
 }
 
-/* Requests behind the free place move up to it, where it lies on the way from their home. */
+/* Requests after the free place move up to it, where it lies on the way from their home. */
 void requests_remove(uintptr_t handle) {
     Request *found = requests_find(handle);
     if (!found)

@@ -17,12 +17,13 @@ typedef struct {
 
 typedef struct {
     uintptr_t handle; /* 0: no request */
-    int number;       /* in the journal, from 1; 0 where its call isn't recorded, or a persistent one isn't started */
-    int second;       /* the number of its receive, where the call sends and receives; else 0 */
-    bool active;      /* started, and not known to be complete */
+    int number;  /* in the journal, from 1; 0 where its call isn't recorded, or a persistent one isn't started
+                  */
+    int second;  /* the number of its receive, where the call sends and receives; else 0 */
+    bool active; /* started, and not known to be complete */
     bool persistent;
-    bool wild;      /* a receive whose source or tag its status will tell */
-    bool cancelled; /* MPI_Cancel was called for it */
+    bool wild;          /* a receive whose source or tag its status will show */
+    bool cancelled;     /* MPI_Cancel was called for it */
     Template *template; /* of a persistent one that is recorded */
     uintptr_t comm;     /* the communicator that it makes, */
     const void *place;  /* or, as long as that isn't known, where the program will have it */

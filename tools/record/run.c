@@ -1,10 +1,11 @@
 /* Which run a process belongs to, and the folder for its journals. See journal.h.
  *
- * The ID is had without communication: a broadcast in MPI_Init would take part in the program's own collective calls
- * of a rank that has no recorder, and hang, or be taken for one of them. It is a hash of what the launcher gives to
- * each process of the run and to no other run: PMIx's namespace, the port of Hydra's mpiexec, the job of PMI, the
- * step of SLURM. Where there is none of these, a run of one rank has its process's number and time. All other runs
- * share one ID, which the first process claims; so the second such run in one folder isn't recorded, and that is said.
+ * The ID is had without communication: a broadcast in MPI_Init would take part in the program's own
+ * collective calls of a rank that has no recorder, and hang, or be taken for one of them. It is a hash of
+ * what the launcher gives to each process of the run and to no other run: PMIx's namespace, the port of
+ * Hydra's mpiexec, the job of PMI, the step of SLURM. Where there is none of these, a run of one rank has its
+ * process's number and time. All other runs share one ID, which the first process claims; so the second such
+ * run in one folder isn't recorded, and that is said.
  */
 #define _GNU_SOURCE
 #include "journal.h"
@@ -53,8 +54,8 @@ static long parent_of(long process) {
         return 0;
     text[fread(text, 1, sizeof text - 1, file)] = '\0';
     fclose(file);
-    const char *behind = strrchr(text, ')'); /* the name before it may have any byte */
-    return behind && sscanf(behind + 1, " %*c %ld", &parent) == 1 ? parent : 0;
+    const char *after = strrchr(text, ')'); /* the name before it may have any byte */
+    return after && sscanf(after + 1, " %*c %ld", &parent) == 1 ? parent : 0;
 }
 
 /* The word after `--control-port` of a command of Hydra's proxy; its words end with zero bytes. */
@@ -109,8 +110,8 @@ static bool is_given(Given *given, const char *kind, const char *words, const ch
     return words;
 }
 
-/* The first that gives something is taken. MPICH's own comes first for MPICH's programs, since they may be run by a
- * program of the other library's mpirun. */
+/* The first that gives something is taken. MPICH's own comes first for MPICH's programs, since they may be
+ * run by a program of the other library's mpirun. */
 static bool ask_launcher(Given *given, char *text, size_t room) {
     bool is_mpich = true;
 #ifdef OPEN_MPI
@@ -121,7 +122,8 @@ static bool ask_launcher(Given *given, char *text, size_t room) {
     return is_given(given, "pmix", of_pmix(text, room), "PMIX_RANK") ||
            (!is_mpich && is_given(given, "hydra", of_hydra(text, room), "PMI_RANK")) ||
            is_given(given, "pmi", of_variables("PMI_JOBID", NULL, text, room), "PMI_RANK") ||
-           is_given(given, "slurm", of_variables("SLURM_JOB_ID", "SLURM_STEP_ID", text, room), "SLURM_PROCID");
+           is_given(given, "slurm", of_variables("SLURM_JOB_ID", "SLURM_STEP_ID", text, room),
+                    "SLURM_PROCID");
 }
 
 static void make_id(const char *kind, const char *words, char id[LONGEST_ID]) {
@@ -150,8 +152,8 @@ static bool give_id(int ranks, char id[LONGEST_ID]) {
 
 /* ---- The folder -------------------------------------------------------------------------------- */
 
-/* The file `run` is made whole or not at all, by one process alone, on file systems of several machines too. Where
- * there are no links a rename that replaces nothing does it. */
+/* The file `run` is made whole or not at all, by one process alone, on file systems of several machines too.
+ * Where there are no links a rename that replaces nothing does it. */
 static bool put_in_place(const char *from, const char *to) {
     if (link(from, to) == 0 || errno == EEXIST)
         return true;

@@ -2,7 +2,8 @@
  *
  * A place is a chain of return addresses, the innermost first, as modules and offsets: one address, or so
  * many as the variable MPIWAIT_FRAMES says (0: none are noted). Frames of MPI's own bindings, as those of
- * Fortran, are passed over, and those of tools. In a Python program it is the file and line of the Python code instead.
+ * Fortran, are passed over, and those of tools. In a Python program it is the file and line of the Python
+ * code instead.
  */
 #define _GNU_SOURCE
 #include "sites.h"
@@ -18,7 +19,7 @@
 enum { MOST_FRAMES = 16, MOST_WALKED = 32, PLACES = 1 << 16, MOST_SITES = PLACES / 4 };
 
 static FILE *sites;
-static int frames_wanted, sites_told;
+static int frames_wanted, sites_known;
 
 /* Sites by a hash of what makes them; two places with one hash would be taken for one. */
 static struct {
@@ -31,7 +32,7 @@ static int *look_up(uint64_t key) {
     size_t place = (key * 0x9e3779b97f4a7c15u) >> 48;
     while (known[place].key != 0 && known[place].key != key)
         place = (place + 1) % PLACES;
-    if (known[place].key == 0 && sites_told == MOST_SITES)
+    if (known[place].key == 0 && sites_known == MOST_SITES)
         return NULL;
     known[place].key = key;
     return &known[place].site;
@@ -59,7 +60,7 @@ typedef struct {
     void *frames[MOST_FRAMES];   /* those of the program */
     Frame first;                 /* of these, */
     int passed, kept, walked;
-    bool is_behind; /* the caller */
+    bool is_past; /* the caller */
     const void *caller;
 } Walk;
 
@@ -75,10 +76,10 @@ static _Unwind_Reason_Code step(struct _Unwind_Context *context, void *state) {
     Walk *walk = state;
     void *address = (void *)_Unwind_GetIP(context);
     bool is_first = walk->kept == 0;
-    walk->is_behind = walk->is_behind || address == walk->caller;
-    if (walk->is_behind && is_first && module_of(address) != OF_PROGRAM) {
+    walk->is_past = walk->is_past || address == walk->caller;
+    if (walk->is_past && is_first && module_of(address) != OF_PROGRAM) {
         walk->bindings[walk->passed++] = frame_of(context);
-    } else if (walk->is_behind) {
+    } else if (walk->is_past) {
         if (is_first)
             walk->first = frame_of(context);
         walk->frames[walk->kept++] = address;
@@ -89,8 +90,8 @@ static _Unwind_Reason_Code step(struct _Unwind_Context *context, void *state) {
 
 /* ---- Frames of bindings, without a walk -------------------------------------------------------- */
 
-/* How far on the stack the next return address is behind one in a binding, by pairs of them that a walk found. So the
- * same two are found again without one. */
+/* How far on the stack the next return address is after one in a binding, by pairs of them that a walk found.
+ * So the same two are found again without one. */
 enum { MOST_PAIRS = 1 << 10, FARTHEST = 1 << 9, MOST_PASSED = 8 };
 static struct {
     void *from, *to;
@@ -126,7 +127,8 @@ static void *guess(void *caller, void **place) {
             return NULL;
         place += last_from[last].words;
         size_t pair = place_of(caller, *place);
-        if (pairs[pair].from != caller || pairs[pair].to != *place || pairs[pair].words != last_from[last].words)
+        if (pairs[pair].from != caller || pairs[pair].to != *place ||
+            pairs[pair].words != last_from[last].words)
             return NULL;
         caller = *place;
     }
@@ -135,7 +137,7 @@ static void *guess(void *caller, void **place) {
 
 /* ---- Sites ------------------------------------------------------------------------------------- */
 
-static void tell_frame(void *address) {
+static void put_frame(void *address) {
     unsigned long base;
     const char *name = module_at(address, &base);
     char path[4096];
@@ -157,11 +159,11 @@ static int site_of_frames(uint64_t key, void *const frames[], int count) {
     int *site = look_up(key);
     if (!site || *site || count == 0)
         return site ? *site : 0;
-    fprintf(sites, "%d", ++sites_told);
+    fprintf(sites, "%d", ++sites_known);
     for (int i = 0; i < count; i++)
-        tell_frame(frames[i]);
+        put_frame(frames[i]);
     fputc('\n', sites);
-    return *site = sites_told;
+    return *site = sites_known;
 }
 
 static int site_of_machine_code(void *caller, void **frame) {
@@ -186,10 +188,10 @@ int site_of_line(const char *file, int line) {
     int *site = look_up(key);
     if (!site || *site)
         return site ? *site : 0;
-    fprintf(sites, "%d\t", ++sites_told);
+    fprintf(sites, "%d\t", ++sites_known);
     put_name(file);
     fprintf(sites, ":%d\n", line);
-    return *site = sites_told;
+    return *site = sites_known;
 }
 
 void sites_open(const char *folder, int rank) {

@@ -7,25 +7,25 @@ int new_number(void) {
     return journal_is_full ? 0 : ++last;
 }
 
-static int query_done(void *told, MPI_Status *status) {
+static int query_done(void *kept, MPI_Status *status) {
     int error = status->MPI_ERROR; /* which the library sets by itself */
-    *status = *(MPI_Status *)told;
+    *status = *(MPI_Status *)kept;
     status->MPI_ERROR = error;
     return MPI_SUCCESS;
 }
 
-static int free_done(void *told) { return free(told), MPI_SUCCESS; }
+static int free_done(void *kept) { return free(kept), MPI_SUCCESS; }
 
 static int cancel_done(void *none, int complete) { return (void)none, (void)complete, MPI_SUCCESS; }
 
 /* Libraries give one handle to all calls that are done at once. The program then gets a completed
- * request of its own instead, so that its later wait tells which call it is for. */
+ * request of its own instead, so that its later wait shows which call it is for. */
 static bool make_distinct(MPI_Request *handle) {
-    MPI_Status *told = calloc(1, sizeof *told); /* of what it isn't told the library may write nothing */
-    if (!told)
+    MPI_Status *kept = calloc(1, sizeof *kept); /* the library may leave some of it as it is */
+    if (!kept)
         return false;
-    REAL(Wait)(handle, told);
-    REAL(Grequest_start)(query_done, free_done, cancel_done, told, handle);
+    REAL(Wait)(handle, kept);
+    REAL(Grequest_start)(query_done, free_done, cancel_done, kept, handle);
     REAL(Grequest_complete)(*handle);
     return true;
 }
@@ -43,7 +43,8 @@ static Request *added(MPI_Request handle) {
     return request;
 }
 
-/* A handle that is known already may also be new again: the wait for the old call wasn't seen, or answered an error. */
+/* A handle that is known already may also be new again: the wait for the old call wasn't seen, or answered an
+ * error. */
 Request *started(MPI_Request *handle, int number) {
     if (requests_find(bits(*handle)) && is_done(*handle) && !make_distinct(handle)) {
         journal_stop("there is no memory for its requests");
@@ -63,7 +64,7 @@ void made_persistent(MPI_Request *handle) {
         request->persistent = true;
 }
 
-/* ---- Generalized requests, whose end the program tells itself ---------------------------------- */
+/* ---- Generalized requests, which the program completes itself ---------------------------------- */
 
 int MPI_Grequest_start(MPI_Grequest_query_function *query, MPI_Grequest_free_function *release,
                        MPI_Grequest_cancel_function *cancel, void *state, MPI_Request *handle) {

@@ -1,10 +1,11 @@
 /* Strict runs. See strict.h.
  *
- * Which members of a communicator make the barrier is the same for all of them, whether or not they are recorded:
- * those of a communicator in which each is a rank of this world that has a strict recorder. A process says so by a
- * file before it begins MPI, and looks for the others' behind that. No process comes out of MPI_Init before all have
- * come into it, in the libraries that the recorder is for: they exchange their addresses there. So all see the same
- * files, and a rank that has no recorder is waited for by no barrier of ours.
+ * Which members of a communicator make the barrier is the same for all of them, whether or not they are
+ * recorded: those of a communicator in which each is a rank of this world that has a strict recorder. A
+ * process says so by a file before it begins MPI, and looks for the others' after that. No process comes out
+ * of MPI_Init before all have come into it, in the libraries that the recorder is for: they exchange their
+ * addresses there. So all see the same files, and a rank that has no recorder is waited for by no barrier of
+ * ours.
  */
 #define _GNU_SOURCE
 #include "strict.h"
@@ -18,7 +19,7 @@
 enum { FOR_NONE = 1, FOR_ALL = 2 };
 
 static bool strict;
-static char marks[4096]; /* the folder of the files, empty where there is none */
+static char marks[4096];   /* the folder of the files, empty where there is none */
 static bool *has_recorder; /* of each rank of the world */
 static int world_size, answer_key = MPI_KEYVAL_INVALID;
 static MPI_Group world;
@@ -114,18 +115,9 @@ void collective_ends(int result) {
 
 /* ---- Sends ------------------------------------------------------------------------------------- */
 
-#ifdef HAS_Send_c
-#define BY_COUNT(Name) REAL(Name##_c)
-typedef MPI_Count Size;
-#else
-#define BY_COUNT(Name) REAL(Name)
-typedef int Size;
-#endif
-
 bool sends_synchronously(MPI_Comm comm) { return strict && is_of_program() && is_intracommunicator(comm); }
 
-/* Persistent requests answer the errors of arguments before anything is sent or received. */
-static int check_halves(Half out, Half in, MPI_Comm comm) {
+int check_halves(Half out, Half in, MPI_Comm comm) {
     MPI_Request request;
     int result = BY_COUNT(Ssend_init)(out.data, out.count, out.type, out.rank, out.tag, comm, &request);
     if (result != MPI_SUCCESS)
@@ -135,8 +127,7 @@ static int check_halves(Half out, Half in, MPI_Comm comm) {
     return result == MPI_SUCCESS ? REAL(Request_free)(&request) : result;
 }
 
-/* That of nobody's message; MPICH 4.0 writes nothing there for a nonblocking receive. */
-static void set_status_of_nobody(MPI_Status *status) {
+void set_status_of_nobody(MPI_Status *status) {
     if (status == MPI_STATUS_IGNORE)
         return;
     REAL(Status_set_elements)(status, MPI_BYTE, 0);
@@ -163,8 +154,7 @@ int strict_exchange(Half out, Half in, MPI_Comm comm, MPI_Status *status) {
     return result == MPI_SUCCESS ? exchange(out, in, comm, status) : result;
 }
 
-/* What is sent is packed, so that what is received may take its place. */
-static char *pack(Half *out, MPI_Comm comm) {
+char *pack(Half *out, MPI_Comm comm) {
     Size size = 0, end = 0;
     if (BY_COUNT(Pack_size)(out->count, out->type, comm, &size) != MPI_SUCCESS)
         return NULL;
@@ -185,7 +175,8 @@ int strict_replace(Half out, Half in, MPI_Comm comm, MPI_Status *status) {
         return result;
     char *packed = pack(&out, comm);
     if (!packed)
-        return BY_COUNT(Sendrecv_replace)(in.data, in.count, in.type, out.rank, out.tag, in.rank, in.tag, comm, status);
+        return BY_COUNT(Sendrecv_replace)(in.data, in.count, in.type, out.rank, out.tag, in.rank, in.tag,
+                                          comm, status);
     result = exchange(out, in, comm, status);
     free(packed);
     return result;

@@ -4,9 +4,9 @@
 #include "modules.h"
 #include <pthread.h>
 
-/* What this thread is in: how many of our functions, since what a library calls for itself isn't the program's; the frame
- * of the outermost of them, and where it was called; the turn that it has or had last; and the site of the call, or -1
- * as long as nobody asked for it. */
+/* What this thread is in: how many of our functions, since what a library calls for itself isn't the
+ * program's; the frame of the outermost of them, and where it was called; the turn that it has or had last;
+ * and the site of the call, or -1 as long as nobody asked for it. */
 static __thread Thread own __attribute__((tls_model("initial-exec")));
 
 /* Who has the turn; 0: nobody. */
@@ -33,7 +33,9 @@ static void give_lock(void) {
     pthread_mutex_unlock(&lock);
 }
 
-static bool has_turn(void) { return own.turn != 0 && __atomic_load_n(&turn.now, __ATOMIC_RELAXED) == own.turn; }
+static bool has_turn(void) {
+    return own.turn != 0 && __atomic_load_n(&turn.now, __ATOMIC_RELAXED) == own.turn;
+}
 
 bool is_recorded(void) { return own.inside == 1 && has_turn(); }
 
@@ -56,7 +58,8 @@ bool nobody_calls(void) { return __atomic_load_n(&turn.now, __ATOMIC_ACQUIRE) ==
 
 static const char other_threads[] = "calls of another thread than that of MPI_Init";
 
-/* Another thread is in a call. That one's lines are taken out, as the order of two calls at once isn't known. */
+/* Another thread is in a call. That one's lines are taken out, as the order of two calls at once isn't known.
+ */
 static void two_at_once(void) {
     if (!turn.is_of_first || !several) {
         journal_take_back();
@@ -101,15 +104,16 @@ static void end_turn(void) {
 
 /* ---- Calls ------------------------------------------------------------------------------------- */
 
-/* Where a call of the recorder's returns to is next to its frame; near to another frame it can be read still. */
+/* Where a call of the recorder's returns to is next to its frame; near to another frame it can be read still.
+ */
 #if defined __x86_64__ || defined __aarch64__
 static bool is_overwritten(void **frame) { return own.frame - frame < NEAR && own.frame[1] != own.caller; }
 #else
 static bool is_overwritten(void **frame) { return (void)frame, false; }
 #endif
 
-/* Whether the call that this thread is in was left by a jump or an exception: another begins above it on the stack, or
- * over it, where more is on the stack for its arguments. */
+/* Whether the call that this thread is in was left by a jump or an exception: another begins above it on the
+ * stack, or over it, where more is on the stack for its arguments. */
 static bool was_left(const void *caller, void **frame) {
     return frame >= own.frame || (is_overwritten(frame) && module_of(caller) != OF_MPI);
 }
@@ -183,7 +187,8 @@ bool take_barrier(MPI_Comm *comm) {
 
 /* ---- Error handlers ---------------------------------------------------------------------------- */
 
-/* Gets the lock, as long as this thread has the turn: another may wait within MPI for what this one has there. */
+/* Gets the lock, as long as this thread has the turn: another may wait within MPI for what this one has
+ * there. */
 static bool take_lock_of_turn(void) {
     while (!own.is_locked && pthread_mutex_trylock(&lock) != 0)
         if (!has_turn())

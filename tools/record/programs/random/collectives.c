@@ -88,9 +88,19 @@ void step_collective(void) {
     free(data);
 }
 
+/* Open MPI 4.1 may take a collective that was started behind an MPI_Comm_idup for one of that one's own. */
+static bool is_being_copied(int comm) {
+    for (int i = 0; i < MOST_COMMS; i++)
+        if (comms[i].unborn > 0 && comms[i].parent == comm)
+            return true;
+    return false;
+}
+
 void step_started_collective(void) {
     int comm = any_comm(true);
     Call call = any_call(comm);
+    if (is_being_copied(comm))
+        return;
     for (int i = 0; i < comms[comm].size; i++) {
         Open *open = new_open(comms[comm].members[i], NOBODY, false);
         open->comm = comm;

@@ -253,12 +253,16 @@ void step_complete(void) {
     }
 }
 
+static bool is_one_pending(void) {
+    for (int i = 0; i < message_count; i++)
+        if (messages[i].is_sent != messages[i].is_received)
+            return true;
+    return false;
+}
+
 void finish_all(void) {
-    do {
-        for (int i = 0; i < message_count; i++)
-            if (messages[i].is_sent != messages[i].is_received)
-                step_other_half();
-        for (int rank = 0; rank < ranks; rank++)
-            complete_of(rank, 1, false);
-    } while (open_count > 0);
+    while (is_one_pending())
+        step_other_half();
+    for (int rank = 0; rank < ranks; rank++)
+        complete_of(rank, 1, false);
 }

@@ -60,6 +60,7 @@ static void end(void) {
     MPI_Comm_free(&bridge);
     MPI_Buffer_detach(&buffer, &size);
     free(buffer);
+    MPI_Barrier(MPI_COMM_WORLD); /* MPICH's MPI_Finalize doesn't help others to detach theirs */
 }
 
 /* In a program with a fault communicators are made before it alone: calls on one that a rank lacks are no MPI. */
