@@ -54,8 +54,8 @@ class Folders(unittest.TestCase):
         self.folder = Path(folder.name)
 
     def run_of(self, *ranks, state="i", after=()):
-        """Writes the journals of a run; None for a rank without one. `after` has the words that some ranks have
-        after the library."""
+        """Writes the journals of a run; None for a rank without one. `after` has the words that some ranks
+        have after the library."""
         (self.folder / "journal").mkdir()
         for rank, calls in enumerate(ranks):
             if calls is not None:

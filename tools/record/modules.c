@@ -249,6 +249,8 @@ static void note(const char *name) {
     } else {
         left_out(PARTNERS, "calls of other modules that go past the recorder");
     }
+    if (recording) /* what the rank calls from here on isn't known */
+        journal_stop(text);
 }
 
 static unsigned long long loaded; /* how many modules were loaded ever */

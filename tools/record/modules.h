@@ -19,8 +19,8 @@ const char *module_at(const void *address, unsigned long *base);
 /* Whether a library with a name that begins so is loaded. */
 bool is_loaded(const char *name);
 
-/* Counts each module of the program's whose calls of MPI don't lead to the recorder but to the library
- * itself. */
+/* Counts each module of the program's whose calls of MPI don't lead to the recorder but to the library itself. Where
+ * there is one, the recording stops. */
 void find_bypasses(void);
 
 /* The same, if modules were loaded since. */

@@ -125,8 +125,8 @@ static void start(void) {
     turns_open(level);
     number_communicators();
     process = getpid();
-    find_bypasses();
     recording = true;
+    find_bypasses();
 }
 
 /* What MPI calls for itself while it begins isn't recorded, as nothing is before `start`. */

@@ -15,8 +15,7 @@ static struct {
     bool is_of_first; /* of the thread of MPI_Init */
 } turn;
 
-/* After so many calls it is asked whether modules were loaded. */
-enum { CALLS_UNTIL_LOOK = 8, NEAR = 1 << 16 };
+enum { NEAR = 1 << 16 };
 
 static pthread_mutex_t lock = PTHREAD_MUTEX_INITIALIZER;
 static pthread_t first;
@@ -83,13 +82,13 @@ static bool may_have_turn(void) {
 
 bool take_turn(void) {
     take_lock();
+    if (recording)
+        find_new_bypasses();
     if (!recording || !may_have_turn()) {
         give_lock();
         return false;
     }
     own.turn = turn.now = ++turn.last;
-    if (turn.last % CALLS_UNTIL_LOOK == 0)
-        find_new_bypasses();
     turn.is_of_first = pthread_equal(pthread_self(), first);
     own.site = -1;
     journal_begin();

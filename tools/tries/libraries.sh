@@ -9,8 +9,9 @@ has() {
 launch() {
     local words=("mpirun.$1")
     if [[ $1 == openmpi ]]; then
+        words+=(--oversubscribe)
         # Its ranks wait busily: on a machine that has other work they would take minutes.
-        words+=(--oversubscribe --mca mpi_yield_when_idle 1)
+        [[ -n ${is_measured-} ]] || words+=(--mca mpi_yield_when_idle 1)
         [[ $(id -u) != 0 ]] || words+=(--allow-run-as-root)
     fi
     command=("${words[@]}" -n "$2")
@@ -18,10 +19,10 @@ launch() {
 
 # A Python whose mpi4py is that of the library.
 python_of() {
-    local python version wanted='MPICH'
+    local python version wanted='MPICH' ask='from mpi4py import MPI; print(MPI.Get_library_version())'
     [[ $1 == mpich ]] || wanted='Open MPI'
     for python in python3 /usr/bin/python3; do
-        version=$("$python" -c 'from mpi4py import MPI; print(MPI.Get_library_version())' 2>/dev/null | tr -d '\0')
+        version=$("$python" -c "$ask" 2>/dev/null | tr -d '\0')
         if [[ $version == *"$wanted"* ]]; then
             echo "$python"
             return
@@ -63,8 +64,8 @@ build_script() {
     command+=("$python" "$2")
 }
 
-# Adds the program to `command'. It is built where it lies, so that its lines are reported from there; what is built
-# lies elsewhere.
+# Adds the program to `command'. It is built where it lies, so that its lines are reported from there; what is
+# built lies elsewhere.
 build() {
     local library=$1 source=$2 compiler=mpicc
     case $source in

@@ -1,5 +1,5 @@
-# What a recorded call costs: nanoseconds a call in loops of two ranks, recorded less plain, each the best of nine.
-# A part of tools/try, which reads it.
+# What a recorded call costs: nanoseconds a call in loops of two ranks, recorded less plain, each the best of
+# nine. A part of tools/try, which reads it.
 # shellcheck shell=bash
 
 times=${TIMES:-9} # how often each loop is measured
@@ -26,7 +26,9 @@ least() {
 # One program: lines with language, loop, library, plain, recorded and strict.
 measure() {
     local library=$1 language=$2 source=$3 time kind
+    is_measured=yes
     prepare "$library" "$source" 2 || return 0
+    is_measured=''
     for kind in plain recorded strict; do
         : >"$work/$kind"
     done

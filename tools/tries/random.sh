@@ -17,7 +17,8 @@ try_random_with() {
     prepare "$library" random/ 4
     for ((seed = 1; seed <= seeds; seed++)); do
         # shellcheck disable=SC2086
-        try_seed "$library: random program $seed${options:+, $options}" $options --for 120 "${command[@]}" "$seed"
+        try_seed "$library: random program $seed${options:+, $options}" $options --for 120 \
+            "${command[@]}" "$seed"
     done
     [[ $failed != "$before" ]] || echo "$library: $seeds random programs${options:+, $options}: free"
 }
@@ -34,12 +35,15 @@ try_strict_random() {
 try_fault() {
     local name=$1 ended
     shift
-    run_with --strict --for 20 "$@"
+    run_with --strict --for 10 "$@"
     check_journals "$name"
     ended=$(sed -n 's/^tools\/run: the run ended with status \([0-9]*\)$/\1/p' "$work/errors")
     hung=$(grep -c 'the run was ended after' "$work/errors" || :)
     case $hung,${ended:-0},$status in
-    0,0,1 | [1-9],*,0) cat -- "$work/said" "$work/errors"; fails "$name: hung $hung, ended ${ended:-0}, status $status" ;;
+    0,0,1 | [1-9],*,0)
+        cat -- "$work/said" "$work/errors"
+        fails "$name: hung $hung, ended ${ended:-0}, status $status"
+        ;;
     [1-9],*,1) found=$((found + 1)) ;;
     [1-9],*,5) unknown=$((unknown + 1)) ;;
     0,0,*) right=$((right + 1)) ;;
@@ -52,7 +56,7 @@ try_faults() {
     for ((seed = 1; seed <= seeds; seed++)); do
         try_fault "$library: random program $seed with a fault" "${command[@]}" "$seed" 120 fault
     done
-    echo "$library: $seeds programs with a fault: $found hung and were found, $unknown hung and are unfinished," \
-        "$right ended"
+    echo "$library: $seeds programs with a fault: $found hung and were found, $unknown hung and are" \
+        "unfinished, $right ended"
     [[ $failed != "$before" ]] || echo "$library: none that hung is free, and none that ended is a hang"
 }

@@ -1,10 +1,10 @@
 # Tries that compare a report with the stored one. A part of tools/try, which reads it.
 # shellcheck shell=bash
 
-# What the program and its launcher wrote comes before the report; how often a test found nothing differs from run to
-# run, and so do the names of folders.
+# What the program and its launcher wrote comes before the report; how often a test found nothing differs from
+# run to run, and so do the names of folders.
 report_in() {
-    sed -n '/^Run 1 of \|^verdict \|^no verdict/,$p' "$1" | sed '/^Only counted/,/^$/d' | sed "s:$work:WORK:g" |
+    sed -n '/^Run 1 of \|^verdict \|^no verdict/,$p' "$1" | sed "/^Only counted/,/^\$/d; s:$work:WORK:g" |
         sed -E 's/\([0-9,]+ times, found nothing\)/(N times, found nothing)/'
 }
 

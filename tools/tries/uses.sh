@@ -1,5 +1,5 @@
-# Tries of how tools/run is used: signals, several runs, names, launchers, other tools, full disks. A part of tools/try,
-# which reads it.
+# Tries of how tools/run is used: signals, several runs, names, launchers, other tools, full disks. A part of
+# tools/try, which reads it.
 # shellcheck shell=bash
 
 mounted=''
@@ -47,7 +47,8 @@ try_signals() {
         name="$library: SIG$signal to tools/run"
         rm -rf -- "$work/run"
         prepare "$library" large-messages.c 2
-        env --default-signal=INT "$here/run" --folder "$work/run" "${command[@]}" >"$work/said" 2>&1 </dev/null &
+        env --default-signal=INT "$here/run" --folder "$work/run" "${command[@]}" \
+            >"$work/said" 2>&1 </dev/null &
         running=$!
         wait_until has_begun || fails "$name: the run didn't begin"
         kill "-$signal" "$running"
@@ -197,8 +198,8 @@ try_unrecorded() {
 record_into() {
     local library=$1 folder=$2
     status=0
-    timeout 120 env LD_PRELOAD="$here/record/out/$library/record.so" MPIWAIT_JOURNAL="$folder" "${command[@]}" \
-        >"$work/said" 2>"$work/errors" </dev/null || status=$?
+    timeout 120 env LD_PRELOAD="$here/record/out/$library/record.so" MPIWAIT_JOURNAL="$folder" \
+        "${command[@]}" >"$work/said" 2>"$work/errors" </dev/null || status=$?
 }
 
 try_no_room() {
@@ -206,7 +207,10 @@ try_no_room() {
     prepare "$library" many-calls.c 1
     run_with true 2>/dev/null || :
     mkdir -p -- "$work/small"
-    mount -t tmpfs -o size=1m none "$work/small" 2>/dev/null || { echo "$name: passed over: it can't be mounted"; return; }
+    if ! mount -t tmpfs -o size=1m none "$work/small" 2>/dev/null; then
+        echo "$name: passed over: it can't be mounted"
+        return
+    fi
     mounted=$work/small
     rm -rf -- "$work/run"
     mkdir -p -- "$work/small/journal" "$work/run"

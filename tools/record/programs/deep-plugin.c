@@ -1,5 +1,5 @@
-/* Loads a plugin so that its calls go to the MPI library itself, past the recorder. The third word is its path; with a
- * fourth the run then hangs. */
+/* Loads a plugin, the first word, so that its calls go to the MPI library itself, past the recorder. With a
+ * second word the run then hangs. */
 #define _GNU_SOURCE
 #include <dlfcn.h>
 #include <mpi.h>

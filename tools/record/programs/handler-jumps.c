@@ -1,5 +1,5 @@
-/* A send fails, and the program's error handler jumps out of it. The ranks go on, and send to each other before either
- * receives. */
+/* A send fails, and the program's error handler jumps out of it. The ranks go on, and exchange what they
+ * have. */
 #include <mpi.h>
 #include <setjmp.h>
 

@@ -1,5 +1,5 @@
-/* More calls than are written down, with receives by wildcards among them that are open when the last line is written
- * and others behind it. */
+/* More calls than are written down, with receives by wildcards among them, also after the last line that is
+ * written. */
 #include <mpi.h>
 
 enum { ROUNDS = 1000000 };

@@ -2,7 +2,7 @@
 #include <mpi.h>
 #include <stdio.h>
 
-enum { ROUNDS = 20000, MANY = 32, TAG = 1 };
+enum { ROUNDS = 20000, PIECES = 50, MANY = 32, TAG = 1 };
 static int rank, peer, data[2 * MANY];
 static MPI_Comm other;
 
@@ -59,7 +59,7 @@ static void barrier(void) { MPI_Barrier(MPI_COMM_WORLD); }
 static const struct {
     const char *name;
     void (*round)(void);
-    int calls, rounds;
+    int calls, rounds; /* in all */
 } loops[] = {
     {"Send to MPI_PROC_NULL", to_nobody, 1, ROUNDS},
     {"Send on two communicators in turn", in_turn, 2, ROUNDS},
@@ -68,18 +68,28 @@ static const struct {
     {"ping-pong", ping_pong, 2, ROUNDS},
     {"ping-pong with wildcards", wild_ping_pong, 2, ROUNDS},
     {"Irecv, Isend, Waitall", halo, 3, ROUNDS},
-    {"32 Irecv, 32 Isend, Waitall", wide_halo, 2 * MANY + 1, ROUNDS / MANY},
+    {"32 Irecv, 32 Isend, Waitall", wide_halo, 2 * MANY + 1, ROUNDS / 8},
     {"Barrier", barrier, 1, ROUNDS},
 };
 
-static void run(int loop) {
-    MPI_Barrier(MPI_COMM_WORLD);
+/* The best of many pieces: those in which another process had the processor are none. */
+static double piece(int loop) {
+    int rounds = loops[loop].rounds / PIECES;
     double start = MPI_Wtime();
-    for (int i = 0; i < loops[loop].rounds; i++)
+    for (int i = 0; i < rounds; i++)
         loops[loop].round();
-    double took = MPI_Wtime() - start;
+    return (MPI_Wtime() - start) / rounds / loops[loop].calls;
+}
+
+static void run(int loop) {
+    double best = piece(loop);
+    for (int i = 1; i < PIECES; i++) {
+        double took = piece(loop);
+        best = took < best ? took : best;
+    }
     if (rank == 0)
-        printf("%s\t%.0f\n", loops[loop].name, 1e9 * took / loops[loop].rounds / loops[loop].calls);
+        printf("%s\t%.0f\n", loops[loop].name, 1e9 * best);
+    MPI_Barrier(MPI_COMM_WORLD);
 }
 
 int main(int argc, char **argv) {

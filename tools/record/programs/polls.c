@@ -1,4 +1,4 @@
-/* Rank 0 asks again and again for a message that rank 1 never sends: by MPI_Test, or with a word by MPI_Iprobe. */
+/* Rank 0 asks again and again for a message that nobody sends: by MPI_Test, or with a word by MPI_Iprobe. */
 #include <mpi.h>
 #include <sched.h>
 

@@ -1,4 +1,4 @@
-/* A row of ranks exchanges by persistent requests, those of its ends from and to MPI_PROC_NULL, and waits for any. */
+/* A row of ranks exchanges by persistent requests, at its ends with MPI_PROC_NULL, and waits for any. */
 #include <mpi.h>
 
 int main(int argc, char **argv) {

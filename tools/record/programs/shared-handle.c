@@ -1,5 +1,5 @@
-/* Small sends that are done at once may share one handle. Here one of the two is on an intercommunicator, and each is
- * waited for on its own side of a barrier. */
+/* Small sends that are done at once may share one handle. Here one of the two is on an intercommunicator, and
+ * each is waited for on its own side of a barrier. */
 #include <mpi.h>
 
 static MPI_Comm between_halves(int rank) {

@@ -1,5 +1,5 @@
-/* Each rank exchanges with its neighbours in the world and with a partner on an intercommunicator, and waits for all
- * of it in one call. */
+/* Each rank exchanges with its neighbours in the world and with a partner on an intercommunicator, and waits
+ * for all of it in one call. */
 #include <mpi.h>
 
 int main(int argc, char **argv) {

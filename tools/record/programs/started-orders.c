@@ -1,5 +1,5 @@
-/* The same as in two-orders.c with nonblocking broadcasts, each waited for at once: that they wait for their roots alone
- * can't be forced. */
+/* The same as in two-orders.c with nonblocking broadcasts, each waited for at once: that they wait for their
+ * roots alone can't be forced. */
 #include <mpi.h>
 
 int main(int argc, char **argv) {

@@ -1,5 +1,5 @@
-/* A right program for a run that is strict: all kinds of standard sends, whose receives have begun; collectives, one of
- * them with a wrong count that answers an error; an intercommunicator. */
+/* A right program for a run that is strict: all kinds of standard sends, whose receives have begun;
+ * collectives, with a word one that answers an error; an intercommunicator. */
 #include <mpi.h>
 
 static int rank, ranks, left, right, out[2], in[2];

@@ -1,5 +1,5 @@
-/* A ring in which each rank sends, and asks in turn whether its send is done and whether a message is there. As long as
- * neither is, it asks again; so it can't hang, though each waits for a send before it receives where that was done. */
+/* A ring in which each rank sends, and asks in turn whether its send is done and whether a message is there.
+ * As long as neither is, it asks again, so it can't hang. */
 #include <mpi.h>
 #include <sched.h>
 

@@ -1,5 +1,5 @@
-/* Three threads of each rank exchange with those of the other rank. The first word is the level that is asked for; with
- * `turns' one thread calls MPI at a time, with `overlap' a call of one thread begins while another is in one. */
+/* Threads of each rank exchange with those of the other one. The first word is the level that is asked for;
+ * with `turns' one thread calls at a time, with `overlap' one calls while another is in a call. */
 #include <mpi.h>
 #include <pthread.h>
 #include <stdio.h>
@@ -15,7 +15,8 @@ static int whose;
 
 static void exchange(int tag) {
     int out = 0, in;
-    MPI_Sendrecv(&out, 1, MPI_INT, 1 - rank, tag, &in, 1, MPI_INT, 1 - rank, tag, MPI_COMM_WORLD, MPI_STATUS_IGNORE);
+    MPI_Comm world = MPI_COMM_WORLD;
+    MPI_Sendrecv(&out, 1, MPI_INT, 1 - rank, tag, &in, 1, MPI_INT, 1 - rank, tag, world, MPI_STATUS_IGNORE);
 }
 
 static void *in_turn(void *place) {

@@ -1,5 +1,5 @@
-/* Two communicators, and broadcasts on them whose order isn't the same for both ranks. Broadcasts may be buffered, so it
- * runs. */
+/* Two communicators, and broadcasts on them whose order isn't the same for both ranks. Broadcasts may be
+ * buffered, so it runs. */
 #include <mpi.h>
 
 int main(int argc, char **argv) {

@@ -1,5 +1,5 @@
-/* Rank 0 calls a broadcast whose root can't be, named by the first word; with a second one in its nonblocking form. That
- * aborts the run; the others wait for rank 0. */
+/* Rank 0 calls a broadcast whose root can't be, named by the first word; with a second one in its nonblocking
+ * form. That aborts the run; the others wait for rank 0. */
 #include <mpi.h>
 #include <stdlib.h>
 #include <unistd.h>

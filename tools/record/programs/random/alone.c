@@ -64,7 +64,11 @@ static void nothing_at_all(void) {
 }
 
 void step_alone(void) {
-    static void (*const ways[])(MPI_Comm, int *) = {blocking_with_nobody, started_with_nobody, persistent_with_nobody};
+    static void (*const ways[])(MPI_Comm, int *) = {
+        blocking_with_nobody,
+        started_with_nobody,
+        persistent_with_nobody,
+    };
     int comm = any_comm(true), rank = draw(ranks), way = draw(4), data = 0;
     if (rank != me || !is_member(comm, me))
         return;
@@ -133,15 +137,16 @@ void step_cancelled(void) {
 
 /* Its message has been received when it is cancelled. */
 void step_kept(void) {
-    int comm = any_comm(false), from = comms[comm].members[draw(comms[comm].size)], tag = next_tag(), data = 0, gone = 1;
-    int to = comms[comm].members[draw(comms[comm].size)];
+    int comm = any_comm(false), size = comms[comm].size, tag = next_tag(), data = 0, gone = 1;
+    int from = comms[comm].members[draw(size)], to = comms[comm].members[draw(size)];
     MPI_Request handle = MPI_REQUEST_NULL;
     MPI_Status status;
     if (from == to || !is_clear(comm, from, to))
         return;
     int source = is_member(comm, me) ? place_in(comm, from) : 0;
     if (to == me)
-        MPI_Irecv(&data, 1, MPI_INT, mine(2) ? source : any_source(source), tag, comms[comm].handle, &handle);
+        MPI_Irecv(&data, 1, MPI_INT, mine(2) ? source : any_source(source), tag, comms[comm].handle,
+                  &handle);
     if (from == me)
         MPI_Ssend(&data, 1, MPI_INT, place_in(comm, to), tag, comms[comm].handle);
     barrier_of(comm);

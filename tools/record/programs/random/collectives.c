@@ -54,7 +54,8 @@ static int root_for(int comm, int root) {
 
 /* The collective is the same for all members; this rank's own call is made if it is one of them. */
 static Call any_call(int comm) {
-    int kind = draw(comms[comm].is_inter ? INTER_KINDS : KINDS), root = comms[comm].members[draw(comms[comm].size)];
+    int kind = draw(comms[comm].is_inter ? INTER_KINDS : KINDS);
+    int root = comms[comm].members[draw(comms[comm].size)];
     Call call = {.kind = is_faulty ? 0 : kind, .comm = comms[comm].handle};
     if (is_member(comm, me))
         call.root = root_for(comm, root);

@@ -52,8 +52,8 @@ static void graph(int comm, MPI_Comm *new, int is_even) {
     if (is_even)
         MPI_Graph_create(comms[comm].handle, size, index, edges, 0, new);
     else
-        MPI_Dist_graph_create_adjacent(comms[comm].handle, 1, &before, MPI_UNWEIGHTED, 1, &next, MPI_UNWEIGHTED,
-                                       MPI_INFO_NULL, 0, new);
+        MPI_Dist_graph_create_adjacent(comms[comm].handle, 1, &before, MPI_UNWEIGHTED, 1, &next,
+                                       MPI_UNWEIGHTED, MPI_INFO_NULL, 0, new);
 }
 
 /* A row of all members, or of its halves. */
@@ -78,7 +78,9 @@ static void make_like(int comm, int parent) {
         case 1: MPI_Comm_dup_with_info(comms[parent].handle, MPI_INFO_NULL, &new); break;
         case 2: row(parent, &new, false); break;
         case 3: row(parent, &new, true); break;
-        case 4: MPI_Comm_split_type(comms[parent].handle, MPI_COMM_TYPE_SHARED, 0, MPI_INFO_NULL, &new); break;
+        case 4:
+            MPI_Comm_split_type(comms[parent].handle, MPI_COMM_TYPE_SHARED, 0, MPI_INFO_NULL, &new);
+            break;
         default: graph(parent, &new, form == 5);
         }
     enter_all_of(comm, parent, new);
@@ -128,7 +130,8 @@ static void make_split(int comm, int parent) {
 }
 
 static void make_of_group(int comm, int parent) {
-    int members[MOST_RANKS], size = some_of(parent, members), tag = next_tag(), is_mine = 0, by_members = draw(2);
+    int members[MOST_RANKS], size = some_of(parent, members), tag = next_tag(), is_mine = 0;
+    int by_members = draw(2);
     MPI_Comm new = MPI_COMM_NULL;
     if (by_members)
         parent = 0;

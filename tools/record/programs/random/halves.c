@@ -62,7 +62,8 @@ static void start_send(Open *open, int tag) {
 
 void send_half(int number, bool may_block) {
     Message *message = &messages[number];
-    bool blocks = may_block && draw(2), buffers = !may_block && draw(8) == 0, lacks = take_fault(FAULT_NO_SEND);
+    bool blocks = may_block && draw(2), buffers = !may_block && draw(8) == 0;
+    bool lacks = take_fault(FAULT_NO_SEND);
     int tag = message->tag + 15000 * take_fault(FAULT_TAG);
     Open *open = blocks || buffers ? NULL : new_open(message->from, number, false);
     if (open)
@@ -75,7 +76,8 @@ void send_half(int number, bool may_block) {
         open->data = data;
         start_send(open, tag);
     } else if (buffers) {
-        MPI_Bsend(data, message->count, MPI_INT, place_in(message->comm, message->to), tag, comms[message->comm].handle);
+        MPI_Bsend(data, message->count, MPI_INT, place_in(message->comm, message->to), tag,
+                  comms[message->comm].handle);
         free(data);
     } else {
         send_now(message, data, tag);
@@ -124,7 +126,8 @@ static MPI_Message matched(Asked asked) {
         MPI_Mprobe(asked.source, asked.tag, asked.comm, &taken, mine(3) ? &status : MPI_STATUS_IGNORE);
     else
         for (; !found; sched_yield())
-            MPI_Improbe(asked.source, asked.tag, asked.comm, &found, &taken, mine(3) ? &status : MPI_STATUS_IGNORE);
+            MPI_Improbe(asked.source, asked.tag, asked.comm, &found, &taken,
+                        mine(3) ? &status : MPI_STATUS_IGNORE);
     return taken;
 }
 
@@ -168,7 +171,8 @@ static void start_receive(Open *open, Asked asked, bool may_probe) {
 
 void receive_half(int number, bool may_block, bool may_probe) {
     Message *message = &messages[number];
-    bool blocks = may_block && draw(2), lacks = take_fault(FAULT_NO_RECEIVE), errs = take_fault(FAULT_SOURCE);
+    bool blocks = may_block && draw(2);
+    bool lacks = take_fault(FAULT_NO_RECEIVE), errs = take_fault(FAULT_SOURCE);
     Open *open = blocks ? NULL : new_open(message->to, number, true);
     if (open)
         open->is_persistent = draw(5) == 0;

@@ -36,7 +36,8 @@ static void begin(unsigned seed) {
     MPI_Comm_rank(MPI_COMM_WORLD, &me);
     MPI_Comm_size(MPI_COMM_WORLD, &ranks);
     seed_plan(seed, me);
-    comms[0] = (Comm){.is_alive = true, .size = ranks, .left = ranks, .parent = NOBODY, .handle = MPI_COMM_WORLD};
+    comms[0] = (Comm){.is_alive = true, .size = ranks, .left = ranks, .parent = NOBODY};
+    comms[0].handle = MPI_COMM_WORLD;
     for (int i = 0; i < ranks; i++) {
         comms[0].members[i] = places[i] = i;
         counts[i] = 1;
@@ -63,7 +64,7 @@ static void end(void) {
     MPI_Barrier(MPI_COMM_WORLD); /* MPICH's MPI_Finalize doesn't help others to detach theirs */
 }
 
-/* In a program with a fault communicators are made before it alone: calls on one that a rank lacks are no MPI. */
+/* In a program with a fault communicators are made before it alone, since no rank may lack one. */
 static void run(int count) {
     Fault kind = is_faulty ? FAULT_NO_SEND + draw(FAULT_EARLY) : FAULT_NONE;
     for (int i = 0; is_faulty && i < 4; i++)

@@ -1,9 +1,9 @@
-/* A random program that can't deadlock. All ranks draw the same plan from one seed, step by step, and each does
- * its own part of a step.
+/* A random program that can't deadlock. All ranks draw the same plan from one seed, step by step, and each
+ * does its own part of a step.
  *
- * Why it can't: the steps are in one order that all ranks keep. A call that blocks needs only what other ranks do
- * in the same or an earlier step, and there before they block. So the ranks that are in the earliest step of all
- * can always go on, even where every send waits for its receive and every collective for all members.
+ * Why it can't: the steps are in one order that all ranks keep. A call that blocks needs only what other
+ * ranks do in the same or an earlier step, and there before they block. So the ranks that are in the earliest
+ * step of all can go on, even where every send waits for its receive and every collective for all members.
  *
  *   main.c            the steps
  *   plan.c            what all ranks know: numbers drawn, communicators, messages, open requests
@@ -25,7 +25,7 @@ enum { MOST_RANKS = 16, MOST_COMMS = 24, MOST_MESSAGES = 8192, MOST_OPEN = 1024,
 
 typedef struct {
     bool is_alive, is_inter;
-    int size, left; /* members, the first `left` of them on one side; all of them where it is no intercommunicator */
+    int size, left; /* members, the first `left` of them on one side: all of them in an intracommunicator */
     int members[MOST_RANKS]; /* by their ranks in the world */
     int unborn;              /* members that haven't completed the MPI_Comm_idup that makes it */
     int parent;              /* of one that MPI_Comm_idup makes */
@@ -59,7 +59,14 @@ extern MPI_Datatype types[MOST_RANKS];
 
 /* The fault that is put in, once: FAULT_NONE where there is none, or no more. */
 typedef enum {
-    FAULT_NONE, FAULT_NO_SEND, FAULT_NO_RECEIVE, FAULT_TAG, FAULT_SOURCE, FAULT_NO_BARRIER, FAULT_ORDER, FAULT_EARLY
+    FAULT_NONE,
+    FAULT_NO_SEND,
+    FAULT_NO_RECEIVE,
+    FAULT_TAG,
+    FAULT_SOURCE,
+    FAULT_NO_BARRIER,
+    FAULT_ORDER,
+    FAULT_EARLY
 } Fault;
 extern Fault fault;    /* the next one, until a step has it */
 extern bool is_faulty; /* whether one is put in somewhere: then all messages are of one number */

@@ -14,7 +14,8 @@ typedef struct {
 
 /* Draws such members; answers whether this rank is one. A row ends with MPI_PROC_NULL. */
 static bool any_place(Place *place) {
-    int comm = any_comm(false), chosen[MOST_RANKS], size = comms[comm].size, tag = next_tag(), is_row = draw(4) == 0;
+    int comm = any_comm(false), chosen[MOST_RANKS], size = comms[comm].size, tag = next_tag();
+    bool is_row = draw(4) == 0;
     for (int i = 0; i < size; i++)
         chosen[i] = comms[comm].members[i];
     shuffle(size, chosen);
@@ -27,8 +28,9 @@ static bool any_place(Place *place) {
         if (chosen[i] != me)
             continue;
         is_mine = true;
-        *place = (Place){.comm = comms[comm].handle, .to = place_in(comm, next), .from = place_in(comm, before),
-                         .tag_to = tag, .tag_from = tag};
+        *place = (Place){.comm = comms[comm].handle, .tag_to = tag, .tag_from = tag};
+        place->to = place_in(comm, next);
+        place->from = place_in(comm, before);
         if (is_row && i == 0)
             place->from = MPI_PROC_NULL;
         if (is_row && i == size - 1)
@@ -69,12 +71,12 @@ static void both_in_one(const Place *place, int *out, int *in) {
     MPI_Request handle;
     MPI_Status status;
     if (mine(2)) {
-        MPI_Isendrecv(out, 1, MPI_INT, place->to, place->tag_to, in, 1, MPI_INT, place->from, place->tag_from,
-                      place->comm, &handle);
+        MPI_Isendrecv(out, 1, MPI_INT, place->to, place->tag_to, in, 1, MPI_INT, place->from,
+                      place->tag_from, place->comm, &handle);
     } else {
         *in = *out;
-        MPI_Isendrecv_replace(in, 1, MPI_INT, place->to, place->tag_to, place->from, place->tag_from, place->comm,
-                              &handle);
+        MPI_Isendrecv_replace(in, 1, MPI_INT, place->to, place->tag_to, place->from, place->tag_from,
+                              place->comm, &handle);
     }
     complete(1, &handle, &status);
 #else
@@ -91,7 +93,8 @@ static void exchange(const Place *place, int *out, int *in) {
                      mine(2) ? MPI_STATUS_IGNORE : &(MPI_Status){0});
     } else if (form == 1) {
         *in = *out;
-        MPI_Sendrecv_replace(in, 1, MPI_INT, place->to, place->tag_to, source, tag, place->comm, MPI_STATUS_IGNORE);
+        MPI_Sendrecv_replace(in, 1, MPI_INT, place->to, place->tag_to, source, tag, place->comm,
+                             MPI_STATUS_IGNORE);
     } else if (form == 2) {
         both_in_one(place, out, in);
     } else if (form == 3) {
@@ -162,7 +165,8 @@ void step_ready(void) {
         data[i] = number;
     if (open) {
         open->data = data;
-        MPI_Irsend(data, message->count, MPI_INT, place_in(comm, to), message->tag, comms[comm].handle, &open->handle);
+        MPI_Irsend(data, message->count, MPI_INT, place_in(comm, to), message->tag, comms[comm].handle,
+                   &open->handle);
     } else {
         MPI_Rsend(data, message->count, MPI_INT, place_in(comm, to), message->tag, comms[comm].handle);
         free(data);
