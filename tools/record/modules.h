@@ -19,7 +19,12 @@ const char *module_at(const void *address, unsigned long *base);
 /* Whether a library with a name that begins so is loaded. */
 bool is_loaded(const char *name);
 
-/* Counts each module of the program's whose calls of MPI don't lead to the recorder but to the library itself. Where
+/* The name of a module of another tool that has MPI's calls too and comes after the recorder, so that it
+ * isn't called; or NULL. */
+const char *passed_tool(void);
+
+/* Counts each module of the program's whose calls of MPI don't lead to the recorder but to the library
+ * itself. Where
  * there is one, the recording stops. */
 void find_bypasses(void);
 

@@ -101,6 +101,16 @@ static const char *open_texts(const char *named, int rank, int ranks, char *fold
     return why ? why : journal_open(folder, id, rank, ranks, words);
 }
 
+/* A tool has to be named before the recorder, which calls the library itself. */
+static void look_for_tools(int rank) {
+    const char *tool = passed_tool();
+    if (!tool)
+        return;
+    left_out(NOTHING, "another tool comes after the recorder in LD_PRELOAD, and isn't called");
+    fprintf(stderr, "mpiwait-record: rank %d: %s comes after the recorder in LD_PRELOAD, and isn't called\n",
+            rank, tool);
+}
+
 static void start(void) {
     int rank, ranks, level;
     MPI_Comm parent;
@@ -125,6 +135,7 @@ static void start(void) {
     turns_open(level);
     number_communicators();
     process = getpid();
+    look_for_tools(rank);
     recording = true;
     find_bypasses();
 }

@@ -19,21 +19,21 @@ static int free_done(void *kept) { return free(kept), MPI_SUCCESS; }
 static int cancel_done(void *none, int complete) { return (void)none, (void)complete, MPI_SUCCESS; }
 
 /* Libraries give one handle to all calls that are done at once. The program then gets a completed
- * request of its own instead, so that its later wait shows which call it is for. */
+ * request of its own instead, so that its later wait shows which call it is for. One that isn't done is new
+ * again: the wait for the old call wasn't seen, or answered an error. */
 static bool make_distinct(MPI_Request *handle) {
+    int done = 0;
     MPI_Status *kept = calloc(1, sizeof *kept); /* the library may leave some of it as it is */
     if (!kept)
         return false;
-    REAL(Wait)(handle, kept);
-    REAL(Grequest_start)(query_done, free_done, cancel_done, kept, handle);
-    REAL(Grequest_complete)(*handle);
+    REAL(Test)(handle, &done, kept);
+    if (done) {
+        REAL(Grequest_start)(query_done, free_done, cancel_done, kept, handle);
+        REAL(Grequest_complete)(*handle);
+    } else {
+        free(kept);
+    }
     return true;
-}
-
-static bool is_done(MPI_Request handle) {
-    int done = 0;
-    int result = REAL(Request_get_status)(handle, &done, MPI_STATUS_IGNORE);
-    return result == MPI_SUCCESS && done;
 }
 
 static Request *added(MPI_Request handle) {
@@ -43,10 +43,8 @@ static Request *added(MPI_Request handle) {
     return request;
 }
 
-/* A handle that is known already may also be new again: the wait for the old call wasn't seen, or answered an
- * error. */
 Request *started(MPI_Request *handle, int number) {
-    if (requests_find(bits(*handle)) && is_done(*handle) && !make_distinct(handle)) {
+    if (requests_find(bits(*handle)) && !make_distinct(handle)) {
         journal_stop("there is no memory for its requests");
         return NULL;
     }
