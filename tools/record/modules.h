@@ -2,7 +2,10 @@
 #ifndef MPIWAIT_MODULES_H
 #define MPIWAIT_MODULES_H
 
+#include <link.h>
 #include <stdbool.h>
+#include <stddef.h>
+#include <stdint.h>
 
 /* None of these is seen by the program. */
 #pragma GCC visibility push(hidden)
@@ -23,13 +26,33 @@ bool is_loaded(const char *name);
  * isn't called; or NULL. */
 const char *passed_tool(void);
 
-/* Counts each module of the program's whose calls of MPI don't lead to the recorder but to the library
- * itself. Where
- * there is one, the recording stops. */
-void find_bypasses(void);
+/* Modules were loaded or unloaded: what is at an address is another one's. */
+void forget_owners(void);
 
-/* The same, if modules were loaded since. */
-void find_new_bypasses(void);
+/* ---- One module -------------------------------------------------------------------------------- */
+
+/* What a module says of itself for its linking. */
+typedef struct {
+    uintptr_t base;
+    const ElfW(Sym) * symbols;
+    const char *names;
+    const uint32_t *hashes; /* as GNU has them */
+    const ElfW(Rela) * relocations[2];
+    size_t sizes[2];
+} Dynamic;
+
+Dynamic dynamic_of(const struct dl_phdr_info *module);
+
+/* Whether it defines a symbol. */
+bool defines(const Dynamic *dynamic, const char *name);
+
+bool has_address(const struct dl_phdr_info *module, uintptr_t address);
+
+/* Whether it is a part of an MPI library. */
+bool is_of_mpi(const struct dl_phdr_info *module);
+
+const char *base_name(const char *path);
+bool has_prefix(const char *text, const char *prefix);
 
 #pragma GCC visibility pop
 

@@ -12,6 +12,7 @@
  */
 #define _GNU_SOURCE
 #include "calls.h"
+#include "bypasses.h"
 #include "modules.h"
 #include "strict.h"
 #include <stdio.h>
@@ -211,6 +212,7 @@ static void forget(void) { recording = false; }
 
 /* What is asked for before the program begins is called last of all. */
 __attribute__((constructor)) static void load(void) {
+    bypasses_open();
     on_exit(ended, NULL);
     pthread_atfork(NULL, NULL, forget);
 }

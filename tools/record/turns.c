@@ -1,6 +1,7 @@
 /* When a call of the program begins and comes back, and in which thread. See calls.h. */
 #define _GNU_SOURCE
 #include "calls.h"
+#include "bypasses.h"
 #include "modules.h"
 #include <pthread.h>
 

@@ -56,6 +56,8 @@ static void wide_halo(void) { exchange(MANY); }
 
 static void barrier(void) { MPI_Barrier(MPI_COMM_WORLD); }
 
+static void bcast(void) { MPI_Bcast(data, 1, MPI_INT, 0, MPI_COMM_WORLD); }
+
 static const struct {
     const char *name;
     void (*round)(void);
@@ -70,6 +72,7 @@ static const struct {
     {"Irecv, Isend, Waitall", halo, 3, ROUNDS},
     {"32 Irecv, 32 Isend, Waitall", wide_halo, 2 * MANY + 1, ROUNDS / 8},
     {"Barrier", barrier, 1, ROUNDS},
+    {"Bcast", bcast, 1, ROUNDS},
 };
 
 /* The best of many pieces: those in which another process had the processor are none. */
