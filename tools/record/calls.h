@@ -104,8 +104,9 @@ int site(void);
 /* From MPI_Init on. */
 void turns_open(int level);
 
-/* Whether no thread is within a recorded call. */
-bool nobody_calls(void);
+/* The program ends: whether no thread is within a recorded call. None is recorded after that. */
+bool last_turn_begins(void);
+void last_turn_ends(void);
 
 /* ---- Lines ------------------------------------------------------------------------------------- */
 

@@ -82,15 +82,21 @@ static void refuse_other_library(void) {
 }
 
 /* Said, and left for the report. */
-static void not_recorded(const char *folder, int rank, const char *why) {
+static bool note_unrecorded(const char *folder, const char *why) {
     char path[4096];
+    if (!folder || !*folder || snprintf(path, sizeof path, "%s/unrecorded", folder) >= (int)sizeof path)
+        return false;
+    FILE *file = fopen(path, "ae");
+    if (!file)
+        return false;
+    bool written = fprintf(file, "%s\n", why) > 0;
+    return fclose(file) == 0 && written;
+}
+
+static void not_recorded(const char *folder, const char *named, int rank, const char *why) {
     fprintf(stderr, "mpiwait-record: rank %d isn't recorded: %s\n", rank, why);
-    snprintf(path, sizeof path, "%s/unrecorded", folder ? folder : "");
-    FILE *file = folder ? fopen(path, "a") : NULL;
-    if (file) {
-        fprintf(file, "%s\n", why);
-        fclose(file);
-    }
+    if (!note_unrecorded(folder, why))
+        note_unrecorded(named, why);
 }
 
 static pid_t process; /* the one that called MPI_Init */
@@ -128,7 +134,7 @@ static void start(void) {
     else
         why = open_texts(named, rank, ranks, folder, sizeof folder);
     if (why) {
-        not_recorded(*folder ? folder : named, rank, why);
+        not_recorded(folder, named, rank, why);
         return;
     }
     sites_open(folder, rank);
@@ -197,14 +203,14 @@ ALSO_PMPI(Abort)
 /* The program ends without MPI_Finalize. Where a thread is within a call, that never comes back. */
 static void ended(int status, void *none) {
     (void)status, (void)none;
-    if (!recording || getpid() != process || !nobody_calls())
+    if (!recording || getpid() != process || !last_turn_begins())
         return;
     find_bypasses();
     journal_begin();
     journal_call("exit", 0, NULL, 0);
     journal_came_back();
     journal_close();
-    recording = false;
+    last_turn_ends();
 }
 
 /* A child that the program forks isn't the rank. */

@@ -52,7 +52,20 @@ void turns_open(int level) {
     first = pthread_self();
 }
 
-bool nobody_calls(void) { return __atomic_load_n(&turn.now, __ATOMIC_ACQUIRE) == 0; }
+bool last_turn_begins(void) {
+    if (own.is_locked || pthread_mutex_trylock(&lock) != 0)
+        return false;
+    own.is_locked = true;
+    if (recording && turn.now == 0)
+        return true;
+    give_lock();
+    return false;
+}
+
+void last_turn_ends(void) {
+    recording = false;
+    give_lock();
+}
 
 /* ---- Calls of several threads ------------------------------------------------------------------ */
 
