@@ -1,6 +1,7 @@
 /* Waits and tests. See calls.h. */
 #define _GNU_SOURCE
 #include "calls.h"
+#include "strict.h"
 
 enum { FEW = 64 };
 
@@ -371,6 +372,8 @@ ALSO_PMPI(Testsome)
 int MPI_Request_get_status(MPI_Request handle, int *found, MPI_Status *status) {
     if (BEGINS_QUIETLY)
         left_out(NOTHING, "MPI_Request_get_status");
+    if (is_strict())
+        strict_look(handle);
     return over(CALL(Request_get_status, (handle, found, status)));
 }
 ALSO_PMPI(Request_get_status)

@@ -154,7 +154,7 @@ int strict_exchange(Half out, Half in, MPI_Comm comm, MPI_Status *status) {
     return result == MPI_SUCCESS ? exchange(out, in, comm, status) : result;
 }
 
-char *pack(Half *out, MPI_Comm comm) {
+char *pack_half(Half *out, MPI_Comm comm) {
     Size size = 0, end = 0;
     if (BY_COUNT(Pack_size)(out->count, out->type, comm, &size) != MPI_SUCCESS)
         return NULL;
@@ -173,7 +173,7 @@ int strict_replace(Half out, Half in, MPI_Comm comm, MPI_Status *status) {
     int result = check_halves(out, in, comm);
     if (result != MPI_SUCCESS)
         return result;
-    char *packed = pack(&out, comm);
+    char *packed = pack_half(&out, comm);
     if (!packed)
         return BY_COUNT(Sendrecv_replace)(in.data, in.count, in.type, out.rank, out.tag, in.rank, in.tag,
                                           comm, status);

@@ -46,6 +46,9 @@ enum { STRICT_PAIRS_ARE_KNOWN = false };
 int strict_start_exchange(Half out, Half in, MPI_Comm comm, MPI_Request *handle);
 int strict_start_replace(Half out, Half in, MPI_Comm comm, MPI_Request *handle);
 
+/* The program looks at a request, which may be one of these. */
+void strict_look(MPI_Request handle);
+
 /* ---- What both have in common ------------------------------------------------------------------ */
 
 #ifdef HAS_Send_c
@@ -61,7 +64,7 @@ int check_halves(Half out, Half in, MPI_Comm comm);
 
 /* Packs what is sent, so that what is received may take its place. Where there is no memory nothing, and
  * NULL. */
-char *pack(Half *out, MPI_Comm comm);
+char *pack_half(Half *out, MPI_Comm comm);
 
 /* The status of nobody's message; MPICH 4.0 writes nothing there for a nonblocking receive. */
 void set_status_of_nobody(MPI_Status *status);

@@ -12,13 +12,37 @@
 #endif
 
 #ifdef HAS_PAIRS
-typedef struct {
+#include <pthread.h>
+
+typedef struct Pair {
     MPI_Request whole, sent, received; /* the latter two null when they are complete */
     MPI_Status status;                 /* of the receive */
     int error;
     bool is_from_nobody;
     char *packed; /* what is sent, if it isn't in the program's own place */
+    struct Pair *next;
 } Pair;
+
+/* Those that aren't complete. */
+static Pair *open_pairs;
+static pthread_mutex_t pairs_lock = PTHREAD_MUTEX_INITIALIZER;
+
+static void add_pair(Pair *pair) {
+    pthread_mutex_lock(&pairs_lock);
+    pair->next = open_pairs;
+    open_pairs = pair;
+    pthread_mutex_unlock(&pairs_lock);
+}
+
+static void remove_pair(const Pair *pair) {
+    pthread_mutex_lock(&pairs_lock);
+    Pair **place = &open_pairs;
+    while (*place && *place != pair)
+        place = &(*place)->next;
+    if (*place)
+        *place = pair->next;
+    pthread_mutex_unlock(&pairs_lock);
+}
 
 static void note(Pair *pair, int result) {
     if (result != MPI_SUCCESS)
@@ -37,10 +61,22 @@ static int poll_pair(void *state, MPI_Status *none) {
         note(pair,
              REAL(Test)(&pair->received, &done, pair->is_from_nobody ? MPI_STATUS_IGNORE : &pair->status));
     if (pair->sent == MPI_REQUEST_NULL && pair->received == MPI_REQUEST_NULL) {
+        remove_pair(pair);
         REAL(Grequest_complete)(pair->whole);
         pair->whole = MPI_REQUEST_NULL;
     }
     return MPI_SUCCESS;
+}
+
+/* MPICH doesn't ask for the two in MPI_Request_get_status. */
+void strict_look(MPI_Request handle) {
+    pthread_mutex_lock(&pairs_lock);
+    Pair *pair = open_pairs;
+    while (pair && pair->whole != handle)
+        pair = pair->next;
+    pthread_mutex_unlock(&pairs_lock);
+    if (pair)
+        poll_pair(pair, NULL);
 }
 
 static void finish_pair(Pair *pair) {
@@ -105,6 +141,8 @@ static int start_with(Half out, Half in, MPI_Comm comm, MPI_Request *handle, cha
     set_status_of_nobody(&pair->status);
     int result = start_pair(out, in, comm, pair);
     *handle = pair->whole;
+    if (result == MPI_SUCCESS)
+        add_pair(pair);
     return result;
 }
 
@@ -117,7 +155,7 @@ int strict_start_replace(Half out, Half in, MPI_Comm comm, MPI_Request *handle) 
     int result = check_halves(out, in, comm);
     if (result != MPI_SUCCESS)
         return result;
-    char *packed = pack(&out, comm);
+    char *packed = pack_half(&out, comm);
     return packed ? start_with(out, in, comm, handle, packed) : MPI_ERR_NO_MEM;
 }
 
@@ -137,4 +175,8 @@ int strict_start_replace(Half out, Half in, MPI_Comm comm, MPI_Request *handle) 
     return REAL(Isendrecv_replace)(in.data, in.count, in.type, out.rank, out.tag, in.rank, in.tag, comm,
                                    handle);
 }
+#endif
+
+#ifndef HAS_PAIRS
+void strict_look(MPI_Request handle) { (void)handle; }
 #endif
