@@ -1,0 +1,10 @@
+pub mod Codes
+pub mod Text
+pub mod Words
+pub mod Fields
+pub mod Lines
+pub mod Header
+pub mod Entries
+pub mod Known
+pub mod Faults
+pub mod Journal
