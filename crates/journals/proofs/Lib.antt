@@ -1,0 +1,2 @@
+pub mod WindowLemmas
+pub mod FeedLemmas

@@ -1,5 +1,7 @@
 pub mod Codes
 pub mod Text
+pub mod Inputs
+pub mod Window
 pub mod Words
 pub mod Fields
 pub mod Lines

@@ -4,5 +4,16 @@
 pub mod fault;
 pub mod field;
 pub mod form;
+mod group;
+pub mod header;
+pub mod journal;
+mod known;
+mod last;
 pub mod limits;
+mod line;
+pub mod lines;
+mod note;
+mod reader;
+pub mod text;
+mod window;
 pub mod word;
