@@ -35,14 +35,14 @@ pub(crate) fn read_positive(text: &[u8]) -> Option<u32>
 }
 
 fn positive_field(text: &[u8]) -> Option<Field>
-    ensures { result ≡ option_map Natural (positive_of text.now) }
+    ensures { result ≡ option_map (λ n. Field.Natural n) (positive_of text.now) }
 {
     Some(Field::Natural(read_positive(text)?))
 }
 
 /// The field of a canonical number up to a greatest one.
 fn natural_field(greatest: u32, text: &[u8]) -> Option<Field>
-    ensures { result ≡ option_map Natural (number_up_to greatest text.now) }
+    ensures { result ≡ option_map (λ n. Field.Natural n) (number_up_to greatest text.now) }
 {
     Some(Field::Natural(read_number(greatest, text)?))
 }
@@ -104,7 +104,7 @@ fn source_tag_field(text: &[u8]) -> Option<Field>
 }
 
 fn colour_field(text: &[u8]) -> Option<Field>
-    ensures { result ≡ or_named (codes "undefined") Undefined text.now (signed_field text.now) }
+    ensures { result ≡ or_named (codes "undefined") Field.Undefined text.now (signed_field text.now) }
 {
     if text == b"undefined".as_slice() {
         return Some(Field::Undefined);

@@ -1,0 +1,9 @@
+pub mod Called
+pub mod Keys
+pub mod Held
+pub mod Numbers
+pub mod Reported
+pub mod Steps
+pub mod Endings
+pub mod Entry
+pub mod Recording
