@@ -1,2 +1,3 @@
 pub mod WindowLemmas
 pub mod FeedLemmas
+pub mod TextLemmas

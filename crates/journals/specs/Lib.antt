@@ -3,6 +3,7 @@ pub mod Text
 pub mod Inputs
 pub mod Window
 pub mod Words
+pub mod Forms
 pub mod Fields
 pub mod Lines
 pub mod Header

@@ -2,6 +2,7 @@
 
 ghost use Rattle.std.specs.Prelude.{◌≡◌, ◌==◌, length};
 ghost use Rattle.journals.specs.Words.{call_row, report_row, row_of, forms_of};
+ghost use Rattle.journals.specs.Forms.{collective_forms};
 
 use crate::word::{CallWord, ReportWord, Word};
 
@@ -100,7 +101,9 @@ const STARTED_EXCHANGE: [Form; 7] = [
 ];
 
 /// The forms of the fields of a collective; none of a word that always has no field.
-fn collective_forms(word: CallWord) -> &'static [Form] {
+fn collective_forms(word: CallWord) -> &'static [Form]
+    ensures { result.now ≡ collective_forms word }
+{
     match word {
         CallWord::Barrier
         | CallWord::Allgather
@@ -144,9 +147,8 @@ pub fn more_of(word: Word) -> More
 {
     match word {
         Word::Call(CallWord::Stopped) => More::Text,
-        Word::Call(
-            CallWord::Send | CallWord::Isend | CallWord::Sendrecv | CallWord::Isendrecv,
-        ) => More::Bytes,
+        Word::Call(CallWord::Send | CallWord::Isend | CallWord::Sendrecv | CallWord::Isendrecv) =>
+            More::Bytes,
         Word::Call(CallWord::Wait | CallWord::Test | CallWord::Waitany | CallWord::Waitsome) => {
             More::Several(Form::Request)
         }

@@ -1,8 +1,9 @@
 //! The first line of a journal.
 
-ghost use Rattle.std.specs.Prelude.{◌≡◌, ◌≤◌, Some, None, MatchOption};
-ghost use Rattle.journals.specs.Header.{heading_of, has_bytes, state_of};
-ghost use Rattle.mpicall.specs.Lines.{split_fields};
+ghost use Rattle.std.specs.Prelude.{◌≡◌, ◌≤◌, ◌-◌, IfSome, option_and_then};
+ghost use Rattle.mpicall.specs.Number.{number_up_to};
+ghost use Rattle.journals.specs.Fields.{at_least_one};
+ghost use Rattle.journals.specs.Header.{has_bytes, state_of, is_number};
 
 use crate::limits::MOST_RANKS;
 use mpicall::fields::Fields;
@@ -41,29 +42,45 @@ fn have_bytes(mut fields: Fields<'_>) -> bool
     }
 }
 
-/// Whether a line begins as a journal's header does: `journal 2`, and this rank.
-fn begins_header(rank: u32, fields: &mut Fields<'_>) -> Option<bool> {
-    let word = fields.next_field()?;
-    let version = fields.next_field()?;
-    let own = fields.next_field()?;
-    if word != b"journal".as_slice() || version != b"2".as_slice() {
-        return Some(false);
+/// Whether a field is the number of this rank.
+fn is_own(rank: u32, field: &[u8]) -> bool
+    ensures { result ≡ is_number rank (number_up_to (MOST_RANKS - 1) field.now) }
+{
+    match read_number(MOST_RANKS - 1, field) {
+        Some(number) => number == rank,
+        None => false,
     }
-    Some(read_number(MOST_RANKS - 1, own)? == rank)
+}
+
+/// A number of ranks.
+fn ranks_of(field: &[u8]) -> Option<u32>
+    ensures value { result ≡ option_and_then at_least_one (number_up_to MOST_RANKS field.now) }
+    ensures some { IfSome result (λ ranks. 1 ≤ ranks) }
+{
+    let ranks = read_number(MOST_RANKS, field)?;
+    if ranks == 0 {
+        return None;
+    }
+    Some(ranks)
 }
 
 /// The header of this rank that a line spells, if it does.
-pub fn read_header(rank: u32, line: &[u8]) -> Option<HeaderLine<'_>> {
+pub fn read_header(rank: u32, line: &[u8]) -> Option<HeaderLine<'_>>
+    ensures some { IfSome result (λ header. 1 ≤ header.ranks) }
+{
     let mut fields = Fields::of(line);
-    if !begins_header(rank, &mut fields)? {
-        return None;
-    }
-    let ranks = read_number(MOST_RANKS, fields.next_field()?)?;
+    let word = fields.next_field()?;
+    let version = fields.next_field()?;
+    let own = fields.next_field()?;
+    let ranks = fields.next_field()?;
     let run = fields.next_field()?;
-    let is_outside = state_of(fields.next_field()?)?;
-    if ranks == 0 || run.is_empty() || !have_bytes(fields) {
+    let state = fields.next_field()?;
+    let is_header = word == b"journal".as_slice() && version == b"2".as_slice();
+    if !is_header || !is_own(rank, own) || run.is_empty() || !have_bytes(fields) {
         return None;
     }
+    let ranks = ranks_of(ranks)?;
+    let is_outside = state_of(state)?;
     Some(HeaderLine {
         ranks,
         run,

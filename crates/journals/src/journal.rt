@@ -136,11 +136,11 @@ impl Reading {
             return Ok(false);
         };
         let line = &self.window.held()[..count - 1];
-        let place = match self.lines.read(self.ranks, line) {
-            Ok(place) => place,
+        let taken = match self.lines.read(self.ranks, line) {
+            Ok(taken) => taken,
             Err(fault) => return Err(fault_at(number, fault)),
         };
-        if let Err(fault) = self.known.admit(&self.lines, place) {
+        if let Err(fault) = self.known.admit(&self.lines, taken) {
             return Err(fault_at(number, fault));
         }
         self.window.drop_front(count);

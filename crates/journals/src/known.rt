@@ -6,7 +6,7 @@ use crate::form::{Form, form_at};
 use crate::group::{GroupOf, Marks};
 use crate::last::{LastCall, stands_anywhere};
 use crate::line::LineFault;
-use crate::lines::Lines;
+use crate::lines::{Lines, Taken};
 use crate::note::Note;
 use crate::word::{CallWord, ReportWord, Word};
 use std::alloc::{AllocError, Global};
@@ -56,11 +56,11 @@ impl Known {
     }
 
     /// Takes the next line of the journal, or answers its fault.
-    pub(crate) fn admit(&mut self, lines: &Lines, line: u32) -> Result<(), LineFault> {
+    pub(crate) fn admit(&mut self, lines: &Lines, taken: Taken) -> Result<(), LineFault> {
         unless(!self.is_over, JournalFaultKind::AfterEnd)?;
-        match lines.word(line) {
-            Word::Call(word) => self.admit_call(lines, line, word),
-            Word::Report(word) => self.admit_report(lines, line, word),
+        match taken.word {
+            Word::Call(word) => self.admit_call(lines, taken.line, word),
+            Word::Report(word) => self.admit_report(lines, taken.line, word),
         }
     }
 
@@ -91,9 +91,10 @@ impl Known {
     ) -> Result<(), LineFault> {
         let completes = LastCall::new(word, line).completes_all(fields);
         for place in 0..fields.len() {
-            let (Some(form), Field::Natural(number)) =
-                (form_at(Word::Call(word), place), fields[place])
-            else {
+            let (Some(form), Field::Natural(number)) = (
+                form_at(Word::Call(word), place),
+                fields[place],
+            ) else {
                 continue;
             };
             match form {
@@ -166,13 +167,19 @@ impl Known {
         true
     }
 
+    /// The group of a communicator that a line reported.
+    fn reported_group<'a>(&self, lines: &'a Lines, comm: u32) -> Option<&'a [Field]> {
+        let line = *self.comms.get(&comm)?;
+        Some(group_in(lines.word(line)?, lines.fields(line)))
+    }
+
     /// Whether a group can be that of a communicator whose parent this is.
     fn is_group_within(&mut self, lines: &Lines, parent: u32, group: &[Field]) -> bool {
         let parent = match parent {
             0 => GroupOf::World,
             1 => GroupOf::Alone(self.rank),
-            comm => match self.comms.get(&comm) {
-                Some(line) => GroupOf::Members(group_in(lines.word(*line), lines.fields(*line))),
+            comm => match self.reported_group(lines, comm) {
+                Some(group) => GroupOf::Members(group),
                 None => return false,
             },
         };
@@ -239,9 +246,10 @@ impl Known {
     /// Whether each known request that a report names can have it.
     fn fits(&self, word: ReportWord, fields: &[Field]) -> bool {
         for place in 0..fields.len() {
-            if let (Some(Form::Request), Field::Natural(number)) =
-                (form_at(Word::Report(word), place), fields[place])
-            {
+            if let (Some(Form::Request), Field::Natural(number)) = (
+                form_at(Word::Report(word), place),
+                fields[place],
+            ) {
                 if let Some(note) = self.notes.get(&number) {
                     if !note.is_message && !self.may_be_of(word, note) {
                         return false;
@@ -259,9 +267,10 @@ impl Known {
             _ => None,
         };
         for place in 0..fields.len() {
-            if let (Some(Form::Request), Field::Natural(number)) =
-                (form_at(Word::Report(word), place), fields[place])
-            {
+            if let (Some(Form::Request), Field::Natural(number)) = (
+                form_at(Word::Report(word), place),
+                fields[place],
+            ) {
                 if !self.note_request(number, word, line, completed) {
                     return false;
                 }
@@ -321,7 +330,10 @@ impl Known {
 
     /// Takes the communicator that a report brings, if it brings one.
     fn bring_comm(&mut self, lines: &Lines, line: u32, word: ReportWord) -> Result<(), LineFault> {
-        if !matches!(word, ReportWord::Comm | ReportWord::Idup | ReportWord::Apart) {
+        if !matches!(
+            word,
+            ReportWord::Comm | ReportWord::Idup | ReportWord::Apart
+        ) {
             return Ok(());
         }
         let fields = lines.fields(line);

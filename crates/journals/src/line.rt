@@ -1,11 +1,14 @@
 //! What a line says: its word and its fields.
 
-ghost use Rattle.std.specs.Prelude.{◌≡◌};
+ghost use Rattle.std.specs.Prelude.{◌≡◌, ◌≤◌, ◌<◌, ◌∷◌, length, option_map};
+ghost use Rattle.mpicall.specs.Lines.{split_fields};
+ghost use Rattle.journals.specs.Lines.{last_field};
 ghost use Rattle.journals.specs.declared.line.LineFault.TheVariants.{Memory};
 
 use crate::fault::JournalFaultKind;
 use crate::field::{Field, read_field, read_positive};
 use crate::form::{form_at, takes_count};
+use crate::limits::MOST_LINE_BYTES;
 use crate::word::{CallWord, Word, word_of};
 use mpicall::fields::Fields;
 use std::alloc::{AllocError, AllocFailed};
@@ -42,7 +45,10 @@ struct Tail<'a> {
     last: Option<&'a [u8]>,
 }
 
-fn tail_of(mut fields: Fields<'_>) -> Tail<'_> {
+fn tail_of(mut fields: Fields<'_>) -> Tail<'_>
+    requires { length fields ≤ MOST_LINE_BYTES }
+    ensures count { result.count ≡ length fields.entry }
+{
     let mut tail = Tail {
         count: 0,
         last: None,
@@ -63,7 +69,10 @@ fn site_in(field: Option<&[u8]>) -> Option<&[u8]> {
 }
 
 /// The fields behind the first one of a line.
-fn behind_word(line: &[u8]) -> Fields<'_> {
+fn behind_word(line: &[u8]) -> Fields<'_>
+    requires { length line.now < MOST_LINE_BYTES }
+    ensures { length result ≤ MOST_LINE_BYTES }
+{
     let mut fields = Fields::of(line);
     let _ = fields.next_field();
     fields
@@ -76,7 +85,9 @@ fn push_fields(
     mut fields: Fields<'_>,
     count: usize,
     into: &mut Vec<Field>,
-) -> Result<(), LineFault> {
+) -> Result<(), LineFault>
+    requires { 1 ≤ ranks }
+{
     for place in 0..count {
         let (Some(form), Some(text)) = (form_at(word, place), fields.next_field()) else {
             return Err(LineFault::Journal(JournalFaultKind::FieldForm));
@@ -90,14 +101,17 @@ fn push_fields(
 }
 
 /// Reads the fields behind a word, and puts them at the end of a list.
-fn push_behind(ranks: u32, word: Word, line: &[u8], into: &mut Vec<Field>) -> Result<(), LineFault> {
+fn push_behind(ranks: u32, word: Word, line: &[u8], into: &mut Vec<Field>) -> Result<(), LineFault>
+    requires some { 1 ≤ ranks }
+    requires short { length line.now < MOST_LINE_BYTES }
+{
     let tail = tail_of(behind_word(line));
     let site = match word {
         Word::Call(_) => site_in(tail.last),
         Word::Report(_) => None,
     };
     let count = match site {
-        Some(_) => tail.count - 1,
+        Some(_) => tail.count.saturating_sub(1),
         None => tail.count,
     };
     if !takes_count(word, count) {
@@ -113,7 +127,10 @@ fn push_behind(ranks: u32, word: Word, line: &[u8], into: &mut Vec<Field>) -> Re
 
 /// Reads a line, without its line feed, of a run of so many ranks: its word, and its fields, which are put at the end
 /// of a list.
-pub(crate) fn read_line(ranks: u32, line: &[u8], into: &mut Vec<Field>) -> Result<Word, LineFault> {
+pub(crate) fn read_line(ranks: u32, line: &[u8], into: &mut Vec<Field>) -> Result<Word, LineFault>
+    requires some { 1 ≤ ranks }
+    requires short { length line.now < MOST_LINE_BYTES }
+{
     let Some(text) = Fields::of(line).next_field() else {
         return Err(LineFault::Journal(JournalFaultKind::UnknownWord));
     };
