@@ -1,3 +1,4 @@
 pub mod WindowLemmas
 pub mod FeedLemmas
 pub mod TextLemmas
+pub mod LineLemmas

@@ -2,6 +2,7 @@ pub mod Codes
 pub mod Text
 pub mod Inputs
 pub mod Window
+pub mod Reader
 pub mod Words
 pub mod Forms
 pub mod Fields

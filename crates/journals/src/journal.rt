@@ -1,5 +1,8 @@
 //! A journal: its header and its lines, read from an input.
 
+ghost use Rattle.std.specs.Prelude.{◌≡◌, ◌≤◌, ◌<◌, length, IfOk, IfSome};
+ghost use Rattle.journals.specs.Reader.{IsLine};
+
 use crate::fault::{JournalFault, JournalFaultKind};
 use crate::header::{HeaderLine, read_header};
 use crate::known::Known;
@@ -19,6 +22,7 @@ pub struct Header {
     ranks: u32,
     run: Vec<u8>,
     is_outside: bool,
+    ghost some: { 1 ≤ ranks },
 }
 
 impl Header {
@@ -84,7 +88,9 @@ fn find_line<I: Input>(
     text: &mut TextInput<I>,
     line: u64,
     wait: &impl Wait,
-) -> Result<Option<usize>, JournalError> {
+) -> Result<Option<usize>, JournalError>
+    ensures { IfOk result (λ found. IfSome found (IsLine window.new)) }
+{
     match next_line(window, text, wait) {
         Ok(NextLine::Whole(count)) => Ok(Some(count)),
         Ok(NextLine::TooLong) => Err(at_line(line, JournalFaultKind::TooLong)),
@@ -122,6 +128,7 @@ struct Reading {
     window: Window,
     lines: Lines,
     known: Known,
+    ghost some: { 1 ≤ ranks },
 }
 
 impl Reading {
@@ -131,7 +138,7 @@ impl Reading {
         text: &mut TextInput<I>,
         wait: &impl Wait,
     ) -> Result<bool, JournalError> {
-        let number = self.lines.count() as u64 + 2;
+        let number = (self.lines.count() as u64).saturating_add(2);
         let Some(count) = find_line(&mut self.window, text, number, wait)? else {
             return Ok(false);
         };

@@ -1,5 +1,8 @@
 //! The whole lines of a journal's text, one by one.
 
+ghost use Rattle.std.specs.Prelude.{IfOk};
+ghost use Rattle.journals.specs.Reader.{IsHeld};
+
 use crate::limits::MOST_LINE_BYTES;
 use crate::text::TextInput;
 use crate::window::{Window, line_end};
@@ -22,7 +25,9 @@ fn skip_long<I: Input>(
     window: &mut Window,
     text: &mut TextInput<I>,
     wait: &impl Wait,
-) -> Result<NextLine, DeviceFault> {
+) -> Result<NextLine, DeviceFault>
+    ensures { IfOk result (IsHeld window.new) }
+{
     for _ in wait.forever() {
         let count = window.held().len();
         window.drop_front(count);
@@ -41,7 +46,9 @@ pub(crate) fn next_line<I: Input>(
     window: &mut Window,
     text: &mut TextInput<I>,
     wait: &impl Wait,
-) -> Result<NextLine, DeviceFault> {
+) -> Result<NextLine, DeviceFault>
+    ensures { IfOk result (IsHeld window.new) }
+{
     let count = line_end(window, text)?;
     if count > 0 && window.held()[count - 1] == b'\n' {
         if count > MOST_LINE_BYTES {
