@@ -53,25 +53,31 @@ put_lines lines listed = record listed { lines = lines ++ listed.lines }
 abbrev pub walk_on : Walk → List Step → Walk
 walk_on walk steps = after_steps (record walk { lines = [] }) steps
 
+-- the lines of an entry, and a list behind them
+abbrev pub steps_at : Walk → Placed → List Step → Listed → Listed
+steps_at walk placed steps listed = put_lines (of_line (line_number placed) (walk_on walk steps).lines) listed
+
+-- an entry that ends the list by itself, where the sends that tests completed are waited for first, or one that the
+-- others follow
+abbrev pub list_on : Run → Choice → Walk → List ℕ → Placed → Bool → Option Called → (Walk → List ℕ → Listed) → Listed
+list_on run choice walk late placed true it others =
+    steps_at walk placed (waits (standing (lines_at run placed.rank) late)) (ends_with Finalize (line_number placed) None)
+list_on run choice walk late placed false it others =
+    steps_at walk placed (steps_of run choice placed it)
+    (others (walk_on walk (steps_of run choice placed it)) (late ++ late_of choice (lines_at run placed.rank) it))
+
+-- an entry that ends the list before its end, for a reason, or one that doesn't
+abbrev pub list_at : Run → Choice → Walk → List ℕ → Placed → Option Why → Option Called → (Walk → List ℕ → Listed) → Listed
+list_at run choice walk late placed (Some why) it others =
+    steps_at walk placed (steps_before_end run choice placed it why) (ends_with Open (line_number placed) (Some why))
+list_at run choice walk late placed None it others = list_on run choice walk late placed (is_end it) it others
+
 -- the list of the entries of a rank, of which some came before; `late` are the sends to be waited for at its end
 abbrev pub list_from : Run → Choice → Walk → List ℕ → ℕ → List Placed → Listed
 list_from run choice walk late number [] = ends_with Open number None
 list_from run choice walk late number (placed ∷ others) =
-    list_at (why_at run placed) (called_at placed)
-  where
-    lines : List Line
-    lines = lines_at run placed.rank
-    steps_at : List Step → Listed → Listed
-    steps_at steps listed = put_lines (of_line (line_number placed) (walk_on walk steps).lines) listed
-    list_on : Bool → Option Called → Listed
-    list_on true it =
-        steps_at (waits (standing lines late)) (ends_with Finalize (line_number placed) None)
-    list_on false it =
-        steps_at (steps_of run choice placed it)
-        (list_from run choice (walk_on walk (steps_of run choice placed it)) (late ++ late_of choice lines it) (line_number placed) others)
-    list_at : Option Why → Option Called → Listed
-    list_at (Some why) it = steps_at (steps_before_end run choice placed it why) (ends_with Open (line_number placed) (Some why))
-    list_at None it = list_on (is_end it) it
+    list_at run choice walk late placed (why_at run placed) (called_at placed)
+    (λ walk late. list_from run choice walk late (line_number placed) others)
 
 -- the preface, and behind it what its entries stand for
 abbrev pub whole_list : Run → Choice → ℕ → Listed

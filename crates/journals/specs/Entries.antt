@@ -1,7 +1,7 @@
 -- The entries of a journal: an entry is a call line with the reported lines after it.
-use Rattle.std.specs.Prelude.{ℕ, ◌+◌, Bool, true, false, ◌&&◌, ◌||◌, ◌==◌, Option, Some, None, if◌then◌else◌, List, [], ◌∷◌, length, reverse}
-use Rattle.std.specs.List.{list_any, filter_map, zip}
-use Rattle.journals.specs.Words.{forms_of, is_call}
+use Rattle.std.specs.Prelude.{ℕ, Bool, true, false, ◌||◌, Option, Some, None, if◌then◌else◌, List, [], ◌∷◌, length}
+use Rattle.std.specs.List.{filter_map, zip}
+use Rattle.journals.specs.Words.{forms_of}
 use Rattle.journals.specs.Lines.{Line}
 use Rattle.journals.specs.declared.form.Form.{Form}
 use Rattle.journals.specs.declared.form.Form.TheVariants.{NewRequest, NewMessage, Request, Message, Comm, NewComm, Member}
@@ -10,9 +10,6 @@ use Rattle.journals.specs.declared.field.Field.TheVariants.{Natural}
 use Rattle.journals.specs.declared.word.Word.{Word}
 use Rattle.journals.specs.declared.word.Word.TheVariants.{Call, Report}
 use Rattle.journals.specs.declared.word.CallWord.{CallWord}
-use Rattle.journals.specs.declared.word.CallWord.TheVariants as call
-use Rattle.journals.specs.declared.word.ReportWord.{ReportWord}
-use Rattle.journals.specs.declared.word.ReportWord.TheVariants as report
 
 -- what fields of some forms say
 abbrev pub number_if : (Form → Bool) → Form × Field → Option ℕ

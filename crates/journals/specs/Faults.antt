@@ -1,6 +1,6 @@
 -- The first fault of a line that has its form, by the lines before it.
-use Rattle.std.specs.Prelude.{ℕ, Bool, true, false, ◌&&◌, ◌||◌, not, ◌==◌, Option, Some, None, is_some, if◌then◌else◌, List, [], ◌∷◌, ◌++◌, length, filter}
-use Rattle.std.specs.List.{list_any, list_all, range_with_len}
+use Rattle.std.specs.Prelude.{ℕ, Bool, true, false, ◌&&◌, ◌||◌, not, ◌==◌, Option, Some, None, is_some, List, [], ◌∷◌, length}
+use Rattle.std.specs.List.{list_any, list_all}
 use Rattle.std.specs.Str.{bytes_eq}
 use Rattle.journals.specs.Lines.{Line}
 use Rattle.journals.specs.Entries.{Entry, call_of, last_entry, numbers_by, is_new_request, is_new_message, is_request, is_message, is_of_request, is_comm, is_new_comm, group_in}

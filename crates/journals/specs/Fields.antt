@@ -1,5 +1,5 @@
 -- What a field says, by its form.
-use Rattle.std.specs.Prelude.{ℕ, ◌-◌, ℤ, Bool, true, false, nat_le, Option, Some, None, option_map, option_and_then, if◌then◌else◌, List, [], ◌∷◌, codes}
+use Rattle.std.specs.Prelude.{ℕ, ◌-◌, nat_le, Option, Some, None, option_map, option_and_then, if◌then◌else◌, List, codes}
 use Rattle.std.specs.Str.{bytes_eq}
 use Rattle.mpicall.specs.Number.{number_up_to, signed_of}
 use Rattle.journals.specs.declared.limits.TheConstants.{GREATEST}

@@ -1,5 +1,5 @@
 -- The forms of the fields of collectives, as the code asks for them; nobody has to believe this.
-use Rattle.std.specs.Prelude.{List, [], ◌∷◌}
+use Rattle.std.specs.Prelude.{List, []}
 use Rattle.journals.specs.Words.{call_row}
 use Rattle.journals.specs.declared.form.Form.{Form}
 use Rattle.journals.specs.declared.word.CallWord.{CallWord}

@@ -1,7 +1,7 @@
 -- The first line of a journal: `journal 2`, the rank, the number of ranks, a field that the journals of one run share,
 -- `i` while the rank is inside the call of its last call line and `o` once that came back, and at least one byte that
 -- says nothing here.
-use Rattle.std.specs.Prelude.{ℕ, ◌-◌, Bool, true, false, ◌&&◌, not, ◌==◌, Option, Some, None, option_and_then, if◌then◌else◌, List, [], ◌∷◌, length, codes}
+use Rattle.std.specs.Prelude.{ℕ, ◌-◌, Bool, true, false, ◌&&◌, not, ◌==◌, Option, Some, None, option_and_then, if◌then◌else◌, List, [], ◌∷◌, codes}
 use Rattle.std.specs.Str.{bytes_eq}
 use Rattle.mpicall.specs.Lines.{split_fields, is_blank, is_empty}
 use Rattle.mpicall.specs.Number.{number_up_to}

@@ -1,5 +1,5 @@
 -- The text that an input still gives: its bytes up to the first zero byte, and none once that came.
-use Rattle.std.specs.Prelude.{◌≡◌, ℕ, Bool, true, false, if◌then◌else◌, Option, Some, None, option_map, List, []}
+use Rattle.std.specs.Prelude.{◌≡◌, ℕ, false, if◌then◌else◌, Option, Some, option_map, List, []}
 use Rattle.journals.specs.Text.{text_of}
 use Rattle.journals.specs.declared.text.TextInput.{TextInput}
 

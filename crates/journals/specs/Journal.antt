@@ -1,5 +1,5 @@
 -- A journal: what its header and its lines say, or its first fault.
-use Rattle.std.specs.Prelude.{ℕ, ◌+◌, Bool, true, false, if◌then◌else◌, Option, Some, None, Result, Ok, Err, List, [], ◌∷◌, ◌++◌, length}
+use Rattle.std.specs.Prelude.{ℕ, ◌+◌, if◌then◌else◌, Option, Some, None, Result, Ok, Err, List, [], ◌∷◌, ◌++◌, length}
 use Rattle.journals.specs.Text.{text_of, whole_lines, is_too_long}
 use Rattle.journals.specs.Lines.{Line, line_of}
 use Rattle.journals.specs.Header.{Heading, heading_of, is_of_run}

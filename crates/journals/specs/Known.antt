@@ -1,11 +1,11 @@
 -- What the lines of a journal say of its requests, messages and communicators.
-use Rattle.std.specs.Prelude.{ℕ, Bool, true, false, ◌&&◌, ◌||◌, not, ◌==◌, Option, Some, None, is_some, option_map, if◌then◌else◌, List, [], ◌∷◌, ◌++◌, length}
-use Rattle.std.specs.List.{list_any, list_all, find, filter_map, flat_map, range_with_len}
+use Rattle.std.specs.Prelude.{ℕ, Bool, true, false, ◌&&◌, ◌||◌, not, ◌==◌, Option, Some, None, is_some, if◌then◌else◌, List, [], ◌∷◌}
+use Rattle.std.specs.List.{list_any, find, flat_map, range_with_len}
 use Rattle.mpicall.specs.Word.{or_else}
 use Rattle.journals.specs.Lines.{Line}
-use Rattle.journals.specs.Entries.{Entry, call_of, entries_of, numbers_by, is_new_request, is_new_message, is_request, is_message, is_of_request, is_comm, is_new_comm, group_in}
+use Rattle.journals.specs.Entries.{Entry, call_of, entries_of, numbers_by, is_new_request, is_new_message, is_request, is_message, is_new_comm, group_in}
 use Rattle.journals.specs.declared.field.Field.{Field}
-use Rattle.journals.specs.declared.field.Field.TheVariants.{Natural, Signed, Null, Any, Undefined}
+use Rattle.journals.specs.declared.field.Field.TheVariants.{Natural, Null, Any}
 use Rattle.journals.specs.declared.word.Word.{Word}
 use Rattle.journals.specs.declared.word.Word.TheVariants.{Call, Report}
 use Rattle.journals.specs.declared.word.CallWord.{CallWord}

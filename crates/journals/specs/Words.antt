@@ -1,6 +1,6 @@
 -- The words of a journal's lines, each with its text and the forms of its fields: a table of the call lines, and one
 -- of the reported lines.
-use Rattle.std.specs.Prelude.{ℕ, ◌+◌, ◌-◌, ◌==◌, max, Bool, true, false, if◌then◌else◌, Option, Some, None, option_map, List, [], ◌∷◌, ◌++◌, length, map, replicate, codes}
+use Rattle.std.specs.Prelude.{ℕ, ◌-◌, ◌==◌, max, Bool, true, false, if◌then◌else◌, Option, Some, None, option_map, List, [], ◌∷◌, ◌++◌, length, map, replicate, codes}
 use Rattle.std.specs.Str.{bytes_eq}
 use Rattle.mpicall.specs.Word.{or_else}
 use Rattle.journals.specs.declared.form.Form.{Form}

@@ -1,5 +1,5 @@
 -- The fields that came, and those still to come, are all.
-use Rattle.std.proofs.Common.{◌≡◌, ◌+◌, ◌≤◌, length}
+use Rattle.std.proofs.Common.{◌≡◌, ◌+◌, length}
 use Rattle.journals.proofs.line.tail_of.Given as goal
 
 abbrev pub invariant-loop-field : goal.invariant-loop-field

@@ -1,5 +1,5 @@
 -- What a read gave of the text.
-use Rattle.std.proofs.Common.{◌≡◌, refl}
+use Rattle.std.proofs.Common.{refl}
 use Rattle.journals.proofs.TextLemmas.{text_goes_on, text_ends_here, text_is_over}
 use Rattle.journals.proofs.text.TextInputInput.read_some.Goals as goal
 
