@@ -8,6 +8,7 @@ pub mod Forms
 pub mod Fields
 pub mod Lines
 pub mod Header
+pub mod Headers
 pub mod Entries
 pub mod Known
 pub mod Faults

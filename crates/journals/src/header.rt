@@ -1,9 +1,10 @@
 //! The first line of a journal.
 
-ghost use Rattle.std.specs.Prelude.{◌≡◌, ◌≤◌, ◌-◌, IfSome, option_and_then};
+ghost use Rattle.std.specs.Prelude.{◌≡◌, ◌≤◌, ◌-◌, None, Some, IfSome, MatchOption, option_and_then};
+ghost use Rattle.journals.specs.Headers.{heading};
 ghost use Rattle.mpicall.specs.Number.{number_up_to};
 ghost use Rattle.journals.specs.Fields.{at_least_one};
-ghost use Rattle.journals.specs.Header.{has_bytes, state_of, is_number};
+ghost use Rattle.journals.specs.Header.{has_bytes, state_of, is_number, heading_of};
 
 use crate::limits::MOST_RANKS;
 use mpicall::fields::Fields;
@@ -65,7 +66,10 @@ fn ranks_of(field: &[u8]) -> Option<u32>
 }
 
 /// The header of this rank that a line spells, if it does.
+#[tactic(auto, unfolding(crate::specs::Header::heading_of))]
 pub fn read_header(rank: u32, line: &[u8]) -> Option<HeaderLine<'_>>
+    ensures value { MatchOption result (heading_of rank line.now ≡ None)
+        (λ header. heading_of rank line.now ≡ Some (heading header)) }
     ensures some { IfSome result (λ header. 1 ≤ header.ranks) }
 {
     let mut fields = Fields::of(line);
