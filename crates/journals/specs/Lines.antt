@@ -1,6 +1,6 @@
 -- What a line says: its word and its fields, or why it says nothing. A call line may have its site last, `@` and a
 -- number from 1 to 2147483647.
-use Rattle.std.specs.Prelude.{ℕ, ◌-◌, Bool, true, false, ◌&&◌, ◌==◌, Option, Some, None, is_some, if◌then◌else◌, Result, Ok, Err, List, [], ◌∷◌, length, take, slice_get}
+use Rattle.std.specs.Prelude.{ℕ, ◌-◌, Bool, true, false, ◌&&◌, ◌==◌, Option, Some, None, is_some, if◌then◌else◌, Result, Ok, Err, List, [], ◌∷◌, length, take}
 use Rattle.mpicall.specs.Lines.{split_fields}
 use Rattle.journals.specs.Words.{word_of, forms_of, is_call}
 use Rattle.journals.specs.Fields.{field_of, positive_of}
@@ -24,8 +24,13 @@ abbrev pub begins_with_at : Option (List ℕ) → Bool
 begins_with_at (Some (byte ∷ bytes)) = byte == at_sign
 begins_with_at _ = false
 
+-- the last of some fields, behind one that came before
+abbrev pub last_behind : Option (List ℕ) → List (List ℕ) → Option (List ℕ)
+last_behind last [] = last
+last_behind last (field ∷ fields) = last_behind (Some field) fields
+
 abbrev pub last_field : List (List ℕ) → Option (List ℕ)
-last_field fields = slice_get fields (length fields - 1)
+last_field fields = last_behind None fields
 
 -- a call line's last field is its site
 abbrev pub has_site : Word → List (List ℕ) → Bool

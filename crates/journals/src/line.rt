@@ -1,7 +1,7 @@
 //! What a line says: its word and its fields.
 
-ghost use Rattle.std.specs.Prelude.{◌≡◌, ◌≤◌, ◌<◌, ◌∷◌, length, option_map};
-ghost use Rattle.mpicall.specs.Lines.{split_fields};
+ghost use Rattle.std.specs.Prelude.{◌≡◌, ◌≤◌, ◌<◌, length};
+ghost use Rattle.std.specs.Option.{option_copied};
 ghost use Rattle.journals.specs.Lines.{last_field};
 ghost use Rattle.journals.specs.declared.line.LineFault.TheVariants.{Memory};
 
@@ -48,6 +48,7 @@ struct Tail<'a> {
 fn tail_of(mut fields: Fields<'_>) -> Tail<'_>
     requires { length fields ≤ MOST_LINE_BYTES }
     ensures count { result.count ≡ length fields.entry }
+    ensures last { option_copied result.last ≡ last_field fields.entry }
 {
     let mut tail = Tail {
         count: 0,
