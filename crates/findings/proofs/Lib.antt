@@ -1,5 +1,4 @@
 pub mod FindingLemmas
-pub mod RankLemmas
 pub mod WaveLemmas
 pub mod CallerLemmas
 pub mod AlikeLemmas

@@ -22,7 +22,7 @@ use Rattle.findings.specs.declared.finding.Finding.{Finding}
 use Rattle.findings.specs.Places.{call_at, over_places, over_ranks}
 use Rattle.findings.specs.Findings.{is_unreceived, unreceived_at, unreceived_of, completes_start, is_completed, lost_at, is_wrong_group, is_wrong_at, group_at, wrong_groups_of}
 use Rattle.findings.proofs.AlikeLemmas.{nothing_listed}
-use Rattle.findings.proofs.RankLemmas.{calls_past}
+use Rattle.pairing.proofs.RankLemmas.{calls_past}
 
 -- where nothing is listed of each place
 nothing_of_rank : {A : Type 0} (listed : ℕ → List A) (recording : Lists) (rank : ℕ) → ((place : ℕ) → place < length (calls_of recording rank) → listed place ≡ []) → over_places listed recording rank ≡ []

@@ -18,7 +18,7 @@ use Rattle.pairing.specs.Partners.{partner_of}
 use Rattle.callnotes.specs.Requests.{starts, does_complete, started_before}
 use Rattle.callnotes.specs.Communicators.{does_make}
 use Rattle.callnotes.specs.Waves.{does_join, wave_of}
-use Rattle.findings.specs.LeftOpen.{is_left_open}
+use Rattle.pairing.specs.LeftOpen.{is_left_open}
 use Rattle.findings.specs.Places.{call_at, call_of_member, over_ranks}
 use Rattle.findings.specs.declared.finding.Finding.{Finding}
 use Rattle.findings.specs.declared.finding.Finding.TheVariants.{Kind, Root, Unreceived, Request, Group}

@@ -7,8 +7,7 @@
 //!   root in the same call; the messages that no call receives, and the requests that no wait completes; and the
 //!   calls whose new communicators have other groups than the calls give them (`Findings`). It needs no closed
 //!   recording and asks for no stands.
-//! - `left_open::is_left_open` tells whether a rank's list was left open (`LeftOpen`). What lacks a receive or a wait
-//!   there is no finding, since it may yet come.
+//! - What lacks a receive or a wait where a list was left open is no finding, since it may yet come.
 //!
 //! Nobody has to believe `Comparisons` and `Makings`: they say how findings are looked for, and no public contract
 //! cites them.
@@ -25,4 +24,3 @@
 
 mod extent;
 pub mod finding;
-pub mod left_open;

@@ -16,3 +16,4 @@ pub mod ProbedLemmas
 pub mod CallCountLemmas
 pub mod ProbingLemmas
 pub mod ReceivedLemmas
+pub mod RankLemmas

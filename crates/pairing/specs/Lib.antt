@@ -2,6 +2,7 @@ pub mod Partners
 pub mod Holdings
 pub mod Starts
 pub mod Faults
+pub mod LeftOpen
 pub mod Pairs
 pub mod Work
 pub mod Matched

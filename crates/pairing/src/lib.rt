@@ -13,6 +13,7 @@
 //!   names, or completes (`Requests`). `probed` answers the send that a probe sees (`Probed`): the one that
 //!   the next receive of its envelope takes. `has_unreceived`, `may_have_active` and `has_made` tell by the tables
 //!   alone where no message waits for its receive, no request is active and no communicator was made.
+//! - `left_open::is_left_open` tells whether a rank's list was left open (`LeftOpen`).
 //! - Laws, each on a function that does nothing: partners are mutual, no two sends have one receive, and
 //!   messages of one envelope do not overtake; in a list without faults each request that a wait names has its
 //!   start, and no request is started while it is active; partners and what probes see stay as a recording goes on.
@@ -46,6 +47,7 @@ pub mod fault;
 mod first_fault;
 mod held;
 mod joined;
+pub mod left_open;
 mod matches;
 mod meeting;
 mod numbering;

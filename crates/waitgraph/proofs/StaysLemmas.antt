@@ -28,7 +28,7 @@ use Rattle.moves.proofs.StandLemmas.{every_maximal_run_ends_at_the_stands, no_ca
 use Rattle.moves.proofs.StayLemmas.{place_before, start_is_a_call, start_stays}
 use Rattle.waitgraph.specs.Least.{Set}
 use Rattle.waitgraph.specs.Loose.{standing_of, is_on, loosens, are_loose, is_held_at}
-use Rattle.findings.specs.LeftOpen.{leaves_open, is_left_open}
+use Rattle.pairing.specs.LeftOpen.{leaves_open, is_left_open}
 use Rattle.waitgraph.specs.Held.{opened_of, standing_by, standings_at, is_held, held_of}
 use Rattle.waitgraph.specs.Waits.{needs_in, waits_of}
 use Rattle.waitgraph.specs.Stays.{calls_before_open, StandsInPlace, HeldRanksStay}
@@ -37,7 +37,7 @@ use Rattle.waitgraph.specs.declared.standing.Standing.{Standing}
 use Rattle.waitgraph.specs.declared.standing.Standing.TheVariants.{AtOpen, Stuck}
 use Rattle.waitgraph.proofs.AmongLemmas.{Among, in_among, among_all, one_fails, kept_among}
 use Rattle.moves.proofs.OntoLemmas.{nth_need, Onto, Same, needs_onto}
-use Rattle.findings.proofs.RankLemmas.{calls_past}
+use Rattle.pairing.proofs.RankLemmas.{calls_past}
 use Rattle.waitgraph.proofs.SweepLemmas.{the_loose_are_the_least}
 use Rattle.waitgraph.proofs.UnmetLemmas.{unmet_from, waits_are}
 use Rattle.waitgraph.proofs.WalkingLemmas.{standing_is, opened_is, stuck_there}

@@ -20,7 +20,7 @@ use Rattle.moves.specs.Needs.{needs_of, is_met, may_pass, can_move}
 use Rattle.moves.specs.Stands.{stands_of, is_at_end, lowest_run_over}
 use Rattle.moves.proofs.RunLemmas.{reached_ranks}
 use Rattle.moves.proofs.StandLemmas.{EndsThere, end_there, every_maximal_run_ends_at_the_stands, no_call_behind_the_end_is_reached}
-use Rattle.findings.proofs.RankLemmas.{calls_past}
+use Rattle.pairing.proofs.RankLemmas.{calls_past}
 use Rattle.waitgraph.specs.Stuck.{is_stuck, unmet_at, unmet_of, StuckRanksWaitForStuckRanks}
 use Rattle.waitgraph.proofs.AmongLemmas.{Among, in_among, among_all, one_fails}
 use Rattle.waitgraph.proofs.UnmetLemmas.{unmet_from, unmet_all}

@@ -17,7 +17,7 @@ use Rattle.moves.specs.declared.need.Need.TheVariants.{At, Lacking}
 use Rattle.waitgraph.specs.Waits.{Waits, needs_in, waits_of}
 use Rattle.waitgraph.specs.Least.{Set, after_rounds}
 use Rattle.waitgraph.specs.Loose.{set_of, standing_of, is_on, loosens_at, loosens, are_loose, is_held_at}
-use Rattle.findings.specs.LeftOpen.{leaves_open, is_left_open}
+use Rattle.pairing.specs.LeftOpen.{leaves_open, is_left_open}
 use Rattle.waitgraph.specs.Held.{left_open_in, standing_by, opened_of, is_some_left_open, standings_at, is_held, held_of}
 use Rattle.waitgraph.specs.Verdicts.{verdict_by, HangTellsOfAHeldRank, WithoutOpenTheStuckAreHeld, HangTellsOfAStuckRank}
 use Rattle.waitgraph.specs.declared.verdict.Verdict.TheVariants.{Hang}

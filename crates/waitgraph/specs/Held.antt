@@ -8,7 +8,7 @@ use Rattle.mpigroup.specs.Groups.{Groups}
 use Rattle.callnotes.specs.Recordings.{Lists, calls_of}
 use Rattle.moves.specs.Runs.{State}
 use Rattle.moves.specs.Stands.{stands_of}
-use Rattle.findings.specs.LeftOpen.{is_left_open}
+use Rattle.pairing.specs.LeftOpen.{is_left_open}
 use Rattle.waitgraph.specs.Least.{Set}
 use Rattle.waitgraph.specs.Loose.{set_of, are_held}
 use Rattle.waitgraph.specs.Waits.{waits_at}

@@ -5,7 +5,7 @@ use Rattle.mpicall.specs.declared.call.Call.{Call}
 use Rattle.mpigroup.specs.Groups.{Groups}
 use Rattle.callnotes.specs.Recordings.{Lists, calls_of}
 use Rattle.moves.specs.Stands.{stands_of}
-use Rattle.findings.specs.LeftOpen.{is_left_open}
+use Rattle.pairing.specs.LeftOpen.{is_left_open}
 use Rattle.waitgraph.specs.Held.{held_of}
 
 -- the rank's calls before its open; all of them where its list ended

@@ -4,8 +4,8 @@ ghost use Rattle.std.specs.Prelude.{◌≡◌, ◌<◌, IfOk, length};
 ghost use Rattle.std.specs.List.{list_any};
 ghost use Rattle.waitgraph.specs.Held.{left_open_in, standing_at, standings_at};
 
-use findings::left_open::{is_left_open, leaves_open};
 use moves::need::stand_of;
+use pairing::left_open::{is_left_open, leaves_open};
 use pairing::pairs::Pairs;
 use std::alloc::{AllocError, Global};
 

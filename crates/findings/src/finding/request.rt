@@ -9,7 +9,7 @@ ghost use Rattle.findings.specs.Findings.{is_lost, lost_at, lost_requests};
 
 use crate::extent::{calls, ranks};
 use crate::finding::Finding;
-use crate::left_open::is_left_open;
+use pairing::left_open::is_left_open;
 use pairing::pairs::Pairs;
 use std::alloc::AllocError;
 

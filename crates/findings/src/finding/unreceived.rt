@@ -7,8 +7,8 @@ ghost use Rattle.findings.specs.Findings.{is_unreceived, may_yet_receive, receiv
 
 use crate::extent::{calls, ranks};
 use crate::finding::Finding;
-use crate::left_open::is_left_open;
 use callnotes::envelope::Half;
+use pairing::left_open::is_left_open;
 use pairing::pairs::Pairs;
 use std::alloc::AllocError;
 

@@ -1,12 +1,11 @@
 //! Which lists were left open, so that further calls may yet come.
 
 ghost use Rattle.std.specs.Prelude.{◌≡◌};
-ghost use Rattle.findings.specs.LeftOpen.{is_left_open, leaves_open};
+ghost use Rattle.pairing.specs.LeftOpen.{is_left_open, leaves_open};
 
-use crate::extent::calls;
+use crate::pairs::Pairs;
 use callnotes::call_ref::CallRef;
 use mpicall::call::Call;
-use pairing::pairs::Pairs;
 
 /// Whether the call says that its rank's list was left open.
 pub fn leaves_open(call: &CallRef<'_>) -> bool
@@ -19,12 +18,11 @@ pub fn leaves_open(call: &CallRef<'_>) -> bool
 pub fn is_left_open(pairs: &Pairs, rank: u16) -> bool
     ensures { result ≡ is_left_open pairs.now.recording rank }
 {
-    let count = calls(pairs, rank);
-    if count == 0 {
-        return false;
-    }
-    match pairs.call(rank, count - 1) {
-        Some(call) => leaves_open(&call),
-        None => false,
+    match pairs.accepted(rank) {
+        Some(count) if count > 0 => match pairs.call(rank, count - 1) {
+            Some(call) => leaves_open(&call),
+            None => false,
+        },
+        _ => false,
     }
 }
