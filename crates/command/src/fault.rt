@@ -8,7 +8,6 @@ ghost use Rattle.command.specs.Faults.{of_head, of_lint, of_run, status_of_fault
 ghost use Rattle.command.specs.declared.fault.Fault.TheVariants.{Memory};
 
 use crate::status::Status;
-use crate::text::{words_of_head, words_of_rank, words_of_source};
 use gather::fault::{RankFault, Refusal, RunFault};
 use mpicall::fault::SourceFault;
 use mpicall::lint::LintFault;
@@ -40,29 +39,14 @@ impl fmt::Display for Fault<'_> {
         match *self {
             Fault::Open(path) => write!(f, "fault open {path}"),
             Fault::ReadHead => write!(f, "fault read head"),
-            Fault::Head(HeadFault { line, kind }) => {
-                let (code, words) = (kind.code(), words_of_head(kind));
-                write!(f, "refused head line {line} {code} {words}")
-            }
+            Fault::Head(fault) => write!(f, "refused head {fault}"),
             Fault::FileCount { ranks, files } => {
                 write!(f, "usage: head has {ranks} ranks, {files} files given")
             }
-            Fault::Refused(Refusal { rank, call, fault }) => {
-                let (code, words) = (fault.code(), words_of_rank(fault));
-                write!(f, "refused rank {rank} call {call} {code} {words}")
-            }
-            Fault::Failed(Refusal { rank, call, fault }) => {
-                let (code, words) = (fault.code(), words_of_rank(fault));
-                write!(f, "fault rank {rank} call {call} {code} {words}")
-            }
-            Fault::LintRefused(LintFault { call, fault }) => {
-                let (code, words) = (fault.code(), words_of_source(fault));
-                write!(f, "lint refused call {call} {code} {words}")
-            }
-            Fault::LintFailed(LintFault { call, fault }) => {
-                let (code, words) = (fault.code(), words_of_source(fault));
-                write!(f, "fault lint call {call} {code} {words}")
-            }
+            Fault::Refused(refusal) => write!(f, "refused {refusal}"),
+            Fault::Failed(refusal) => write!(f, "fault {refusal}"),
+            Fault::LintRefused(fault) => write!(f, "lint refused {fault}"),
+            Fault::LintFailed(fault) => write!(f, "fault lint {fault}"),
             Fault::Memory => write!(f, "fault memory"),
             Fault::Unproved(rank) => write!(f, "fault seal {rank}"),
             Fault::Write => write!(f, "fault write"),

@@ -24,5 +24,4 @@ pub mod opener;
 pub mod program;
 pub mod shelf;
 pub mod status;
-mod text;
 pub mod words;

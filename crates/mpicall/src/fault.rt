@@ -1,57 +1,56 @@
 //! What can be wrong with a line, and with a source of lines.
 
-ghost use Rattle.std.specs.Prelude.{◌≡◌};
+ghost use Rattle.std.specs.Prelude.{◌≡◌, Some};
 
-use thiserror::Error;
+use std::error::Error;
+use std::fmt;
 
 /// Why a line is no spelling of a record: the first of these that holds, where a line too long comes
 /// first, then a missing line feed, an empty field, an unknown word, a wrong number of fields, a
 /// wildcard, and a field out of its form.
-#[derive(Clone, Copy, Debug, PartialEq, Eq, Error)]
+#[derive(Clone, Copy, Debug, PartialEq, Eq)]
 pub enum LineFault {
     /// A field without bytes: two spaces together, a space at either end, or an empty line.
-    #[error("empty field")]
     EmptyField,
     /// The first field is no word of the format.
-    #[error("unknown word")]
     UnknownWord,
     /// The word wants another number of fields.
-    #[error("number of fields")]
     FieldCount,
     /// A field isn't in its form, or is out of its range.
-    #[error("field out of form or range")]
     FieldForm,
     /// `any` stands as the source or the tag of a receive, where the matched one must be recorded.
-    #[error("wildcard")]
     Wildcard,
     /// The line has more than 1,024 bytes, its line feed counted.
-    #[error("line too long")]
     TooLong,
     /// The last byte isn't a line feed, or there are no bytes.
-    #[error("no line feed")]
     NoLineFeed,
 }
 
+/// The code and the words of each fault of a line: a row each, in the order of the variants of `LineFault`.
+pub const LINE_FAULTS: [(&str, &str); 7] = [
+    ("L1", "empty field"),
+    ("L2", "unknown word"),
+    ("L3", "number of fields"),
+    ("L4", "field out of form or range"),
+    ("L5", "wildcard"),
+    ("L6", "line too long"),
+    ("L7", "no line feed"),
+];
+
 /// Why a source of records has no next one.
-#[derive(Clone, Copy, Debug, PartialEq, Eq, Error)]
+#[derive(Clone, Copy, Debug, PartialEq, Eq)]
 pub enum SourceFault {
     /// The next line is no spelling of a record.
-    #[error("{0}")]
     Line(LineFault),
     /// There are bytes behind the line of the end record, `finalize` or `open`.
-    #[error("text after finalize")]
     TextAfterFinalize,
     /// The bytes end where a line would begin, and no end record came.
-    #[error("no finalize")]
     NoFinalize,
     /// A read of the input failed.
-    #[error("read failed")]
     ReadFailed,
     /// The gate of a feeding thread stopped it. A source never answers this.
-    #[error("gate stopped")]
     GateStopped,
     /// A feeding thread didn't start. A source never answers this.
-    #[error("thread not started")]
     ThreadNotStarted,
 }
 
@@ -71,17 +70,21 @@ impl LineFault {
     pub fn code(self) -> &'static str
         ensures { result.now ≡ code_of_line self }
     {
-        match self {
-            LineFault::EmptyField => "L1",
-            LineFault::UnknownWord => "L2",
-            LineFault::FieldCount => "L3",
-            LineFault::FieldForm => "L4",
-            LineFault::Wildcard => "L5",
-            LineFault::TooLong => "L6",
-            LineFault::NoLineFeed => "L7",
-        }
+        LINE_FAULTS[self as usize].0
     }
 }
+
+impl fmt::Display for LineFault {
+    ghost use Rattle.mpicall.specs.Codes.{words_of_line};
+
+    ghost output = { λ fault. Some (words_of_line fault) };
+
+    fn fmt<W: fmt::Write>(&self, f: &mut fmt::Formatter<W>) -> fmt::Result {
+        write!(f, "{}", LINE_FAULTS[*self as usize].1)
+    }
+}
+
+impl Error for LineFault {}
 
 impl SourceFault {
     ghost use Rattle.mpicall.specs.Codes.{code_of_source};
@@ -100,3 +103,22 @@ impl SourceFault {
         }
     }
 }
+
+impl fmt::Display for SourceFault {
+    ghost use Rattle.mpicall.specs.Codes.{words_of_source};
+
+    ghost output = { λ fault. Some (words_of_source fault) };
+
+    fn fmt<W: fmt::Write>(&self, f: &mut fmt::Formatter<W>) -> fmt::Result {
+        match *self {
+            SourceFault::Line(fault) => write!(f, "{fault}"),
+            SourceFault::TextAfterFinalize => write!(f, "text after finalize"),
+            SourceFault::NoFinalize => write!(f, "no finalize"),
+            SourceFault::ReadFailed => write!(f, "read failed"),
+            SourceFault::GateStopped => write!(f, "gate stopped"),
+            SourceFault::ThreadNotStarted => write!(f, "thread not started"),
+        }
+    }
+}
+
+impl Error for SourceFault {}

@@ -4,6 +4,7 @@ ghost use Rattle.std.specs.Prelude.{◌≡◌, ℕ, true, Some, None, IfErr, Lis
 ghost use Rattle.mpicall.specs.Lint.{TellsTrace, last_answer, IsCutAt};
 ghost use Rattle.mpicall.specs.Source.{coming, ended, input_of, end_of_answer, count_after, IsOwnFault, ComesBeforeTheCut, breaks_off};
 ghost use Rattle.mpicall.specs.Lines.{whole_lines};
+ghost use Rattle.mpicall.specs.Codes.{text_of_lint};
 ghost use Rattle.mpicall.specs.Trace.{trace_of};
 ghost use Rattle.mpicall.specs.declared.fault.SourceFault.TheVariants.{ReadFailed};
 
@@ -11,6 +12,8 @@ use crate::device::Input;
 use crate::fault::SourceFault;
 use crate::record::Record;
 use crate::source::Source;
+use std::error::Error;
+use std::fmt;
 use std::sync::Wait;
 
 /// The fault with which a source ends, behind `call` records; that number stays at the greatest `u64`.
@@ -19,6 +22,18 @@ pub struct LintFault {
     pub call: u64,
     pub fault: SourceFault,
 }
+
+impl fmt::Display for LintFault {
+    ghost output = { λ fault. Some (text_of_lint fault) };
+
+    fn fmt<W: fmt::Write>(&self, f: &mut fmt::Formatter<W>) -> fmt::Result {
+        let LintFault { call, fault } = *self;
+        let code = fault.code();
+        write!(f, "call {call} {code} {fault}")
+    }
+}
+
+impl Error for LintFault {}
 
 /// Reads a source to its end: the number of the records that it still gives, up to the greatest `u64`, or
 /// the fault with which it ends. An input may have no end, so this may wait for good.

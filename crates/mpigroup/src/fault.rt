@@ -1,39 +1,43 @@
 //! What can be wrong with the text of a head.
 
-ghost use Rattle.std.specs.Prelude.{◌≡◌};
-ghost use Rattle.mpigroup.specs.Codes.{code_of_head};
+ghost use Rattle.std.specs.Prelude.{◌≡◌, Some};
+ghost use Rattle.mpigroup.specs.Codes.{code_of_head, words_of_head, text_of_head};
 ghost use Rattle.mpigroup.specs.declared.fault.ReadFault.TheVariants.{Memory as MemoryFault};
 
 use std::alloc::{AllocError, AllocFailed};
+use std::fmt;
 use thiserror::Error;
 
 /// What is wrong with one line of a head.
-#[derive(Clone, Copy, Debug, PartialEq, Eq, Error)]
+#[derive(Clone, Copy, Debug, PartialEq, Eq)]
 pub enum HeadFaultKind {
     /// The first line isn't the word `ranks` and a canonical number, or there is no line.
-    #[error("first line")]
     FirstLine,
     /// The number of ranks isn't 1 to [`MOST_RANKS`](crate::limits::MOST_RANKS).
-    #[error("number of ranks")]
     RankCount,
     /// A further line isn't the word `comm` and canonical numbers.
-    #[error("comm line")]
     CommLine,
     /// A group is empty, has a rank that the run hasn't, or has a rank twice.
-    #[error("group")]
     Group,
     /// There are more lines than [`MOST_COMMS`](crate::limits::MOST_COMMS).
-    #[error("too many communicators")]
     TooManyComms,
     /// The line has more than [`MOST_HEAD_LINE_BYTES`](crate::limits::MOST_HEAD_LINE_BYTES), or no line feed at
     /// its end.
-    #[error("line length or end")]
     LineForm,
 }
 
+/// The code and the words of each fault: a row each, in the order of the variants of `HeadFaultKind`.
+pub const HEAD_FAULTS: [(&str, &str); 6] = [
+    ("H1", "first line"),
+    ("H2", "number of ranks"),
+    ("H3", "comm line"),
+    ("H4", "group"),
+    ("H5", "too many communicators"),
+    ("H6", "line length or end"),
+];
+
 /// The first line of a head with a fault, counted from 1, and what is wrong with it.
-#[derive(Clone, Copy, Debug, PartialEq, Eq, Error)]
-#[error("line {line} {} {kind}", .kind.code())]
+#[derive(Clone, Copy, Debug, PartialEq, Eq)]
 pub struct HeadFault {
     pub line: u32,
     pub kind: HeadFaultKind,
@@ -55,14 +59,7 @@ impl HeadFaultKind {
     pub fn code(self) -> &'static str
         ensures { result.now ≡ code_of_head self }
     {
-        match self {
-            HeadFaultKind::FirstLine => "H1",
-            HeadFaultKind::RankCount => "H2",
-            HeadFaultKind::CommLine => "H3",
-            HeadFaultKind::Group => "H4",
-            HeadFaultKind::TooManyComms => "H5",
-            HeadFaultKind::LineForm => "H6",
-        }
+        HEAD_FAULTS[self as usize].0
     }
 
     /// This fault, at a line.
@@ -72,6 +69,28 @@ impl HeadFaultKind {
         ReadFault::Text(HeadFault { line, kind: self })
     }
 }
+
+impl fmt::Display for HeadFaultKind {
+    ghost output = { λ kind. Some (words_of_head kind) };
+
+    fn fmt<W: fmt::Write>(&self, f: &mut fmt::Formatter<W>) -> fmt::Result {
+        write!(f, "{}", HEAD_FAULTS[*self as usize].1)
+    }
+}
+
+impl std::error::Error for HeadFaultKind {}
+
+impl fmt::Display for HeadFault {
+    ghost output = { λ fault. Some (text_of_head fault) };
+
+    fn fmt<W: fmt::Write>(&self, f: &mut fmt::Formatter<W>) -> fmt::Result {
+        let HeadFault { line, kind } = *self;
+        let code = kind.code();
+        write!(f, "line {line} {code} {kind}")
+    }
+}
+
+impl std::error::Error for HeadFault {}
 
 impl From<AllocError> for ReadFault {
     ghost from_gives = { λ _ fault. fault ≡ MemoryFault };

@@ -1,8 +1,8 @@
 //! The first fault of a call after the calls that its rank made before.
 
-ghost use Rattle.std.specs.Prelude.{◌≡◌, true};
+ghost use Rattle.std.specs.Prelude.{◌≡◌, Some, true};
 ghost use Rattle.std.specs.Option.{option_map_or};
-ghost use Rattle.pairing.specs.Codes.{code_of_call};
+ghost use Rattle.pairing.specs.Codes.{code_of_call, words_of_call};
 ghost use Rattle.pairing.specs.Faults.{is_group_rank, is_peer, is_member, comm_exists, peers_exist, are_distinct, AnEndedLawfulListIsClosed, EachWaitHasItsStarts, NoTwoStartsAreActive};
 
 use callnotes::next_call::NextCall;
@@ -10,49 +10,54 @@ use callnotes::request::is_among;
 use mpicall::call::Peer;
 use mpicall::does::{Does, Side};
 use mpigroup::head::Head;
-use thiserror::Error;
+use std::error::Error;
+use std::fmt;
 
 /// Why a rank may not have made a call after those before it.
-#[derive(Clone, Copy, Debug, PartialEq, Eq, Error)]
+#[derive(Clone, Copy, Debug, PartialEq, Eq)]
 pub enum CallFault {
-    #[error("call after finalize")]
     CallAfterFinalize,
-    #[error("too many calls")]
     TooManyCalls,
-    #[error("unknown communicator")]
     UnknownCommunicator,
-    #[error("communicator not held")]
     CommunicatorNotHeld,
-    #[error("peer or root out of group")]
     PeerOutOfGroup,
-    #[error("request in use")]
     RequestInUse,
-    #[error("request repeated")]
     RequestRepeated,
-    #[error("request not active")]
     RequestNotActive,
-    #[error("wrong new communicator")]
     WrongNewCommunicator,
 }
+
+/// The code and the words of each fault: a row each, in the order of the variants of `CallFault`.
+pub const CALL_FAULTS: [(&str, &str); 9] = [
+    ("C9", "call after finalize"),
+    ("C8", "too many calls"),
+    ("C1", "unknown communicator"),
+    ("C2", "communicator not held"),
+    ("C3", "peer or root out of group"),
+    ("C4", "request in use"),
+    ("C6", "request repeated"),
+    ("C5", "request not active"),
+    ("C7", "wrong new communicator"),
+];
 
 impl CallFault {
     /// The code under which the program reports the fault.
     pub fn code(self) -> &'static str
         ensures { result.now ≡ code_of_call self }
     {
-        match self {
-            CallFault::CallAfterFinalize => "C9",
-            CallFault::TooManyCalls => "C8",
-            CallFault::UnknownCommunicator => "C1",
-            CallFault::CommunicatorNotHeld => "C2",
-            CallFault::PeerOutOfGroup => "C3",
-            CallFault::RequestInUse => "C4",
-            CallFault::RequestRepeated => "C6",
-            CallFault::RequestNotActive => "C5",
-            CallFault::WrongNewCommunicator => "C7",
-        }
+        CALL_FAULTS[self as usize].0
     }
 }
+
+impl fmt::Display for CallFault {
+    ghost output = { λ fault. Some (words_of_call fault) };
+
+    fn fmt<W: fmt::Write>(&self, f: &mut fmt::Formatter<W>) -> fmt::Result {
+        write!(f, "{}", CALL_FAULTS[*self as usize].1)
+    }
+}
+
+impl Error for CallFault {}
 
 /// Whether the number is a rank of the communicator's group.
 #[inline(always)]
