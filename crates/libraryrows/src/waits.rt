@@ -8,8 +8,9 @@ use findings::finding::{Finding, findings};
 use moves::analyser::Analyser;
 use moves::need::Need;
 use mpicall::memory::MemoryOutput;
-use mpicall::word::{Collective, Name, Operation, Word};
+use mpicall::page::Page;
 use pairing::pairs::Pairs;
+use reports::finding::push_finding;
 use reports::report::{Format, write_report};
 use waitgraph::cause::Cause;
 use waitgraph::graph::Graph;
@@ -113,56 +114,6 @@ pub fn tell_of_waits(answer: &mut Answer, run: &Analyser, asked: GraphQuestion) 
     }
 }
 
-/// The word of a collective call that a finding may tell.
-fn word_text(word: Word) -> &'static str {
-    match word {
-        Word::Blocking(Operation::Coll(Collective::Barrier)) => "barrier",
-        Word::Blocking(Operation::Coll(Collective::Bcast)) => "bcast",
-        Word::Started(Operation::Coll(Collective::Bcast)) => "ibcast",
-        Word::Named(Name::Dup) => "dup",
-        _ => "another",
-    }
-}
-
-/// Adds a member of a wave.
-fn tell_member(answer: &mut Answer, kind: &str, comm: u16, wave: u32, member: u16) {
-    answer.pair(kind, comm, wave);
-    answer.value(" ", &member);
-}
-
-fn tell_finding(answer: &mut Answer, finding: Finding) {
-    match finding {
-        Finding::Kind {
-            comm,
-            wave,
-            member,
-            first,
-            word,
-        } => {
-            tell_member(answer, "kind ", comm, wave, member);
-            answer.value(" ", &word_text(first));
-            answer.value(" ", &word_text(word));
-        }
-        Finding::Root {
-            comm,
-            wave,
-            member,
-            first,
-            root,
-        } => {
-            tell_member(answer, "root ", comm, wave, member);
-            answer.value(" ", &first);
-            answer.value(" ", &root);
-        }
-        Finding::Unreceived { rank, place } => answer.pair("unreceived ", rank, place),
-        Finding::Request { rank, place, req } => {
-            answer.pair("request ", rank, place);
-            answer.number(" ", req);
-        }
-        Finding::Group { rank, place } => answer.pair("group ", rank, place),
-    }
-}
-
 /// What else is wrong with the calls.
 pub fn tell_findings(answer: &mut Answer, pairs: &Pairs) {
     match findings(answer.alloc(), pairs) {
@@ -174,6 +125,8 @@ pub fn tell_findings(answer: &mut Answer, pairs: &Pairs) {
 fn tell_each(answer: &mut Answer, found: &[Finding]) {
     for finding in found {
         answer.separate(", ");
-        tell_finding(answer, *finding);
+        let mut page = Page::new();
+        push_finding(&mut page, finding);
+        answer.put(page.as_str());
     }
 }

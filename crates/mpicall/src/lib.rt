@@ -9,7 +9,7 @@
 //! - `line::read_line` answers a record exactly where the line is that record's spelling and the record's
 //!   fields are in their ranges, and a fault exactly where it is the line's first fault.
 //!   `spelling::write_line` writes the spelling, or after a fault of the output a beginning of it. No
-//!   spelling begins another one.
+//!   spelling begins another one. `page::Page` puts lines together in place.
 //! - The records that `source::Source::next` gives, and its end, are those of the input's bytes, however
 //!   the input cuts them into pieces: each text has one trace, by the spellings and the first fault of its
 //!   lines. A fault is answered for good, and so is the end. Where a read fails, the bytes that came and
@@ -46,7 +46,6 @@ pub mod call;
 pub mod counted;
 pub mod device;
 pub mod does;
-mod draft;
 pub mod fails_at;
 pub mod fault;
 pub mod fields;
@@ -57,6 +56,7 @@ pub mod line;
 pub mod lint;
 pub mod memory;
 pub mod number;
+pub mod page;
 mod reading;
 pub mod record;
 mod remembered;

@@ -8,9 +8,10 @@ ghost use Rattle.mpicall.specs.Spelling.{spelling};
 ghost use Rattle.mpicall.specs.Device.{CountsFailure, AppendsBeginning};
 
 use crate::device::{DeviceFault, Output, write_all};
-use crate::draft::Draft;
+use crate::page::Page;
 use crate::record::Record;
 
+#[tactic(auto, unfolding(crate::specs::Spelling::spelling))]
 /// Writes the one spelling of a record; after a fault a beginning of it was written.
 pub fn write_line<O: Output>(entry: &Record, output: &mut O) -> Result<(), DeviceFault>
     ensures ok { OnOk result
@@ -19,9 +20,10 @@ pub fn write_line<O: Output>(entry: &Record, output: &mut O) -> Result<(), Devic
         (AppendsBeginning (O.written output.old) (O.written output.new) (spelling entry.now)) }
     ensures count { CountsFailure (O.failures output.old) (O.failures output.new) result }
 {
-    let mut line = Draft::new();
+    let mut line = Page::new();
     line.push_call(entry.as_call());
-    write_all(output, line.bytes())
+    line.push_str("\n");
+    write_all(output, line.as_str().as_bytes())
 }
 
 /// No spelling begins another one: of a text, at most one record can be read at its front.

@@ -1,4 +1,3 @@
-pub mod LineLemmas
 pub mod JsonLemmas
 pub mod ArrayLemmas
 pub mod SpelledLemmas

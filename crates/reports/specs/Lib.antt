@@ -1,7 +1,6 @@
 pub mod FindingTexts
 pub mod TextReport
 pub mod Printing
-pub mod SpelledCalls
 pub mod JsonReport
 pub mod ArrayTexts
 pub mod Reports

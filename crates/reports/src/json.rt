@@ -12,6 +12,7 @@ use crate::json::cause::causes_value;
 use crate::json::element::{push_key, push_value};
 use crate::json::finding::push_findings;
 use crate::json::rank::push_ranks;
+use crate::report::text::verdict_text;
 use moves::analyser::Analyser;
 use serde_json::json;
 use std::alloc::{AllocError, Global};
@@ -22,19 +23,8 @@ use waitgraph::verdict::Verdict;
 mod cause;
 mod element;
 mod finding;
-mod line;
 mod need;
 mod rank;
-
-fn verdict_text(verdict: Verdict) -> &'static str
-    ensures { result.now ≡ verdict_text verdict }
-{
-    match verdict {
-        Verdict::Free => "free",
-        Verdict::Hang => "hang",
-        Verdict::Unfinished => "unfinished",
-    }
-}
 
 /// Puts the causes behind the text, as one array.
 #[tactic(auto, using(crate::proofs::JsonLemmas::no_float_causes))]

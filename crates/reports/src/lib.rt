@@ -8,8 +8,10 @@
 //! - Where a write fails, what was written before is a beginning of that report. Want of memory is
 //!   told for JSON alone, and then nothing was written.
 //!
-//! Nobody has to believe `Printing`, `ArrayTexts` and `SpelledCalls`: they say how a report is put together, and no
-//! public contract cites them.
+//! `finding::push_finding` has the one text of a finding (`FindingTexts`).
+//!
+//! Nobody has to believe `Printing` and `ArrayTexts`: they say how a report is put together, and no public contract
+//! cites them.
 //!
 //! ```text
 //! let graph = Graph::of(alloc, &analyser)?;
@@ -17,7 +19,7 @@
 //! ```
 #![tactic(auto)]
 
+pub mod finding;
 mod json;
 pub mod report;
 mod stand;
-mod word;

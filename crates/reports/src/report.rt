@@ -14,10 +14,8 @@ use std::alloc::Global;
 use thiserror::Error;
 use waitgraph::graph::Graph;
 
-mod page;
 mod printer;
-pub(crate) mod spelled;
-mod text;
+pub(crate) mod text;
 
 /// The format of a report: lines of text, or one JSON value.
 #[derive(Clone, Copy, Debug, PartialEq, Eq)]

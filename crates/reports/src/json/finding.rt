@@ -8,55 +8,20 @@ ghost use Rattle.reports.specs.ArrayTexts.{elements_text};
 ghost use Rattle.reports.specs.FindingTexts.{finding_fields};
 ghost use Rattle.reports.specs.JsonReport.{finding_data};
 
+use crate::finding::push_finding;
 use crate::json::element::push_element;
-use crate::word::push_word;
 use findings::finding::Finding;
-use mpicall::word::Word;
+use mpicall::page::Page;
 use serde_json::Value;
 use std::alloc::{AllocError, Global};
-
-fn kind_text(
-    alloc: Global,
-    comm: u16,
-    wave: u32,
-    member: u16,
-    first: Word,
-    word: Word,
-) -> Result<String, AllocError>
-    ensures { IfOk result (λ text. string_bytes text ≡ join_with_byte space (finding_fields (Finding.Kind comm wave member first word))) }
-{
-    let mut text = format!(in alloc; "kind {comm} {wave} {member} ")?;
-    push_word(&mut text, first)?;
-    text.push(' ')?;
-    push_word(&mut text, word)?;
-    Ok(text)
-}
 
 /// The fields of a finding, with one space between them.
 fn finding_text(alloc: Global, finding: &Finding) -> Result<String, AllocError>
     ensures { IfOk result (λ text. string_bytes text ≡ join_with_byte space (finding_fields finding.now)) }
 {
-    match *finding {
-        Finding::Kind {
-            comm,
-            wave,
-            member,
-            first,
-            word,
-        } => kind_text(alloc, comm, wave, member, first, word),
-        Finding::Root {
-            comm,
-            wave,
-            member,
-            first,
-            root,
-        } => format!(in alloc; "root {comm} {wave} {member} {first} {root}"),
-        Finding::Unreceived { rank, place } => format!(in alloc; "unreceived {rank} {place}"),
-        Finding::Request { rank, place, req } => {
-            format!(in alloc; "request {rank} {place} {req}")
-        }
-        Finding::Group { rank, place } => format!(in alloc; "group {rank} {place}"),
-    }
+    let mut page = Page::new();
+    push_finding(&mut page, finding);
+    String::from_str(alloc, page.as_str())
 }
 
 fn finding_value(alloc: Global, finding: &Finding) -> Result<Value, AllocError>

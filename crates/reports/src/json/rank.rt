@@ -3,7 +3,7 @@
 ghost use Rattle.std.specs.Prelude.{◌≡◌, ◌++◌, IfOk, OnOk, string_bytes};
 ghost use Rattle.std.specs.List.{join_with_byte};
 ghost use Rattle.serde_json.specs.View.{view};
-ghost use Rattle.mpicall.specs.Spelling.{space};
+ghost use Rattle.mpicall.specs.Spelling.{space, fields_of};
 ghost use Rattle.waitgraph.specs.Graphs.{IsGraphOf};
 ghost use Rattle.reports.specs.ArrayTexts.{elements_text};
 ghost use Rattle.reports.specs.JsonReport.{rank_data};
@@ -11,21 +11,31 @@ ghost use Rattle.waitgraph.specs.Stuck.{stuck_of, unmet_of};
 ghost use Rattle.reports.specs.TextReport.{present_fields};
 
 use crate::json::element::push_element;
-use crate::json::line::line_text;
 use crate::json::need::needs_value;
 use crate::stand::stand_of;
 use moves::analyser::Analyser;
 use moves::need::Need;
+use mpicall::page::Page;
+use mpicall::record::Record;
 use serde_json::{Value, json};
 use std::alloc::{AllocError, Global};
 use waitgraph::graph::Graph;
+
+/// The fields of a record, with one space between them.
+fn record_text(alloc: Global, record: &Record) -> Result<String, AllocError>
+    ensures { IfOk result (λ text. string_bytes text ≡ join_with_byte space (fields_of record.now)) }
+{
+    let mut page = Page::new();
+    page.push_call(record.as_call());
+    String::from_str(alloc, page.as_str())
+}
 
 /// The call at which a rank stands; no text where its list is at its end.
 fn present_text(alloc: Global, analyser: &Analyser, rank: u16) -> Result<String, AllocError>
     ensures { IfOk result (λ text. string_bytes text ≡ join_with_byte space (present_fields analyser.now.reading analyser.now.groups analyser.now.recording rank)) }
 {
     match analyser.record(rank, stand_of(analyser, rank)) {
-        Some(record) => line_text(alloc, &record),
+        Some(record) => record_text(alloc, &record),
         None => Ok(String::new(alloc)),
     }
 }

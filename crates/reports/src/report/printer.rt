@@ -3,8 +3,11 @@
 ghost use Rattle.std.specs.Prelude.{◌≡◌, ◌+◌, ◌≤◌, ℕ, Option, List, [], false, length};
 ghost use Rattle.reports.specs.Printing.{IsPrinted, KeepsPrinted, PrintsAll};
 
-use crate::report::page::{PAGE_BYTES, Page, ROOM_BYTES};
 use mpicall::device::{DeviceFault, Output, write_all};
+use mpicall::page::{PAGE_BYTES, Page};
+
+/// The room that a line is given, more than any line but a cycle's takes.
+pub(crate) const ROOM_BYTES: usize = 2048;
 
 /// Prints a report: lines wait on its page, and the output is given full pages. It keeps that a write failed, and then
 /// gives no more, so that who prints needn't ask.
@@ -36,7 +39,7 @@ impl Printer {
         if self.failed {
             return true;
         }
-        write_all(out, self.page.as_slice()).is_err()
+        write_all(out, self.page.as_str().as_bytes()).is_err()
     }
 
     /// Gives what waits to the output, unless a write failed before.
@@ -53,7 +56,7 @@ impl Printer {
         ensures keeps { KeepsPrinted O.written O.failures out.old self.old out.new self.new }
         ensures room { length self.new.page + ROOM_BYTES ≤ PAGE_BYTES }
     {
-        if self.page.len() > PAGE_BYTES - ROOM_BYTES {
+        if self.page.as_str().len() > PAGE_BYTES - ROOM_BYTES {
             self.flush(out);
         }
     }

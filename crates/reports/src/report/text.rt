@@ -6,44 +6,63 @@ ghost use Rattle.std.specs.Option.{option_map_or};
 ghost use Rattle.std.specs.Fmt.{decimal};
 ghost use Rattle.mpicall.specs.Spelling.{space, fields_of};
 ghost use Rattle.waitgraph.specs.Causes.{CycleOf, MissingOf, view_of};
-ghost use Rattle.reports.specs.FindingTexts.{finding_fields};
 ghost use Rattle.waitgraph.specs.Graphs.{IsGraphOf};
 ghost use Rattle.reports.specs.Printing.{with_fields, PrintsAll, Prints};
 ghost use Rattle.findings.specs.Places.{call_at};
-ghost use Rattle.reports.specs.TextReport.{cause_line, finding_line, need_fields, rank_lines, text_report, unmet_line, verdict_line};
+ghost use Rattle.reports.specs.TextReport.{cause_line, finding_line, need_fields, rank_lines, text_report, unmet_line, verdict_line, verdict_text};
 
-use crate::report::page::{PAGE_BYTES, Page, ROOM_BYTES};
-use crate::report::printer::Printer;
+use crate::finding::push_finding;
+use crate::report::printer::{Printer, ROOM_BYTES};
 use crate::stand::stand_of;
 use findings::finding::Finding;
 use moves::analyser::Analyser;
 use moves::need::Need;
 use mpicall::device::{DeviceFault, Output};
+use mpicall::page::{PAGE_BYTES, Page};
+use mpicall::record::Record;
 use waitgraph::cause::Cause;
 use waitgraph::graph::Graph;
 use waitgraph::verdict::Verdict;
+
+/// The word for a verdict.
+pub(crate) fn verdict_text(verdict: Verdict) -> &'static str
+    ensures value { result.now ≡ verdict_text verdict }
+    ensures short { length result.now ≤ 10 }
+{
+    match verdict {
+        Verdict::Free => "free",
+        Verdict::Hang => "hang",
+        Verdict::Unfinished => "unfinished",
+    }
+}
 
 fn push_verdict(page: &mut Page, verdict: Verdict)
     requires { length page.old + ROOM_BYTES ≤ PAGE_BYTES }
     ensures { page.new ≡ page.old ++ verdict_line verdict }
 {
-    page.push_all(b"verdict");
-    match verdict {
-        Verdict::Free => page.push_field(b"free"),
-        Verdict::Hang => page.push_field(b"hang"),
-        Verdict::Unfinished => page.push_field(b"unfinished"),
-    }
-    page.push(b'\n');
+    page.push_str("verdict");
+    page.push_field(verdict_text(verdict));
+    page.push_str("\n");
+}
+
+/// Adds the fields of a record.
+fn push_record(page: &mut Page, record: &Record)
+    requires { length page.old + 1025 ≤ PAGE_BYTES }
+    ensures value { page.new ≡ with_fields page.old (fields_of record.now) }
+    ensures short { length page.new ≤ length page.old + 1025 }
+{
+    page.push_str(" ");
+    page.push_call(record.as_call());
 }
 
 /// Adds the call of a rank at a place, if there is one.
 fn push_call_at(page: &mut Page, analyser: &Analyser, rank: u16, place: u32)
-    requires { length page.old + 1024 ≤ PAGE_BYTES }
+    requires { length page.old + 1025 ≤ PAGE_BYTES }
     ensures value { page.new ≡ with_fields page.old (option_map_or fields_of (call_at analyser.now.recording rank place) []) }
-    ensures short { length page.new ≤ length page.old + 1024 }
+    ensures short { length page.new ≤ length page.old + 1025 }
 {
-    if let Some(entry) = analyser.record(rank, place) {
-        page.push_call(&entry);
+    if let Some(record) = analyser.record(rank, place) {
+        push_record(page, &record);
     }
 }
 
@@ -52,16 +71,16 @@ fn push_need(page: &mut Page, need: &Need)
     ensures value { page.new ≡ with_fields page.old (need_fields need.now) }
     ensures short { length page.new ≤ length page.old + 34 }
 {
-    page.push_field(b"rank");
+    page.push_field("rank");
     match *need {
         Need::At { rank, place } => {
             page.push_number(u32::from(rank));
-            page.push_field(b"call");
+            page.push_field("call");
             page.push_number(place);
         }
         Need::Lacking { rank } => {
             page.push_number(u32::from(rank));
-            page.push_field(b"none");
+            page.push_field("none");
         }
     }
 }
@@ -72,14 +91,14 @@ fn push_unmet(page: &mut Page, analyser: &Analyser, rank: u16, need: &Need)
     ensures { page.new ≡ page.old ++ unmet_line analyser.now.reading analyser.now.groups analyser.now.recording rank need.now }
 {
     let stand = stand_of(analyser, rank);
-    page.push_all(b"rank");
+    page.push_str("rank");
     page.push_number(u32::from(rank));
-    page.push_field(b"at");
+    page.push_field("at");
     page.push_number(stand);
     push_call_at(page, analyser, rank, stand);
-    page.push_field(b"waits");
+    page.push_field("waits");
     push_need(page, need);
-    page.push(b'\n');
+    page.push_str("\n");
 }
 
 #[tactic(auto, using(crate::proofs::PrintingLemmas::prints_pushed))]
@@ -145,12 +164,12 @@ fn write_ranks<O: Output>(
 
 /// Writes a text that has room.
 #[tactic(auto, using(crate::proofs::PrintingLemmas::prints_pushed))]
-fn write_piece<O: Output>(printer: &mut Printer, out: &mut O, text: &[u8])
+fn write_piece<O: Output>(printer: &mut Printer, out: &mut O, text: &str)
     requires { length text.now ≤ ROOM_BYTES }
     ensures { Prints O.written O.failures out.old printer.old out.new printer.new text.now }
 {
     printer.make_room(out);
-    printer.page.push_all(text);
+    printer.page.push_str(text);
 }
 
 /// Writes a rank as a further field.
@@ -174,19 +193,19 @@ fn write_rank_fields<O: Output>(printer: &mut Printer, out: &mut O, ranks: &[u16
 fn write_cycle<O: Output>(printer: &mut Printer, out: &mut O, ranks: &[u16])
     ensures { Prints O.written O.failures out.old printer.old out.new printer.new (cause_line (CycleOf ranks.now)) }
 {
-    write_piece(printer, out, b"cycle");
+    write_piece(printer, out, "cycle");
     write_rank_fields(printer, out, ranks);
-    write_piece(printer, out, b"\n");
+    write_piece(printer, out, "\n");
 }
 
 fn push_missing(page: &mut Page, rank: u16, peer: u16)
     requires { length page.old + ROOM_BYTES ≤ PAGE_BYTES }
     ensures { page.new ≡ page.old ++ cause_line (MissingOf rank peer) }
 {
-    page.push_all(b"missing");
+    page.push_str("missing");
     page.push_number(u32::from(rank));
     page.push_number(u32::from(peer));
-    page.push(b'\n');
+    page.push_str("\n");
 }
 
 #[tactic(auto, using(crate::proofs::PrintingLemmas::prints_pushed))]
@@ -215,73 +234,13 @@ fn write_causes<O: Output>(printer: &mut Printer, out: &mut O, causes: &[Cause])
     }
 }
 
-/// Adds a word for what is wrong in a wave, and the wave and the member.
-fn push_wave(page: &mut Page, text: &[u8], comm: u16, wave: u32, member: u16)
-    requires { length page.old + length text.now + 37 ≤ PAGE_BYTES }
-    ensures value { page.new ≡ with_fields page.old (text.now ∷ decimal comm ∷ decimal wave ∷ decimal member ∷ []) }
-    ensures short { length page.new ≤ length page.old + length text.now + 37 }
-{
-    page.push_field(text);
-    page.push_number(u32::from(comm));
-    page.push_number(wave);
-    page.push_number(u32::from(member));
-}
-
-/// Adds a word for what is wrong with a call, and where the call is.
-fn push_place(page: &mut Page, text: &[u8], rank: u16, place: u32)
-    requires { length page.old + length text.now + 25 ≤ PAGE_BYTES }
-    ensures value { page.new ≡ with_fields page.old (text.now ∷ decimal rank ∷ decimal place ∷ []) }
-    ensures short { length page.new ≤ length page.old + length text.now + 25 }
-{
-    page.push_field(text);
-    page.push_number(u32::from(rank));
-    page.push_number(place);
-}
-
-fn push_fields(page: &mut Page, finding: &Finding)
-    requires { length page.old + 100 ≤ PAGE_BYTES }
-    ensures value { page.new ≡ with_fields page.old (finding_fields finding.now) }
-    ensures short { length page.new ≤ length page.old + 100 }
-{
-    match *finding {
-        Finding::Kind {
-            comm,
-            wave,
-            member,
-            first,
-            word,
-        } => {
-            push_wave(page, b"kind", comm, wave, member);
-            page.push_word(first);
-            page.push_word(word);
-        }
-        Finding::Root {
-            comm,
-            wave,
-            member,
-            first,
-            root,
-        } => {
-            push_wave(page, b"root", comm, wave, member);
-            page.push_number(u32::from(first));
-            page.push_number(u32::from(root));
-        }
-        Finding::Unreceived { rank, place } => push_place(page, b"unreceived", rank, place),
-        Finding::Request { rank, place, req } => {
-            push_place(page, b"request", rank, place);
-            page.push_number(req);
-        }
-        Finding::Group { rank, place } => push_place(page, b"group", rank, place),
-    }
-}
-
-fn push_finding(page: &mut Page, finding: &Finding)
+fn push_finding_line(page: &mut Page, finding: &Finding)
     requires { length page.old + ROOM_BYTES ≤ PAGE_BYTES }
     ensures { page.new ≡ page.old ++ finding_line finding.now }
 {
-    page.push_all(b"finding");
-    push_fields(page, finding);
-    page.push(b'\n');
+    page.push_str("finding ");
+    push_finding(page, finding);
+    page.push_str("\n");
 }
 
 #[tactic(auto, using(crate::proofs::PrintingLemmas::prints_pushed))]
@@ -289,7 +248,7 @@ fn write_finding<O: Output>(printer: &mut Printer, out: &mut O, finding: &Findin
     ensures { Prints O.written O.failures out.old printer.old out.new printer.new (finding_line finding.now) }
 {
     printer.make_room(out);
-    push_finding(&mut printer.page, finding);
+    push_finding_line(&mut printer.page, finding);
 }
 
 #[tactic(auto, using(crate::proofs::PrintingLemmas::prints_none, crate::proofs::PrintingLemmas::prints_next))]

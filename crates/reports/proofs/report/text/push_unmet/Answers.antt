@@ -16,9 +16,9 @@ returns c =
     let need = need_fields c.args.need.now in
     let first : List (List ℕ) = decimal c.args.rank ∷ codes "at" ∷ decimal (slice_index stands c.args.rank) ∷ present in
     let so_far : c.push_call_at.new.page ≡ with_fields (page ++ codes "rank") first =
-    rw (c.push_call_at.ensures.value, c.push_number-2.ensures.value, c.push_field.ensures.value, c.push_number.ensures.value, c.push_all.ensures.value, c.stand_of-stand.ensures, c.from.ensures) refl in
+    rw (c.push_call_at.ensures.value, c.push_number-2.ensures.value, c.push_field.ensures.value, c.push_number.ensures.value, c.push_str.ensures.value, c.stand_of-stand.ensures, c.from.ensures) refl in
     let fields : c.push_need.new.page ≡ with_fields (page ++ codes "rank") (first ++ codes "waits" ∷ need) =
     c.push_need.ensures.value ∙ ap (λ (bytes : List ℕ). with_fields bytes need) (c.push_field-2.ensures.value ∙ ap (λ (bytes : List ℕ). bytes ++ space ∷ codes "waits") so_far)
     ∙ sym (fields-append (page ++ codes "rank") first (codes "waits" ∷ need)) in
-    c.push.ensures.value ∙ ap (λ (bytes : List ℕ). bytes ++ line_feed ∷ []) fields
+    c.push_str-2.ensures.value ∙ ap (λ (bytes : List ℕ). bytes ++ line_feed ∷ []) fields
     ∙ line_put page (codes "rank") (first ++ codes "waits" ∷ need)

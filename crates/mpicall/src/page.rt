@@ -1,103 +1,96 @@
-//! A line that is put together, in place.
+//! Lines of text that are put together in place.
 
-ghost use Rattle.std.specs.Prelude.{◌≡◌, ◌+◌, ◌*◌, ◌≤◌, ◌<◌, [], ◌∷◌, ◌++◌, ℕ, List, map, length, IsTrue};
+ghost use Rattle.std.specs.Prelude.{◌≡◌, ◌+◌, ◌*◌, ◌≤◌, ◌<◌, [], ◌∷◌, ◌++◌, map, length};
 ghost use Rattle.std.specs.Fmt.{decimal, signed_decimal};
+ghost use Rattle.std.specs.List.{join_with_byte};
 ghost use Rattle.mpicall.specs.Argument.{PeerOf, comm_argument, tag_argument, request_argument, bytes_arguments, peer_field, number_or};
 ghost use Rattle.mpicall.specs.Draft.{line_with};
 ghost use Rattle.mpicall.specs.Laid.{laid_arguments};
-ghost use Rattle.mpicall.specs.Limits.{in_ranges};
-ghost use Rattle.mpicall.specs.Spelling.{space, arguments_of, root_of, root_arguments, spelling};
+ghost use Rattle.mpicall.specs.Spelling.{space, arguments_of, fields_of, root_of, root_arguments};
 ghost use Rattle.mpicall.specs.Word.{text_of};
 
 use crate::call::{Call, Kind, Peer};
 use crate::laid::Laid;
-use crate::limits::MOST_LINE_BYTES;
 use crate::word::{Word, root_of};
+use arrayvec::ArrayString;
 use itoa::Buffer;
 use std::marker::Model;
 
-/// A line that is being put together; contracts see its bytes so far.
+/// The most bytes of a page.
+pub const PAGE_BYTES: usize = 4096;
+
+/// Text that is being put together, in place; contracts see its bytes so far.
 #[derive(Drop)]
-pub(crate) struct Draft {
-    bytes: [u8; MOST_LINE_BYTES],
-    len: usize,
+pub struct Page {
+    text: ArrayString<PAGE_BYTES>,
 }
 
-impl Model for Draft {
-    ghost use Rattle.std.specs.Prelude.{List, ℕ, ◌≤◌, take};
-    ghost use Rattle.mpicall.specs.declared.limits.TheConstants.{MOST_LINE_BYTES};
+impl Model for Page {
+    ghost use Rattle.std.specs.Prelude.{List, ℕ};
 
     ghost Value = { List ℕ };
 
-    ghost view = { λ d. take d.len d.bytes };
-
-    ghost invariant = { λ d. d.len ≤ MOST_LINE_BYTES };
+    ghost view = { λ p. p.text.bytes };
 }
 
-impl Draft {
-    pub(crate) fn new() -> Draft
+impl Page {
+    pub fn new() -> Page
         ensures { result ≡ [] }
     {
-        Draft {
-            bytes: [0; MOST_LINE_BYTES],
-            len: 0,
+        Page {
+            text: ArrayString::new(),
         }
     }
 
-    pub(crate) fn bytes(&self) -> &[u8]
+    pub fn as_str(&self) -> &str
         ensures { result.now ≡ self.now }
     {
-        &self.bytes[..self.len]
+        self.text.as_str()
     }
 
-    fn push(&mut self, byte: u8)
-        requires { length self.old < MOST_LINE_BYTES }
-        ensures value { self.new ≡ self.old ++ byte ∷ [] }
-        ensures short { length self.new ≡ length self.old + 1 }
+    pub fn clear(&mut self)
+        ensures { self.new ≡ [] }
     {
-        self.bytes[self.len] = byte;
-        self.len += 1;
+        self.text.clear();
     }
 
-    fn push_all(&mut self, text: &[u8])
-        requires { length self.old + length text.now ≤ MOST_LINE_BYTES }
+    pub fn push_str(&mut self, text: &str)
+        requires { length self.old + length text.now ≤ PAGE_BYTES }
         ensures value { self.new ≡ self.old ++ text.now }
         ensures short { length self.new ≡ length self.old + length text.now }
     {
-        let end = self.len + text.len();
-        self.bytes[self.len..end].copy_from_slice(text);
-        self.len = end;
+        self.text.push_str(text);
     }
 
     /// Adds a text as a further field.
-    fn push_field(&mut self, text: &[u8])
-        requires { length self.old + length text.now < MOST_LINE_BYTES }
+    pub fn push_field(&mut self, text: &str)
+        requires { length self.old + length text.now < PAGE_BYTES }
         ensures value { self.new ≡ self.old ++ space ∷ text.now }
         ensures short { length self.new ≡ length self.old + 1 + length text.now }
     {
-        self.push(b' ');
-        self.push_all(text);
+        self.push_str(" ");
+        self.push_str(text);
     }
 
-    fn push_number(&mut self, number: u32)
-        requires { length self.old + 12 ≤ MOST_LINE_BYTES }
+    pub fn push_number(&mut self, number: u32)
+        requires { length self.old + 12 ≤ PAGE_BYTES }
         ensures value { self.new ≡ self.old ++ space ∷ decimal number }
         ensures short { length self.new ≤ length self.old + 12 }
     {
-        self.push_field(Buffer::new().format(number).as_bytes());
+        self.push_field(Buffer::new().format(number));
     }
 
     fn push_key(&mut self, key: i32)
-        requires { length self.old + 12 ≤ MOST_LINE_BYTES }
+        requires { length self.old + 12 ≤ PAGE_BYTES }
         ensures value { self.new ≡ self.old ++ space ∷ signed_decimal key }
         ensures short { length self.new ≤ length self.old + 12 }
     {
-        self.push_field(Buffer::new().format(key).as_bytes());
+        self.push_field(Buffer::new().format(key));
     }
 
     /// Adds a number, or a text where there is none.
-    fn push_number_or(&mut self, text: &[u8], number: Option<u32>)
-        requires room { length self.old + 12 ≤ MOST_LINE_BYTES }
+    fn push_number_or(&mut self, text: &str, number: Option<u32>)
+        requires room { length self.old + 12 ≤ PAGE_BYTES }
         requires short { length text.now ≤ 11 }
         ensures value { self.new ≡ self.old ++ space ∷ number_or text.now number }
         ensures short { length self.new ≤ length self.old + 12 }
@@ -109,18 +102,18 @@ impl Draft {
     }
 
     fn push_peer(&mut self, peer: Peer)
-        requires { length self.old + 12 ≤ MOST_LINE_BYTES }
+        requires { length self.old + 12 ≤ PAGE_BYTES }
         ensures value { self.new ≡ self.old ++ space ∷ peer_field peer }
         ensures short { length self.new ≤ length self.old + 12 }
     {
         match peer {
             Peer::Rank(rank) => self.push_number(u32::from(rank)),
-            Peer::Null => self.push_field(b"null"),
+            Peer::Null => self.push_field("null"),
         }
     }
 
     fn push_message(&mut self, comm: u16, peer: Peer, tag: u32)
-        requires { length self.old + 36 ≤ MOST_LINE_BYTES }
+        requires { length self.old + 36 ≤ PAGE_BYTES }
         ensures value { self.new ≡ line_with self.old (comm_argument comm ∷ PeerOf peer ∷ tag_argument tag ∷ []) }
         ensures short { length self.new ≤ length self.old + 36 }
     {
@@ -131,7 +124,7 @@ impl Draft {
 
     #[tactic(auto, using(crate::proofs::RequestLemmas::request_steps))]
     fn push_requests(&mut self, reqs: &[u32])
-        requires { length self.old + 12 * length reqs.now ≤ MOST_LINE_BYTES }
+        requires { length self.old + 12 * length reqs.now ≤ PAGE_BYTES }
         ensures value { self.new ≡ line_with self.old (map request_argument reqs.now) }
         ensures short { length self.new ≤ length self.old + 12 * length reqs.now }
     {
@@ -142,7 +135,7 @@ impl Draft {
 
     /// Adds the root of a rooted collective.
     fn push_root(&mut self, kind: Kind)
-        requires { length self.old + 12 ≤ MOST_LINE_BYTES }
+        requires { length self.old + 12 ≤ PAGE_BYTES }
         ensures value { self.new ≡ line_with self.old (root_arguments (root_of kind)) }
         ensures short { length self.new ≤ length self.old + 12 }
     {
@@ -153,7 +146,7 @@ impl Draft {
 
     /// Adds the bytes of a message, where they are told.
     fn push_bytes(&mut self, bytes: Option<u32>)
-        requires { length self.old + 12 ≤ MOST_LINE_BYTES }
+        requires { length self.old + 12 ≤ PAGE_BYTES }
         ensures value { self.new ≡ line_with self.old (bytes_arguments bytes) }
         ensures short { length self.new ≤ length self.old + 12 }
     {
@@ -162,20 +155,20 @@ impl Draft {
         }
     }
 
-    fn push_word(&mut self, word: Word)
-        requires { self.old ≡ [] }
-        ensures value { self.new ≡ text_of word }
-        ensures short { length self.new ≤ 10 }
+    pub fn push_word(&mut self, word: Word)
+        requires { length self.old + 10 ≤ PAGE_BYTES }
+        ensures value { self.new ≡ self.old ++ text_of word }
+        ensures short { length self.new ≤ length self.old + 10 }
     {
-        self.push_all(word.letter().as_bytes());
-        self.push_all(word.stem().as_bytes());
+        self.push_str(word.letter());
+        self.push_str(word.stem());
     }
 
     /// Adds what stands behind a name.
     fn push_laid(&mut self, laid: Laid)
-        requires { length self.old ≤ 10 }
+        requires { length self.old + 1000 ≤ PAGE_BYTES }
         ensures value { self.new ≡ line_with self.old (laid_arguments laid) }
-        ensures short { length self.new < MOST_LINE_BYTES }
+        ensures short { length self.new ≤ length self.old + 1000 }
     {
         match laid {
             Laid::Nothing => {}
@@ -204,18 +197,18 @@ impl Draft {
                 new,
             } => {
                 self.push_number(u32::from(comm));
-                self.push_number_or(b"undefined", colour);
+                self.push_number_or("undefined", colour);
                 self.push_key(key);
-                self.push_number_or(b"none", new.map(u32::from));
+                self.push_number_or("none", new.map(u32::from));
             }
         }
     }
 
     /// Adds the arguments of a call.
     fn push_arguments(&mut self, call: &Call)
-        requires { length self.old ≤ 10 }
+        requires { length self.old + 1000 ≤ PAGE_BYTES }
         ensures value { self.new ≡ line_with self.old (arguments_of call.now) }
-        ensures short { length self.new < MOST_LINE_BYTES }
+        ensures short { length self.new ≤ length self.old + 1000 }
     {
         match *call {
             Call::Send {
@@ -273,14 +266,13 @@ impl Draft {
         }
     }
 
-    /// Puts a call's line together.
-    #[tactic(auto, unfolding(crate::specs::Spelling::spelling), using(crate::proofs::SpellingLemmas::spelling_steps))]
-    pub(crate) fn push_call(&mut self, call: &Call)
-        requires { self.old ≡ [] }
-        ensures { self.new ≡ spelling call.now }
+    /// Adds a call's word and arguments, as a trace has them.
+    pub fn push_call(&mut self, call: &Call)
+        requires { length self.old + 1024 ≤ PAGE_BYTES }
+        ensures value { self.new ≡ self.old ++ join_with_byte space (fields_of call.now) }
+        ensures short { length self.new ≤ length self.old + 1024 }
     {
         self.push_word(Word::of(call));
         self.push_arguments(call);
-        self.push(b'\n');
     }
 }

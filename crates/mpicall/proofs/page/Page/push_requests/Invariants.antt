@@ -2,7 +2,7 @@
 use Rattle.std.proofs.Common.{◌≡◌, ◌≤◌, ◌+◌, ◌*◌, drop, map, length}
 use Rattle.mpicall.specs.Argument.{request_argument}
 use Rattle.mpicall.specs.Draft.{line_with}
-use Rattle.mpicall.proofs.draft.Draft.push_requests.Given as goal
+use Rattle.mpicall.proofs.page.Page.push_requests.Given as goal
 
 abbrev pub invariant-loop-req : goal.invariant-loop-req
 invariant-loop-req l =
