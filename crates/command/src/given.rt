@@ -6,6 +6,7 @@ ghost use Rattle.command.specs.Given.{EndsBySome, EndsGiven, status_in, status_o
 ghost use Rattle.command.specs.Statuses.{code_of};
 ghost use Rattle.command.specs.declared.given.WordsFault.TheVariants.{NoMemory};
 
+use crate::folder::with_files;
 use crate::opener::Opener;
 use crate::program::{program, write_error};
 use crate::status::Status;
@@ -113,7 +114,7 @@ where
     ensures ended { IfOk result (EndsBySome O.written O.failures E.written E.failures (P.told opener.now) out.old out.new err.old err.new) }
     ensures untouched { OnErr result ((out.new ≡ out.old) × (err.new ≡ err.old)) }
 {
-    let words = words_given(given)?;
+    let words = with_files(given.alloc(), opener, words_given(given)?)?;
     let texts = as_texts(given.alloc(), words.as_slice())?;
     Ok(program(given.alloc(), texts.as_slice(), opener, rt, out, err))
 }

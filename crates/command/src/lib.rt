@@ -1,7 +1,8 @@
 //! The program `mpiwait` over any words, files and outputs: what its words ask for, the check or the lint that
 //! does it, its texts and its exit statuses.
 //!
-//! - `given::run` runs it on the words of the process and gives what ends the process with the status.
+//! - `given::run` runs it on the words of the process, in which a folder is replaced by its files, and gives what
+//!   ends the process with the status.
 //! - `program::program` runs it on words that are texts, and gives the status.
 //! - `opener::Opener` is what opens the files that the words name; `opener::Disk` opens those of the machine, and
 //!   `shelf::Shelf` those in memory, whose texts it tells.
@@ -15,6 +16,7 @@
 pub mod capacity;
 mod check;
 pub mod fault;
+mod folder;
 pub mod given;
 pub mod head_to_head;
 pub mod limit;

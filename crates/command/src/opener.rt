@@ -27,6 +27,16 @@ pub trait Opener {
     /// decides how files are read, and nothing of what is said of them.
     fn waits(&self, path: &str) -> bool
         ensures { result ≡ false → never_waits self.now path.now };
+
+    /// Whether the path names a folder. Without a word of its own an opener has none.
+    fn is_folder(&self, _path: &str) -> bool {
+        false
+    }
+
+    /// Whether a file of a folder exists.
+    fn is_there(&self, _path: &str) -> bool {
+        false
+    }
 }
 
 /// The files of the machine. What they hold is not told.
@@ -54,5 +64,16 @@ where
             Ok(metadata) => !metadata.is_file(),
             Err(_) => true,
         }
+    }
+
+    fn is_folder(&self, path: &str) -> bool {
+        match fs::metadata(self.0, path) {
+            Ok(metadata) => metadata.is_dir(),
+            Err(_) => false,
+        }
+    }
+
+    fn is_there(&self, path: &str) -> bool {
+        fs::metadata(self.0, path).is_ok()
     }
 }

@@ -135,4 +135,16 @@ impl<'a> Opener for RowShelf<'a> {
     fn waits(&self, _path: &str) -> bool {
         self.row.devices.in_threads
     }
+
+    /// A folder is what comes before a slash in the path of some file.
+    fn is_folder(&self, path: &str) -> bool {
+        self.row.files.iter().any(|file| {
+            let own = file.path.as_str();
+            own.starts_with(path) && own.as_bytes().get(path.len()) == Some(&b'/')
+        })
+    }
+
+    fn is_there(&self, path: &str) -> bool {
+        self.text(path).is_some()
+    }
 }
