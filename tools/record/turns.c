@@ -71,18 +71,21 @@ void last_turn_ends(void) {
 
 static const char other_threads[] = "calls of another thread than that of MPI_Init";
 
-/* Another thread is in a call. That one's lines are taken out, as the order of two calls at once isn't known.
- */
+/* Another thread is in a call, so the order of the two calls isn't known. The lines of that call are taken out,
+ * and it is counted instead; the calls of the thread of MPI_Init stay. The caller counts its own call. */
 static void two_at_once(void) {
-    if (!turn.is_of_first || !several) {
+    if (!several) {
         journal_take_back();
         turn.now = 0;
-    }
-    if (!several)
         journal_stop("two threads called MPI at once");
-    else if (!alone)
+        return;
+    }
+    if (!turn.is_of_first) {
+        journal_take_back();
+        turn.now = 0;
         left_out(PARTNERS, other_threads);
-    alone = several;
+    }
+    alone = true;
 }
 
 static bool may_have_turn(void) {

@@ -1,7 +1,9 @@
 /* Threads of each rank exchange with those of the other one. The first word is the level that is asked for;
- * with `turns' one thread calls at a time, with `overlap' one calls while another is in a call. */
+ * with `turns' one thread calls at a time, with `overlap' one calls while the first is in a call, with
+ * `overlapped' the first calls while another is in a call. */
 #include <mpi.h>
 #include <pthread.h>
+#include <stdbool.h>
 #include <stdio.h>
 #include <string.h>
 #include <unistd.h>
@@ -44,7 +46,15 @@ static void in_turns(void) {
         pthread_join(threads[i], NULL);
 }
 
-/* While the first thread waits for the other rank, this one calls. */
+/* Waits for the other rank. */
+static void *wait_for_message(void *none) {
+    int data;
+    __atomic_store_n(&is_waiting, 1, __ATOMIC_RELEASE);
+    MPI_Recv(&data, 1, MPI_INT, 1, 8, MPI_COMM_WORLD, MPI_STATUS_IGNORE);
+    return none;
+}
+
+/* While another thread waits so, this one calls. */
 static void *call_meanwhile(void *none) {
     int data = 0;
     while (!__atomic_load_n(&is_waiting, __ATOMIC_ACQUIRE))
@@ -54,14 +64,13 @@ static void *call_meanwhile(void *none) {
     return none;
 }
 
-static void overlapping(void) {
+static void overlapping(bool first_waits) {
     int data = 0;
     pthread_t thread;
     exchange(7);
     if (rank == 0) {
-        pthread_create(&thread, NULL, call_meanwhile, NULL);
-        __atomic_store_n(&is_waiting, 1, __ATOMIC_RELEASE);
-        MPI_Recv(&data, 1, MPI_INT, 1, 8, MPI_COMM_WORLD, MPI_STATUS_IGNORE);
+        pthread_create(&thread, NULL, first_waits ? call_meanwhile : wait_for_message, NULL);
+        first_waits ? wait_for_message(NULL) : call_meanwhile(NULL);
         pthread_join(thread, NULL);
     } else {
         sleep(2);
@@ -83,7 +92,7 @@ int main(int argc, char **argv) {
     if (strcmp(argv[2], "turns") == 0)
         in_turns();
     else
-        overlapping();
+        overlapping(strcmp(argv[2], "overlap") == 0);
     MPI_Barrier(MPI_COMM_WORLD);
     MPI_Finalize();
     return 0;
