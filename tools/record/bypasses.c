@@ -1,9 +1,9 @@
-/* Calls of MPI that don't lead to the recorder but to the library itself. See bypasses.h.
+/* Calls of MPI that go to the library directly, past the recorder. See bypasses.h.
  *
- * A module has a place in memory for the address of each function that it calls, and the linker binds it to
- * the function that is found first: the recorder's, but in a module that was loaded so that its own libraries
- * are asked before (RTLD_DEEPBIND). Some modules are bound when they are loaded, others at the first call of
- * each function. Of the latter these places are looked at again with each call that is recorded.
+ * A module has a slot in memory for the address of each function that it calls. The linker fills it with the
+ * first definition that it finds. That is the recorder's, except in a module loaded with RTLD_DEEPBIND, which
+ * searches its own libraries first. Some modules are bound when they are loaded, others function by function
+ * at the first call. So slots that aren't bound yet are looked at again at each recorded call.
  */
 #define _GNU_SOURCE
 #include "bypasses.h"
@@ -32,7 +32,7 @@ static int take_ends(struct dl_phdr_info *module, size_t size, void *none) {
 
 /* ---- What is noted ----------------------------------------------------------------------------- */
 
-/* These texts stay, as the counts want. */
+/* The counts keep pointers to these texts. */
 enum { MOST_NOTED = 16 };
 static char noted[MOST_NOTED][128];
 static int noted_count;
@@ -52,7 +52,7 @@ static void note(const char *name) {
     } else {
         left_out(PARTNERS, "calls of other modules that go past the recorder");
     }
-    if (recording) /* what the rank calls from here on isn't known */
+    if (recording) /* what the rank calls after this isn't known */
         journal_stop(text);
 }
 
@@ -61,8 +61,8 @@ static void note(const char *name) {
 enum { MOST_UNBOUND = 1 << 10 };
 static struct {
     const uintptr_t *place;
-    uintptr_t before;   /* what was there */
-    const char *module; /* its name */
+    uintptr_t before;   /* the address that was there */
+    const char *module; /* the module's name */
 } unbound[MOST_UNBOUND];
 static int unbound_count;
 
@@ -87,15 +87,15 @@ static void look_at_unbound(void) {
 
 /* ---- Modules ----------------------------------------------------------------------------------- */
 
-static unsigned long long loaded, unloaded; /* how many modules were ever */
-static int first_count, seen;               /* the modules at the beginning, and those of a look at all */
+static unsigned long long loaded, unloaded; /* how many modules were loaded so far, and unloaded */
+static int first_count, seen;               /* modules at the beginning; modules that a search came to */
 
 static bool is_recorded_function(const char *name) {
     return (has_prefix(name, "MPI_") || has_prefix(name, "PMPI_")) && defines(&ends.recorded, name);
 }
 
-/* Whether a relocation binds a function that the recorder has to the library's. One that isn't bound yet
- * leads into its own module. */
+/* Whether a relocation binds a function that the recorder defines to the library's. A slot that isn't bound
+ * yet has an address in its own module. */
 static bool leads_past(const Dynamic *dynamic, const ElfW(Rela) * relocation,
                        const struct dl_phdr_info *module) {
 #if __ELF_NATIVE_CLASS == 64
@@ -144,8 +144,8 @@ void find_bypasses(void) {
         dl_iterate_phdr(look_at, NULL);
 }
 
-/* Whether there are other modules. The places of functions that aren't bound are looked at here, where no
- * module can be unloaded. */
+/* Whether modules were loaded or unloaded. The slots that aren't bound are looked at in here, because no
+ * module can be unloaded during the iteration. */
 static int has_changed(struct dl_phdr_info *module, size_t size, void *changed) {
     (void)size;
     *(bool *)changed = module->dlpi_adds != loaded || module->dlpi_subs != unloaded;

@@ -1,17 +1,17 @@
-/* Calls of MPI that don't lead to the recorder but to the library itself. */
+/* Calls of MPI that go to the library directly, past the recorder. */
 #ifndef MPIWAIT_BYPASSES_H
 #define MPIWAIT_BYPASSES_H
 
-/* None of these is seen by the program. */
+/* The program doesn't see these names. */
 #pragma GCC visibility push(hidden)
 
-/* Before the program begins: the modules that are there find the recorder first. */
+/* Before the program begins: modules that are loaded by then find the recorder first. */
 void bypasses_open(void);
 
-/* Counts each module of the program's that has such calls. Where there is one, the recording stops. */
+/* Counts each module of the program that has such calls. If there is one, the recording stops. */
 void find_bypasses(void);
 
-/* The same, if modules were loaded since, or functions of theirs were bound that weren't before. */
+/* The same for modules that were loaded, and functions that were bound, since the last time. */
 void find_new_bypasses(void);
 
 #pragma GCC visibility pop

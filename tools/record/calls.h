@@ -1,8 +1,7 @@
-/* What the files of the recorder share that stand between the program and its MPI library. An unproved
- * companion of mpiwait, as all of tools/.
+/* What the files share that define MPI functions. An unproved companion of mpiwait, like all of tools/.
  *
  *   record.c          how the recording begins and ends, and calls that are only counted
- *   turns.c           when a call of the program begins and comes back, and in which thread
+ *   turns.c           when a call of the program begins and returns, and in which thread
  *   errors.c          error handlers
  *   communicators.c   communicators and their numbers
  *   completions.c     waits and tests
@@ -35,39 +34,40 @@ enum { WORLD = 0, SELF = 1, UNNUMBERED = -1 };
         found_; \
     })
 
-/* Bindings for Fortran call `PMPI_Send`: Open MPI's all, MPICH's of mpi_f08 some; so do other tools. So the
- * recorder has that name too. */
+/* The recorder defines `PMPI_Send` too. All Fortran bindings of Open MPI call that name, and so do some of
+ * MPICH's mpi_f08 and other tools. */
 #define ALSO_PMPI(Name) extern __typeof__(MPI_##Name) PMPI_##Name __attribute__((alias("MPI_" #Name)));
 
-/* None of these is seen by the program. */
+/* The program doesn't see these names. */
 #pragma GCC visibility push(hidden)
 
 void *found_in_library(const char *name);
 
 /* ---- Turns ------------------------------------------------------------------------------------- */
 
-/* Each function of the recorder begins with BEGINS and ends with `over`. A call that is recorded has the turn
- * from one to the other, and the recorder's lock but for the time within MPI: calls of several threads come
- * one after the other, and what they write and look up is one thread's. A call within another call isn't the
- * program's. */
+/* Each function of the recorder begins with BEGINS and ends with `over`. A recorded call has the turn between
+ * the two. It also has the recorder's lock, except inside MPI. So recorded calls of several threads come one
+ * after the other, and only one thread writes and looks up. A call inside another call isn't the program's.
+ */
 bool begins(void *caller, void *frame);
 #define BEGINS begins(__builtin_return_address(0), __builtin_frame_address(0))
 
-/* The same where a function of the program's that MPI calls may well call it: nothing is lost then. */
+/* The same for functions that the program's callbacks may call: nothing is lost if MPI calls such a function,
+ * so it isn't counted. */
 bool begins_quietly(void *caller, void *frame);
 #define BEGINS_QUIETLY begins_quietly(__builtin_return_address(0), __builtin_frame_address(0))
 
-/* The same for MPI_Init, which is recorded when it comes back. */
+/* Begins the turn of MPI_Init, which is recorded when it returns. */
 bool take_turn(void);
 
 /* Whether the program called, and not MPI. */
 bool is_of_program(void);
 
-/* A barrier is to follow the call, also where an error handler of the program's leaves it. */
+/* A barrier must follow the call, even if an error handler of the program leaves it. */
 void want_barrier(MPI_Comm comm);
 bool take_barrier(MPI_Comm *comm);
 
-/* Whether the call is recorded still. */
+/* Whether the call is still recorded. */
 bool is_recorded(void);
 
 /* Calls MPI. */
@@ -82,10 +82,10 @@ void enter_recorder(void);
     })
 #define CALL(Name, args) OUTSIDE(REAL(Name) args)
 
-/* The call comes back with this result. */
+/* The call returns this result. */
 int over(int result);
 
-/* An error handler of the program's is called, and may not come back. */
+/* An error handler of the program is called. It may never return. */
 typedef struct {
     int inside;
     bool is_locked;
@@ -104,7 +104,7 @@ int site(void);
 /* From MPI_Init on. */
 void turns_open(int level);
 
-/* The program ends: whether no thread is within a recorded call. None is recorded after that. */
+/* The program ends: whether no thread is inside a recorded call. No call is recorded after that. */
 bool last_turn_begins(void);
 void last_turn_ends(void);
 
@@ -113,14 +113,15 @@ void last_turn_ends(void);
 /* The list within a pair of brackets, so that a macro can take it as one word. */
 #define UNPACK(...) __VA_ARGS__
 
-#define FIELDS(...) sizeof((Field[]){__VA_ARGS__}) / sizeof(Field), (Field[]){__VA_ARGS__}
+#define FIELDS(...) \
+    sizeof((Field[]){__VA_ARGS__}) / sizeof(Field), (Field[]) { __VA_ARGS__ }
 #define PUT(word, ...) journal_call(word, FIELDS(__VA_ARGS__), site())
 #define REPORT(word, ...) journal_report(word, FIELDS(__VA_ARGS__))
 
 /* Numbers the world and MPI_COMM_SELF, once MPI has begun. */
 void number_communicators(void);
 
-/* The number of a call's communicator, or UNNUMBERED, and then the call is counted. */
+/* The number of a call's communicator. If it has none, the call is counted, and the answer is UNNUMBERED. */
 int numbered(MPI_Comm comm, const char *call);
 
 /* A call that made communicator `comm`: `=idup` with the number of its request. */
@@ -130,11 +131,11 @@ static inline uintptr_t bits(MPI_Request handle) {
     return handle == MPI_REQUEST_NULL ? 0 : (uintptr_t)handle;
 }
 
-/* The number of the next request or message: 0 where no call line is written any more. */
+/* The number of the next request or message; 0 when the journal takes no more call lines. */
 int new_number(void);
 
-/* A call started a request; its number is 0 where no line says the call. What the table has of it, to be
- * filled in, or NULL where the recording stopped. */
+/* A call started a request; its number is 0 if the call has no line. Answers its entry in the table, to be
+ * filled in, or NULL if the recording stopped. */
 Request *started(MPI_Request *handle, int number);
 
 /* A call made a persistent request that isn't recorded. */

@@ -2,8 +2,8 @@
 #define _GNU_SOURCE
 #include "calls.h"
 
-/* Each rank numbers its communicators by itself; tools/close finds which are the same. The number is an
- * attribute of the communicator. */
+/* Each rank numbers its communicators by itself; what reads the journals finds which are the same. The number
+ * is an attribute of the communicator. */
 static MPI_Group world;
 static int number_key, next_comm = SELF + 1;
 static const char unnumbered[] = "calls that make communicators, of ones that have no number";
@@ -16,7 +16,7 @@ static int forget_number(MPI_Comm comm, int key, void *number, void *none) {
     return MPI_SUCCESS;
 }
 
-/* As long as the recorder has its lock; so only of calls that are recorded. */
+/* Needs the recorder's lock, so it is called for recorded calls only. */
 static int number_of(MPI_Comm comm) {
     void *number = NULL;
     int found = 0;
@@ -50,8 +50,8 @@ void number_communicators(void) {
 
 /* ---- Groups ------------------------------------------------------------------------------------ */
 
-/* The members of a group by their ranks in the world, after `before` fields; or NULL, where one is of another
- * world or there is no memory. */
+/* The world ranks of a group's members, after `before` free fields. NULL if a member is of another world, or
+ * if there is no memory. */
 static Field *members_of(MPI_Group group, int before, int *size) {
     REAL(Group_size)(group, size);
     size_t count = *size;
@@ -75,8 +75,8 @@ static Field *members_of(MPI_Group group, int before, int *size) {
     return NULL;
 }
 
-/* Gives a communicator the next number and reports its group, after the request that made it, if there is
- * one. One with members of another world isn't reported. */
+/* Gives a communicator the next number and writes its group, after the request that made it, if any. A
+ * communicator with members of another world gets no number. */
 static void report_group(const char *word, int request, MPI_Comm comm) {
     MPI_Group group;
     int size, before = request ? 2 : 1;
@@ -148,8 +148,8 @@ MAKER(Dist_graph_create_adjacent, "comm_make",
        const int out_weights[], MPI_Info info, int reorder, MPI_Comm *new),
       (comm, in, sources, in_weights, out, dests, out_weights, info, reorder, new))
 
-/* The communicator is there when its request is complete. Some libraries give its handle at once; where they
- * don't, it is read later where the program has it, as C's programs do. */
+/* The communicator exists when its request is complete. Some libraries give its handle at once. With others
+ * it is read later from the variable that the program passed; a Fortran program has none that can be read. */
 #define IDUP(Name, params, args) \
     int MPI_##Name(UNPACK params, MPI_Comm *new, MPI_Request *handle) { \
         int number = BEGINS ? numbered(comm, unnumbered) : UNNUMBERED; \
@@ -173,7 +173,7 @@ IDUP(Comm_idup_with_info, (MPI_Comm comm, MPI_Info info), (comm, info))
 
 /* ---- Calls of some ----------------------------------------------------------------------------- */
 
-/* The new members alone call it. One that isn't of the group gets none. */
+/* Only the members of the new communicator call it. A caller outside the group gets none. */
 static bool put_create_group(MPI_Group group) {
     int size = 0, rank = MPI_UNDEFINED;
     REAL(Group_rank)(group, &rank);
@@ -196,7 +196,8 @@ int MPI_Comm_create_group(MPI_Comm comm, MPI_Group group, int tag, MPI_Comm *new
 }
 ALSO_PMPI(Comm_create_group)
 
-/* Made by no call on a communicator that has a number. What making it waits for is left out. */
+/* A communicator that no call on a numbered communicator makes. What the call itself waits for is left out.
+ */
 #define MAKER_APART(Name, params, args) \
     int MPI_##Name params { \
         if (BEGINS) \

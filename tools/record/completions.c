@@ -5,24 +5,24 @@
 
 enum { FEW = 64 };
 
-/* One request of a wait or a test, as it was before. */
+/* One request of a wait or a test, as it was before the call. */
 typedef struct {
     uintptr_t handle;
     int number, second; /* 0 where it isn't active or has none */
 } Named;
 
-/* What line says a wait for one or some before it comes back. */
+/* The line that a wait for one or some requests writes before it returns. */
 typedef enum { NO_LINE, WAIT_LINE, CHOICE_LINE } Line;
 
 /* A wait or a test, and room for what it needs. */
 typedef struct {
     int count;
-    bool begun, needed; /* whether statuses are needed: a wildcard or a cancelled one is there */
-    bool has_others;    /* active ones of calls that aren't recorded */
-    int named, pairs;   /* how many active ones are, and how many of these send and receive */
+    bool begun, needed; /* statuses are needed if a request has a wildcard or was cancelled */
+    bool has_others;    /* it waits for active requests of calls that aren't recorded */
+    int named, pairs;   /* how many of its requests are active; how many of these both send and receive */
     Line line;
-    MPI_Status *place; /* where its statuses go, */
-    bool is_for_all;   /* and whether there is one for each request, in their order */
+    MPI_Status *place; /* where its statuses go */
+    bool is_for_all;   /* there is a status for each request, in their order */
     Named *requests;
     Field *packed;
     MPI_Status *statuses;
@@ -84,12 +84,12 @@ static void ask(Asked *asked, bool begun, int count, const MPI_Request handles[]
     }
 }
 
-/* The statuses go to the program's own place, or ours where it wants none and we do. */
+/* The statuses go where the program wants them, or into ours if the program ignores them and we need them. */
 static MPI_Status *place_for(Asked *asked, MPI_Status *theirs, const MPI_Status *none) {
     return asked->place = asked->needed && theirs == none ? asked->statuses : theirs;
 }
 
-/* Whether the call is recorded still, now that it came back. */
+/* Whether the call is still recorded, now that it has returned. */
 static bool is_back(const Asked *asked) { return asked->begun && is_recorded(); }
 
 static int done(Asked *asked, int result) {
@@ -112,7 +112,7 @@ static int pack(const Asked *asked, int count, const int places[]) {
     return packed;
 }
 
-/* Those at some places: several lines, if one doesn't hold them. */
+/* A line for the requests at some places, or several if one line can't hold them. */
 static void put_list(const char *word, const Asked *asked, int count, const int places[]) {
     int all = pack(asked, count, places);
     for (int from = 0; from < all; from += MOST_FIELDS) {
@@ -121,8 +121,9 @@ static void put_list(const char *word, const Asked *asked, int count, const int 
     }
 }
 
-/* A wait for one or some. Where it may be over by a request that has no number, or one line doesn't hold it,
- * none says it before it comes back. A wait for one request that sends and receives is a wait for both. */
+/* The line of a wait for one or some. There is none before the call returns if a request without a number may
+ * complete it, or if one line can't hold it. A wait for one request that both sends and receives is a wait
+ * for both of its numbers. */
 static void put_choice(const char *word, bool is_for_one, Asked *asked) {
     if (!asked->begun || asked->has_others || asked->named == 0 || asked->named > MOST_FIELDS / 2)
         return;
@@ -132,7 +133,7 @@ static void put_choice(const char *word, bool is_for_one, Asked *asked) {
     put_list(asked->line == WAIT_LINE ? "wait" : word, asked, asked->count, NULL);
 }
 
-/* Those that it chose. */
+/* The requests that it chose. */
 static void report_choice(Asked *asked, int count, const int places[]) {
     if (asked->line == NO_LINE)
         put_list("test", asked, count, places);
@@ -152,7 +153,7 @@ static void report_end(int number, bool wild, const Request *request, const MPI_
         REPORT(gone ? "=gone" : "=kept", number);
 }
 
-/* A request isn't in use any more; a persistent one may be started again. */
+/* A request is no longer in use. A persistent one may be started again. */
 static void drop(uintptr_t handle) {
     Request *request = requests_find(handle);
     if (!request || !request->persistent) {
@@ -191,7 +192,8 @@ static void finish_all(const Asked *asked, int count, const int places[]) {
         finish(asked->requests[places ? places[i] : i].handle, asked->needed ? &asked->place[i] : NULL);
 }
 
-/* The call answered an error: of some requests the statuses may say that they completed; others are null now.
+/* The call returned an error. The statuses may say that some requests completed; other handles may be null
+ * now.
  */
 static void sort_out(const Asked *asked, int result, const MPI_Request handles[]) {
     int class = MPI_SUCCESS;
@@ -206,7 +208,7 @@ static void sort_out(const Asked *asked, int result, const MPI_Request handles[]
     }
 }
 
-/* A test that found nothing, or answered an error. */
+/* A test that found nothing, or returned an error. */
 static void found_none(const Asked *asked, Poll poll, const char *what, int result,
                        const MPI_Request handles[]) {
     if (result == MPI_SUCCESS) {
@@ -218,8 +220,8 @@ static void found_none(const Asked *asked, Poll poll, const char *what, int resu
     sort_out(asked, result, handles);
 }
 
-/* The library knows none of these as active: MPICH takes a persistent request from MPI_PROC_NULL so. They
- * wait for nobody. */
+/* The library has none of these as active, although the recorder has. MPICH does so with persistent requests
+ * from MPI_PROC_NULL, which wait for nobody. */
 static void none_active(Asked *asked) {
     int all = pack(asked, asked->count, NULL), chosen = asked->line == CHOICE_LINE;
     if (chosen)
@@ -316,8 +318,8 @@ int MPI_Test(MPI_Request *handle, int *found, MPI_Status *status) {
 }
 ALSO_PMPI(Test)
 
-/* Where no statuses are wanted of more than 64 requests, MPICH 4.0 takes all for those of sends and receives,
- * which ours aren't (starts.c). */
+/* Without statuses and for more than 64 requests, MPICH 4.0 handles all requests as those of sends and
+ * receives. The completed requests of starts.c aren't, so statuses are always asked for then. */
 int MPI_Testall(int count, MPI_Request handles[], int *found, MPI_Status statuses[]) {
     Asked asked;
     ask(&asked, BEGINS, count, handles);

@@ -1,4 +1,4 @@
-/* Counts the calls that no line of a journal says. See journal.h. */
+/* Counts the calls that have no line in the journal. See journal.h. */
 #define _GNU_SOURCE
 #include "journal.h"
 #include <pthread.h>
@@ -7,12 +7,12 @@
 
 enum {
     ROOM = 1 << 14, /* bytes of the text */
-    KINDS = 128,    /* of these the last three are for calls beyond the room that there is */
+    KINDS = 128,    /* the last three are for calls that have no room of their own */
     DIGITS = 12,
     OTHERS_ROOM = 128
 };
 
-/* One line for each kind, `W 000000000012 MPI_Put`, whose digits are counted up where they stand. */
+/* One line for each kind, `W 000000000012 MPI_Put`, whose digits are counted up in place. */
 static struct {
     char *text, *end;
     int kinds;

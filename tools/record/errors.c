@@ -1,8 +1,9 @@
-/* Error handlers of the program's. See calls.h.
+/* Error handlers of the program. See calls.h.
  *
- * A handler may jump, or throw an exception, and never come back to MPI. So the program's functions are
- * called by ones of ours, which write first that the call failed. These hand on what they get, as it may be
- * C's, C++'s or Fortran's; a C function that takes more than it is given finds the same there as without us.
+ * A handler may jump or throw an exception, and so never return to MPI. Therefore MPI calls a function of
+ * ours, which writes that the call failed and then calls the program's. It passes on four arguments, whether
+ * the program's function is in C, C++ or Fortran. A variadic C function then finds the same further arguments
+ * as without us.
  */
 #define _GNU_SOURCE
 #include "calls.h"
@@ -30,8 +31,8 @@ ALL(ONE)
 #define NAME(place) handler##place,
 static Handler *const ours[MOST_HANDLERS] = {ALL(NAME)};
 
-/* The function of ours that calls theirs. Where there are none left it is theirs: then a jump is seen only
- * when the next call begins. */
+/* The function of ours that calls theirs. If ours are used up it is theirs, and a jump is seen only when the
+ * next call begins. */
 static void *ours_for(void *theirs) {
     int place = 0;
     while (place < MOST_HANDLERS && handlers[place] && handlers[place] != (Handler *)theirs)
@@ -53,7 +54,7 @@ CREATE(Comm_create_errhandler, MPI_Comm_errhandler_function)
 CREATE(File_create_errhandler, MPI_File_errhandler_function)
 CREATE(Win_create_errhandler, MPI_Win_errhandler_function)
 
-/* MPI 1 had it, and libraries still have it for old programs, without a declaration that can be used. */
+/* A function of MPI 1. Libraries still have it for old programs, but no declaration of it that compiles. */
 #undef MPI_Errhandler_create
 #undef PMPI_Errhandler_create
 #define MPI_Errhandler_create old_create

@@ -10,11 +10,11 @@
 #include <unistd.h>
 
 enum {
-    FIRST_WINDOW = 1 << 16, /* so much of the journal is mapped at first, */
-    WINDOW = 1 << 20,       /* and at most at a time */
+    FIRST_WINDOW = 1 << 16, /* the part of the journal that is mapped at first */
+    WINDOW = 1 << 20,       /* the largest part that is mapped at a time */
     LONGEST_LINE = 1 << 15,
-    LONGEST_STOP = 512,  /* the line that says why no more follow; there is always room for it */
-    MOST_CALLS = 1000001 /* a trace has one less, since it has no MPI_Init */
+    LONGEST_STOP = 512,  /* the line with the reason why no more follow; there is always room for it */
+    MOST_CALLS = 1000001 /* one more than a trace may have, since a trace has no MPI_Init */
 };
 
 bool recording, journal_is_full;
@@ -23,15 +23,15 @@ static struct {
     int file, rank;
     bool is_open;
     long calls;
-    off_t start; /* of the window, in the file */
+    off_t start; /* where the window begins in the file */
     size_t size; /* of the window */
     char *window, *at;
-    char *state, *polls; /* where the header has them: its page stays mapped for good */
+    char *state, *polls; /* their places in the header, whose page stays mapped to the end */
 } journal;
 
-/* The program's call that is recorded. */
+/* The call that is being recorded. */
 static struct {
-    off_t begin, first_end; /* where its lines begin, and where the first of them ends */
+    off_t begin, first_end; /* where its lines begin, and where its first line ends */
     int lines;
     bool failed;
 } call;
@@ -43,7 +43,7 @@ int create_text(const char *folder, const char *name, int rank) {
     return open(path, O_RDWR | O_CREAT | O_EXCL | O_CLOEXEC, 0666);
 }
 
-/* That there is room on the disk is asked before, since a write into memory couldn't answer it. */
+/* Room on the disk is reserved first: a write into mapped memory can't return an error. */
 char *map_text(int file, long start, unsigned long size) {
     if (posix_fallocate(file, start, size) != 0)
         return NULL;
@@ -79,7 +79,7 @@ static char *put_field(char *at, Field field) {
 
 static off_t place(void) { return journal.start + (journal.at - journal.window); }
 
-/* The next window begins on the page on which the next line does. It is larger, since the run is longer. */
+/* The next window begins on the page of the next line, and is twice as large up to the most. */
 static bool move_window(void) {
     long page = sysconf(_SC_PAGESIZE);
     off_t next = place(), start = next - next % page;
@@ -122,7 +122,7 @@ static void put_line(const char *word, int count, const Field *fields, int site)
     journal.at = at;
 }
 
-/* Takes out what was written from a place on, if it is in memory still. */
+/* Removes what was written from a place on, if that is still mapped. */
 static bool cut_from(off_t from) {
     if (!journal.is_open || from < journal.start)
         return false;
@@ -167,8 +167,7 @@ void journal_begin(void) {
     call.failed = false;
 }
 
-/* Where there are more calls than a trace holds, the line `full` is in the place of the first one after them.
- */
+/* The first call beyond the most has the line `full` instead of its own. */
 void journal_call(const char *word, int count, const Field *fields, int site) {
     if (journal_is_full || !has_room(count))
         return;
@@ -193,7 +192,7 @@ void journal_done(int number, Field source, Field tag) {
         put_line("=done", 3, (Field[]){number, source, tag}, 0);
 }
 
-/* Which of several lines failed isn't known: the first says so for all. */
+/* Which of several lines failed isn't known, so only the first stays, and has `=failed`. */
 void journal_failed(void) {
     if (call.lines == 0 || call.failed || journal_is_full)
         return;

@@ -5,7 +5,7 @@
 
 const char unnumbered[] = "sends, receives and probes on communicators that have no number";
 
-/* A wrong type or count is left to the call, which answers an error. */
+/* For a wrong type or count the call itself returns an error. */
 Field bytes(long long count, MPI_Datatype type) {
     int size;
     if (type == MPI_DATATYPE_NULL || !is_recorded() || REAL(Type_size)(type, &size) != MPI_SUCCESS)
@@ -22,7 +22,7 @@ void report_message(int number, int source, int result, const MPI_Status *status
 
 /* ---- Sends ------------------------------------------------------------------------------------- */
 
-/* Of a standard send `Synchronous` is the one that it is in a strict run; of others it is themselves. */
+/* `Synchronous` is what a standard send becomes in a strict run. Other sends name themselves. */
 #define CALL_SEND(Name, Synchronous, args) \
     (sends_synchronously(comm) ? CALL(Synchronous, args) : CALL(Name, args))
 
@@ -111,7 +111,7 @@ IRECV(Irecv_c, MPI_Count)
 
 /* ---- Both -------------------------------------------------------------------------------------- */
 
-/* The count and the type are those of what is sent. */
+/* The count and the type in the line are those of the message that is sent. */
 #define EXCHANGE(Name, params, args, become, in_data, received, received_type) \
     int MPI_##Name(UNPACK params MPI_Comm comm, MPI_Status *status) { \
         MPI_Status mine, *seen = status == MPI_STATUS_IGNORE ? &mine : status; \
@@ -130,8 +130,8 @@ IRECV(Irecv_c, MPI_Count)
     ALSO_PMPI(Name)
 
 #ifdef HAS_Isendrecv
-/* Whether the library's status of such a request says what was received: MPICH 4.0 says nothing. It is tried
- * with a message to itself, where no other receive can take it. */
+/* Whether the library's status of such a request says what was received; that of MPICH 4.0 doesn't. This is
+ * tried with a message of the rank to itself, on a communicator where no other receive can take it. */
 static bool try_status(void) {
     MPI_Comm self;
     MPI_Request request;
@@ -145,7 +145,7 @@ static bool try_status(void) {
     return status.MPI_SOURCE == 0 && status.MPI_TAG == tag;
 }
 
-/* Where it doesn't, what a wildcard received is never known. */
+/* If it doesn't, what a wildcard received is never known. */
 static bool is_known(MPI_Comm comm) {
     static int known = -1;
     if (STRICT_PAIRS_ARE_KNOWN && sends_synchronously(comm))

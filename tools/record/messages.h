@@ -5,33 +5,33 @@
 #include "calls.h"
 #include <string.h>
 
-/* None of these is seen by the program. */
+/* The program doesn't see these names. */
 #pragma GCC visibility push(hidden)
 
-/* What is counted of calls on communicators that have no number. */
+/* How calls on communicators without a number are counted. */
 extern const char unnumbered[];
 
-/* Ranks and tags are written as the program gave them, wrong ones too. */
+/* Ranks and tags are written as the program gave them, even wrong ones. */
 static inline Field receiver(int rank) { return rank == MPI_PROC_NULL ? NULL_PEER : rank; }
 
 static inline Field sender(int rank) { return rank == MPI_ANY_SOURCE ? ANY : receiver(rank); }
 
 static inline Field tag_of_receive(int tag) { return tag == MPI_ANY_TAG ? ANY : tag; }
 
-/* Whether a receive leaves open whose message it takes; from MPI_PROC_NULL there is none. */
+/* Whether a receive has a wildcard. From MPI_PROC_NULL there is no message to choose. */
 static inline bool is_wild(int source, int tag) {
     return source != MPI_PROC_NULL && (source == MPI_ANY_SOURCE || tag == MPI_ANY_TAG);
 }
 
-/* Whether a send may be buffered: then its bytes are written. */
+/* Whether MPI may buffer such a send: then its line has its bytes. */
 static inline bool is_standard(const char *word) {
     return strcmp(word, "send") == 0 || strcmp(word, "isend") == 0;
 }
 
-/* How many bytes a message has, or UNKNOWN. */
+/* The bytes of a message, or UNKNOWN. */
 Field bytes(long long count, MPI_Datatype type);
 
-/* The message that a call on this communicator took or saw; from MPI_PROC_NULL there is none. */
+/* Writes which message a call took or saw. From MPI_PROC_NULL there is none. */
 void report_message(int number, int source, int result, const MPI_Status *status);
 
 #pragma GCC visibility pop

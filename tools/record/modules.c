@@ -7,7 +7,7 @@
 #include <stdio.h>
 #include <string.h>
 
-/* What the files of the libraries and of their bindings for other languages are called. */
+/* How the file names of the libraries and of their bindings for other languages begin. */
 static const char *const mpi_names[] = {
     "libmpi.so",       "libmpich.so",   "libmpichfort.so", "libmpichcxx.so", "libmpifort.so", "libmpicxx.so",
     "libmpi_mpifh.so", "libmpi_usempi", "libmpi_cxx.so",   "libmpi_java.so", "libopen-",      "mca_",
@@ -78,9 +78,9 @@ static uint32_t gnu_hash(const char *name) {
     return hash;
 }
 
-/* Whether a module defines a symbol, by its table: the number of buckets, that of the first symbol in it, the
- * number of words of a filter and its shift; the filter, the buckets, and the hashes, of which the last of a
- * bucket is odd. */
+/* Whether a module defines a symbol, by its GNU hash table. The table begins with four words: the number of
+ * buckets, the number of its first symbol, the number of words of a filter, and a shift. The filter follows,
+ * then the buckets, then the hashes. The last hash of a bucket is odd. */
 bool defines(const Dynamic *dynamic, const char *name) {
     const uint32_t *table = dynamic->hashes;
     if (!table || table[0] == 0)
@@ -102,8 +102,8 @@ bool defines(const Dynamic *dynamic, const char *name) {
 
 /* ---- Whose code is at an address --------------------------------------------------------------- */
 
-/* Answers that are known already. A module that is unloaded may give its addresses to another: then none is.
- */
+/* Answers that are known already. They are forgotten when modules are loaded or unloaded, since another
+ * module may then be at the same address. */
 enum { MOST_KNOWN = 1 << 12 };
 static struct {
     const void *address;

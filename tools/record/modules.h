@@ -7,36 +7,36 @@
 #include <stddef.h>
 #include <stdint.h>
 
-/* None of these is seen by the program. */
+/* The program doesn't see these names. */
 #pragma GCC visibility push(hidden)
 
-/* Whose code is at an address: the program's, the MPI library's with its bindings, or that of another tool
- * between the two. */
+/* Whose code is at an address: the program's, that of the MPI library with its bindings, or that of another
+ * tool between the two. */
 typedef enum { OF_PROGRAM = 1, OF_MPI, OF_TOOL } Owner;
 Owner module_of(const void *address);
 
-/* The path of the module at an address, empty for the program itself, and where it lies in memory; NULL where
- * there is none. */
+/* The path of the module at an address, and its base address. The path is empty for the program itself, and
+ * NULL if there is no module. */
 const char *module_at(const void *address, unsigned long *base);
 
-/* Whether a library with a name that begins so is loaded. */
+/* Whether a library is loaded whose name begins so. */
 bool is_loaded(const char *name);
 
-/* The name of a module of another tool that has MPI's calls too and comes after the recorder, so that it
- * isn't called; or NULL. */
+/* The name of another tool's module that defines MPI calls and comes after the recorder, so that it is never
+ * called; or NULL. */
 const char *passed_tool(void);
 
-/* Modules were loaded or unloaded: what is at an address is another one's. */
+/* Modules were loaded or unloaded, so an address may now belong to another one. */
 void forget_owners(void);
 
 /* ---- One module -------------------------------------------------------------------------------- */
 
-/* What a module says of itself for its linking. */
+/* The parts of a module's dynamic section. */
 typedef struct {
     uintptr_t base;
     const ElfW(Sym) * symbols;
     const char *names;
-    const uint32_t *hashes; /* as GNU has them */
+    const uint32_t *hashes; /* the GNU hash table */
     const ElfW(Rela) * relocations[2];
     size_t sizes[2];
 } Dynamic;

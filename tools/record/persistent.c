@@ -3,7 +3,7 @@
 #include "messages.h"
 #include "strict.h"
 
-/* Each start is written as the nonblocking call. */
+/* Each start is written as the nonblocking call of the same kind. */
 static void keep_template(MPI_Request *handle, Template template) {
     Template *kept = malloc(sizeof *kept);
     made_persistent(handle);
@@ -72,7 +72,7 @@ static void start_one(MPI_Request handle) {
         PUT(template->word, request->number, fields[0], fields[1], fields[2], fields[3]);
 }
 
-/* Which of them were started isn't known then. */
+/* After an error it isn't known which of them were started. */
 static void none_started(int count, const MPI_Request handles[]) {
     for (int i = 0; i < count; i++) {
         Request *request = requests_find(bits(handles[i]));

@@ -2,14 +2,14 @@
 #define _GNU_SOURCE
 #include "messages.h"
 
-/* The messages that MPI_Mprobe took and no receive got yet. */
+/* The messages that MPI_Mprobe took and that no receive has received yet. */
 static struct {
     MPI_Message handle;
     int number;
 } * messages;
 static int message_count, message_room;
 
-/* A number of 0 is that of a message that isn't recorded. */
+/* The number is 0 if the message isn't recorded. */
 static void keep_message(MPI_Message handle, int number) {
     if (message_count == message_room) {
         int room = message_room ? 2 * message_room : 64;
@@ -25,7 +25,7 @@ static void keep_message(MPI_Message handle, int number) {
     messages[message_count++].number = number;
 }
 
-/* Takes a message out: its number, or 0. All from MPI_PROC_NULL have one handle, and are alike. */
+/* Removes a message and answers its number, or 0. All messages from MPI_PROC_NULL have one handle. */
 static int take_message(MPI_Message handle) {
     for (int i = message_count - 1; i >= 0; i--) {
         if (messages[i].handle != handle)
@@ -68,7 +68,8 @@ int MPI_Mprobe(int source, int tag, MPI_Comm comm, MPI_Message *message, MPI_Sta
 }
 ALSO_PMPI(Mprobe)
 
-/* What a probe found that doesn't wait: from MPI_PROC_NULL nobody's message, whatever the status says. */
+/* The source of the message that a probe found without waiting. MPI_PROC_NULL has none, whatever the status
+ * says. */
 static Field source_found(int source, const MPI_Status *status) {
     return source == MPI_PROC_NULL ? NULL_PEER : status->MPI_SOURCE;
 }

@@ -1,11 +1,12 @@
 /* The line of Python code from which MPI was called. See sites.c.
  *
- * Python's functions may be called only by the thread that has its lock, and another thread that has the lock
- * may wait for this one. So Python is asked where this thread has the lock, or where it is the only one that
- * Python knows: then nobody else has it. Modules such as mpi4py let the lock go around their calls, and other
- * threads may run then. Of Python 3.11 the line is read then where it lies in memory: while a thread is in a
- * call of MPI its own frames stay as they are. What was asked before has to have been the same as what was
- * read.
+ * Only the thread that has Python's lock may call Python's functions. The recorder must not wait for the
+ * lock, since the thread that has it may wait for this one. So it calls Python in two cases: this thread has
+ * the lock, or it is the only thread that Python knows, so that nobody else can have the lock.
+ *
+ * Modules such as mpi4py release the lock around their calls, and other threads may run meanwhile. Then, with
+ * Python 3.11, the line is read directly from memory: while a thread is inside a call of MPI its own frames
+ * don't change. That is done only after reading has given the same as asking Python.
  */
 #define _GNU_SOURCE
 #include "sites.h"
@@ -14,8 +15,8 @@
 #include <stddef.h>
 #include <string.h>
 
-/* Python's own functions, where the process has them. They are asked for by name, since the recorder
- * isn't linked with Python. */
+/* Python's functions, if the process has them. They are looked up by name, since the recorder isn't linked
+ * with Python. */
 static struct {
     bool is_there;
     int (*is_initialized)(void);
@@ -42,22 +43,22 @@ static struct {
 
 /* ---- Read -------------------------------------------------------------------------------------- */
 
-/* Where Python 3.11 has what is read, in bytes. */
+/* Offsets in structures of Python 3.11, in bytes. */
 enum {
-    STATE_FRAMES = 56, /* of a thread's state: where its frames are, */
-    FRAMES_LAST = 8,   /* there the innermost one, */
-    FRAME_CODE = 32,   /* its code, */
-    FRAME_AT = 56,     /* and the instruction that it is at */
-    CODE_FILE = 112,   /* of code: the name of its file */
-    TEXT_STATE = 32,   /* of a text: a word with what it is, */
+    STATE_FRAMES = 56, /* in a thread's state: the pointer to its frames */
+    FRAMES_LAST = 8,   /* there: the innermost frame */
+    FRAME_CODE = 32,   /* in a frame: its code */
+    FRAME_AT = 56,     /* in a frame: the instruction that it is at */
+    CODE_FILE = 112,   /* in code: the name of its file */
+    TEXT_STATE = 32,   /* in a text: a word with its kind */
     TEXT_ASCII = 3 << 5,
-    TEXT_BYTES = 48 /* and its bytes, if it is such a one */
+    TEXT_BYTES = 48 /* in a text of that kind: its bytes */
 };
 
 static struct {
-    bool is_other;  /* another version, or it was wrong once */
-    int right;      /* how often what was read was right, one after the other */
-    long code_size; /* how far after the start of code its first instruction is */
+    bool is_other;  /* another version, or reading was wrong once */
+    int right;      /* how often reading was right so far */
+    long code_size; /* how many bytes after the start of code its first instruction is */
 } layout;
 
 typedef struct {
@@ -81,7 +82,7 @@ static const char *bytes_of(const char *text) {
     return (state & TEXT_ASCII) == TEXT_ASCII ? text + TEXT_BYTES : NULL;
 }
 
-/* What was asked is also read, and has to be the same; the first time it isn't asked how long code is. */
+/* Reads what was asked, and compares. The first time the length of code is learnt. */
 static void compare(const void *frame, const void *code, const void *file, const char *name) {
     Line line;
     if (layout.is_other)
@@ -123,7 +124,7 @@ static int ask_line(void) {
     return site;
 }
 
-/* Who has the lock can't be asked where there are several interpreters. */
+/* With several interpreters Python can't say who has the lock. */
 static bool can_ask(void *state) {
     void *interpreter = python.first_interpreter();
     if (!interpreter || python.next_interpreter(interpreter))
@@ -132,7 +133,7 @@ static bool can_ask(void *state) {
     return is_alone || python.has_lock();
 }
 
-/* Reading is faster by far. Where it was right often it is compared now and then alone. */
+/* Reading is much faster. Once it was right often enough it is compared only now and then. */
 enum { OFTEN = 16, NOW_AND_THEN = 256 };
 
 static bool may_read(void) {

@@ -1,14 +1,17 @@
-/* Records the MPI calls of a program in one journal a rank, from which `tools/close` makes what mpiwait
- * reads. An unproved companion of mpiwait, as all of tools/.
+/* Records the MPI calls of a program in one journal for each rank. An unproved companion of mpiwait, like all
+ * of tools/.
  *
- * It is preloaded, and comes between the program and its MPI library (MPI 4.0, section 15.2): it defines
- * `MPI_Send` and others, and calls the library's own. It never communicates, and waits for nobody. The
- * variable MPIWAIT_JOURNAL names the folder for the journals.
+ * The recorder is preloaded between the program and its MPI library (MPI 4.0, section 15.2): it defines
+ * `MPI_Send` and others, and they call the library's `PMPI_Send`. It never communicates and never waits for
+ * another rank; only a strict run adds barriers (strict.h). The variable MPIWAIT_JOURNAL names the folder for
+ * the journals.
  *
- * A call is written when it begins, so that one that never comes back is there; what it reports (the source
- * of a wildcard, the request that completed, a new communicator) is written when it comes back. A test
- * that finds nothing is only counted. tools/README.md has the table of all calls. This file has how it begins
- * and ends, and the calls that are only counted; calls.h says what the others have.
+ * A call is written when it begins, so that a call that never returns is in the journal. Its results are
+ * written when it returns: the source of a wildcard, the request that completed, a new communicator. A test
+ * that finds nothing is only counted. tools/README.md has the table of all calls.
+ *
+ * This file has the beginning and the end of a recording, and the calls that are only counted. calls.h lists
+ * the other files.
  */
 #define _GNU_SOURCE
 #include "calls.h"
@@ -33,8 +36,9 @@ void *found_in_library(const char *name) {
 
 /* ---- Calls that are only counted --------------------------------------------------------------- */
 
-/* The Makefile makes these lists from the library's own mpi.h. Of a call that starts a request, or makes a
- * persistent one, the request is known all the same. */
+/* The Makefile generates these lists from the library's mpi.h. If such a call starts a request or makes a
+ * persistent one, the recorder remembers that request, so that a later wait for it isn't taken for another.
+ */
 #define COUNT(Name, meaning, params, args, then) \
     int MPI_##Name params { \
         if (BEGINS) \
@@ -70,7 +74,7 @@ static const char library[] = "MPICH", other_library[] = "libmpi.so.40";
 static const char version[] = "MPICH " MPICH_VERSION;
 #endif
 
-/* A program of the other library would get this library's functions with its own handles. */
+/* A program of the other library would pass its handles to this library's functions. */
 static void refuse_other_library(void) {
     if (!is_loaded(other_library))
         return;
@@ -81,7 +85,7 @@ static void refuse_other_library(void) {
     exit(3);
 }
 
-/* Said, and left for the report. */
+/* Keeps the reason in a file, from which the report takes it. */
 static bool note_unrecorded(const char *folder, const char *why) {
     char path[4096];
     if (!folder || !*folder || snprintf(path, sizeof path, "%s/unrecorded", folder) >= (int)sizeof path)
@@ -99,7 +103,7 @@ static void not_recorded(const char *folder, const char *named, int rank, const 
         note_unrecorded(named, why);
 }
 
-static pid_t process; /* the one that called MPI_Init */
+static pid_t process; /* the process that called MPI_Init */
 
 static const char *open_texts(const char *named, int rank, int ranks, char *folder, unsigned long room) {
     char words[128];
@@ -108,7 +112,7 @@ static const char *open_texts(const char *named, int rank, int ranks, char *fold
     return why ? why : journal_open(folder, id, rank, ranks, words);
 }
 
-/* A tool has to be named before the recorder, which calls the library itself. */
+/* The recorder calls the library directly, so another tool must come before it in LD_PRELOAD. */
 static void look_for_tools(int rank) {
     const char *tool = passed_tool();
     if (!tool)
@@ -147,7 +151,7 @@ static void start(void) {
     find_bypasses();
 }
 
-/* What MPI calls for itself while it begins isn't recorded, as nothing is before `start`. */
+/* Nothing is recorded before `start`, so the calls that MPI itself makes in MPI_Init aren't either. */
 static int initialized(int result) {
     if (result == MPI_SUCCESS && !recording)
         start();
@@ -175,7 +179,7 @@ int MPI_Init_thread(int *argc, char ***argv, int required, int *provided) {
 }
 ALSO_PMPI(Init_thread)
 
-/* From here on nothing is recorded, whatever the program has MPI call at its end. */
+/* Nothing is recorded after this, not even the program's functions that MPI calls in MPI_Finalize. */
 int MPI_Finalize(void) {
     bool begun = BEGINS;
     if (!begun && recording && is_of_program())
@@ -200,7 +204,8 @@ int MPI_Abort(MPI_Comm comm, int code) {
 }
 ALSO_PMPI(Abort)
 
-/* The program ends without MPI_Finalize. Where a thread is within a call, that never comes back. */
+/* The program ends without MPI_Finalize. If a thread is inside a call, that call never returns, and the line
+ * `exit` isn't written. */
 static void ended(int status, void *none) {
     (void)status, (void)none;
     if (!recording || getpid() != process || !last_turn_begins())
@@ -213,10 +218,11 @@ static void ended(int status, void *none) {
     last_turn_ends();
 }
 
-/* A child that the program forks isn't the rank. */
+/* A forked child isn't the rank, so it records nothing. */
 static void forget(void) { recording = false; }
 
-/* What is asked for before the program begins is called last of all. */
+/* Functions of on_exit run in reverse order. This one is registered before the program begins, so it runs
+ * after all of the program's. */
 __attribute__((constructor)) static void load(void) {
     bypasses_open();
     on_exit(ended, NULL);

@@ -1,4 +1,4 @@
-/* A hash table with linear probing; at most half of its places are used. See requests.h. */
+/* A hash table with linear probing; at most half of its places are in use. See requests.h. */
 #include "requests.h"
 #include <stdlib.h>
 
@@ -7,7 +7,7 @@ static size_t room, used; /* room is a power of two */
 
 static size_t home(uintptr_t handle) { return ((uint64_t)handle * 0x9e3779b97f4a7c15u >> 20) & (room - 1); }
 
-/* Where the handle is, or the free place where it would be. */
+/* The place of the handle, or the free place where it would be. */
 static Request *place_of(uintptr_t handle) {
     size_t at = home(handle);
     while (places[at].handle != 0 && places[at].handle != handle)
@@ -47,7 +47,8 @@ Request *requests_add(uintptr_t handle) {
     return new;
 }
 
-/* Requests after the free place move up to it, where it lies on the way from their home. */
+/* Closes the gap: a request after it moves into it if the gap lies between that request's home and its place.
+ */
 void requests_remove(uintptr_t handle) {
     Request *found = requests_find(handle);
     if (!found)

@@ -5,10 +5,10 @@
 #include "journal.h"
 #include <stdint.h>
 
-/* None of these is seen by the program. */
+/* The program doesn't see these names. */
 #pragma GCC visibility push(hidden)
 
-/* What each start of a persistent request is written as. */
+/* The line that each start of a persistent request writes. */
 typedef struct {
     const char *word;
     Field fields[4];
@@ -22,17 +22,18 @@ typedef struct {
     int second;  /* the number of its receive, where the call sends and receives; else 0 */
     bool active; /* started, and not known to be complete */
     bool persistent;
-    bool wild;          /* a receive whose source or tag its status will show */
+    bool wild;          /* a receive with a wildcard, whose status will be asked for */
     bool cancelled;     /* MPI_Cancel was called for it */
     Template *template; /* of a persistent one that is recorded */
-    uintptr_t comm;     /* the communicator that it makes, */
-    const void *place;  /* or, as long as that isn't known, where the program will have it */
+    uintptr_t comm;     /* the communicator that it makes, if that is known yet */
+    const void *place;  /* else the program's variable that will have it */
 } Request;
 
-/* The request of a handle, or NULL. What is found moves with the next `requests_add` or `requests_remove`. */
+/* The request of a handle, or NULL. The pointer is valid until the next `requests_add` or `requests_remove`.
+ */
 Request *requests_find(uintptr_t handle);
 
-/* A request with a new handle, or NULL where there is no memory. */
+/* A request with a new handle, or NULL if there is no memory. */
 Request *requests_add(uintptr_t handle);
 void requests_remove(uintptr_t handle);
 

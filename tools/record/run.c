@@ -1,11 +1,12 @@
 /* Which run a process belongs to, and the folder for its journals. See journal.h.
  *
- * The ID is had without communication: a broadcast in MPI_Init would take part in the program's own
- * collective calls of a rank that has no recorder, and hang, or be taken for one of them. It is a hash of
- * what the launcher gives to each process of the run and to no other run: PMIx's namespace, the port of
- * Hydra's mpiexec, the job of PMI, the step of SLURM. Where there is none of these, a run of one rank has its
- * process's number and time. All other runs share one ID, which the first process claims; so the second such
- * run in one folder isn't recorded, and that is said.
+ * The run's ID is found without communication. A broadcast in MPI_Init would hang if a rank has no recorder,
+ * or it would match one of that rank's own collective calls.
+ *
+ * The ID is a hash of what the launcher gives to each process of this run and to no other: PMIx's namespace,
+ * the port of Hydra's mpiexec, the job of PMI, the step of SLURM. Without these, a run of one rank takes its
+ * process number and the time. All other runs share one ID, which the first process claims. So a second such
+ * run in one folder isn't recorded, and the report says so.
  */
 #define _GNU_SOURCE
 #include "journal.h"
@@ -39,7 +40,7 @@ static const char *of_variables(const char *first, const char *second, char *tex
     return text;
 }
 
-/* An Open MPI's namespace is 16 bits of a hash: the address of its mpirun makes it unlike others. */
+/* Open MPI's namespace has only 16 bits of a hash, so the address of its mpirun is added. */
 static const char *of_pmix(char *text, size_t room) {
     const char *found = of_variables("PMIX_NAMESPACE", "OMPI_MCA_orte_hnp_uri", text, room);
     return found ? found : of_variables("PMIX_NAMESPACE", NULL, text, room);
@@ -58,7 +59,7 @@ static long parent_of(long process) {
     return after && sscanf(after + 1, " %*c %ld", &parent) == 1 ? parent : 0;
 }
 
-/* The word after `--control-port` of a command of Hydra's proxy; its words end with zero bytes. */
+/* The word after `--control-port` in the command line of Hydra's proxy, whose words end with zero bytes. */
 static const char *port_in(const char *command, size_t length) {
     const char *end = command + length;
     if (!strstr(command, "hydra_pmi_proxy"))
@@ -69,7 +70,8 @@ static const char *port_in(const char *command, size_t length) {
     return NULL;
 }
 
-/* Each machine's proxy of Hydra is an ancestor of its ranks, and has the address of the run's mpiexec. */
+/* Hydra's proxy on each machine is an ancestor of the ranks there. Its command line has the address of the
+ * run's mpiexec. */
 static const char *of_hydra(char *text, size_t room) {
     long process = getpid();
     for (int i = 0; i < MOST_ANCESTORS && process > 1; i++) {
@@ -100,7 +102,7 @@ static const char *of_one_rank(int ranks, char *text, size_t room) {
     return text;
 }
 
-/* What the launcher gives: of which kind, in which words, and the variable that has the rank. */
+/* What the launcher gives: its kind, its words, and the variable with the rank. */
 typedef struct {
     const char *kind, *words, *rank;
 } Given;
@@ -110,8 +112,8 @@ static bool is_given(Given *given, const char *kind, const char *words, const ch
     return words;
 }
 
-/* The first that gives something is taken. MPICH's own comes first for MPICH's programs, since they may be
- * run by a program of the other library's mpirun. */
+/* The first launcher that gives something is taken. For programs of MPICH that is Hydra, since such a program
+ * may be started by one that runs under the other library's mpirun. */
 static bool ask_launcher(Given *given, char *text, size_t room) {
     bool is_mpich = true;
 #ifdef OPEN_MPI
@@ -152,8 +154,8 @@ static bool give_id(int ranks, char id[LONGEST_ID]) {
 
 /* ---- The folder -------------------------------------------------------------------------------- */
 
-/* The file `run` is made whole or not at all, by one process alone, on file systems of several machines too.
- * Where there are no links a rename that replaces nothing does it. */
+/* Exactly one process makes the file `run`, completely or not at all, also on a network file system. Without
+ * hard links, a rename that replaces nothing does the same. */
 static bool put_in_place(const char *from, const char *to) {
     if (link(from, to) == 0 || errno == EEXIST)
         return true;
@@ -175,7 +177,7 @@ static bool claim(const char *folder, const char *id) {
     return written;
 }
 
-/* The ID of the run that has the folder; whether it could be read. */
+/* Reads the ID of the run to which the folder belongs; whether that could be read. */
 static bool read_claim(const char *folder, char id[LONGEST_ID]) {
     char path[4096];
     snprintf(path, sizeof path, "%s/run", folder);

@@ -1,9 +1,9 @@
 /* The places in the program from which MPI was called. See journal.h.
  *
- * A place is a chain of return addresses, the innermost first, as modules and offsets: one address, or so
- * many as the variable MPIWAIT_FRAMES says (0: none are noted). Frames of MPI's own bindings, as those of
- * Fortran, are passed over, and those of tools. In a Python program it is the file and line of the Python
- * code instead.
+ * A place is a chain of return addresses, the innermost first, as modules and offsets. It has one address, or
+ * as many as the variable MPIWAIT_FRAMES says; with 0 no places are noted. Frames of MPI's own bindings, such
+ * as Fortran's, and those of other tools are left out. In a Python program a place is the file and line of
+ * the Python code instead.
  */
 #define _GNU_SOURCE
 #include "sites.h"
@@ -21,13 +21,13 @@ enum { MOST_FRAMES = 16, MOST_WALKED = 32, PLACES = 1 << 16, MOST_SITES = PLACES
 static FILE *sites;
 static int frames_wanted, sites_known;
 
-/* Sites by a hash of what makes them; two places with one hash would be taken for one. */
+/* Sites by a 64-bit hash of their frames. Two places with the same hash would be taken for one. */
 static struct {
     uint64_t key;
     int site;
 } known[PLACES];
 
-/* Where the site of a key is, or is to be; NULL where it is a new one and there is room for no more. */
+/* The entry for a key, which is 0 if it is new; NULL if it is new and the table is full. */
 static int *look_up(uint64_t key) {
     size_t place = (key * 0x9e3779b97f4a7c15u) >> 48;
     while (known[place].key != 0 && known[place].key != key)
@@ -52,19 +52,19 @@ static void put_name(const char *name) {
 
 typedef struct {
     void *address;
-    void **place; /* on the stack; NULL where it isn't known */
+    void **place; /* on the stack; NULL if it isn't known */
 } Frame;
 
 typedef struct {
-    Frame bindings[MOST_WALKED]; /* frames that were passed over, from the one that called the recorder on */
-    void *frames[MOST_FRAMES];   /* those of the program */
-    Frame first;                 /* of these, */
+    Frame bindings[MOST_WALKED]; /* frames of bindings and tools, from the recorder's caller on */
+    void *frames[MOST_FRAMES];   /* frames of the program */
+    Frame first;                 /* the first of these */
     int passed, kept, walked;
-    bool is_past; /* the caller */
+    bool is_past; /* the walk has come to the caller */
     const void *caller;
 } Walk;
 
-/* Where the unwinder has a return address: right below the frame that it returns to, on most machines. */
+/* On most machines a return address is right below the frame to which it returns. */
 static Frame frame_of(struct _Unwind_Context *context) {
     Frame frame = {(void *)_Unwind_GetIP(context), (void **)_Unwind_GetCFA(context) - 1};
     if (*frame.place != frame.address)
@@ -90,8 +90,9 @@ static _Unwind_Reason_Code step(struct _Unwind_Context *context, void *state) {
 
 /* ---- Frames of bindings, without a walk -------------------------------------------------------- */
 
-/* How far on the stack the next return address is after one in a binding, by pairs of them that a walk found.
- * So the same two are found again without one. */
+/* A walk of the stack costs microseconds, and each call from a Fortran binding would need one. So the
+ * distance on the stack between two return addresses is remembered, if the first is in a binding. The next
+ * time the second is found by that distance. */
 enum { MOST_PAIRS = 1 << 10, FARTHEST = 1 << 9, MOST_PASSED = 8 };
 static struct {
     void *from, *to;
@@ -119,7 +120,7 @@ static void learn(const Walk *walk) {
         learn_pair(walk->bindings[i], i + 1 < walk->passed ? walk->bindings[i + 1] : walk->first);
 }
 
-/* The program's frame, or NULL where a walk has to find it. */
+/* The program's return address, or NULL if only a walk can find it. */
 static void *guess(void *caller, void **place) {
     for (int i = 0; i < MOST_PASSED && module_of(caller) != OF_PROGRAM; i++) {
         size_t last = place_of(caller, NULL);

@@ -1,16 +1,17 @@
-/* What the files of places share. See sites.c. */
+/* What the files about places share. See sites.c. */
 #ifndef MPIWAIT_SITES_H
 #define MPIWAIT_SITES_H
 
-/* None of these is seen by the program. */
+/* The program doesn't see these names. */
 #pragma GCC visibility push(hidden)
 
-/* The number of a line of Python code. */
+/* The number of the site that is a line of Python code. */
 int site_of_line(const char *file, int line);
 
 void find_python(void);
 
-/* That of the line that this thread is in; 0 where it runs no Python code, or can't be asked. */
+/* The site of the Python line that this thread executes; 0 if it runs no Python code, or if Python can't be
+ * asked. */
 int site_of_python(void);
 
 #pragma GCC visibility pop

@@ -18,12 +18,12 @@ static int free_done(void *kept) { return free(kept), MPI_SUCCESS; }
 
 static int cancel_done(void *none, int complete) { return (void)none, (void)complete, MPI_SUCCESS; }
 
-/* Libraries give one handle to all calls that are done at once. The program then gets a completed
- * request of its own instead, so that its later wait shows which call it is for. One that isn't done is new
- * again: the wait for the old call wasn't seen, or answered an error. */
+/* Libraries give one and the same handle to all calls that complete at once. The program then gets a
+ * completed request of its own instead, so that its later wait shows which call it is for. A handle that
+ * isn't complete was reused: the wait for its old call wasn't seen, or returned an error. */
 static bool make_distinct(MPI_Request *handle) {
     int done = 0;
-    MPI_Status *kept = calloc(1, sizeof *kept); /* the library may leave some of it as it is */
+    MPI_Status *kept = calloc(1, sizeof *kept); /* the library may leave parts of it unset */
     if (!kept)
         return false;
     REAL(Test)(handle, &done, kept);
@@ -76,7 +76,7 @@ ALSO_PMPI(Grequest_start)
 
 /* ---- Free and cancel --------------------------------------------------------------------------- */
 
-/* A line for each number that a request has. */
+/* A line for each number of a request; one that both sends and receives has two. */
 static void put_each(const char *word, const Request *request) {
     if (!request->active || !request->number)
         return;

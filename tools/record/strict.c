@@ -1,11 +1,12 @@
 /* Strict runs. See strict.h.
  *
- * Which members of a communicator make the barrier is the same for all of them, whether or not they are
- * recorded: those of a communicator in which each is a rank of this world that has a strict recorder. A
- * process says so by a file before it begins MPI, and looks for the others' after that. No process comes out
- * of MPI_Init before all have come into it, in the libraries that the recorder is for: they exchange their
- * addresses there. So all see the same files, and a rank that has no recorder is waited for by no barrier of
- * ours.
+ * All members of a communicator must agree whether a barrier follows. It does if each member is a rank of
+ * this world with a strict recorder, even if its recording has stopped.
+ *
+ * A process shows by a file that it has such a recorder. It makes the file before MPI begins, and looks for
+ * the files of others after MPI_Init. In MPICH and Open MPI no process leaves MPI_Init before all have
+ * entered it, since they exchange their addresses there. So all see the same files, and no barrier of ours
+ * waits for a rank without a recorder.
  */
 #define _GNU_SOURCE
 #include "strict.h"
@@ -19,7 +20,7 @@
 enum { FOR_NONE = 1, FOR_ALL = 2 };
 
 static bool strict;
-static char marks[4096];   /* the folder of the files, empty where there is none */
+static char marks[4096];   /* the folder of these files, empty if there is none */
 static bool *has_recorder; /* of each rank of the world */
 static int world_size, answer_key = MPI_KEYVAL_INVALID;
 static MPI_Group world;
@@ -46,7 +47,7 @@ void strict_announce(const char *folder) {
         close(file);
 }
 
-/* The answer for a communicator is kept with it. */
+/* The answer for a communicator is kept as its attribute. */
 void strict_open(int ranks) {
     if (!strict || !*marks || !(has_recorder = calloc(ranks, sizeof *has_recorder)))
         return;

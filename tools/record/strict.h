@@ -1,30 +1,30 @@
 /* Strict runs: standard sends are passed on as synchronous ones, and a barrier follows each blocking
- * collective call but a barrier. MPI allows both (MPI 4.0, sections 3.4 and 6.1): so a right program runs to
- * its end, and one that needs buffers stops at the very call that does. */
+ * collective call except a barrier. MPI allows both (MPI 4.0, sections 3.4 and 6.1). So a correct program
+ * runs to its end, and one that needs buffers hangs at the call that needs them. */
 #ifndef MPIWAIT_STRICT_H
 #define MPIWAIT_STRICT_H
 
 #include "calls.h"
 
-/* None of these is seen by the program. */
+/* The program doesn't see these names. */
 #pragma GCC visibility push(hidden)
 
 /* Whether the variable MPIWAIT_STRICT asks for it. */
 bool is_strict(void);
 
-/* Before MPI begins and after that: which ranks of the world have a recorder that is strict. */
+/* Which ranks of the world have a strict recorder: announced before MPI begins, looked up after. */
 void strict_announce(const char *folder);
 void strict_open(int ranks);
 
-/* Whether a send of the program's on this communicator is passed on as a synchronous one. */
+/* Whether the program's sends on this communicator are passed on as synchronous ones. */
 bool sends_synchronously(MPI_Comm comm);
 
-/* A blocking collective call begins, and came back with a result: then the barrier is made, also where it
- * failed. */
+/* A blocking collective call begins; it returned a result. The barrier is made even if the call failed, so
+ * that no other rank waits for it in vain. */
 void collective_begins(MPI_Comm comm);
 void collective_ends(int result);
 
-/* What is sent or received, and to or from whom. */
+/* A message that is sent or received, and its other end. */
 typedef struct {
     void *data;
     MPI_Count count;
@@ -36,8 +36,8 @@ typedef struct {
 int strict_exchange(Half out, Half in, MPI_Comm comm, MPI_Status *status);
 int strict_replace(Half out, Half in, MPI_Comm comm, MPI_Status *status);
 
-/* What MPI_Isendrecv and MPI_Isendrecv_replace become. Whether the status of these says what was received, as
- * that of the library's own may not. */
+/* What MPI_Isendrecv and MPI_Isendrecv_replace become, and whether their status says what was received. That
+ * of the library's own calls may not. */
 #ifdef MPICH
 enum { STRICT_PAIRS_ARE_KNOWN = true };
 #else
@@ -46,7 +46,7 @@ enum { STRICT_PAIRS_ARE_KNOWN = false };
 int strict_start_exchange(Half out, Half in, MPI_Comm comm, MPI_Request *handle);
 int strict_start_replace(Half out, Half in, MPI_Comm comm, MPI_Request *handle);
 
-/* The program looks at a request, which may be one of these. */
+/* The program calls MPI_Request_get_status for a request, which may be of such a call. */
 void strict_look(MPI_Request handle);
 
 /* ---- What both have in common ------------------------------------------------------------------ */
@@ -59,14 +59,14 @@ typedef MPI_Count Size;
 typedef int Size;
 #endif
 
-/* Answers the errors of arguments before anything is sent or received: persistent requests do. */
+/* Finds wrong arguments before anything is sent or received, by making persistent requests of them. */
 int check_halves(Half out, Half in, MPI_Comm comm);
 
-/* Packs what is sent, so that what is received may take its place. Where there is no memory nothing, and
- * NULL. */
+/* Packs the message to be sent, so that the received one may overwrite it. Answers NULL and changes nothing
+ * if there is no memory. */
 char *pack_half(Half *out, MPI_Comm comm);
 
-/* The status of nobody's message; MPICH 4.0 writes nothing there for a nonblocking receive. */
+/* The status of a receive from MPI_PROC_NULL, which MPICH 4.0 doesn't set for nonblocking receives. */
 void set_status_of_nobody(MPI_Status *status);
 
 #pragma GCC visibility pop

@@ -1,8 +1,8 @@
 /* MPI_Isendrecv and MPI_Isendrecv_replace of strict runs. See strict.h.
  *
- * The synchronous send and the receive are two requests of the library's; the program has one, a generalized
- * request that asks for both whenever it is waited for or tested. MPI has no such requests: MPICH does
- * (MPIX_Grequest_start). With other libraries these calls stay as they are.
+ * The synchronous send and the receive are two requests of the library. The program gets one generalized
+ * request, which tests both whenever it is waited for or tested. That needs MPIX_Grequest_start of MPICH; MPI
+ * itself has no such requests. With other libraries these calls stay as they are.
  */
 #define _GNU_SOURCE
 #include "strict.h"
@@ -15,15 +15,15 @@
 #include <pthread.h>
 
 typedef struct Pair {
-    MPI_Request whole, sent, received; /* the latter two null when they are complete */
+    MPI_Request whole, sent, received; /* the last two are null once they are complete */
     MPI_Status status;                 /* of the receive */
     int error;
     bool is_from_nobody;
-    char *packed; /* what is sent, if it isn't in the program's own place */
+    char *packed; /* the message to be sent, if it isn't in the program's own buffer */
     struct Pair *next;
 } Pair;
 
-/* Those that aren't complete. */
+/* The pairs that aren't complete. */
 static Pair *open_pairs;
 static pthread_mutex_t pairs_lock = PTHREAD_MUTEX_INITIALIZER;
 
@@ -68,7 +68,7 @@ static int poll_pair(void *state, MPI_Status *none) {
     return MPI_SUCCESS;
 }
 
-/* MPICH doesn't ask for the two in MPI_Request_get_status. */
+/* In MPI_Request_get_status MPICH doesn't test the two. */
 void strict_look(MPI_Request handle) {
     pthread_mutex_lock(&pairs_lock);
     Pair *pair = open_pairs;

@@ -1,27 +1,31 @@
-/* When a call of the program begins and comes back, and in which thread. See calls.h. */
+/* When a call of the program begins and returns, and in which thread. See calls.h.
+ *
+ * A recorded call has the turn from its beginning to its return. It has the lock only outside MPI: a thread
+ * that waits inside MPI must not keep others from calling.
+ */
 #define _GNU_SOURCE
 #include "calls.h"
 #include "bypasses.h"
 #include "modules.h"
 #include <pthread.h>
 
-/* What this thread is in: how many of our functions, since what a library calls for itself isn't the
- * program's; the frame of the outermost of them, and where it was called; the turn that it has or had last;
- * and the site of the call, or -1 as long as nobody asked for it. */
+/* What this thread is doing: how many functions of the recorder it is inside, since a library's calls of its
+ * own aren't the program's; the frame and the caller of the outermost one; its present or last turn; and the
+ * site of the call, -1 until it is looked up. */
 static __thread Thread own __attribute__((tls_model("initial-exec")));
 
-/* Who has the turn; 0: nobody. */
+/* Which turn it is, 0 for none, and the number of the last turn. */
 static struct {
     unsigned long now, last;
-    bool is_of_first; /* of the thread of MPI_Init */
+    bool is_of_first; /* the thread of MPI_Init has the turn */
 } turn;
 
 enum { NEAR = 1 << 16 };
 
 static pthread_mutex_t lock = PTHREAD_MUTEX_INITIALIZER;
 static pthread_t first;
-static bool several; /* threads may call at once */
-static bool alone;   /* and did: calls of the thread of MPI_Init alone are recorded from then on */
+static bool several; /* MPI_THREAD_MULTIPLE: threads may call at once */
+static bool alone;   /* they did: from then on only calls of the thread of MPI_Init are recorded */
 
 static void take_lock(void) {
     pthread_mutex_lock(&lock);
@@ -71,8 +75,9 @@ void last_turn_ends(void) {
 
 static const char other_threads[] = "calls of another thread than that of MPI_Init";
 
-/* Another thread is in a call, so the order of the two calls isn't known. The lines of that call are taken out,
- * and it is counted instead; the calls of the thread of MPI_Init stay. The caller counts its own call. */
+/* Another thread is in a call, so the order of the two calls isn't known. The lines of that call are taken
+ * out, and it is counted instead; the calls of the thread of MPI_Init stay. The caller counts its own call.
+ */
 static void two_at_once(void) {
     if (!several) {
         journal_take_back();
@@ -120,21 +125,22 @@ static void end_turn(void) {
 
 /* ---- Calls ------------------------------------------------------------------------------------- */
 
-/* Where a call of the recorder's returns to is next to its frame; near to another frame it can be read still.
- */
+/* The return address of a function lies next to its frame. If the frame is near, that place can still be
+ * read: another value there means that the function was left. */
 #if defined __x86_64__ || defined __aarch64__
 static bool is_overwritten(void **frame) { return own.frame - frame < NEAR && own.frame[1] != own.caller; }
 #else
 static bool is_overwritten(void **frame) { return (void)frame, false; }
 #endif
 
-/* Whether the call that this thread is in was left by a jump or an exception: another begins above it on the
- * stack, or over it, where more is on the stack for its arguments. */
+/* Whether the call that this thread is inside was left by a jump or an exception. It was if the next call
+ * begins above it on the stack. It also was if the next call overwrote it, which happens when that call has
+ * more arguments on the stack. */
 static bool was_left(const void *caller, void **frame) {
     return frame >= own.frame || (is_overwritten(frame) && module_of(caller) != OF_MPI);
 }
 
-/* What a call did that was left isn't known. */
+/* A call that was left counts as failed, since what it did isn't known. */
 static void forget_call(void) {
     own.inside = 0;
     if (!has_turn())
@@ -203,8 +209,8 @@ bool take_barrier(MPI_Comm *comm) {
 
 /* ---- Error handlers ---------------------------------------------------------------------------- */
 
-/* Gets the lock, as long as this thread has the turn: another may wait within MPI for what this one has
- * there. */
+/* Takes the lock while this thread has the turn. It doesn't block on the lock: its owner may wait for
+ * something that this thread holds inside MPI. */
 static bool take_lock_of_turn(void) {
     while (!own.is_locked && pthread_mutex_trylock(&lock) != 0)
         if (!has_turn())
@@ -213,7 +219,7 @@ static bool take_lock_of_turn(void) {
     return has_turn();
 }
 
-/* What the handler calls is recorded as all else. */
+/* Calls of the handler are recorded like all others. */
 Thread leave_by_error(void) {
     Thread before = own;
     if (has_turn() && take_lock_of_turn()) {
@@ -232,7 +238,7 @@ Thread leave_by_error(void) {
     return before;
 }
 
-/* The call goes on to its end, but its lines are complete. */
+/* The call continues, but its lines are already complete. */
 void come_back_to_error(Thread before) {
     own = before;
     own.is_locked = false;

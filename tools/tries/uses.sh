@@ -241,7 +241,7 @@ try_no_memory() {
     prepare "$library" forms.c 4
     compile "mpicc.$library" -shared -fPIC -o "$work/no-memory.so" no-memory.c -ldl
     for calls in 0 1 2 4 8 16 32; do
-        name="$library: no memory behind $calls calls for it"
+        name="$library: no memory after $calls calls for it"
         NO_MEMORY=$calls LD_PRELOAD=$work/no-memory.so run_with --for 100 "${command[@]}"
         check_journals "$name"
         if [[ $status =~ [05] ]] && ! grep -q 'the run \(was \)\?ended' "$work/errors"; then
@@ -253,7 +253,7 @@ try_no_memory() {
     done
 }
 
-# A journal has at most 32 bytes a line, and nothing is added behind the last call line.
+# A journal has at most 32 bytes for each line, and nothing is added after the last call line.
 try_bounds() {
     local library=$1 name="$1: the size of a journal" lines bytes
     prepare "$library" many-wildcards.c 1

@@ -3,16 +3,16 @@
 #include <mpi.h>
 #include <setjmp.h>
 
-static jmp_buf behind;
+static jmp_buf landing;
 
 static void jump(MPI_Comm *comm, int *code, ...) {
     (void)comm, (void)code;
-    longjmp(behind, 1);
+    longjmp(landing, 1);
 }
 
 static void send_wrongly(int peer) {
     int data = 0;
-    if (setjmp(behind) == 0)
+    if (setjmp(landing) == 0)
         MPI_Ssend(&data, -1, MPI_INT, peer, 7, MPI_COMM_WORLD);
 }
 

@@ -1,4 +1,4 @@
-/* Rank 1 ends without MPI_Finalize, behind a child of its own that ends too; rank 0 waits for its message. */
+/* Rank 1 ends without MPI_Finalize, after a child of its own that ends too; rank 0 waits for its message. */
 #include <mpi.h>
 #include <stdlib.h>
 #include <sys/wait.h>

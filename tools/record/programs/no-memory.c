@@ -1,4 +1,4 @@
-/* Takes memory away from the recorder: behind so many calls of malloc, calloc and realloc as the variable NO_MEMORY
+/* Takes memory away from the recorder: after so many calls of malloc, calloc and realloc as the variable NO_MEMORY
  * says those of a module record.so get none. It is preloaded with the recorder. */
 #define _GNU_SOURCE
 #include <dlfcn.h>

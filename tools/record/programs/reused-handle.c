@@ -1,5 +1,5 @@
 /* A wait answers an error, since the message is longer than its receive. Then the library may give the next receive the
- * same handle, and what that waits for is sent only behind it. */
+ * same handle, and what that waits for is sent only after it. */
 #include <mpi.h>
 
 static void receive_twice(void) {

@@ -89,7 +89,7 @@ void step_collective(void) {
     free(data);
 }
 
-/* Open MPI 4.1 may take a collective that was started behind an MPI_Comm_idup for one of that one's own. */
+/* Open MPI 4.1 may take a collective that was started after an MPI_Comm_idup for one of that one's own. */
 static bool is_being_copied(int comm) {
     for (int i = 0; i < MOST_COMMS; i++)
         if (comms[i].unborn > 0 && comms[i].parent == comm)

@@ -194,7 +194,7 @@ void step_crossed(void) {
     }
 }
 
-/* A probe takes the first message, a receive behind it the second, and then the first is received. */
+/* A probe takes the first message, a receive after it the second, and then the first is received. */
 static void take_matched(int source, int tag, MPI_Comm comm) {
     int first = 0, second = 0;
     MPI_Message taken;
