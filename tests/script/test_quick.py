@@ -31,6 +31,7 @@ class Quick(unittest.TestCase):
         write(self.top / "tests/quick", (TOP / "tests/quick").read_text())
         write(self.top / "tests/sample/test_sample.py", UNIT_TEST.format("1 + 1"))
         write(self.top / "bench/examples", "#!/bin/sh\necho 13 examples\n")
+        write(self.top / "bench/believed", "#!/bin/sh\necho 3 definitions\n")
         for crate in ("rows", "libraryrows"):
             write(self.top / f"crates/{crate}/stdin", "row one\n")
             write(self.top / f"crates/{crate}/stdout", "1 rows\n")
@@ -61,7 +62,7 @@ class Quick(unittest.TestCase):
         status, out = self.run_quick()
         self.assertEqual(status, 0, out)
         for text in ("tests/sample/: passed", "rows: passed", "libraryrows: passed", "examples: passed",
-                     "not done: proofs"):
+                     "believed: passed, 0 s: 3 definitions", "not done: proofs"):
             self.assertIn(text, out)
 
     def test_a_unit_test_fails(self):
