@@ -65,7 +65,11 @@ fn head_of_front<'a>(alloc: Global, front: &[u8]) -> Result<Head, Fault<'a>>
 }
 
 /// The head of the run, from the file that the path names.
-fn open_head<'a, P: Opener>(alloc: Global, opener: &P, path: &'a str) -> Result<Head, Fault<'a>>
+pub(crate) fn open_head<'a, P: Opener>(
+    alloc: Global,
+    opener: &P,
+    path: &'a str,
+) -> Result<Head, Fault<'a>>
     ensures head { IfOk result (IsHeadOf (P.told opener.now path.now)) }
     ensures fault { IfErr result (IsFaultOfHead (P.told opener.now) path.now) }
 {

@@ -53,7 +53,8 @@ const CHECK_ABOUT: &str =
     "Reads the head of a run and its traces, and says whether the run can hang";
 
 const CHECK_LONG_ABOUT: &str = "\
-Reads the head of a run and its traces, and says whether the run can hang.
+Reads the head of a run and its traces, and says whether the run can hang. A FOLDER has them as the files
+head, r0, r1 and so on; `mpiwait FOLDER` is short for `mpiwait check FOLDER`.
 
 Lines of the report:
   verdict free|hang|unfinished
@@ -78,9 +79,10 @@ const LINT_ABOUT: &str = "Reads one trace alone, and says whether it is in its f
 
 const AFTER: &str = "\
 Examples:
-  mpiwait check run/head run/r0 run/r1
-  mpiwait check --json run/head run/r0 run/r1
-  mpiwait lint run/r0
+  mpiwait run                           checks the run in the folder `run`: its files head, r0, r1, ..
+  mpiwait check --json run              reports it as one JSON value
+  mpiwait check run/head run/r0 run/r1  names its files, in rank order
+  mpiwait lint run/r0                   reads one trace alone
 
 Exit status:
   0  no hang; or the trace is in its format; or help or the version was asked for
@@ -90,8 +92,18 @@ Exit status:
   4  fault: a file, the memory or the output
   5  unfinished: no rank is known to hang, but some trace ends with `open`";
 
+/// How the program is called, as its help shows it.
+const PROGRAM_USAGE: &str = "\
+mpiwait <COMMAND>
+       mpiwait <FOLDER>";
+
+/// How `check` is called.
+const CHECK_USAGE: &str = "\
+mpiwait check [OPTIONS] <HEAD> <FILE>...
+       mpiwait check [OPTIONS] <FOLDER>";
+
 const USAGE: &str =
-    "usage: mpiwait check [--json] [--capacity N] [--eager N] HEAD FILE.. or mpiwait lint FILE\n";
+    "usage: mpiwait check [OPTIONS] HEAD FILE.. or mpiwait check [OPTIONS] FOLDER or mpiwait lint FILE\n";
 
 /// What clap is told of the head.
 fn head_argument<'a>(alloc: Global) -> Arg<'a>
@@ -169,6 +181,7 @@ fn check_command<'a>(alloc: Global) -> Result<Command<'a>, AllocError>
     Command::new(alloc, "check")
         .about(CHECK_ABOUT)
         .long_about(CHECK_LONG_ABOUT)
+        .override_usage(CHECK_USAGE)
         .after_help(AFTER)
         .version(VERSION)
         .arg(head_argument(alloc))?
@@ -198,6 +211,7 @@ fn program_command<'a>(alloc: Global) -> Result<Command<'a>, AllocError>
     let lint = lint_command(alloc)?;
     Command::new(alloc, "mpiwait")
         .about(ABOUT)
+        .override_usage(PROGRAM_USAGE)
         .after_help(AFTER)
         .version(VERSION)
         .no_binary_name(true)
