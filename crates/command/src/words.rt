@@ -105,7 +105,7 @@ mpiwait check [OPTIONS] <HEAD> <FILE>...
 const USAGE: &str =
     "usage: mpiwait check [OPTIONS] HEAD FILE.. or mpiwait check [OPTIONS] FOLDER or mpiwait lint FILE\n";
 
-/// What clap is told of the head.
+/// What clap knows of the head.
 fn head_argument<'a>(alloc: Global) -> Arg<'a>
     ensures rule { rule_of result ≡ head_rule }
     ensures local { result.global ≡ false }
@@ -115,7 +115,7 @@ fn head_argument<'a>(alloc: Global) -> Arg<'a>
         .help("The head of the run: its ranks and their communicators")
 }
 
-/// What clap is told of the traces.
+/// What clap knows of the traces.
 fn traces_argument<'a>(alloc: Global) -> Arg<'a>
     ensures rule { rule_of result ≡ traces_rule }
     ensures local { result.global ≡ false }
@@ -127,7 +127,7 @@ fn traces_argument<'a>(alloc: Global) -> Arg<'a>
         .long_help(TRACES_HELP)
 }
 
-/// What clap is told of the flag for JSON.
+/// What clap knows of the flag for JSON.
 fn json_argument<'a>(alloc: Global) -> Arg<'a>
     ensures rule { rule_of result ≡ json_rule }
     ensures local { result.global ≡ false }
@@ -138,7 +138,7 @@ fn json_argument<'a>(alloc: Global) -> Arg<'a>
         .help("Writes the report as one JSON value")
 }
 
-/// What clap is told of the number of records that may wait.
+/// What clap knows of the number of records that may wait.
 fn capacity_argument<'a>(alloc: Global) -> Arg<'a>
     ensures rule { rule_of result ≡ capacity_rule }
     ensures local { result.global ≡ false }
@@ -151,7 +151,7 @@ fn capacity_argument<'a>(alloc: Global) -> Arg<'a>
         .help("How many records of a rank may be read ahead of the checking, 1 to 1024")
 }
 
-/// What clap is told of the eager limit.
+/// What clap knows of the eager limit.
 fn eager_argument<'a>(alloc: Global) -> Arg<'a>
     ensures rule { rule_of result ≡ eager_rule }
     ensures local { result.global ≡ false }
@@ -163,7 +163,7 @@ fn eager_argument<'a>(alloc: Global) -> Arg<'a>
         .help("Takes standard sends that tell at most N bytes as buffered, 0 to 2147483647")
 }
 
-/// What clap is told of one trace.
+/// What clap knows of one trace.
 fn trace_argument<'a>(alloc: Global) -> Arg<'a>
     ensures rule { rule_of result ≡ trace_rule }
     ensures local { result.global ≡ false }
@@ -173,7 +173,7 @@ fn trace_argument<'a>(alloc: Global) -> Arg<'a>
         .help("The trace of one rank")
 }
 
-/// What clap is told of `check`.
+/// What clap knows of `check`.
 fn check_command<'a>(alloc: Global) -> Result<Command<'a>, AllocError>
     ensures app { IfOk result (λ command. app_of command ≡ check) }
     ensures local { IfOk result (λ command. (fields_of command).has_globals ≡ false) }
@@ -191,7 +191,7 @@ fn check_command<'a>(alloc: Global) -> Result<Command<'a>, AllocError>
         .arg(eager_argument(alloc))
 }
 
-/// What clap is told of `lint`.
+/// What clap knows of `lint`.
 fn lint_command<'a>(alloc: Global) -> Result<Command<'a>, AllocError>
     ensures app { IfOk result (λ command. app_of command ≡ lint) }
     ensures local { IfOk result (λ command. (fields_of command).has_globals ≡ false) }
@@ -203,7 +203,7 @@ fn lint_command<'a>(alloc: Global) -> Result<Command<'a>, AllocError>
         .arg(trace_argument(alloc))
 }
 
-/// What clap is told of the program.
+/// What clap knows of the program.
 fn program_command<'a>(alloc: Global) -> Result<Command<'a>, AllocError>
     ensures { IfOk result (λ command. app_of command ≡ program) }
 {
