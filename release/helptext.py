@@ -46,7 +46,7 @@ class Page:
 
     name: str
     about: list[str]
-    usage: str
+    usages: list[str]
     commands: list[Item] = field(default_factory=list)
     arguments: list[Item] = field(default_factory=list)
     options: list[Item] = field(default_factory=list)
@@ -110,10 +110,11 @@ def page_of(name, text):
     about, found, rest = text.partition("\nUsage: ")
     if not found:
         raise ValueError(f"the help of {name} has no usage")
-    usage, *lines = rest.rstrip().split("\n")
-    sections = sections_of(lines)
+    usage, _, rest = rest.partition("\n\n")
+    sections = sections_of(rest.rstrip().split("\n"))
     commands, arguments, options = (items_of(sections.pop(each, [])) for each in ITEMS)
-    return Page(name, about.strip().split("\n"), usage, commands, arguments, options, sections)
+    usages = [line.strip() for line in usage.split("\n")]
+    return Page(name, about.strip().split("\n"), usages, commands, arguments, options, sections)
 
 
 def said_by(program, *words):

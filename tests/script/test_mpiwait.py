@@ -102,18 +102,46 @@ class Script(unittest.TestCase):
         self.play(err=said, status=3)
         self.assertEqual(self.run_script("--unproved", "chekc", "\nchecked: "), (3, "", LINE + said))
 
+    def make_run(self, name, *files):
+        folder = self.here / name
+        folder.mkdir()
+        for file in files:
+            (folder / file).write_text("finalize\n")
+
+    def data(self):
+        """The files that `rt` was given, by name."""
+        words = self.given()
+        named = [words[at + 1].split("=", 1) for at, word in enumerate(words) if word == "--data"]
+        return {name: Path(path).name for name, path in named}
+
     def test_a_folder_has_its_files(self):
-        (self.here / "run").mkdir()
-        (self.here / "run/head").write_text("ranks 2\n")
-        self.play("verdict hang\n", status=1)
-        self.assertEqual(self.run_script("--unproved", "run")[:2], (1, "verdict hang\n"))
-        self.assertEqual(self.given()[-4:], ["check", *[f"mpiwait-file-{at}." for at in range(3)]])
+        self.make_run("run", "head", "r0", "r10", "r1.new", "notes")
+        for words in (["run"], ["check", "--json", "run"], ["check", "--", "run"], ["lint", "run"]):
+            self.play("verdict hang\n", status=1)
+            self.assertEqual(self.run_script("--unproved", *words)[:2], (1, "verdict hang\n"))
+            self.assertEqual(self.given()[-len(words):], [*words[:-1], "mpiwait-file-0."])
+            self.assertEqual(self.data(), {f"mpiwait-file-0./{name}": name for name in ("head", "r0", "r10", "none")})
+
+    def test_messages_name_the_callers_folder(self):
+        self.make_run("a run")
+        self.play(err="fault open mpiwait-file-0./head\n", status=4)
+        self.assertEqual(self.run_script("--unproved", "a run"), (4, "", f"{LINE}fault open a run/head\n"))
+
+    def test_a_word_alone_is_no_path_but_a_folders(self):
+        self.play()
+        self.run_script("--unproved", "none")
+        self.assertEqual(self.given()[-2:], ["--", "none"])
 
     def test_a_pipe_is_no_answer(self):
         os.mkfifo(self.here / "pipe")
         status, out, err = self.run_script("--unproved", "check", "head", "pipe")
         self.assertEqual((status, out, self.given()), (4, "", None))
         self.assertIn("pipe: ", err)
+        self.make_run("run", "head")
+        os.mkfifo(self.here / "run/r0")
+        status, out, err = self.run_script("--unproved", "run")
+        self.assertEqual((status, out, self.given()), (4, "", None))
+        self.assertIn("run/r0: ", err)
 
     def test_no_answer_of_rt_is_none_of_the_scripts(self):
         for notes in ("run=no-answer proved=no\n", "", "run=none proved=no\n", "run=fault proved=no\n"):
@@ -130,9 +158,36 @@ class Script(unittest.TestCase):
         self.assertEqual(said[:2], (3, ""))
 
     def test_help_needs_no_build(self):
-        said = (TOP / "tools/texts/check-help").read_text()
-        self.assertEqual(self.run_script("--unproved", "check", "--help"), (0, said, ""))
+        for words, name in (("--help", "help"), ("-V", "version"), ("check --help", "check-help"), ("check -h", "check-h"),
+                            ("lint -h", "lint-help"), ("check -V", "check-version"), ("lint --version", "lint-version")):
+            said = (TOP / "tools/texts" / name).read_text()
+            self.assertEqual(self.run_script(*words.split()), (0, said, ""))
+            self.assertEqual(self.run_script("--unproved", *words.split()), (0, said, ""))
         self.assertIsNone(self.given())
+
+    def test_a_failed_build_is_no_verdict(self):
+        (self.folder / "bin/rt").write_text("#!/bin/sh\necho no proof of it\nexit 1\n")
+        status, out, err = self.run_script("check", "head", "r0")
+        self.assertEqual((status, out), (4, ""))
+        self.assertIn("no proof of it\nmpiwait: the build failed", err)
+
+    def test_a_program_that_cannot_be_run_is_no_verdict(self):
+        self.run_script("check", "head", "r0")
+        (self.top / "crates/mpiwait/out/mpiwait").write_bytes(b"\177ELF of another machine")
+        status, out, err = self.run_script("check", "head", "r0")
+        self.assertEqual((status, out), (4, ""))
+        self.assertIn("can't be run\n", err)
+
+    def test_each_crate_that_is_proved_is_named(self):
+        rt = self.folder / "bin/rt"
+        rt.write_text(rt.read_text().replace("mkdir -p out", "echo 'crate mpicall: modules 3'; sleep 1.5; mkdir -p out"))
+        status, out, err = self.run_script("check", "head", "r0")
+        self.assertEqual((status, out), (0, "check head r0\n"))
+        self.assertIn("mpiwait: mpicall is proved\n", err)
+
+    def test_the_words_are_the_programs(self):
+        for words in (["run"], ["check", "a run", "", "-x"], ["lint"]):
+            self.assertEqual(self.run_script(*words)[:2], (0, " ".join(words) + "\n"))
 
     def test_the_first_build_names_the_way_without_a_proof(self):
         status, out, err = self.run_script("check", "head", "r0")

@@ -71,6 +71,10 @@ class Help(unittest.TestCase):
         self.assertEqual(kind.choices, ["a", "bc"])
         self.assertEqual((part.names, part.value, part.may_lack_value), (["-p", "--part"], "[=<N>]", True))
 
+    def test_usages_are_each_way_to_call_it(self):
+        self.assertEqual(page_of("check", HELP["check"]).usages,
+                         ["mpiwait check [OPTIONS] <HEAD> <FILE>...", "mpiwait check [OPTIONS] <FOLDER>"])
+
     def test_a_form_that_is_not_known_is_refused(self):
         for wrong in ("no usage\n", "A\n\nUsage: x\n\nstray\n", "A\n\nUsage: x\n\nOptions:\n  ?what  It\n"):
             with self.assertRaises(ValueError):
@@ -89,6 +93,11 @@ class ManPage(unittest.TestCase):
             section = shown.partition(f".SS mpiwait {command}\n")[2].partition("\n.S")[0]
             self.assertEqual(set(re.findall(r"^" + OPTION, section, re.M)) - {"-h", "-V"},
                              options_in(text) - {"-h", "-V", "--help", "--version"}, command)
+
+    def test_it_begins_with_each_way_to_call_it(self):
+        shown = re.sub(r"\\f[BIR]", "", self.page).partition(".SH SYNOPSIS\n")[2].partition("\n.SH ")[0]
+        self.assertIn("mpiwait FOLDER", shown.split("\n"))
+        self.assertIn("mpiwait check [OPTIONS] FOLDER", shown.split("\n"))
 
     def test_it_has_the_commands_and_the_version(self):
         self.assertEqual(re.findall(r"^\.SS mpiwait (\S+)", self.page, re.M), COMMANDS)
@@ -169,38 +178,29 @@ class Script(unittest.TestCase):
         folder = tempfile.TemporaryDirectory()
         self.addCleanup(folder.cleanup)
         self.top = Path(folder.name)
-        for name in ("bin", "libexec", "run"):
+        for name in ("bin", "libexec"):
             (self.top / name).mkdir()
         self.script = self.top / "bin/mpiwait"
-        written = subprocess.run([TOP / "release/script"], capture_output=True, check=True)
-        self.script.write_bytes(written.stdout)
+        shutil.copy(TOP / "release/mpiwait", self.script)
         self.program = self.top / "libexec/mpiwait"
-        self.program.write_text('#!/bin/sh\necho "$@"\nexit 5\n')
-        for path in (self.script, self.program):
-            path.chmod(0o755)
-        (self.top / "run/head").write_text("ranks 2\n")
+        self.program.write_text('#!/bin/sh\nfor word; do echo "<$word>"; done\nexit 5\n')
+        self.program.chmod(0o755)
 
     def run_script(self, *words):
         said = subprocess.run([self.script, *words], capture_output=True, text=True, cwd=self.top)
-        return said.returncode, said.stdout.strip()
+        return said.returncode, said.stdout.split("\n")[:-1]
 
-    def test_a_folder_stands_for_its_files(self):
-        files = "run/head run/r0 run/r1"
-        self.assertEqual(self.run_script("run"), (5, f"check {files}"))
-        self.assertEqual(self.run_script("check", "--eager", "4", "run"), (5, f"check --eager 4 {files}"))
+    def test_the_words_are_the_programs(self):
+        for words in ([], [""], ["run"], ["check", "--json", "a run"], ["lint", "--", "-x"], ["--help"]):
+            self.assertEqual(self.run_script(*words), (5, [f"<{word}>" for word in words]))
 
     def test_the_program_answers_also_where_unproved_code_may(self):
-        self.assertEqual(self.run_script("--unproved", "run"), (5, "check run/head run/r0 run/r1"))
-        self.assertEqual(self.run_script("--unproved", "lint", "run/r0"), (5, "lint run/r0"))
-
-    def test_other_words_are_the_programs(self):
-        for words in ("check --json run/head run/r0", "lint run", "--help", "check", ""):
-            self.assertEqual(self.run_script(*words.split()), (5, words))
+        self.assertEqual(self.run_script("--unproved", "run"), (5, ["<run>"]))
+        self.assertEqual(self.run_script("check", "--unproved"), (5, ["<check>", "<--unproved>"]))
 
     def test_its_own_failures_are_no_verdict(self):
-        self.assertEqual(self.run_script("no-folder"), (4, ""))
         self.program.unlink()
-        self.assertEqual(self.run_script("--help"), (4, ""))
+        self.assertEqual(self.run_script("--help"), (4, []))
 
     @unittest.skipUnless(shutil.which("shellcheck"), "there is no shellcheck")
     def test_shellcheck_finds_nothing(self):

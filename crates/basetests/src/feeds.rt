@@ -20,7 +20,7 @@ pub(crate) trait Puts: Drop + Send {
     /// Whether the end record was put.
     fn is_ended(&self) -> bool;
 
-    /// Puts the end mark behind the end record, and tells whether a receipt came.
+    /// Puts the end mark after the end record, and answers whether a receipt came.
     fn seals<W: Wait>(self, wait: &W) -> bool;
 }
 
@@ -59,8 +59,8 @@ pub(crate) fn letter_taken(took: Took) -> char {
     }
 }
 
-/// Does a step, and tells its answer. The letter of a record puts it without waiting, its capital letter by a put
-/// that may wait; `t` takes; `d` asks whether the end record was put.
+/// Does a step, and gives its answer. The letter of a record puts it without waiting, its capital letter by a
+/// put that may wait; `t` takes; `d` asks whether the end record was put.
 fn answer<P: Puts, T: Takes, W: Wait>(feed: &mut P, taker: &mut T, step: char, wait: &W) -> char {
     if step == 't' {
         return letter_taken(taker.takes(wait));
@@ -74,7 +74,7 @@ fn answer<P: Puts, T: Takes, W: Wait>(feed: &mut P, taker: &mut T, step: char, w
     }
 }
 
-/// Whether each of the steps is answered by the letter behind it.
+/// Whether each of the steps is answered by the letter after it.
 pub(crate) fn plays<P: Puts, T: Takes, W: Wait>(
     mut feed: P,
     mut taker: T,
@@ -92,7 +92,7 @@ pub(crate) fn plays<P: Puts, T: Takes, W: Wait>(
 }
 
 /// Which record is put as the first, the second and so on, of a thousand sends that differ in their tags, and
-/// Finalize behind them.
+/// Finalize after them.
 fn nth(place: u32) -> Option<Record> {
     if place == SENDS {
         return named('f');

@@ -1,7 +1,7 @@
 //! Tests of the crates at the base, through their public calls, of what no row of text can say: devices that fail,
 //! lists in an arena, and feeds.
 //!
-//! They stand in a crate of their own, so that those crates are proved once, and not again with their tests.
+//! They are in a crate of their own, so that those crates are proved once, and not again with their tests.
 #![tactic(auto)]
 
 #[cfg(test)]

@@ -44,7 +44,7 @@ impl Drop for Twins {
     }
 }
 
-/// Whether both tell the same of a node.
+/// Whether both answer the same of a node.
 fn is_same_node(one: &Lists<u32>, other: &Lists<u32>, node: Node) -> bool {
     if one.list_of(node) != other.list_of(node) {
         return false;
@@ -55,7 +55,7 @@ fn is_same_node(one: &Lists<u32>, other: &Lists<u32>, node: Node) -> bool {
     one.get(node) == other.get(node) && one.next(node) == other.next(node)
 }
 
-/// Whether both tell the same first node of a list.
+/// Whether both answer the same first node of a list.
 fn is_same_list(one: &Lists<u32>, other: &Lists<u32>, list: ListId) -> bool {
     if !has_list(one, list) || !has_list(other, list) {
         return has_list(one, list) == has_list(other, list);
@@ -83,7 +83,7 @@ fn new_list(lists: &mut Lists<u32>) -> Option<ListId> {
 }
 
 impl Twins {
-    /// Whether both tell the same of the nodes that they gave.
+    /// Whether both answer the same of the nodes that they gave.
     fn have_same_nodes(&self) -> bool {
         let mut is_so = true;
         for node in &self.nodes {
@@ -94,7 +94,7 @@ impl Twins {
         is_so
     }
 
-    /// Whether both tell the same of the lists that they gave.
+    /// Whether both answer the same of the lists that they gave.
     fn have_same_lists(&self) -> bool {
         let mut is_so = true;
         for list in &self.lists {
@@ -154,7 +154,7 @@ impl Twins {
         if node == other { Some(node) } else { None }
     }
 
-    /// Makes two lists in both. Whether both are the same behind each.
+    /// Makes two lists in both. Whether both are the same after each.
     fn make_lists(&mut self) -> bool {
         let mut is_so = true;
         for place in 0..2usize {
@@ -165,7 +165,8 @@ impl Twins {
         is_so
     }
 
-    /// Puts 40 values into both, by turns into the one list and the other. Whether both are the same behind each.
+    /// Puts 40 values into both, by turns into the one list and the other. Whether both are the same after
+    /// each.
     fn push_values(&mut self) -> bool {
         let mut is_so = true;
         for value in 0..40u32 {

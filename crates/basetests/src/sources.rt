@@ -10,7 +10,7 @@ use mpicall::source::Source;
 use mpicall::spelling::write_line;
 use std::sync::Wait;
 
-/// A trace. What `read_line` makes of its first and last line is told by rows of `libraryrows`.
+/// A trace. What `read_line` makes of its first and last line is tried by rows of `libraryrows`.
 pub(crate) const TRACE: &str = "send 0 1 5\nrecv 255 63 2147483647\nfinalize\n";
 
 /// Whether its second line is read as it should be.
@@ -57,13 +57,13 @@ fn whole_calls(bytes: u64) -> u64 {
     }
 }
 
-/// What `lint` tells of the trace where one read fails, so many bytes a read.
+/// What `lint` answers of the trace where one read fails, so many bytes a read.
 fn linted(most: usize, at: u64, wait: &impl Wait) -> Result<u64, LintFault> {
     let input = FailsAt::new(MemoryInput::in_pieces(TRACE.as_bytes(), most.max(1)), at);
     lint(&mut Source::new(input), wait)
 }
 
-/// Whether each failed read is told at its place, and none where so many reads are enough.
+/// Whether each failed read is reported at its place, and none where so many reads are enough.
 fn tells_each_read(most: usize, reads: u64, wait: &impl Wait) -> bool {
     let mut is_so = linted(most, reads, wait) == Ok(3);
     for at in 0..reads {
@@ -99,15 +99,15 @@ fn a_line_that_is_too_long_asks_for_no_read(rt: HostRuntime) {
     assert!(rt; fault_of_long(1025, &rt) == Some(long));
 }
 
-/// Whether a source of this text gives the call of its line, and that text stands behind it, where each read but the
-/// first fails.
+/// Whether a source of this text gives the call of its line, and that text follows it, where each read but
+/// the first fails.
 fn holds_a_byte(text: &str, line: &str) -> bool {
     let held = FailsAt::new(MemoryInput::new(text.as_bytes()), 1);
     let end = Err(SourceFault::TextAfterFinalize);
     gives(&mut Source::new(held), line, end)
 }
 
-/// Behind the end record a source asks its input only while it holds no byte.
+/// After the end record a source asks its input only while it holds no byte.
 #[test]
 fn a_held_byte_behind_the_end_asks_for_no_read(rt: HostRuntime) {
     assert!(rt; holds_a_byte("finalize\nx", "finalize\n"));

@@ -79,7 +79,7 @@ fn reads(
     )
 }
 
-/// Whether a read that fails is told and counted.
+/// Whether a read that fails is reported and counted.
 fn counts_a_failed_read() -> bool {
     let mut input = Counted::new(trace_reader(11, 1));
     let mut space = [0; 20];

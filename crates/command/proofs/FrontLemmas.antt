@@ -25,7 +25,7 @@ whole_when_full (Some start) None front k full = absurd k
 whole_when_full (Some start) (Some now) front k full =
     sym (take-append_seam front now) ∙ ap (λ (n : ℕ). take n (front ++ now)) full ∙ ap (λ (bytes : List ℕ). take deciding_bytes bytes) k
 
--- a read that gave nothing leaves the front and what is behind it
+-- a read that gave nothing leaves the front and what is after it
 pub stays_after : (start old new : Option (List ℕ)) (front into : List ℕ) (count : ℕ) → Keeps start (prepend_known front old) → count ≡ 0 → Consumes old new (take count into) → Keeps start (prepend_known front new)
 stays_after start old new front into count k none c = grows start old new front front (take count into) k c (rw none (sym (append-nil front)))
 

@@ -1,4 +1,4 @@
--- What the parts of the program hand to one another: a status that standard output tells, or a complaint
+-- What the parts of the program hand to one another: a status that goes with standard output, or a complaint
 -- for standard error.
 use Rattle.std.specs.Prelude.{◌≡◌, ◌≢◌, ◌⊎◌, ℕ, Option, Result, Ok, Err, List, ⊤, string_bytes}
 use Rattle.clap.specs.Walk.{Text}
@@ -13,7 +13,7 @@ use Rattle.command.specs.declared.program.Complaint.TheVariants as complaint
 use Rattle.command.specs.declared.status.Status.{Status}
 use Rattle.command.specs.declared.status.Status.TheVariants as status
 
--- the statuses that standard error tells
+-- the statuses that go with standard error
 abbrev pub IsOfError : Status → Type 0
 IsOfError status.Usage = ⊤
 IsOfError status.Fault = ⊤
@@ -26,7 +26,8 @@ module _ {O : Type 0} (written : O → Option (List ℕ)) (failures : O → ℕ)
   Shows old new text wanted (Err (complaint.Usage said)) = ⊥
   Shows old new text wanted (Err (complaint.Fault fault)) = (fault ≡ Write) × FailsToWrite written failures old new text
 
-  -- a refusal's line was written, or that write failed, or memory was wanted for it; any other fault is a complaint
+  -- a refusal's line was written, or that write failed, or memory ran out for it; any other fault is a
+  -- complaint
   abbrev pub Refuses : O → O → Fault → Result Status Complaint → Type 0
   Refuses old new fault (Ok ended) = (ended ≡ status.Refused) × (status_of_fault fault ≡ status.Refused) × Writes written failures old new (line_of_fault fault)
   Refuses old new fault (Err (complaint.Usage said)) = ⊥
@@ -34,8 +35,8 @@ module _ {O : Type 0} (written : O → Option (List ℕ)) (failures : O → ℕ)
       IsOfError (status_of_fault told) × (((told ≡ fault) × (new ≡ old))
       ⊎ ((status_of_fault fault ≡ status.Refused) × (((told ≡ Memory) × (new ≡ old)) ⊎ ((told ≡ Write) × FailsToWrite written failures old new (line_of_fault fault)))))
 
-  -- what was done, or a refusal, stands on standard output; else there is a complaint: of words, or a fault that
-  -- may be told
+  -- what was done, or a refusal, is on standard output; else there is a complaint: of words, or a fault that
+  -- may be reported
   abbrev pub IsAnswered : (Status → Written → Written → Type 0) → (Fault → Type 0) → O → O → Result Status Complaint → Type 0
   IsAnswered is_done may_end_in old new (Ok ended) =
       (out : Written) × Becomes written failures old new out × (is_done ended out Nothing ⊎ ((fault : Fault) × may_end_in fault × EndsInFault fault ended out Nothing))
@@ -45,12 +46,12 @@ module _ {O : Type 0} (written : O → Option (List ℕ)) (failures : O → ℕ)
       IsOfError (status_of_fault fault) × may_end_in fault × LeavesAtFault written failures old new fault
 
 module _ {E : Type 0} (written : E → Option (List ℕ)) (failures : E → ℕ) where
-  -- the fault was told by its line, or want of memory for that line
+  -- the fault was reported by its line, or that there was no memory for that line
   abbrev pub TellsFaultLine : E → E → Fault → Status → Type 0
   TellsFaultLine old new fault ended =
       (told : Fault) × ((told ≡ fault) ⊎ ((told ≡ Memory) × (fault ≢ Write))) × (ended ≡ status_of_fault told) × Tries written failures old new (line_of_fault told)
 
-  -- the complaint was told
+  -- the complaint was written
   abbrev pub Complains : E → E → Complaint → Status → Type 0
   Complains old new (complaint.Usage said) ended = (ended ≡ status.Usage) × Tries written failures old new (string_bytes said)
   Complains old new (complaint.Fault fault) ended = TellsFaultLine old new fault ended

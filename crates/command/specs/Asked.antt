@@ -1,4 +1,4 @@
--- What a command line asks for, by clap's own definitions: what it makes of words, where it is told of
+-- What a command line asks for, by clap's own definitions: what it makes of words, with
 -- the program's command.
 use Rattle.std.specs.Prelude.{◌≡◌, ◌⊎◌, ℕ, Bool, true, false, Option, Some, None, List, [], ◌∷◌, codes, map, string_bytes, option_and_then, option_map, bytes_eq, if◌then◌else◌, not}
 use Rattle.clap.specs.Lexer.{usize_max}

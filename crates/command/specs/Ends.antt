@@ -18,13 +18,13 @@ use Rattle.command.specs.declared.status.Status.TheVariants.{Free, Refused, Usag
 use Rattle.command.specs.declared.words.Words.{Words}
 use Rattle.command.specs.declared.words.Words.TheVariants.{Check, Lint, Said, NoMemory}
 
--- the verdict is that of the texts of the files by the reading, where all of these are told
+-- the verdict is that of the texts of the files by the reading, where all of these are known
 abbrev pub IsVerdictWhereTold : Reading → Option Text → List (Option Text) → Verdict → Type 0
 IsVerdictWhereTold reading head files verdict =
     (text : Text) (texts : List Text) → head ≡ Some text → files ≡ map Some texts → IsVerdictOfTexts reading text texts verdict
 
--- a run was checked: its report stands on standard output alone, in its format; report and verdict are those of
--- the files' texts, and the status tells the verdict
+-- a run was checked: its report is on standard output alone, in its format; report and verdict are those of
+-- the files' texts, and the status is that of the verdict
 pub record EndsInReport (reading : Reading) (format : Format) (head : Option Text) (files : List (Option Text)) (status : Status) (out err : Written) : Type 0 where
   pub verdict : Verdict
   pub report : Text
@@ -34,7 +34,7 @@ pub record EndsInReport (reading : Reading) (format : Format) (head : Option Tex
   pub output : out ≡ Whole report
   pub errors : err ≡ Nothing
 
--- a trace was read alone: the number of its calls stands on standard output alone
+-- a trace was read alone: the number of its calls is on standard output alone
 pub record EndsInCount (text : Option Text) (status : Status) (out err : Written) : Type 0 where
   pub count : ℕ
   pub is_count : IsCountOf text count
@@ -46,28 +46,30 @@ pub record EndsInCount (text : Option Text) (status : Status) (out err : Written
 abbrev pub IsTried : Text → Written → Type 0
 IsTried text written = (written ≡ Whole text) ⊎ (written ≡ Broken text)
 
--- a text was asked for, and stands on standard output alone; or the words were wrong, which standard error says alone
+-- a text was asked for, and is on standard output alone; or the words were wrong, which standard error says
+-- alone
 abbrev pub EndsInText : Text → Status → Written → Written → Type 0
 EndsInText text status out err = (status ≡ Free) × (out ≡ Whole text) × (err ≡ Nothing)
 
 abbrev pub EndsInUsage : Text → Status → Written → Written → Type 0
 EndsInUsage text status out err = (status ≡ Usage) × (out ≡ Nothing) × IsTried text err
 
--- standard output at a fault that it doesn't tell: only a write that failed left anything there
+-- standard output at a fault that isn't reported there: only a write that failed left anything there
 abbrev pub IsLeftAt : FaultOf → Written → Type 0
 IsLeftAt Write out = (text : Text) × (out ≡ Broken text)
 IsLeftAt fault out = out ≡ Nothing
 
--- with this status the line of a fault is told: a refusal's on standard output alone, any other's on standard error
+-- with this status the line of a fault is written: a refusal's on standard output alone, any other's on
+-- standard error
 abbrev pub TellsLine : Status → FaultOf → Written → Written → Type 0
 TellsLine Refused fault out err = (out ≡ Whole (line_of_fault fault)) × (err ≡ Nothing)
 TellsLine _ fault out err = IsLeftAt fault out × IsTried (line_of_fault fault) err
 
--- a fault was told, by its status and its line
+-- a fault was reported, by its status and its line
 abbrev pub EndsInFault : FaultOf → Status → Written → Written → Type 0
 EndsInFault fault status out err = (status ≡ status_of_fault fault) × TellsLine status fault out err
 
--- what the words ask for was done, and told
+-- what the words ask for was done, and reported
 abbrev pub IsDone : (Text → Option Text) → Words → Status → Written → Written → Type 0
 IsDone told (Check head files reading format capacity) = EndsInReport reading format (told head.now) (map (λ file. told file.now) files.items)
 IsDone told (Lint file) = EndsInCount (told file.now)
@@ -82,12 +84,12 @@ IsFaultOf told (Lint file) fault = IsFaultOfLint told file.now fault
 IsFaultOf told (Said text is_error) fault = (fault ≡ Write) × (is_error ≡ false)
 IsFaultOf told NoMemory fault = fault ≡ Memory
 
--- what the words ask for was done, or a fault was told
+-- what the words ask for was done, or a fault was reported
 abbrev pub EndsBy : (Text → Option Text) → Words → Status → Written → Written → Type 0
 EndsBy told words status out err = IsDone told words status out err ⊎ ((fault : FaultOf) × IsFaultOf told words fault × EndsInFault fault status out err)
 
 -- standard output and standard error, each by what was written to it and how many writes failed, and as it was
--- and as it is; and the texts that files have, where they are told
+-- and as it is; and the texts of files, where they are known
 module _ {O E : Type 0} (written : O → Option Text) (failures : O → ℕ) (written_errors : E → Option Text) (failed_errors : E → ℕ) (told : Text → Option Text) (old new : O) (old_errors new_errors : E) where
   -- the words ask for something, and the program ends by that
   pub record Ends (words : List Text) (status : Status) : Type 0 where

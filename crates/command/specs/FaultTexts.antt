@@ -20,6 +20,6 @@ text_of_fault Memory = codes "fault memory"
 text_of_fault (Unproved rank) = codes "fault seal " ++ decimal rank
 text_of_fault Write = codes "fault write"
 
--- the line that tells a fault
+-- the line of a fault
 abbrev pub line_of_fault : Fault → List ℕ
 line_of_fault fault = text_of_fault fault ++ codes "\n"

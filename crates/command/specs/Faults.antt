@@ -1,4 +1,4 @@
--- The program's faults: which status tells each, and what becomes of the faults of the crates below.
+-- The program's faults: the status of each, and what becomes of the faults of the crates below.
 use Rattle.std.specs.Prelude.{if◌then◌else◌}
 use Rattle.mpigroup.specs.declared.fault.HeadFault.{HeadFault}
 use Rattle.gather.specs.declared.fault.RankFault.TheVariants.{OfSource}

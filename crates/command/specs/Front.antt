@@ -9,11 +9,11 @@ use Rattle.command.specs.declared.fault.Fault.TheVariants.{ReadHead, Memory}
 abbrev pub deciding_bytes : ℕ
 deciding_bytes = DECIDING_BYTES
 
--- the front of the bytes that an input gives, where it tells them
+-- the front of the bytes that an input gives, where it knows them
 abbrev pub IsFrontOf : Option (List ℕ) → List ℕ → Type 0
 IsFrontOf known front = IfSome known (λ bytes. front ≡ take deciding_bytes bytes)
 
--- a read failed, which the input's count shows, or memory was wanted and no read failed
+-- a read failed, which the input's count shows, or memory ran out and no read failed
 abbrev pub IsFrontFault : ℕ → ℕ → Fault → Type 0
 IsFrontFault old new ReadHead = new ≡ one_more old
 IsFrontFault old new Memory = new ≡ old

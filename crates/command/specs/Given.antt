@@ -1,4 +1,4 @@
--- The end of the process: the status that it hands on, and what stands on the two outputs then.
+-- The end of the process: the status that it hands on, and what is on the two outputs then.
 use Rattle.std.specs.Prelude.{◌≡◌, ◌⊎◌, ℕ, Option, List, codes}
 use Rattle.clap.specs.Walk.{Text}
 use Rattle.command.specs.Ends.{Ends}
@@ -12,7 +12,7 @@ use Rattle.command.specs.declared.status.Status.TheVariants.{Usage, Fault}
 abbrev pub status_in : Ended → Status
 status_in ended = ended.status
 
--- how words that can't be read are told
+-- how words that can't be read are reported
 abbrev pub status_of_words : WordsFault → Status
 status_of_words NoText = Usage
 status_of_words NoMemory = Fault

@@ -1,4 +1,4 @@
--- What a lint answers, by the text of its file where that is told.
+-- What a lint answers, by the text of its file where that is known.
 use Rattle.std.specs.Prelude.{◌≡◌, ℕ, true, false, Option, Some, Ok, Err, IfSome, List, ⊤}
 use Rattle.mpicall.specs.Trace.{trace_of}
 use Rattle.mpicall.specs.Lint.{TellsTrace}
@@ -24,7 +24,7 @@ IsFaultOfTrace told file (LintRefused fault) = IsTraceFault (told file) fault ×
 IsFaultOfTrace told file (LintFailed fault) = IsTraceFault (told file) fault × (is_from_outside (OfSource fault.fault) ≡ true)
 IsFaultOfTrace told file fault = ⊥
 
--- the same, or memory was wanted, or the answer couldn't be written
+-- the same, or memory ran out, or the answer couldn't be written
 abbrev pub IsFaultOfLint : (List ℕ → Option (List ℕ)) → List ℕ → Fault → Type 0
 IsFaultOfLint told file Memory = ⊤
 IsFaultOfLint told file Write = ⊤

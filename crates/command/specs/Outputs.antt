@@ -10,7 +10,8 @@ use Rattle.command.specs.declared.fault.Fault.TheVariants.{Write}
 abbrev pub lint_report : ℕ → List ℕ
 lint_report count = codes "lint ok " ++ decimal count ++ codes "\n"
 
--- what becomes of an output: it is left alone; a text is written, whole; or a beginning of one is, and a write fails
+-- what becomes of an output: it is left alone; a text is written, whole; or a prefix of one is, and a write
+-- fails
 pub data Written : Type 0 where
   Nothing : Written
   Whole : List ℕ → Written
@@ -18,11 +19,11 @@ pub data Written : Type 0 where
 
 -- an output of which is known what was written to it, and how many writes have failed
 module _ {O : Type 0} (written : O → Option (List ℕ)) (failures : O → ℕ) where
-  -- the text stands behind what was there, and no write failed
+  -- the text follows what was there, and no write failed
   abbrev pub Writes : O → O → List ℕ → Type 0
   Writes old new text = Appends (written old) (written new) text × (failures new ≡ failures old)
 
-  -- a write failed, and a beginning of the text stands behind what was there
+  -- a write failed, and a prefix of the text follows what was there
   abbrev pub FailsToWrite : O → O → List ℕ → Type 0
   FailsToWrite old new text = AppendsBeginning (written old) (written new) text × (failures new ≡ one_more (failures old))
 

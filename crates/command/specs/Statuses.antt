@@ -1,4 +1,4 @@
--- The numbers of the exit statuses, and the status that tells a verdict.
+-- The numbers of the exit statuses, and the status of a verdict.
 use Rattle.std.specs.Prelude.{ℕ}
 use Rattle.waitgraph.specs.declared.verdict.Verdict.{Verdict}
 use Rattle.waitgraph.specs.declared.verdict.Verdict.TheVariants as verdict

@@ -19,15 +19,15 @@ use Rattle.runs.specs.Told.{IsRefusalOver, IsVerdictOver, is_from_outside}
 use Rattle.command.specs.declared.fault.Fault.{Fault}
 use Rattle.command.specs.declared.fault.Fault.TheVariants.{Open, ReadHead, Head, FileCount, Refused, Failed, LintRefused, LintFailed, Memory, Unproved, Write}
 
--- the head is the one that the text gives, where it is told
+-- the head is the one that the text gives, where it is known
 abbrev pub IsHeadOf : Option (List ℕ) → Groups → Type 0
 IsHeadOf told groups = IfSome told (λ text. read_head text ≡ Ok groups)
 
--- the file couldn't be opened, since an opener opens each file whose text it tells
+-- the file couldn't be opened, since an opener opens each file whose text is known
 abbrev pub IsUnopened : (List ℕ → Option (List ℕ)) → List ℕ → Type 0
 IsUnopened told path = told path ≡ None
 
--- the fault is one of opening or of reading the head, or the first fault of its text, where that is told
+-- the fault is one of opening or of reading the head, or the first fault of its text, where that is known
 abbrev pub IsFaultOfHead : (List ℕ → Option (List ℕ)) → List ℕ → Fault → Type 0
 IsFaultOfHead told head (Open path) = (path.now ≡ head) × IsUnopened told head
 IsFaultOfHead told head ReadHead = ⊤
@@ -41,7 +41,7 @@ IsFaultOfFront front (Head fault) = read_head front ≡ Err fault
 IsFaultOfFront front Memory = ⊤
 IsFaultOfFront front fault = ⊥
 
--- one of the files couldn't be opened, or memory was wanted
+-- one of the files couldn't be opened, or memory ran out
 abbrev pub IsFaultOfOpening : (List ℕ → Option (List ℕ)) → List (Bor (List ℕ)) → Fault → Type 0
 IsFaultOfOpening told files (Open path) = Contains files path × IsUnopened told path.now
 IsFaultOfOpening told files Memory = ⊤
@@ -60,7 +60,7 @@ pub record IsRunOfTexts (head : List ℕ) (texts : List (List ℕ)) (groups : Gr
   pub is_recording : recording ≡ recording_of_traces (map trace_of texts)
 
 -- the report of a run, and the verdict that it says: by the reading they are those of groups and a closed recording
--- of their ranks, and where the texts of the head and the files are told, these are of the texts
+-- of their ranks, and where the texts of the head and the files are known, these are of the texts
 pub record IsReportOf (reading : Reading) (format : Format) (head : Option (List ℕ)) (files : List (Option (List ℕ))) (verdict : Verdict) (report : List ℕ) : Type 0 where
   pub groups : Groups
   pub recording : Lists
@@ -70,7 +70,7 @@ pub record IsReportOf (reading : Reading) (format : Format) (head : Option (List
   pub report_is : report ≡ report_of format reading groups recording
   pub verdict_is : verdict ≡ verdict_of reading groups recording
 
--- the report stands behind what was there
+-- the report follows what was there
 abbrev pub WritesReportOf : {O : Type 0} → (O → Option (List ℕ)) → O → O → Reading → Format → Option (List ℕ) → List (Option (List ℕ)) → Verdict → Type 0
 WritesReportOf written old new reading format head files verdict =
     (report : List ℕ) × IsReportOf reading format head files verdict report × Appends (written old) (written new) report
@@ -89,7 +89,7 @@ pub record IsCounted (told : List ℕ → Option (List ℕ)) (head : List ℕ) (
   pub one_a_rank : length files ≡ ranks_of groups
 
 -- there is one file a rank, the refused rank is one of these, and no gate stopped the reading; and where the files'
--- texts are told, the refusal is that of the traces which these hold
+-- texts are known, the refusal is that of the traces which these hold
 pub record IsRefusalOfRun (told : List ℕ → Option (List ℕ)) (head : List ℕ) (files : List (Bor (List ℕ))) (refusal : Refusal) : Type 0 where
   pub groups : Groups
   pub counted : IsCounted told head files groups
@@ -97,8 +97,8 @@ pub record IsRefusalOfRun (told : List ℕ → Option (List ℕ)) (head : List �
   pub unstopped : refusal.fault ≢ OfSource GateStopped
   pub of_traces : (texts : List (List ℕ)) → map (λ file. told file.now) files ≡ map Some texts → IsRefusalOver groups (map trace_of texts) refusal
 
--- Which fault a check tells: of the head, before its ranks are counted; of their number, before a file of theirs is
--- opened; of opening these, before one is read; of the run.
+-- Which fault a check reports: of the head, before its ranks are counted; of their number, before a file of
+-- theirs is opened; of opening these, before one is read; of the run.
 abbrev pub IsFaultOfCheck : (List ℕ → Option (List ℕ)) → List ℕ → List (Bor (List ℕ)) → Fault → Type 0
 IsFaultOfCheck told head files (Open path) =
     IsUnopened told path.now × ((path.now ≡ head) ⊎ (Contains files path × ((groups : Groups) × IsCounted told head files groups)))

@@ -29,7 +29,7 @@ use waitgraph::verdict::Verdict;
 /// How many bytes of a head are read at once.
 const PIECE: usize = 4096;
 
-/// The bytes of a head, as far as they decide it. What is behind them stays in the input.
+/// The bytes of a head, as far as they decide it. What is after them stays in the input.
 fn read_front<'a, I: Input>(alloc: Global, input: &mut I) -> Result<Vec<u8>, Fault<'a>>
     ensures front { IfOk result (λ front. IsFrontOf (I.left input.old) front.items) }
     ensures left { IfOk result (λ front. Keeps (I.left input.old) (prepend_known front.items (I.left input.new))) }
@@ -65,7 +65,11 @@ fn head_of_front<'a>(alloc: Global, front: &[u8]) -> Result<Head, Fault<'a>>
 }
 
 /// The head of the run, from the file that the path names.
-fn open_head<'a, P: Opener>(alloc: Global, opener: &P, path: &'a str) -> Result<Head, Fault<'a>>
+pub(crate) fn open_head<'a, P: Opener>(
+    alloc: Global,
+    opener: &P,
+    path: &'a str,
+) -> Result<Head, Fault<'a>>
     ensures head { IfOk result (IsHeadOf (P.told opener.now path.now)) }
     ensures fault { IfErr result (IsFaultOfHead (P.told opener.now) path.now) }
 {
@@ -129,13 +133,13 @@ pub fn check<'a, P: Opener, O: Output, R: Threads + Wait + Sync>(
     rt: &R,
     out: &mut O,
 ) -> Result<Verdict, Fault<'a>>
-    // The answer is that of the texts of the files, where the opener tells them.
+    // The answer is that of the texts of the files, where the opener knows them.
     ensures verdict { IfOk result (λ verdict. (text : List ℕ) (texts : List (List ℕ)) →
         P.told opener.now head.now ≡ Some text →
         map (λ file. P.told opener.now file.now) files.now ≡ map Some texts →
         IsVerdictOfTexts reading text texts verdict) }
 
-    // Which fault is told, by what came before it.
+    // Which fault is reported, by what came before it.
     ensures fault { IfErr result (IsFaultOfCheck (P.told opener.now) head.now files.now) }
 
     ensures written { IfOk result (WritesReportOf O.written out.old out.new reading format (P.told opener.now head.now) (map (λ file. P.told opener.now file.now) files.now)) }

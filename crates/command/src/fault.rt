@@ -57,7 +57,7 @@ impl fmt::Display for Fault<'_> {
 impl Error for Fault<'_> {}
 
 impl Fault<'_> {
-    /// The exit status that tells the fault.
+    /// The exit status of the fault.
     pub fn status(&self) -> Status
         ensures { result ≡ status_of_fault self.now }
     {

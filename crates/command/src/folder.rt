@@ -2,22 +2,29 @@
 
 ghost use Rattle.std.specs.Prelude.{◌<◌, length, IfSome};
 
+use crate::check::open_head;
+use crate::fault::Fault;
 use crate::opener::Opener;
 use mpigroup::limits::MOST_RANKS;
 use std::alloc::{AllocError, Global};
 
 /// Whether a word after `check` is no path: an option, or the number of the option before it.
 fn is_option(before: &str, word: &str) -> bool {
-    word.as_bytes().first() == Some(&b'-') || before == "--capacity" || before == "--eager"
+    let begins = word.as_bytes().first() == Some(&b'-');
+    begins && word.len() > 1 || before == "--capacity" || before == "--eager"
 }
 
-/// The index of the one path after the first word; None where there is none, or a second one.
+/// The index of the one path after the first word; None where there is none, or a second one. All words after
+/// `--` are paths.
 fn lone_path(words: &[String]) -> Option<usize>
     ensures { IfSome result (λ place. place < length words.now) }
 {
     let mut found = None;
+    let mut are_paths = false;
     for place in 1..words.len() {
-        if is_option(words[place - 1].as_str(), words[place].as_str()) {
+        let word = words[place].as_str();
+        if !are_paths && is_option(words[place - 1].as_str(), word) {
+            are_paths = word == "--";
             continue;
         }
         if found.is_some() {
@@ -28,17 +35,33 @@ fn lone_path(words: &[String]) -> Option<usize>
     found
 }
 
-/// Adds the head of a folder and its traces: `r0`, `r1` and so on, up to the first that isn't there.
+/// How many traces a folder wants: as many as its head has ranks, and one if that can't be read. A head that
+/// comes through a pipe can be read only once, so it isn't asked.
+fn ranks_in<P: Opener>(alloc: Global, opener: &P, head: &str) -> Result<u16, AllocError> {
+    if opener.waits(head) {
+        return Ok(1);
+    }
+    match open_head(alloc, opener, head) {
+        Ok(head) => Ok(head.ranks()),
+        Err(Fault::Memory) => Err(AllocError),
+        Err(_) => Ok(1),
+    }
+}
+
+/// Adds the head of a folder and its traces `r0`, `r1` and so on: those of all ranks, and those after them that
+/// exist, for the program to say which is missing, or how many there are.
 fn push_files<P: Opener>(
     alloc: Global,
     opener: &P,
     folder: &str,
     words: &mut Vec<String>,
 ) -> Result<(), AllocError> {
-    words.push(format!(in alloc; "{folder}/head")?)?;
-    for rank in 0..MOST_RANKS {
+    let head = format!(in alloc; "{folder}/head")?;
+    let ranks = ranks_in(alloc, opener, head.as_str())?;
+    words.push(head)?;
+    for rank in 0..MOST_RANKS + 1 {
         let trace = format!(in alloc; "{folder}/r{rank}")?;
-        if rank > 0 && !opener.is_there(trace.as_str()) {
+        if rank >= ranks && !opener.is_there(trace.as_str()) {
             return Ok(());
         }
         words.push(trace)?;

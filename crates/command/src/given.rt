@@ -26,7 +26,7 @@ pub enum WordsFault {
 }
 
 impl WordsFault {
-    /// The exit status that tells the fault.
+    /// The exit status of the fault.
     pub fn status(self) -> Status
         ensures { result ≡ status_of_words self }
     {
@@ -119,7 +119,7 @@ where
     Ok(program(given.alloc(), texts.as_slice(), opener, rt, out, err))
 }
 
-/// Runs the program on the words of the process, over the opener's files, and tells words that can't be
+/// Runs the program on the words of the process, over the opener's files, and reports words that can't be
 /// read.
 pub fn run<G, P, O, E, R>(given: &G, opener: &P, rt: &R, out: &mut O, err: &mut E) -> Ended
 where

@@ -5,11 +5,11 @@
 //!   ends the process with the status.
 //! - `program::program` runs it on words that are texts, and gives the status.
 //! - `opener::Opener` is what opens the files that the words name; `opener::Disk` opens those of the machine, and
-//!   `shelf::Shelf` those in memory, whose texts it tells.
+//!   `shelf::Shelf` those in memory, whose texts are known.
 //! - `head_to_head::two_that_send_first` runs it over such files, and says what comes of it.
 //!
-//! What stands on both outputs at the end, by the words and by the texts of the files, is the contract of
-//! `program`; that of `given::run` says the same of some words. The definitions stand in `specs/`: `Asked` for
+//! What is on both outputs at the end, by the words and by the texts of the files, is the contract of
+//! `program`; that of `given::run` says the same of some words. The definitions are in `specs/`: `Asked` for
 //! the words, `Ends` for the end, `Texts` and `Lints` for what a check and a lint answer.
 #![tactic(auto)]
 

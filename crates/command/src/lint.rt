@@ -1,4 +1,4 @@
-//! `mpiwait lint`: one trace is read alone, and the number of its calls told.
+//! `mpiwait lint`: one trace is read alone, and the number of its calls is the answer.
 
 ghost use Rattle.std.specs.Prelude.{◌≡◌, IfOk, IfErr, OnOk};
 ghost use Rattle.std.specs.Io.KnownBytes.{Appends};

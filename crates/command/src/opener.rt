@@ -8,7 +8,8 @@ use std::fs;
 use std::rt::Files;
 
 /// What opens the inputs that paths name: `told` is the text of the file with a path, where the opener
-/// tells it, and `never_waits` what is so of a path of whose file `waits` says that no read waits for another program.
+/// knows it, and `never_waits` what is so of a path of whose file `waits` says that no read waits for another
+/// program.
 pub trait Opener {
     type In: Input + Drop + Send;
 
@@ -18,7 +19,7 @@ pub trait Opener {
     ghost never_waits: { Self → List ℕ → Type 0 } = { λ opener path. ⊤ };
 
     /// The input that a path names, from its first byte on; None where it can't be opened. A file whose text is
-    /// told can be.
+    /// known can be.
     fn open_input(&self, path: &str) -> Option<Self::In>
         ensures told { IfSome result (λ input. Self.In.left input ≡ told self.now path.now) }
         ensures untold { IfNone result (told self.now path.now ≡ None) };
@@ -39,7 +40,7 @@ pub trait Opener {
     }
 }
 
-/// The files of the machine. What they hold is not told.
+/// The files of the machine. What they hold isn't known.
 #[derive(Drop)]
 pub struct Disk<'a, R>(pub &'a R);
 

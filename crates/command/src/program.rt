@@ -32,7 +32,7 @@ enum Complaint<'a> {
     Fault(Fault<'a>),
 }
 
-/// The status that tells a verdict.
+/// The status of a verdict.
 fn status_of(verdict: Verdict) -> Status
     ensures { result ≡ status_of_verdict verdict }
 {
@@ -110,7 +110,7 @@ fn answer_lint<'a, P: Opener, O: Output>(
     }
 }
 
-/// Does what the words ask for, and gives the exit status where that is told on standard output.
+/// Does what the words ask for, and gives the exit status where that goes with standard output.
 fn answer<'a, P: Opener, O: Output, R: Threads + Wait + Sync>(
     alloc: Global,
     words: Words<'a>,
@@ -143,7 +143,7 @@ fn answer<'a, P: Opener, O: Output, R: Threads + Wait + Sync>(
     }
 }
 
-/// Writes a text on standard error. Where that fails there is nobody left to tell.
+/// Writes a text on standard error. Where that fails there is nothing left to do.
 pub(crate) fn write_error<E: Output>(text: &str, err: &mut E)
     ensures { Tries E.written E.failures err.old err.new text.now }
 {
@@ -160,8 +160,8 @@ fn tell<E: Output>(fault: Fault<'_>, line: &str, err: &mut E) -> Status
     fault.status()
 }
 
-/// The same, also where there is no memory for the line: that is told then. The line of a failed write takes
-/// none, so that it stands for what became of the other output.
+/// The same, also where there is no memory for the line: that is reported then. The line of a failed write
+/// takes none, so it says what became of the other output.
 fn tell_fault<E: Output>(alloc: Global, fault: Fault<'_>, err: &mut E) -> Status
     ensures { TellsFaultLine E.written E.failures err.old err.new fault.entry result }
 {

@@ -1,4 +1,4 @@
-//! Files in memory, whose texts are told.
+//! Files in memory, whose texts are known.
 
 ghost use Rattle.command.specs.Shelves.{text_on};
 

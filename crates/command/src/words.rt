@@ -53,7 +53,8 @@ const CHECK_ABOUT: &str =
     "Reads the head of a run and its traces, and says whether the run can hang";
 
 const CHECK_LONG_ABOUT: &str = "\
-Reads the head of a run and its traces, and says whether the run can hang.
+Reads the head of a run and its traces, and says whether the run can hang. A FOLDER has them as the files
+head, r0, r1 and so on; `mpiwait FOLDER` is short for `mpiwait check FOLDER`.
 
 Lines of the report:
   verdict free|hang|unfinished
@@ -78,9 +79,10 @@ const LINT_ABOUT: &str = "Reads one trace alone, and says whether it is in its f
 
 const AFTER: &str = "\
 Examples:
-  mpiwait check run/head run/r0 run/r1
-  mpiwait check --json run/head run/r0 run/r1
-  mpiwait lint run/r0
+  mpiwait run                           checks the run in the folder `run`: its files head, r0, r1, ..
+  mpiwait check --json run              reports it as one JSON value
+  mpiwait check run/head run/r0 run/r1  names its files, in rank order
+  mpiwait lint run/r0                   reads one trace alone
 
 Exit status:
   0  no hang; or the trace is in its format; or help or the version was asked for
@@ -90,10 +92,20 @@ Exit status:
   4  fault: a file, the memory or the output
   5  unfinished: no rank is known to hang, but some trace ends with `open`";
 
-const USAGE: &str =
-    "usage: mpiwait check [--json] [--capacity N] [--eager N] HEAD FILE.. or mpiwait lint FILE\n";
+/// How the program is called, as its help shows it.
+const PROGRAM_USAGE: &str = "\
+mpiwait <COMMAND>
+       mpiwait <FOLDER>";
 
-/// What clap is told of the head.
+/// How `check` is called.
+const CHECK_USAGE: &str = "\
+mpiwait check [OPTIONS] <HEAD> <FILE>...
+       mpiwait check [OPTIONS] <FOLDER>";
+
+const USAGE: &str =
+    "usage: mpiwait check [OPTIONS] HEAD FILE.. or mpiwait check [OPTIONS] FOLDER or mpiwait lint FILE\n";
+
+/// What clap knows of the head.
 fn head_argument<'a>(alloc: Global) -> Arg<'a>
     ensures rule { rule_of result ≡ head_rule }
     ensures local { result.global ≡ false }
@@ -103,7 +115,7 @@ fn head_argument<'a>(alloc: Global) -> Arg<'a>
         .help("The head of the run: its ranks and their communicators")
 }
 
-/// What clap is told of the traces.
+/// What clap knows of the traces.
 fn traces_argument<'a>(alloc: Global) -> Arg<'a>
     ensures rule { rule_of result ≡ traces_rule }
     ensures local { result.global ≡ false }
@@ -115,7 +127,7 @@ fn traces_argument<'a>(alloc: Global) -> Arg<'a>
         .long_help(TRACES_HELP)
 }
 
-/// What clap is told of the flag for JSON.
+/// What clap knows of the flag for JSON.
 fn json_argument<'a>(alloc: Global) -> Arg<'a>
     ensures rule { rule_of result ≡ json_rule }
     ensures local { result.global ≡ false }
@@ -126,7 +138,7 @@ fn json_argument<'a>(alloc: Global) -> Arg<'a>
         .help("Writes the report as one JSON value")
 }
 
-/// What clap is told of the number of records that may wait.
+/// What clap knows of the number of records that may wait.
 fn capacity_argument<'a>(alloc: Global) -> Arg<'a>
     ensures rule { rule_of result ≡ capacity_rule }
     ensures local { result.global ≡ false }
@@ -139,7 +151,7 @@ fn capacity_argument<'a>(alloc: Global) -> Arg<'a>
         .help("How many records of a rank may be read ahead of the checking, 1 to 1024")
 }
 
-/// What clap is told of the eager limit.
+/// What clap knows of the eager limit.
 fn eager_argument<'a>(alloc: Global) -> Arg<'a>
     ensures rule { rule_of result ≡ eager_rule }
     ensures local { result.global ≡ false }
@@ -151,7 +163,7 @@ fn eager_argument<'a>(alloc: Global) -> Arg<'a>
         .help("Takes standard sends that tell at most N bytes as buffered, 0 to 2147483647")
 }
 
-/// What clap is told of one trace.
+/// What clap knows of one trace.
 fn trace_argument<'a>(alloc: Global) -> Arg<'a>
     ensures rule { rule_of result ≡ trace_rule }
     ensures local { result.global ≡ false }
@@ -161,7 +173,7 @@ fn trace_argument<'a>(alloc: Global) -> Arg<'a>
         .help("The trace of one rank")
 }
 
-/// What clap is told of `check`.
+/// What clap knows of `check`.
 fn check_command<'a>(alloc: Global) -> Result<Command<'a>, AllocError>
     ensures app { IfOk result (λ command. app_of command ≡ check) }
     ensures local { IfOk result (λ command. (fields_of command).has_globals ≡ false) }
@@ -169,6 +181,7 @@ fn check_command<'a>(alloc: Global) -> Result<Command<'a>, AllocError>
     Command::new(alloc, "check")
         .about(CHECK_ABOUT)
         .long_about(CHECK_LONG_ABOUT)
+        .override_usage(CHECK_USAGE)
         .after_help(AFTER)
         .version(VERSION)
         .arg(head_argument(alloc))?
@@ -178,7 +191,7 @@ fn check_command<'a>(alloc: Global) -> Result<Command<'a>, AllocError>
         .arg(eager_argument(alloc))
 }
 
-/// What clap is told of `lint`.
+/// What clap knows of `lint`.
 fn lint_command<'a>(alloc: Global) -> Result<Command<'a>, AllocError>
     ensures app { IfOk result (λ command. app_of command ≡ lint) }
     ensures local { IfOk result (λ command. (fields_of command).has_globals ≡ false) }
@@ -190,7 +203,7 @@ fn lint_command<'a>(alloc: Global) -> Result<Command<'a>, AllocError>
         .arg(trace_argument(alloc))
 }
 
-/// What clap is told of the program.
+/// What clap knows of the program.
 fn program_command<'a>(alloc: Global) -> Result<Command<'a>, AllocError>
     ensures { IfOk result (λ command. app_of command ≡ program) }
 {
@@ -198,6 +211,7 @@ fn program_command<'a>(alloc: Global) -> Result<Command<'a>, AllocError>
     let lint = lint_command(alloc)?;
     Command::new(alloc, "mpiwait")
         .about(ABOUT)
+        .override_usage(PROGRAM_USAGE)
         .after_help(AFTER)
         .version(VERSION)
         .no_binary_name(true)

@@ -226,7 +226,7 @@ of_outcome kept analyser (Ok outcome) calm none closed reading groups recording 
   },
 )
 
--- want of memory comes first
+-- lack of memory comes first
 pub memory_first : (kept : Kept) (answer : Result Analysed CloseFault) → kept.wanted ≡ true → Concludes kept answer → answer ≡ Err Memory
 memory_first kept (Err Memory) wanted is = refl
 memory_first kept (Err (Unproved rank)) wanted is = absurd is

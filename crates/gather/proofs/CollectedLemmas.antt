@@ -42,7 +42,7 @@ calls_among-append (Mark end ∷ xs) ys = calls_among-append xs ys
 pub end_mark_of-push : (xs : List Item) (x : Item) → end_mark_of (xs ++ x ∷ []) ≡ mark_in (Some x)
 end_mark_of-push xs x = ap mark_in (last_item-push xs x)
 
--- a first fault that collects stays the first, whatever comes behind
+-- a first fault that collects stays the first, whatever comes after
 
 stays : (place : ℕ) (own : Option CallFault) (x y : Option PlacedFault) (fault : PlacedFault) → (x ≡ Some fault → y ≡ Some fault) → or_behind place own x ≡ Some fault → or_behind place own y ≡ Some fault
 stays place None x y fault on e = on e
@@ -53,7 +53,7 @@ fault_stays groups rank before [] more mark fault e = absurd (none-some fault e)
 fault_stays groups rank before (call ∷ calls) more mark fault e =
     stays (length before) (fault_of groups rank before call) _ _ fault (fault_stays groups rank (before ++ call ∷ []) calls more mark fault) e
 
--- where there is none, the first fault is that of what comes behind
+-- where there is none, the first fault is that of what comes after
 
 goes_on : (place : ℕ) (own : Option CallFault) (x y z : Option PlacedFault) → (x ≡ None → y ≡ z) → or_behind place own x ≡ None → or_behind place own y ≡ z
 goes_on place None x y z on e = on e
@@ -65,7 +65,7 @@ fault_goes_on groups rank before (call ∷ calls) more mark e =
     goes_on (length before) (fault_of groups rank before call) _ _ _
     (λ none. fault_goes_on groups rank (before ++ call ∷ []) calls more mark none ∙ ap (λ (b : List Call). fault_onward groups rank (fault_of_mark mark) b more) (append_assoc before (call ∷ []) calls)) e
 
--- the place of a first fault is none behind the records
+-- the place of a first fault is none after the records
 
 placed_behind : (place most : ℕ) (fault : PlacedFault) (own : Option CallFault) (x : Option PlacedFault) → place ≤ most → (x ≡ Some fault → fault.0 ≤ most) → or_behind place own x ≡ Some fault → fault.0 ≤ most
 placed_behind place most fault None x within behind e = behind e
@@ -99,7 +99,7 @@ one_more_stays groups rank items calls fault x k none =
           ∙ ap (λ (cs : List Call). take fault.0 cs) (sym (calls_among-append items (x ∷ [])));
     }
 
--- where no fault is kept, the first fault with one more item is that behind the records
+-- where no fault is kept, the first fault with one more item is that after the records
 first_with : (groups : Groups) (rank : ℕ) (items : List Item) (calls : List Call) (x : Item) → IsKeptOf groups rank items calls None → end_mark_of items ≡ None → fault_of_items groups rank (items ++ x ∷ []) ≡ fault_onward groups rank (fault_of_mark (mark_in (Some x))) calls (calls_among (x ∷ []))
 first_with groups rank items calls x k none =
     let is : fault_onward groups rank (fault_of_mark None) [] (calls_among items) ≡ None = sym (k.first ∙ fault_so_far groups rank items none) in

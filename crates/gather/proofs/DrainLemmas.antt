@@ -44,7 +44,7 @@ pub some_mark : (mark : Option Ending) → is_some mark ≡ true → (end : Endi
 some_mark None e = absurd (false≢true e)
 some_mark (Some end) e = (end, refl)
 
--- behind an end mark nothing is left
+-- after an end mark nothing is left
 pub none_left : (items left : List Item) → IsFeed (items ++ left) → are_ended items ≡ true → left ≡ []
 none_left items left feed ended =
     let mark = some_mark (end_mark_of items) ended in

@@ -1,4 +1,4 @@
--- How the trace of a source goes on behind the records that were put.
+-- How the trace of a source goes on after the records that were put.
 use Rattle.std.proofs.Common.{◌≡◌, ℕ, ◌+◌, ◌-◌, ◌^◌, min, length, List, [], ◌∷◌, ◌++◌, sym, ap, ◌∙◌, refl, Option, Some, None, Result, Ok, Err, IfOk, append_assoc, map, IfSome, Bool, true, false, not, ◌⊎◌, inl, inr, cond, arith, subst}
 use Rattle.std.specs.Prelude.{⊤}
 use Rattle.std.proofs.lemmas.Bool.{false≢true}
@@ -26,7 +26,7 @@ use Rattle.rankfeed.specs.declared.item.Item.TheVariants.{Entry, Mark}
 use Rattle.rankfeed.proofs.ItemLemmas.{last_item-push}
 use Rattle.gather.specs.Fed.{marked, end_behind, mark_of, CountsReads, EndsAs, StopsAs, line_behind, IsFed, is_failed_read, TraceGoesOn, Continues}
 
--- No record stands behind the one that ends the list.
+-- No record follows the one that ends the list.
 
 abbrev pub IsClosed : List Call → Type 0
 IsClosed [] = ⊤
@@ -85,7 +85,7 @@ pub mark_text : (bytes : List ℕ) → mark_of (trace_of bytes).records (trace_o
 unfolding trace_of
 mark_text bytes = mark_lines (lines_of bytes)
 
--- A record that comes behind the one that ends the list.
+-- A record that comes after the one that ends the list.
 
 none_further : (calls : List Call) (call : Call) (rest : List Call) → IsClosed (calls ++ call ∷ rest) → end_the_list (map Entry calls) ≡ true → ⊥
 none_further [] call rest closed ends = false≢true ends
@@ -120,12 +120,12 @@ one_further told now next items more call c gives is = record {
   goes_on = goes_further told now next c.calls call c.goes_on gives;
 }
 
--- Behind an end mark.
+-- After an end mark.
 
 fed_by : (told : Option Trace) (may_stop : ℕ → Type 0) (items all : List Item) (calls : List Call) (end : Ending) → items ≡ map Entry calls → all ≡ items ++ Mark end ∷ [] → IfSome told (λ whole. EndsAs whole calls end) → StopsAs may_stop calls end → IsFed told may_stop all
 fed_by told may_stop items all calls end are is whole stops = record { calls = calls; end = end; are = is ∙ ap (λ xs. xs ++ Mark end ∷ []) are; whole = whole; stopped = stops }
 
--- no record comes behind the one that ends the list, where the trace is told
+-- no record comes after the one that ends the list, where the trace is known
 no_more : (told now next : Option Trace) (calls : List Call) (call : Call) (end : Ending) → TraceGoesOn told calls now → IfSome told (λ whole. IsClosed whole.records) → end_the_list (map Entry calls) ≡ true → Gives now next (Ok (Some call)) → IfSome told (λ whole. EndsAs whole calls end)
 no_more None now next calls call end c closed ends gives = tt
 no_more (Some whole) None next calls call end c closed ends gives = absurd (let e = c.1 in cc)

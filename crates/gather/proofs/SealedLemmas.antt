@@ -14,7 +14,7 @@ one_before call (next ∷ calls) ended =
     let e : suc (suc (length calls)) - 1 ≡ suc (suc (length calls) - 1) = omega arith in
     rw e ended
 
--- the list ends with the record, or goes on behind it
+-- the list ends with the record, or goes on after it
 with_record : (call : Call) (behind : List (List ℕ)) (trace : Trace) (is_last : Bool) → ends_list call ≡ is_last → (trace.end ≡ Sealed → is_ended trace.records ≡ true) →
     (cond is_last (ends_here (end_with_behind behind)) trace).end ≡ Sealed → is_ended (call ∷ (cond is_last (ends_here (end_with_behind behind)) trace).records) ≡ true
 with_record call behind trace true is goes_on sealed = is

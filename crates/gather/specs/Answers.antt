@@ -21,7 +21,7 @@ use Rattle.gather.specs.declared.fault.Refusal.{Refusal}
 abbrev pub PlacedFault : Type 0
 PlacedFault = ℕ × RankFault
 
--- the fault with which a rank ends behind its calls: that of its source's end, if that is one; or that none of
+-- the fault with which a rank ends after its calls: that of its source's end, if that is one; or that none of
 -- its calls ends its list
 abbrev pub fault_of_end : Ending → List Call → Option PlacedFault
 fault_of_end Sealed calls = if is_ended calls then None else Some (length calls, OfSource NoFinalize)
@@ -31,13 +31,13 @@ fault_of_end (Torn fault) calls = Some (length calls, OfSource fault)
 abbrev pub ASealedTextHasItsEndRecord : Type 0
 ASealedTextHasItsEndRecord = (text : List ℕ) → (trace_of text).end ≡ Sealed → is_ended (trace_of text).records ≡ true
 
--- the fault of a call at a place, or else what comes behind it
+-- the fault of a call at a place, or else what comes after it
 abbrev pub or_behind : ℕ → Option CallFault → Option PlacedFault → Option PlacedFault
 or_behind place None behind = behind
 or_behind place (Some fault) behind = Some (place, OfCall fault)
 
--- the first fault of a rank behind the calls `before`, which have none: the first record that has a fault
--- after those before it, at its place; without one, the fault of the end behind all of them
+-- the first fault of a rank after the calls `before`, which have none: the first record that has a fault
+-- after those before it, at its place; without one, the fault of the end after all of them
 abbrev pub fault_onward : Groups → ℕ → (List Call → Option PlacedFault) → List Call → List Call → Option PlacedFault
 fault_onward groups rank of_end before [] = of_end before
 fault_onward groups rank of_end before (call ∷ calls) =
@@ -47,7 +47,7 @@ fault_onward groups rank of_end before (call ∷ calls) =
 unfoldable pub fault_of_rank : Groups → ℕ → Trace → Option PlacedFault
 fault_of_rank groups rank trace = fault_onward groups rank (fault_of_end trace.end) [] trace.records
 
--- the refusal of a rank, or else that of the ranks behind it
+-- the refusal of a rank, or else that of the ranks after it
 abbrev pub refusal_or : ℕ → Option PlacedFault → Option Refusal → Option Refusal
 refusal_or rank None behind = behind
 refusal_or rank (Some (place, fault)) behind = Some (record { rank = rank; call = place; fault = fault })

@@ -19,7 +19,7 @@ use Rattle.gather.specs.declared.fault.Refusal.{Refusal}
 use Rattle.gather.specs.declared.ledger.Stepped.{Stepped}
 use Rattle.gather.specs.declared.ledger.Stepped.TheVariants.{Refused, Discarded, Empty, Ended}
 
--- the fault with which a rank's items end behind its calls: that of an end mark, if one came and it has one
+-- the fault with which a rank's items end after its calls: that of an end mark, if one came and it has one
 abbrev pub fault_of_mark : Option Ending → List Call → Option PlacedFault
 fault_of_mark None calls = None
 fault_of_mark (Some Sealed) calls = None
@@ -39,7 +39,7 @@ pub record IsKeptOf (groups : Groups) (rank : ℕ) (items : List Item) (calls : 
   pub first : fault ≡ fault_of_items groups rank items
   pub before : calls ≡ records_before fault (calls_among items)
 
--- what is kept of all ranks: each rank's records, its first fault, and whether memory was wanted
+-- what is kept of all ranks: each rank's records, its first fault, and whether memory ran out
 pub record Kept : Type 0 where
   pub reading : Reading
   pub groups : Groups
@@ -59,7 +59,7 @@ fault_at faults rank = unwrap_or (slice_get faults rank) None
 abbrev pub items_of : List (List Item) → ℕ → List Item
 items_of received rank = or_empty received rank
 
--- unless memory was wanted, what is kept of each rank is what its items give, however they came
+-- unless memory ran out, what is kept of each rank is what its items give, however they came
 abbrev pub AreKeptOf : List (List Item) → Kept → Type 0
 AreKeptOf received kept =
     kept.wanted ≡ false → (rank : ℕ) → IsKeptOf kept.groups rank (items_of received rank) (calls_of kept.recording rank) (fault_at kept.faults rank)
@@ -72,7 +72,7 @@ is_accepting kept rank = is_none (fault_at kept.faults rank) && not kept.wanted
 abbrev pub with_record : Kept → ℕ → Call → Kept
 with_record kept rank call = record kept { recording = appended kept.recording rank call }
 
--- the same with a fault of the rank behind its records
+-- the same with a fault of the rank after its records
 abbrev pub with_fault : Kept → ℕ → RankFault → Kept
 with_fault kept rank fault = record kept { faults = slice_set kept.faults rank (Some (length (calls_of kept.recording rank), fault)) }
 
@@ -80,7 +80,7 @@ with_fault kept rank fault = record kept { faults = slice_set kept.faults rank (
 abbrev pub wanting : Kept → Kept
 wanting kept = record kept { wanted = true }
 
--- the first fault of a record behind the rank's records so far
+-- the first fault of a record after the rank's records so far
 abbrev pub fault_behind_kept : Kept → ℕ → Call → Option CallFault
 fault_behind_kept kept rank call = fault_of kept.groups rank (calls_of kept.recording rank) call
 

@@ -37,8 +37,8 @@ pub record Steps (rank : ℕ) (old : Collector) (answer : Stepped) (new : Collec
   pub takes : Takes rank found old.takers.items new.takers.items
   pub enters : Enters rank found (kept old) answer (kept new)
 
--- what is kept is what came: a list of records and a place for a fault for each feed; and, unless memory was wanted,
--- of each rank its records before its first fault, and that fault
+-- what is kept is what came: a list of records and a place for a fault for each feed; and, unless memory ran
+-- out, of each rank its records before its first fault, and that fault
 pub record KeepsWhatCame (collector : Collector) : Type 0 where
   pub one_a_rank : length (kept collector).recording ≡ length (rings collector)
   pub one_fault_a_rank : length (kept collector).faults ≡ length (rings collector)

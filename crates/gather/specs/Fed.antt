@@ -13,7 +13,7 @@ use Rattle.mpicall.specs.declared.fault.Ending.TheVariants.{Sealed, Torn}
 use Rattle.rankfeed.specs.declared.item.Item.{Item}
 use Rattle.rankfeed.specs.declared.item.Item.TheVariants.{Entry, Mark}
 
--- the records, and behind them one end mark
+-- the records, and after them one end mark
 abbrev pub marked : List Call → Ending → List Item
 marked calls end = map Entry calls ++ Mark end ∷ []
 
@@ -22,34 +22,34 @@ abbrev pub end_behind : Bool → Ending
 end_behind true = Sealed
 end_behind false = Torn NoFinalize
 
--- the end mark behind all the records of a trace. For a text's it tells the text's end; what is left of a source
--- that gave its end record before has none, and the mark NoFinalize
+-- the end mark after all the records of a trace. For a text's it says the text's end; what is left of a
+-- source that gave its end record before has none, and the mark NoFinalize
 abbrev pub mark_of : List Call → Ending → Ending
 mark_of records Sealed = end_behind (end_the_list (map Entry records))
 mark_of records (Torn fault) = Torn fault
 
--- the records are a beginning of these
+-- the records are a prefix of these
 abbrev pub Begins : List Call → List Call → Type 0
 Begins calls records = (rest : List Call) × (records ≡ calls ++ rest)
 
--- these calls and this end are all of the trace, or a beginning of its records where the gate or a failed read
+-- these calls and this end are all of the trace, or a prefix of its records where the gate or a failed read
 -- stopped them
 abbrev pub EndsAs : Trace → List Call → Ending → Type 0
 EndsAs trace calls (Torn GateStopped) = Begins calls trace.records
 EndsAs trace calls (Torn ReadFailed) = Begins calls trace.records
 EndsAs trace calls end = (trace.records ≡ calls) × (end ≡ mark_of trace.records trace.end)
 
--- the line of a question behind so many records, which stays at the greatest u32
+-- the line of a question after so many records, which stays at the greatest u32
 abbrev pub line_behind : ℕ → ℕ
 line_behind count = min count (2 ^ 32 - 1)
 
--- where the gate stopped the records, it may do so at the line behind them
+-- where the gate stopped the records, it may do so at the line after them
 abbrev pub StopsAs : (ℕ → Type 0) → List Call → Ending → Type 0
 StopsAs may_stop calls (Torn GateStopped) = may_stop (line_behind (length calls))
 StopsAs may_stop calls end = ⊤
 
--- the items are the records of a source with their end mark, by the source's trace where that is told, and by the
--- lines at which the gate may stop the reading
+-- the items are the records of a source with their end mark, by the source's trace where that is known, and
+-- by the lines at which the gate may stop the reading
 pub record IsFed (told : Option Trace) (may_stop : ℕ → Type 0) (items : List Item) : Type 0 where
   pub calls : List Call
   pub end : Ending
@@ -62,7 +62,7 @@ abbrev pub is_failed_read : Option Ending → Bool
 is_failed_read (Some (Torn ReadFailed)) = true
 is_failed_read end = false
 
--- the count of the input's failures rose by one just where the end mark tells a read that failed; without a
+-- the count of the input's failures rose by one just where the end mark says that a read failed; without a
 -- receipt it rose by one at most
 abbrev pub CountsReads : ℕ → ℕ → Result Receipt Unsealed → Type 0
 CountsReads old new (Ok receipt) = new ≡ count_if (is_failed_read (end_mark_of (sent_whole receipt))) old
@@ -77,7 +77,7 @@ abbrev pub TraceGoesOn : Option Trace → List Call → Option Trace → Type 0
 TraceGoesOn None calls now = ⊤
 TraceGoesOn (Some whole) calls now = (rest : Trace) × (now ≡ Some rest) × IsBehind whole calls rest
 
--- the items put are records, and what is told goes on behind them
+-- the items put are records, and the known trace goes on after them
 pub record Continues (told : Option Trace) (items : List Item) (now : Option Trace) : Type 0 where
   pub calls : List Call
   pub are : items ≡ map Entry calls

@@ -8,15 +8,15 @@ use Rattle.rankfeed.specs.declared.item.Item.{Item}
 use Rattle.rankfeed.specs.declared.item.Item.TheVariants.{Entry, Mark}
 use Rattle.gather.specs.Fed.{IsFed, Continues, line_behind}
 
--- the items are records of a source that began so, and it goes on behind them. The next question's line stands
--- behind them
+-- the items are records of a source that began so, and it goes on after them. The next question's line is
+-- after them
 pub record IsReading {I : Type 0} (left : I → Option (List ℕ)) (start now : Source I) (items : List Item) (line : ℕ) : Type 0 where
   pub fresh : ended now ≡ None
   pub told : Continues (coming left start) items (coming left now)
   pub at : line ≡ line_behind (length items)
 
--- either this record comes behind the items, and the source is still being read, or this end mark behind them makes
--- them all that is read of it
+-- either this record comes after the items, and the source is still being read, or this end mark after them
+-- makes them all that is read of it
 abbrev pub IsNextRead : {I : Type 0} → (I → Option (List ℕ)) → (ℕ → Type 0) → Source I → Source I → List Item → ℕ → Call → Option Ending → Type 0
 IsNextRead left may_stop start now items line call None = IsReading left start now (items ++ Entry call ∷ []) line
 IsNextRead left may_stop start now items line call (Some end) = IsFed (coming left start) may_stop (items ++ Mark end ∷ [])

@@ -10,8 +10,8 @@ use Rattle.rankfeed.specs.declared.ring.Receipt.{Receipt}
 use Rattle.rankfeed.specs.declared.ring.Taker.{Taker}
 use Rattle.gather.specs.Takers.{received_in, left_in}
 
--- the trace that the items of a feed make: their records, and the end that their end mark tells; items without one
--- stop before their end record
+-- the trace that the items of a feed make: their records, and the end that their end mark says; items without
+-- one stop before their end record
 abbrev pub trace_of_items : List Item → Trace
 trace_of_items items = record { records = calls_among items; end = unwrap_or (end_mark_of items) (Torn NoFinalize) }
 

@@ -20,7 +20,7 @@ use watches::watch::{Told, Watch};
 
 /// The takers of all ranks' feeds, and what is kept of the records that came.
 ///
-/// Unless memory was wanted, each rank's calls are its records before its first fault, and that fault is kept
+/// Unless memory ran out, each rank's calls are its records before its first fault, and that fault is kept
 /// with its place, whatever the order in which the ranks' records came.
 pub struct Collector {
     alloc: Global,
@@ -42,7 +42,7 @@ impl Drop for Collector {
     }
 }
 
-/// Takes the item at the front of a rank's feed, and enters it. A record is looked at where it stands.
+/// Takes the item at the front of a rank's feed, and enters it. A record is looked at in its place.
 fn enter_next(taker: &mut Taker, ledger: &mut Ledger, rank: u16) -> Stepped
     requires { rank < length ledger.old.recording }
     ensures { EntersNext rank taker.old ledger.old result taker.new ledger.new }
@@ -70,7 +70,7 @@ fn meet_at(takers: &mut Vec<Taker>, rank: u16, receipt: Receipt)
     takers[usize::from(rank)].meet(receipt);
 }
 
-/// The rank without a receipt, which want of memory hides.
+/// The rank without a receipt, which lack of memory hides.
 fn unproved(ledger: &Ledger, missing: Option<u16>) -> Option<u16>
     ensures some { IfSome result (λ rank. missing ≡ Some rank) }
     ensures calm { IfSome result (λ rank. ledger.now.wanted ≡ false) }
@@ -129,9 +129,9 @@ impl Collector {
         enter_next(taker, &mut self.ledger, rank)
     }
 
-    /// Publishes where the ranks stand now over what is kept, and tells of it. Where they stand as they did at
-    /// the last publication, that is told again. It may wait for a watch that is being read, and takes no
-    /// memory. Without watches the stands are recorded and told all the same.
+    /// Publishes where the ranks stand now over what is kept, and answers it. Where they stand as they did at
+    /// the last publication, that is answered again. It may wait for a watch that is being read, and takes no
+    /// memory. Without watches the stands are recorded and answered all the same.
     pub fn publish(&mut self, wait: &impl Wait) -> Result<Told, PublishFault>
         ensures published { OnOk result (Publishes (stands_now self.old) (published self.old) (published self.new)) }
         ensures fault { OnErr result (published self.new ≡ published self.old) }
@@ -149,8 +149,9 @@ impl Collector {
         self.publisher.publish(&stands, wait)
     }
 
-    /// Whether what a watch of this session knows is a beginning of what was published, so that the watch answers by
-    /// a publication of this session. If not, what was published is a beginning of what the watch knows.
+    /// Whether what a watch of this session knows is a prefix of what was published, so that the watch
+    /// answers by a publication of this session. If not, what was published is a prefix of what the watch
+    /// knows.
     pub fn covers(&self, watch: &Watch) -> bool
         requires { list_watched watch.now ≡ list_published self.now }
         ensures value { result ≡ nat_le (length (seen_by watch.now)) (length (published self.now)) }
@@ -252,8 +253,8 @@ impl Collector {
     }
 
     /// What comes of all that was taken by receipts, where this is the lowest rank without one: the second half of
-    /// `close`. `Memory` comes first, where memory was wanted; then `Unproved`, for that rank; then `Refused`, for
-    /// the lowest rank that has a fault.
+    /// `close`. `Memory` comes first, where memory ran out; then `Unproved`, for that rank; then `Refused`,
+    /// for the lowest rank that has a fault.
     pub fn conclude(self, missing: Option<u16>) -> Result<Outcome, CloseFault>
         requires { (receipts : List (Option ReceiptValue)) × IsFinished self receipts missing }
         ensures answer { (receipts : List (Option ReceiptValue)) → IsFinished self receipts missing → Closes (kept self).reading (kept self).groups receipts result }
@@ -269,9 +270,9 @@ impl Collector {
     }
 
     /// Takes all that was sent, by the receipts of the ranks' feeds, and answers what comes of it, as `finish_all`
-    /// and `conclude` say: `Memory` first, where memory was wanted before or within this call; then `Unproved`, for
-    /// the lowest rank without a receipt; then `Refused`, for the lowest rank that has a fault. An outcome has each
-    /// rank's calls once, in their order, and none behind the rank's end record.
+    /// and `conclude` say: `Memory` first, where memory ran out before or within this call; then `Unproved`,
+    /// for the lowest rank without a receipt; then `Refused`, for the lowest rank that has a fault. An
+    /// outcome has each rank's calls once, in their order, and none after the rank's end record.
     pub fn close(self, receipts: Vec<Option<Receipt>>) -> Result<Outcome, CloseFault>
         requires { AreReceiptsOf (rings self) receipts.items }
         ensures answer { Closes (kept self).reading (kept self).groups receipts.items result }

@@ -22,7 +22,7 @@ use mpicall::source::Source;
 use rankfeed::{Ending, Feed, Receipt, Unsealed};
 use std::sync::Wait;
 
-/// The end mark behind records that a source has no more of: whether the last of them ended the list.
+/// The end mark after records that a source has no more of: whether the last of them ended the list.
 #[inline(always)]
 fn end_of(done: bool) -> Ending
     ensures { result ≡ end_behind done }
@@ -34,7 +34,7 @@ fn end_of(done: bool) -> Ending
     }
 }
 
-/// Puts the end mark behind the records.
+/// Puts the end mark after the records.
 fn end_with(feed: Feed, end: Ending) -> Result<Receipt, Unsealed>
     requires { end ≡ Sealed → IsTrue (end_the_list (sent_by feed)) }
     ensures name { IfOk result (λ receipt. receipt_ring receipt ≡ feed_ring feed) }
@@ -48,8 +48,8 @@ fn end_with(feed: Feed, end: Ending) -> Result<Receipt, Unsealed>
 }
 
 /// Reads the next record of a rank's source into one place, for those that read many. Where the records end, it
-/// answers the end mark that is to come behind them. `done` says whether the last record so far ended the list.
-/// The gate is asked first, by the number of the calls before.
+/// answers the end mark that is to come after them. `done` says whether the last record so far ended the
+/// list. The gate is asked first, by the number of the calls before.
 #[inline(always)]
 pub fn next_of<I: Input, G: Gate>(
     rank: u16,
@@ -79,8 +79,8 @@ pub fn next_of<I: Input, G: Gate>(
     }
 }
 
-/// Puts the records of a rank's source on the rank's feed, with the end mark behind them. Before each call
-/// of the source, the one that tells its end too, it asks the gate, by the number of the calls before.
+/// Puts the records of a rank's source on the rank's feed, with the end mark after them. Before each call
+/// of the source, the one that answers its end too, it asks the gate, by the number of the calls before.
 pub fn feed<I: Input, G: Gate>(
     rank: u16,
     source: &mut Source<I>,
@@ -110,7 +110,7 @@ pub fn feed<I: Input, G: Gate>(
     unreachable!()
 }
 
-/// The end mark behind all the records of a text is that of the text's end.
+/// The end mark after all the records of a text is that of the text's end.
 #[tactic(auto, using(crate::proofs::FedLemmas::mark_text))]
 pub fn each_text_has_its_own_mark()
     ensures { (bytes : List ℕ) → mark_of (trace_of bytes).records (trace_of bytes).end ≡ (trace_of bytes).end }

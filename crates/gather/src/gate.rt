@@ -4,7 +4,7 @@ ghost use Rattle.std.specs.Prelude.{◌≡◌, ℕ, false, ⊤};
 
 /// Lets records be read or stops the reading. All that read ask one gate.
 pub trait Gate {
-    /// At which rank and line the answer may be false. Without a word of its own a gate tells nothing.
+    /// At which rank and line the answer may be false. Without a word of its own a gate says nothing.
     ghost may_stop: { Self → ℕ → ℕ → Type 0 } = { λ gate rank line. ⊤ };
 
     /// Whether the rank's record at `line` may be read, counted from 0.

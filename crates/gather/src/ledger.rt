@@ -24,7 +24,7 @@ pub enum Stepped {
     Took,
     /// A record with a fault, the first of its rank.
     Refused,
-    /// A record, which was thrown away: its rank has a fault, or memory was wanted.
+    /// A record, which was thrown away: its rank has a fault, or memory ran out.
     Discarded,
     /// Nothing is there now.
     Empty,
@@ -33,7 +33,7 @@ pub enum Stepped {
 }
 
 /// The records of all ranks that were accepted, and each rank's first fault. Contracts see these, and whether
-/// memory was wanted.
+/// memory ran out.
 pub struct Ledger {
     analyser: Analyser,
     faults: Vec<Option<(u32, RankFault)>>,
@@ -94,7 +94,7 @@ impl Ledger {
         self.faults[usize::from(rank)].is_none() && !self.wanted
     }
 
-    /// Keeps a fault of a rank behind its records.
+    /// Keeps a fault of a rank after its records.
     fn keep(&mut self, rank: u16, fault: RankFault)
         requires { rank < length self.old.recording }
         ensures { self.new ≡ with_fault self.old rank fault }
@@ -135,7 +135,7 @@ impl Ledger {
         }
     }
 
-    /// Whether memory was wanted.
+    /// Whether memory ran out.
     pub fn is_wanting(&self) -> bool
         ensures { result ≡ self.now.wanted }
     {
@@ -178,9 +178,9 @@ impl Ledger {
         }
     }
 
-    /// What comes of the run once all of its records were taken. `Memory` comes first, where memory was wanted;
+    /// What comes of the run once all of its records were taken. `Memory` comes first, where memory ran out;
     /// then `Refused`, for the lowest rank that has a fault. An outcome has each rank's calls once, in their order,
-    /// and none behind the rank's end record.
+    /// and none after the rank's end record.
     pub fn conclude(self, alloc: Global) -> Result<Outcome, CloseFault>
         requires { self.wanted ≡ false → refusal_kept self ≡ None → IsLawful self.groups self.recording → IsClosed self.recording }
         ensures { Concludes self result }

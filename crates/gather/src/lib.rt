@@ -3,11 +3,12 @@
 //! What it promises, as contracts that are proved:
 //!
 //! - `session::Session::open` opens a feed for each rank, and their collector.
-//! - `collector::Collector::step` takes one item of a rank's feed. After each step, unless memory was wanted, the
-//!   records received of each rank before its first fault are kept, and that fault.
+//! - `collector::Collector::step` takes one item of a rank's feed. After each step, unless memory ran out,
+//!   the records received of each rank before its first fault are kept, and that fault.
 //! - `Collector::close` takes what is left, by a receipt for each rank, and answers what the traces that the
-//!   receipts hold give, whatever steps came before: each rank's calls once, in order, none behind its end record.
-//!   It is `finish_all` and then `conclude`, which say that want of memory is told before a missing receipt.
+//!   receipts hold give, whatever steps came before: each rank's calls once, in order, none after its end
+//!   record. It is `finish_all` and then `conclude`, which say that lack of memory is answered before a
+//!   missing receipt.
 //! - `outcome::Outcome::verdict` is `Hang` exactly if some rank is held; where no list was left open, exactly if
 //!   some rank is stuck.
 //! - `Collector::publish` publishes where the ranks stand over what is kept so far, no rank lower than before, and
@@ -15,7 +16,7 @@
 //!   state that some run over what is kept passes. Where `covers` says yes, a watch answers by one of them.
 //! - `feed::feed` puts the records of one source on a rank's feed and ends it.
 //!
-//! The definitions stand in `specs/`: `Answers` says which refusal or verdict some traces have, `Collected` and
+//! The definitions are in `specs/`: `Answers` says which refusal or verdict some traces have, `Collected` and
 //! `Closes` what a session keeps and answers, `Fed` what is read of a source. Those of the crate `watches` say
 //! what is published and read. Runs over the sources of all ranks, with threads or by turns, are in the crate
 //! `runs`.

@@ -30,7 +30,7 @@ pub enum CloseFault {
 }
 
 /// What is said of a run whose calls were all accepted. Each rank's last call is its end record, and none comes
-/// behind that. Contracts see what its analyser has.
+/// after that. Contracts see what its analyser has.
 pub struct Outcome {
     analyser: Analyser,
     graph: Graph,

@@ -7,7 +7,7 @@ use mpicall::spelling::write_line;
 use std::alloc::Global;
 use std::fmt::Display;
 
-/// An answer, and the first thing that went wrong with it. So what adds to it needs to tell no fault.
+/// An answer, and the first thing that went wrong with it. So what adds to it needs to report no fault.
 pub struct Answer {
     text: String,
     /// Where the last of several answers begins.
@@ -69,14 +69,14 @@ impl Answer {
         self.put(if is_so { "yes" } else { "no" });
     }
 
-    /// Adds a separator, unless nothing stands before it.
+    /// Adds a separator, unless it is the first.
     pub fn separate(&mut self, separator: &str) {
         if !self.text.is_empty() {
             self.put(separator);
         }
     }
 
-    /// Adds a value behind a text.
+    /// Adds a value after a text.
     pub fn value<T: Display>(&mut self, before: &str, value: &T) {
         if write!(self.text, "{before}{value}").is_err() {
             self.fail(Fault::Memory);
@@ -89,7 +89,7 @@ impl Answer {
         self.value(" ", fault);
     }
 
-    /// Adds a number behind a text.
+    /// Adds a number after a text.
     pub fn number(&mut self, before: &str, number: u32) {
         self.value(before, &number);
     }
@@ -103,7 +103,7 @@ impl Answer {
         }
     }
 
-    /// Adds a rank and a place, or a communicator and a wave, behind a text.
+    /// Adds a rank and a place, or a communicator and a wave, after a text.
     pub fn pair(&mut self, before: &str, first: u16, second: u32) {
         self.number(before, u32::from(first));
         self.number(" ", second);
@@ -165,7 +165,7 @@ impl Answer {
         }
     }
 
-    /// Tells `none` where nothing was told.
+    /// Adds `none` where nothing was added.
     pub fn close(&mut self) {
         if self.text.is_empty() {
             self.put("none");

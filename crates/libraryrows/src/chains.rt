@@ -21,7 +21,7 @@ fn list_in(lists: &Lists<u32>, number: u32) -> Option<ListId>
     }
 }
 
-/// The node behind one, if that stands in a list.
+/// The node after one, if that is in a list.
 fn behind(lists: &Lists<u32>, node: Node) -> Option<Node> {
     if lists.list_of(node).is_none() {
         return None;
@@ -92,7 +92,7 @@ fn append(lists: &mut Lists<u32>, text: &str) -> bool {
     true
 }
 
-/// Does what a line says, if it changes the lists and tells nothing of them.
+/// Does what a line says, if it changes the lists and answers nothing.
 pub fn set_lists(answer: &mut Answer, lists: &mut Lists<u32>, word: &str, text: &str) -> bool {
     let is_done = match word {
         "newlist" => text.is_empty() && lists.new_list().is_ok(),

@@ -107,7 +107,7 @@ impl Desk {
         self.read_by(answer, Some(Reading::Strict));
     }
 
-    /// Begins the run anew, by a reading.
+    /// Begins the run again, by a reading.
     fn read_by(&mut self, answer: &mut Answer, reading: Option<Reading>) {
         let Some(reading) = reading else {
             answer.fail(Fault::Unread);
@@ -199,7 +199,7 @@ impl Desk {
         true
     }
 
-    /// Answers a question behind whose word no numbers stand, if it is such a one.
+    /// Answers a question after whose word there are no numbers, if it is such a one.
     fn tell_of_words(&self, answer: &mut Answer, word: &str, rest: &str) -> bool {
         match word {
             "line" => tell_text(answer, rest),
@@ -292,7 +292,7 @@ impl Desk {
         }
     }
 
-    /// Answers a question: `none` where nothing is to be told.
+    /// Answers a question: `none` where there is nothing to answer.
     pub fn ask(&mut self, answer: &mut Answer, line: &str, wait: &impl Wait) {
         let (asked, rest) = first_word(line);
         let is_answered = self.take_once(answer, asked, rest)

@@ -9,7 +9,7 @@ pub enum Fault {
 }
 
 impl Fault {
-    /// The fault in words, behind `answered`.
+    /// The fault in words, after `answered`.
     pub fn text(self) -> &'static str {
         match self {
             Fault::Unread => "nothing: it can't be read",

@@ -38,7 +38,7 @@ fn tell_kind(answer: &mut Answer, comm: u16, kind: Kind) {
     }
 }
 
-/// Adds a number behind a name, or `none`.
+/// Adds a number after a name, or `none`.
 fn tell_option(answer: &mut Answer, name: &str, number: Option<u32>) {
     match number {
         Some(number) => answer.number(name, number),
@@ -56,7 +56,7 @@ fn tell_peer(answer: &mut Answer, name: &str, peer: Peer, tag: u32) {
     answer.number(", tag ", tag);
 }
 
-/// Adds the bytes of a message, where they are told.
+/// Adds the bytes of a message, where they are known.
 fn tell_bytes(answer: &mut Answer, bytes: Option<u32>) {
     if let Some(count) = bytes {
         answer.number(", bytes ", count);
@@ -76,7 +76,7 @@ fn tell_received(answer: &mut Answer, comm: u16, source: Peer, tag: u32) {
     tell_peer(answer, ", source", source, tag);
 }
 
-/// Adds the values of a message that is sent, behind how it is sent.
+/// Adds the values of a message that is sent, after how it is sent.
 fn tell_sent(answer: &mut Answer, mode: Mode, comm: u16, dest: Peer, tag: u32) {
     answer.put(mode_text(mode));
     answer.value(", comm ", &comm);
@@ -167,7 +167,7 @@ fn tell_collective(answer: &mut Answer, call: &Call) {
     }
 }
 
-/// Adds the values of a call: its shape, and each value behind its name.
+/// Adds the values of a call: its shape, and each value after its name.
 pub fn tell_values(answer: &mut Answer, call: &Call) {
     match *call {
         Call::Sendrecv {
@@ -248,7 +248,7 @@ fn sized_call(word: &str, bytes: Option<u32>) -> Option<Call> {
     }
 }
 
-/// The call of a word and of the bytes behind it, a number or `none`.
+/// The call of a word and of the bytes after it, a number or `none`.
 fn sized_in(text: &str) -> Option<Call> {
     let (word, bytes) = first_word(text);
     if bytes == "none" {

@@ -1,4 +1,4 @@
-//! What is told of the groups of splits, and of lists of requests.
+//! What is answered of the groups of splits, and of lists of requests.
 
 use crate::answer::Answer;
 use crate::fault::Fault;

@@ -1,12 +1,13 @@
-//! Asks the library crates questions whose answers are known, and tells each answer that is another. It reads its
-//! rows from standard input, and tells at the end how many rows there were and how many answers were as wanted:
-//! `stdout` has both numbers, so that a row that is lost, or a line that can't be read, shows.
+//! Asks the library crates questions whose answers are known, and prints each answer that is another. It
+//! reads its rows from standard input, and prints at the end how many rows there were and how many answers
+//! were as wanted: `stdout` has both numbers, so that a row that is lost, or a line that can't be read,
+//! shows.
 //!
 //! A row begins with `row NAME`: a run of one rank without calls, and an empty text. Each further line sets
-//! something up, or asks something and has the answer behind ` -> `; where no answer stands, it is `ok`. Empty
-//! lines and those with `#` in front are passed over. Words have one space between two, and numbers are decimal.
-//! CALLS are a rank and lines of a trace with ` / ` between two, of which each may begin with its rank where that
-//! is another than the one before: `0 send 0 1 0 / finalize / 1 recv 0 0 0 / finalize`.
+//! something up, or asks something and has the answer after ` -> `; where there is no answer, it is `ok`.
+//! Empty lines and those with `#` in front are passed over. Words have one space between two, and numbers are
+//! decimal. CALLS are a rank and lines of a trace with ` / ` between two, of which each may begin with its
+//! rank where that is another than the one before: `0 send 0 1 0 / finalize / 1 recv 0 0 0 / finalize`.
 //!
 //! Runs. `head LINE / LINE ..` begins a run without calls. Its analyser gets the calls of `offer`, and its pairs
 //! those of `add`; the first call that is refused is the answer, as `refused CODE WORDS`, for `add` as
@@ -16,13 +17,13 @@
 //!   and then `finalize`); `add CALLS`, `adds N CALLS`
 //! - `told RANK LINE -> send RANK PLACE, recv RANK PLACE, wave COMM WAVE full` adds a call: its partners and its
 //!   wave, as far as there are such, or `none`
-//! - `reading strict`, `reading eager N` begins the run anew, with the same head, under that reading; `head` begins
-//!   it under the strict one; `heldback READING READING -> RANK RANK ..`: the ranks that stand earlier by the first,
-//!   which is to be no laxer than the second, over the calls that were offered
+//! - `reading strict`, `reading eager N` begins the run again, with the same head, under that reading; `head`
+//!   begins it under the strict one; `heldback READING READING -> RANK RANK ..`: the ranks that stand earlier
+//!   by the first, which is to be no laxer than the second, over the calls that were offered
 //! - of the analyser: `stands -> N N ..`, `closed -> yes|no`, `ended RANK -> yes|no`,
 //!   `accepted RANK -> N`, `record RANK PLACE -> LINE`, `joins RANK PLACE -> COMM WAVE`, `touches LEAST MOST ->
 //!   within`; `mixes CALLS -> N mixes, N N ..`: in how many orders the ranks' lists may come, and where the ranks
-//!   stand after them, which is told once if it is alike after all
+//!   stand after them, which is answered once if it is alike after all
 //! - of the pairs: `added RANK -> N`, `over RANK -> yes|no`, `call RANK PLACE -> LINE`, `partner RANK PLACE
 //!   send|recv -> RANK PLACE`, `wave RANK PLACE -> COMM WAVE`, `member COMM WAVE MEMBER -> PLACE`, `started RANK
 //!   PLACE REQ -> PLACE`, `completed RANK PLACE INDEX -> PLACE`, `probed RANK PLACE -> RANK PLACE`, `work -> N`,
@@ -45,14 +46,14 @@
 //! - `ashead -> ranks N, comms N`, or `line N CODE WORDS`
 //! - `astrace -> N calls`, or `call N CODE WORDS`; `fronts N M` the same of the first N to M bytes; `gives N -> LINE
 //!   / end / end`: what a source gives when it is asked N times. Each is asked of inputs that give 1, 2, 7, 1000 or
-//!   all bytes a read, and told once if all agree
+//!   all bytes a read, and answered once if all agree
 //! - `fault N -> CODE WORDS` of a source, numbered from 0; `requests N -> all|none`: whether a wait may name so many;
 //!   `split COLOUR KEY / undefined KEY .. -> RANK RANK .. / RANK ..`: the groups of a split
 //!
 //! Lists of numbers in an arena, which a row has none of at first.
 //!
 //! - `newlist` makes the next one, from 0; `push LIST VALUE`, `move LIST PLACE LIST` (to the back), `append LIST LIST`
-//!   (the second's behind the first's)
+//!   (the second's after the first's)
 //! - `pop LIST -> VALUE`, `unlink LIST PLACE -> VALUE`, `list LIST -> VALUE VALUE ..`, each `none` where there is none;
 //!   `touched -> N`: how often a node was put into a list or taken out of one
 #![tactic(auto)]

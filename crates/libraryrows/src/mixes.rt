@@ -60,7 +60,7 @@ fn offer_next(run: &mut Analyser, calls: &[(u16, Record)], rank: u16) -> bool {
     }
 }
 
-/// Offers calls in the order of a mix, and tells where the ranks stand then.
+/// Offers calls in the order of a mix, and answers where the ranks stand then.
 fn tell_mix(answer: &mut Answer, run: &mut Analyser, calls: &[(u16, Record)], mix: &[u16]) {
     for rank in mix {
         if !offer_next(run, calls, *rank) {
@@ -83,7 +83,7 @@ fn mixes_of(
     Ok(mixes)
 }
 
-/// Tells where the ranks of a run stand after each mix of calls: all that differ.
+/// Answers where the ranks of a run stand after each mix of calls: all that differ.
 fn tell_each(
     answer: &mut Answer,
     head: &[u8],

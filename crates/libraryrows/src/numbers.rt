@@ -6,7 +6,7 @@ use crate::words::{Numbers, short};
 use moves::analyser::Analyser;
 use pairing::pairs::Pairs;
 
-/// What is told.
+/// What is answered.
 #[derive(Clone, Copy)]
 pub enum Told {
     /// There is no such question.

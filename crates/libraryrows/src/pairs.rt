@@ -1,4 +1,4 @@
-//! What is told of calls that are added to `Pairs`.
+//! What is answered of calls that are added to `Pairs`.
 
 use crate::answer::Answer;
 use crate::calls::{calls_in, record_of};
@@ -9,7 +9,7 @@ use mpicall::record::Record;
 use pairing::added::{Added, PairFault};
 use pairing::pairs::Pairs;
 
-/// Adds a rank's next call, tells why it is refused, if it is, and else answers what is told of it.
+/// Adds a rank's next call, answers why it is refused, if it is, and else answers what the row asks of it.
 fn add_call(answer: &mut Answer, pairs: &mut Pairs, rank: u16, call: &Record) -> Option<Added> {
     let place = pairs.accepted(rank).unwrap_or(0);
     if rank >= pairs.head().ranks() {
@@ -31,7 +31,7 @@ fn add_call(answer: &mut Answer, pairs: &mut Pairs, rank: u16, call: &Record) ->
     }
 }
 
-/// Adds calls, up to the first that is refused, and tells whether all were taken.
+/// Adds calls, up to the first that is refused, and answers whether all were taken.
 fn add_calls(answer: &mut Answer, pairs: &mut Pairs, calls: &[(u16, Record)]) -> bool {
     for (rank, call) in calls {
         if add_call(answer, pairs, *rank, call).is_none() {
@@ -77,7 +77,7 @@ fn tell_added(answer: &mut Answer, added: &Added) {
     }
 }
 
-/// Adds one call of a rank: what is told of it.
+/// Adds one call of a rank: what the row asks of it.
 pub fn told(answer: &mut Answer, pairs: &mut Pairs, text: &str) {
     let (word, line) = first_word(text);
     let rank = word.parse::<u16>().unwrap_or(u16::MAX);

@@ -14,7 +14,7 @@ use mpicall::record::Record;
 use mpigroup::head::Head;
 use std::alloc::{AllocError, Global};
 
-/// The reading that a text begins with, `strict`, or `eager` and a limit; and what stands behind it.
+/// The reading that a text begins with, `strict`, or `eager` and a limit; and what follows it.
 fn reading_before(text: &str) -> Option<(Reading, &str)> {
     let (word, rest) = first_word(text);
     match word {
@@ -118,7 +118,7 @@ fn offer_all(
     Ok(())
 }
 
-/// The ranks that the first reading holds back behind where they stand by the second.
+/// The ranks that the first reading holds back from where they are by the second.
 fn ranks_held_back(
     alloc: Global,
     head: &[u8],

@@ -20,7 +20,7 @@ pub fn begin(alloc: Global, head: &[u8], reading: Reading) -> Result<Analyser, F
     }
 }
 
-/// Offers a call, tells why it is refused, if it is, and answers whether it was taken.
+/// Offers a call, answers why it is refused, if it is, and answers whether it was taken.
 fn offer_call(answer: &mut Answer, run: &mut Analyser, rank: u16, call: &Record) -> bool {
     if rank >= run.head().ranks() {
         answer.fail(Fault::Missing);

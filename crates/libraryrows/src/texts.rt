@@ -1,4 +1,4 @@
-//! What is told of texts: lines, traces and heads.
+//! What is answered of texts: lines, traces and heads.
 
 ghost use Rattle.std.specs.Prelude.{◌<◌};
 
@@ -17,10 +17,10 @@ use mpigroup::fault::ReadFault;
 use mpigroup::head::Head;
 use std::sync::Wait;
 
-/// What may stand behind a `\`, and the byte that it is.
+/// What may follow a `\`, and the byte that it is.
 const ESCAPES: [(&str, u8); 4] = [("n", b'\n'), ("r", b'\r'), ("0", 0), ("ff", 255)];
 
-/// Adds a piece that stood behind a `\`, if it begins as one may.
+/// Adds a piece that followed a `\`, if it begins as one may.
 fn add_escape(bytes: &mut Vec<u8>, piece: &str) -> bool {
     for (letters, byte) in &ESCAPES {
         if let Some(rest) = piece.strip_prefix(*letters) {
@@ -54,7 +54,7 @@ fn is_written(answer: &mut Answer, record: &Record, line: &[u8]) -> bool {
     output.bytes() == line
 }
 
-/// What is told of a line: its first fault, or `ok` where its record is written as it was.
+/// What is answered of a line: its first fault, or `ok` where its record is written as it was.
 pub fn tell_line(answer: &mut Answer, line: &[u8]) {
     match read_line(line) {
         Ok(record) => {
@@ -65,7 +65,7 @@ pub fn tell_line(answer: &mut Answer, line: &[u8]) {
     }
 }
 
-/// What is told of a text, as a line with its line feed.
+/// What is answered of a text, as a line with its line feed.
 pub fn tell_text(answer: &mut Answer, text: &str) {
     let mut bytes = Vec::new(answer.alloc());
     if !add_text(&mut bytes, text) || bytes.push(b'\n').is_err() {
@@ -125,7 +125,7 @@ fn input_of(text: &[u8], most: usize) -> MemoryInput<'_> {
     }
 }
 
-/// What is told of the trace that an input gives.
+/// What is answered of the trace that an input gives.
 fn tell_trace_of(answer: &mut Answer, input: MemoryInput<'_>, wait: &impl Wait) {
     match lint(&mut Source::new(input), wait) {
         Ok(count) => {
@@ -140,7 +140,7 @@ fn tell_trace_of(answer: &mut Answer, input: MemoryInput<'_>, wait: &impl Wait) 
     }
 }
 
-/// What is told of a text as a trace, by inputs that give pieces of any size: all that differ.
+/// What is answered of a text as a trace, by inputs that give pieces of any size: all that differ.
 pub fn tell_trace(answer: &mut Answer, text: &[u8], wait: &impl Wait) {
     let mut told = Answer::new(answer.alloc());
     for most in &PIECES {
@@ -150,7 +150,8 @@ pub fn tell_trace(answer: &mut Answer, text: &[u8], wait: &impl Wait) {
     }
 }
 
-/// What is told of the first bytes of a text as a trace, for each of these counts of bytes: all that differ.
+/// What is answered of the first bytes of a text as a trace, for each of these counts of bytes: all that
+/// differ.
 pub fn tell_fronts(answer: &mut Answer, text: &[u8], first: u32, last: u32, wait: &impl Wait) {
     for count in first..=last {
         match text.get(..count as usize) {
@@ -183,7 +184,7 @@ pub fn tell_records(answer: &mut Answer, text: &[u8], count: u32) {
     }
 }
 
-/// What is told of a text as a head.
+/// What is answered of a text as a head.
 pub fn tell_head(answer: &mut Answer, text: &[u8]) {
     match Head::read(answer.alloc(), text) {
         Ok(head) => {

@@ -65,7 +65,7 @@ pub enum GraphQuestion {
     Report(Format),
 }
 
-/// The question that a word asks of a wait graph, with what stands behind it.
+/// The question that a word asks of a wait graph, with what follows it.
 pub fn question_in(word: &str, rest: &str) -> Option<GraphQuestion> {
     match (word, rest) {
         ("verdict", "") => Some(GraphQuestion::Verdict),

@@ -1,6 +1,6 @@
 //! The words of a line.
 
-/// The first word of a text, and what stands behind it. Words have one space between two.
+/// The first word of a text, and what follows it. Words have one space between two.
 pub fn first_word(text: &str) -> (&str, &str) {
     text.split_once(' ').unwrap_or((text, ""))
 }

@@ -22,7 +22,7 @@ came_with Came.Empty call = Empty
 came_with Came.Sealed call = Sealed
 came_with (Came.Torn fault) call = Torn fault
 
--- how a taker tells an end mark, and where it looks alone
+-- how a taker answers an end mark, and where it looks alone
 abbrev pub told_end : Ending → Took
 told_end Ending.Sealed = Sealed
 told_end (Ending.Torn fault) = Torn fault
@@ -31,8 +31,8 @@ abbrev pub came_end : Ending → Came
 came_end Ending.Sealed = Came.Sealed
 came_end (Ending.Torn fault) = Came.Torn fault
 
--- what is received once an answer was given: where no end mark had come, the one item that it tells is
--- added, and Empty adds nothing; an end mark that had come is told again, and nothing is added
+-- what is received once an answer was given: where no end mark had come, the one item that it has is
+-- added, and Empty adds nothing; an end mark that had come is answered again, and nothing is added
 abbrev pub Receives : Option Ending → Took → List Item → List Item → Type 0
 Receives (Some earlier) took old new = (took ≡ told_end earlier) × (new ≡ old)
 Receives None (Record call) old new = new ≡ old ++ Entry call ∷ []

@@ -1,4 +1,4 @@
--- What a feed carries: records, and behind them one end mark.
+-- What a feed carries: records, and after them one end mark.
 use Rattle.std.specs.Prelude.{◌≡◌, Bool, true, false, not, ◌&&◌, Option, Some, None, is_some, List, [], ◌∷◌, ◌++◌}
 use Rattle.mpicall.specs.declared.call.Call.{Call}
 use Rattle.mpicall.specs.Ending.{ends_list}
@@ -7,7 +7,7 @@ use Rattle.mpicall.specs.declared.fault.Ending.TheVariants.{Sealed, Torn}
 use Rattle.rankfeed.specs.declared.item.Item.{Item}
 use Rattle.rankfeed.specs.declared.item.Item.TheVariants.{Entry, Mark}
 
--- what may follow what: the item before, if there is one, and the item behind it. The end record of a rank's
+-- what may follow what: the item before, if there is one, and the item after it. The end record of a rank's
 -- list is MPI_Finalize (MPI 4.0, section 11.2.2), or the record that the list was left open
 abbrev pub may_follow : Option Item → Item → Bool
 may_follow None (Entry call) = true
@@ -18,7 +18,7 @@ may_follow (Some (Entry earlier)) (Mark Sealed) = ends_list earlier
 may_follow (Some (Entry earlier)) (Mark (Torn fault)) = true
 may_follow (Some (Mark earlier)) next = false
 
--- the last of the items behind a first one; that one where there are no more
+-- the last of the items after a first one; that one where there are no more
 abbrev pub last_behind : Option Item → List Item → Option Item
 last_behind before [] = before
 last_behind before (next ∷ items) = last_behind (Some next) items
@@ -64,7 +64,7 @@ calls_among (Entry call ∷ items) = call ∷ calls_among items
 calls_among (Mark earlier ∷ items) = calls_among items
 
 -- the order of a feed's items in plain words: an end mark is last, no record follows the one that
--- ends the list, and Sealed stands only directly behind it
+-- ends the list, and Sealed comes only directly after it
 pub record IsFeed (items : List Item) : Type 0 where
   pub mark_is_last : (before after : List Item) (earlier : Ending) → items ≡ before ++ Mark earlier ∷ after → after ≡ []
   pub none_behind_list_end : (before after : List Item) (call : Call) → items ≡ before ++ Entry call ∷ after → ends_list call ≡ true → calls_among after ≡ []

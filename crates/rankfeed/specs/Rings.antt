@@ -52,7 +52,7 @@ received_by taker = received taker.ring
 abbrev pub left_for : Taker → List Item
 left_for taker = known_items taker.ring
 
--- the record at the front, where one is known to stand there
+-- the record at the front, where one is known to be there
 abbrev pub first_record : List Item → Option Call
 first_record (Entry call ∷ items) = Some call
 first_record _ = None

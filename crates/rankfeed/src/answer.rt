@@ -40,7 +40,7 @@ pub enum Took {
 /// What a taker finds where it looks.
 #[derive(Clone, Copy, PartialEq, Eq)]
 pub enum Came {
-    /// The next record, which stands at the front now.
+    /// The next record, which is at the front now.
     Record,
     /// Nothing is there now.
     Empty,

@@ -12,7 +12,7 @@ const YIELDS: u32 = 4;
 /// The longest sleep where no bell rings, in microseconds.
 const LONGEST_SLEEP: u64 = 1_000;
 
-/// What stands in the word while some thread wants to be woken.
+/// What is in the word while some thread wants to be woken.
 const WANTED: u64 = 1;
 
 /// One end's hold of a bell. Nothing is promised of it: a thread that isn't woken looks again by itself.

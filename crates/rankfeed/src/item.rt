@@ -1,4 +1,4 @@
-//! What a feed carries: the records of its rank, and behind them one end mark.
+//! What a feed carries: the records of its rank, and after them one end mark.
 
 ghost use Rattle.std.specs.Prelude.{◌≡◌, Some};
 ghost use Rattle.rankfeed.specs.Items.{mark_in};

@@ -8,11 +8,11 @@
 //!
 //! - Once the taker met the receipt that `seal` or `tear` answers, what it received followed by what is
 //!   left is what was sent: no record is lost, doubled, changed, invented or out of its place. `meet`
-//!   tells how many items are left, and from then on each call finds one.
+//!   says how many items are left, and from then on each call finds one.
 //! - A put that is refused hands the record back and changes nothing. `Closed` comes exactly where
 //!   the end record was put, `Full` never for a new feed's first `capacity` records.
 //! - The items are in order (`IsFeed` of `specs/Items.antt`): an end mark is last, no record follows
-//!   the end record (`Call::ends_list`), and `Sealed` stands only directly behind it.
+//!   the end record (`Call::ends_list`), and `Sealed` comes only directly after it.
 //! - No call but `put` and `put_copy` may wait. The end mark has a place of its own.
 //!
 //! In the code alone it is seen that none but `open` takes memory.
@@ -23,9 +23,9 @@
 //! The module `channel` has the same calls over a bounded channel, by the same definitions; there most
 //! calls may wait.
 //!
-//! The definitions stand in `specs/`: `Items` says what a feed carries, `Answers` what its answers mean, `Rings` and
-//! `Channels` what contracts see of the two ends. Nobody has to believe the rule in `Relays`: of it contracts see
-//! `left_in` alone, what a taker of a channel knows to be left.
+//! The definitions are in `specs/`: `Items` says what a feed carries, `Answers` what its answers mean,
+//! `Rings` and `Channels` what contracts see of the two ends. Nobody has to believe the rule in `Relays`: of
+//! it contracts see `left_in` alone, what a taker of a channel knows to be left.
 //!
 //! ```text
 //! let (mut feed, mut taker) = Feed::open(alloc, rank, 64)?;

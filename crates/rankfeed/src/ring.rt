@@ -107,7 +107,7 @@ impl Feed {
         self.done
     }
 
-    /// Looks for a place for a record, beside the one that is kept for the end mark.
+    /// Looks for a place for a record, besides the one that is kept for the end mark.
     fn has_room(&mut self) -> bool
         ensures name { feed_ring self.new ≡ feed_ring self.old }
         ensures capacity { feed_capacity self.new ≡ feed_capacity self.old }

@@ -18,7 +18,7 @@ use Rattle.reports.specs.ArrayTexts.{values_text, elements_text, key_text}
 use Rattle.reports.specs.JsonReport.{each, cause_data, finding_data, rank_data, report_data, json_report}
 use Rattle.reports.specs.TextReport.{verdict_text}
 
--- whether something stands before what comes behind the values
+-- whether something comes before what comes after the values
 abbrev behind : Bool → List Data → Bool
 behind later [] = later
 behind later (value ∷ values) = true
@@ -42,7 +42,7 @@ some_before told (element ∷ elements) (suc i) within = sym (positive i)
     positive : (i : ℕ) → nat_lt 0 (suc i) ≡ true
     positive i = grind (arith, nat_tests)
 
--- one element more is put behind the text
+-- one element more is put after the text
 pub one_written : {A : Type 0} (told : A → Data) (elements : List A) (i : ℕ) (none : A) (before so_far later : List ℕ) →
     so_far ≡ before ++ elements_text told (take i elements) → later ≡ so_far ++ (comma_if (nat_lt 0 i) ++ compact_text (told (get_or elements i none))) → i < length elements →
     later ≡ before ++ elements_text told (take (i + 1) elements)
@@ -65,7 +65,7 @@ items_values later (value ∷ values) =
     ∙ ap (λ (text : List ℕ). comma_if later ++ text) (sym (append_assoc (compact_text value) (values_text true values) (93 ∷ [])))
     ∙ sym (append_assoc (comma_if later) (compact_text value ++ values_text true values) (93 ∷ []))
 
--- a member whose value is an array, with what comes behind it
+-- a member whose value is an array, with what comes after it
 array_member : (key : List ℕ) (values : List Data) (rest : Members) (behind : List ℕ) → members_text true (member key (array (items_of values)) rest) ++ behind ≡ 44 ∷ (compact_text (string key) ++ 58 ∷ 91 ∷ (values_text false values ++ 93 ∷ (members_text true rest ++ behind)))
 array_member key values rest behind =
     let items = items_text false (items_of values) in
@@ -82,7 +82,7 @@ verdict_member verdict =
     (append_assoc (compact_text (string (codes "verdict"))) (58 ∷ (compact_text (string verdict) ++ 125 ∷ [])) (line_feed ∷ [])
     ∙ ap (λ (text : List ℕ). compact_text (string (codes "verdict")) ++ 58 ∷ text) (append_assoc (compact_text (string verdict)) (125 ∷ []) (line_feed ∷ [])))
 
--- what stands behind a key, put behind it
+-- what follows a key, put after it
 behind_key : (before key behind rest : List ℕ) → before ++ (compact_text (string key) ++ (behind ++ rest)) ≡ key_text before key behind ++ rest
 behind_key before key behind rest =
     ap (λ (text : List ℕ). before ++ text) (sym (append_assoc (compact_text (string key)) behind rest))
@@ -122,7 +122,7 @@ report_parts reading groups recording =
     ∙ ap (λ (text : List ℕ). causes ++ text) second))
     ∙ behind_key (codes "{") (codes "causes") (codes ":") (causes ++ (key_text (codes ",") (codes "findings") (codes ":[") ++ (found ++ (key_text (codes "],") (codes "ranks") (codes ":[") ++ (told ++ (key_text (codes "],") (codes "verdict") (codes ":") ++ ends))))))
 
--- nine texts, put behind one another
+-- nine texts, put after one another
 pub nine : (a b c d e f g h i : List ℕ) → ((((((((a ++ b) ++ c) ++ d) ++ e) ++ f) ++ g) ++ h) ++ i) ≡ a ++ (b ++ (c ++ (d ++ (e ++ (f ++ (g ++ (h ++ i)))))))
 nine a b c d e f g h i =
     append_assoc (((((((a ++ b) ++ c) ++ d) ++ e) ++ f) ++ g)) h i

@@ -1,4 +1,4 @@
--- How texts that are printed one behind another add up.
+-- How texts that are printed one after another add up.
 use Rattle.std.proofs.Common.{◌≡◌, ℕ, suc, ◌+◌, ◌<◌, min, Bool, true, false, Option, List, [], ◌∷◌, ◌++◌, length, get_or, take, flat_map, map, sym, ap, ◌∙◌, append_assoc, append-nil, arith}
 use Rattle.std.specs.Io.KnownBytes.{Appends}
 use Rattle.std.specs.Fmt.{decimal}
@@ -15,7 +15,7 @@ use Rattle.reports.specs.TextReport.{cause_line}
 use Rattle.reports.specs.Printing.{IsPrinted, KeepsPrinted, Prints}
 use Rattle.reports.specs.declared.report.printer.Printer.{Printer}
 
--- a beginning of a text is one of a longer text
+-- a prefix of a text is one of a longer text
 begins_longer : (a b : Option (List ℕ)) (xs ys : List ℕ) → AppendsBeginning a b xs → AppendsBeginning a b (xs ++ ys)
 begins_longer a b xs ys fault =
     let n = min fault.0 (length xs) in
@@ -62,7 +62,7 @@ prints_next written failures text xs i x d a b c p q r within is told next =
         let one : i + 1 ≡ suc i = omega arith in
         rw (one, take-suc xs i d within, is) (flat_map-append text (take i xs) (get_or xs i d ∷ []) ∙ ap (λ (zs : List ℕ). flat_map text (take i xs) ++ zs) (append-nil (text (get_or xs i d))))
 
--- the ranks of a cycle are joined behind its word
+-- the ranks of a cycle are joined after its word
 pub ranks_joined : (word : List ℕ) (ranks : List ℕ) → join_with_byte space (word ∷ map decimal ranks) ≡ word ++ flat_map (λ rank. space ∷ decimal rank) ranks
 ranks_joined word [] = sym (append-nil word)
 ranks_joined word (rank ∷ ranks) = ap (λ (bytes : List ℕ). word ++ space ∷ bytes) (ranks_joined (decimal rank) ranks)

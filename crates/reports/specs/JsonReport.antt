@@ -1,4 +1,4 @@
--- The JSON report: one object in compact form and a line feed. Keys stand in the order of their bytes.
+-- The JSON report: one object in compact form and a line feed. Keys are in the order of their bytes.
 use Rattle.moves.specs.declared.reading.Reading.{Reading}
 use Rattle.std.specs.Prelude.{ℕ, List, [], ◌∷◌, ◌++◌, codes, map, slice_index}
 use Rattle.std.specs.List.{join_with_byte}
@@ -31,7 +31,7 @@ spaced fields = string (join_with_byte space fields)
 abbrev pub pair : Data → Data → Data
 pair first second = array (item first (item second no_items))
 
--- an array: what is told of each element
+-- an array: the text of each element
 abbrev pub each : {A : Type 0} → (A → Data) → List A → Data
 each told elements = array (items_of (map told elements))
 

@@ -6,7 +6,7 @@ use Rattle.mpicall.specs.Device.{one_more, AppendsBeginning}
 use Rattle.mpicall.specs.Spelling.{space}
 use Rattle.reports.specs.declared.report.printer.Printer.{Printer}
 
--- the bytes with further fields behind them, each behind one space
+-- the bytes with further fields after them, each after one space
 abbrev pub with_fields : List ℕ → List (List ℕ) → List ℕ
 with_fields bytes [] = bytes
 with_fields bytes (field ∷ fields) = with_fields (bytes ++ space ∷ field) fields
@@ -18,7 +18,7 @@ pub record IsOnTheWay (begun : Option (List ℕ)) (text : List ℕ) (written : O
   pub none_is_lost : text ≡ given ++ waits
 
 -- the text is printed, by whether a write failed since the output had `begun` and that count of failures: it is on the
--- way; or the output has a beginning of it, and one failure more
+-- way; or the output has a prefix of it, and one failure more
 abbrev pub IsPrinted : Bool → Option (List ℕ) → ℕ → List ℕ → Option (List ℕ) → ℕ → List ℕ → Type 0
 IsPrinted false begun count text written failures waits = IsOnTheWay begun text written waits × (failures ≡ count)
 IsPrinted true begun count text written failures waits = AppendsBeginning begun written text × (failures ≡ one_more count)
@@ -30,14 +30,14 @@ KeepsPrinted written failures out printer out' printer' =
     IsPrinted printer.failed begun count before (written out) (failures out) printer.page →
     IsPrinted printer'.failed begun count before (written out') (failures out') printer'.page
 
--- and the text behind it
+-- and the text after it
 abbrev pub Prints : {O : Type 0} → (O → Option (List ℕ)) → (O → ℕ) → O → Printer → O → Printer → List ℕ → Type 0
 Prints written failures out printer out' printer' text =
     (begun : Option (List ℕ)) (count : ℕ) (before : List ℕ) →
     IsPrinted printer.failed begun count before (written out) (failures out) printer.page →
     IsPrinted printer'.failed begun count (before ++ text) (written out') (failures out') printer'.page
 
--- all of a text is with the output; or a beginning of it, and one failure more
+-- all of a text is with the output; or a prefix of it, and one failure more
 abbrev pub PrintsAll : {T E : Type 0} → Option (List ℕ) → ℕ → Option (List ℕ) → ℕ → List ℕ → Result T E → Type 0
 PrintsAll begun count written failures text result =
     MatchResult result (λ _. Appends begun written text × (failures ≡ count)) (λ _. AppendsBeginning begun written text × (failures ≡ one_more count))

@@ -26,7 +26,7 @@ mod finding;
 mod need;
 mod rank;
 
-/// Puts the causes behind the text, as one array.
+/// Puts the causes after the text, as one array.
 #[tactic(auto, using(crate::proofs::JsonLemmas::no_float_causes))]
 fn push_causes(alloc: Global, text: &mut String, causes: &[Cause]) -> Result<(), AllocError>
     ensures { OnOk result (string_bytes text.new ≡ string_bytes text.old ++ compact_text (each cause_data (map view_of causes.now))) }
@@ -35,7 +35,7 @@ fn push_causes(alloc: Global, text: &mut String, causes: &[Cause]) -> Result<(),
     push_value(alloc, text, &value)
 }
 
-/// Puts the verdict behind the text.
+/// Puts the verdict after the text.
 fn push_verdict(alloc: Global, text: &mut String, verdict: Verdict) -> Result<(), AllocError>
     ensures { OnOk result (string_bytes text.new ≡ string_bytes text.old ++ compact_text (string (verdict_text verdict))) }
 {
@@ -43,8 +43,8 @@ fn push_verdict(alloc: Global, text: &mut String, verdict: Verdict) -> Result<()
     push_value(alloc, text, &value)
 }
 
-/// The JSON report of a run from its analyser and its wait graph. Beside the text it takes memory for the values of
-/// one rank at a time, or of one finding, or of the causes.
+/// The JSON report of a run from its analyser and its wait graph. Besides the text it takes memory for the
+/// values of one rank at a time, or of one finding, or of the causes.
 pub(crate) fn json_text(
     alloc: Global,
     analyser: &Analyser,

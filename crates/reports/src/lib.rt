@@ -5,8 +5,8 @@
 //! - `report::write_report` writes exactly the report of a recording, as text or as JSON (`TextReport`,
 //!   `JsonReport`, `Reports`): the verdict, who waits for whom where the ranks stand, the causes and the
 //!   findings, as the crates `waitgraph` and `findings` define them.
-//! - Where a write fails, what was written before is a beginning of that report. Want of memory is
-//!   told for JSON alone, and then nothing was written.
+//! - Where a write fails, what was written before is a prefix of that report. Lack of memory is
+//!   answered for JSON alone, and then nothing was written.
 //!
 //! `finding::push_finding` has the one text of a finding (`FindingTexts`).
 //!

@@ -1,4 +1,4 @@
-//! Where a rank stands, as a report tells it.
+//! Where a rank stands, as a report has it.
 
 ghost use Rattle.std.specs.Prelude.{◌≡◌, slice_index};
 ghost use Rattle.moves.specs.Stands.{stands_of};

@@ -2,7 +2,7 @@
 
 use std::env::{Env, FillError};
 
-/// The arguments of a process, behind its name.
+/// The arguments of a process, after its name.
 #[derive(Drop)]
 pub struct Arguments<'a>(pub &'a [Vec<u8>]);
 

@@ -1,5 +1,5 @@
 //! Runs the program `mpiwait` on rows of words and files in memory, and prints each row whose answer is another
-//! one, each line that no row has, and at the end how many rows ran. The file `stdout` beside `src` has that
+//! one, each line that no row has, and at the end how many rows ran. The file `stdout` next to `src` has that
 //! number, so it grows with each row that is added.
 //!
 //! The rows are lines of text on standard input. A line begins with a word that says what it is; empty lines
@@ -9,14 +9,14 @@
 //! row NAME               begins a row, of any name
 //! same NAME              begins a row that asks for the same as the row before, with the same words and files
 //! words WORD ..          the words after the program's name, which is to be run on them
-//! word TEXT              one more word, as it stands: with blanks in it, or empty
+//! word TEXT              one more word, as it is: with blanks in it, or empty
 //! bytes HH ..            one more word by its bytes, each two hexadecimal digits
 //! file PATH              a file, with the text that follows:
 //! | TEXT                 a line of it
 //! . TEXT                 a piece of it without a line feed
 //! many N TEXT            a line N times
 //! repeat N TEXT          a piece without a line feed, N times
-//! counts N TEXT          a line N times, with a blank and its number behind it, from 1
+//! counts N TEXT          a line N times, with a blank and its number after it, from 1
 //! fails PATH N           read N of that file fails, counted from 0
 //! pieces N               a read of a file gives at most N bytes
 //! threads                each file is read by a thread of its own, as where a read may wait; else by turns
@@ -25,10 +25,10 @@
 //! out-pieces N           a write on standard output takes at most N bytes
 //! err-fails N            write N on standard error fails, counted from 0
 //! status N               the exit status that is wanted
-//! out                    the text follows that must stand on standard output, in lines as those of a file
+//! out                    the text follows that must be on standard output, in lines as those of a file
 //! err                    the same of standard error; an output without a text must have none
 //! begins                 these texts are only how those on the outputs begin
-//! has TEXT               TEXT stands somewhere on standard output, of which no whole text is given
+//! has TEXT               TEXT is somewhere on standard output, of which no whole text is given
 //! has-end TEXT           the same, at the end of a line
 //! end                    ends the row
 //! ```

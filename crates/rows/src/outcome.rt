@@ -25,7 +25,7 @@ pub struct Answer {
 }
 
 impl Answer {
-    /// A text on the output on which the program tells a status, and nothing on the other.
+    /// A text on the output that goes with a status, and nothing on the other.
     fn told(alloc: Global, status: u8, text: &str) -> Result<Answer, AllocError> {
         let text = Vec::from_slice(alloc, text.as_bytes())?;
         let none = Vec::new(alloc);

@@ -38,7 +38,7 @@ fn number(text: &str) -> Result<u64, LineFault> {
     }
 }
 
-/// How many bytes a read or a write may have: one at least, since none would tell the end.
+/// How many bytes a read or a write may have: one at least, since none would mean the end.
 fn most(text: &str) -> Result<usize, LineFault> {
     match text.parse::<usize>() {
         Ok(most) if most > 0 => Ok(most),
@@ -137,7 +137,7 @@ impl RowReading {
         Ok(())
     }
 
-    /// A word as it stands.
+    /// A word as it is.
     fn add_word(&mut self, alloc: Global, word: &str) -> Result<(), LineFault> {
         self.row
             .words
@@ -193,7 +193,7 @@ impl RowReading {
         Ok(())
     }
 
-    /// Adds a line so often to the text that is being read, with its number behind it, from 1.
+    /// Adds a line so often to the text that is being read, with its number after it, from 1.
     fn add_counted(&mut self, alloc: Global, rest: &str) -> Result<(), LineFault> {
         let (times, text) = rest.split_once(' ').ok_or(LineFault::NoText)?;
         let times = number(times)?;
@@ -234,7 +234,7 @@ impl RowReading {
         Ok(())
     }
 
-    /// Something that stands on standard output, at the end of a line or anywhere.
+    /// Something that is on standard output, at the end of a line or anywhere.
     fn add_part(&mut self, alloc: Global, text: &str, end: &str) -> Result<(), LineFault> {
         if text.is_empty() {
             return Err(LineFault::NoText);

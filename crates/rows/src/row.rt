@@ -67,7 +67,7 @@ pub struct Wanted {
     pub err: String,
     /// Whether a text that isn't empty is only how the answer's begins.
     pub begins: bool,
-    /// What stands somewhere on standard output; where there is any, `out` isn't asked for.
+    /// What is somewhere on standard output; where there is any, `out` isn't asked for.
     pub parts: Vec<String>,
 }
 

@@ -60,7 +60,7 @@ or_own : (place : ℕ) (own : Option CallFault) (x y : Option PlacedFault) → o
 or_own place None x y inside same = same inside
 or_own place (Some fault) x y inside same = refl
 
--- behind a stop from outside: the fault lies before it, so it is that of whatever goes on there
+-- after a stop from outside: the fault lies before it, so it is that of whatever goes on there
 before_stop : (groups : Groups) (rank : ℕ) (before calls rest : List Call) (fault : SourceFault) (end : Ending) → is_from_outside (OfSource fault) ≡ true → outside_at (fault_onward groups rank (fault_of_end (Torn fault)) before calls) ≡ false → fault_onward groups rank (fault_of_end (Torn fault)) before calls ≡ fault_onward groups rank (fault_of_end end) before (calls ++ rest)
 before_stop groups rank before [] rest fault end stop inside = absurd (false≢true (sym inside ∙ stop))
 before_stop groups rank before (call ∷ calls) rest fault end stop inside =
@@ -77,7 +77,7 @@ pub same_ended : (calls : List Call) → end_the_list (map Entry calls) ≡ is_e
 same_ended [] = refl
 same_ended (call ∷ calls) = ended_alike call calls
 
--- the mark behind all the records of a trace tells its end
+-- the mark after all the records of a trace tells its end
 by_ends : (ends : Bool) (records : List Call) → is_ended records ≡ ends → fault_of_end (end_behind ends) records ≡ fault_of_end Sealed records
 by_ends true records is = refl
 by_ends false records is = rw is refl

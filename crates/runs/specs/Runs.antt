@@ -69,7 +69,7 @@ RefusesFeeds left may_stop sources groups (Unproved rank) = rank < ranks_of grou
 RefusesFeeds left may_stop sources groups (Refused refusal) = IsRefusalOfFeeds left may_stop sources groups refusal
 RefusesFeeds left may_stop sources groups Write = ⊤
 
--- where a run tells that the gate stopped the reading, it might do so at that rank and line
+-- where a run reports that the gate stopped the reading, it might do so at that rank and line
 abbrev pub StopsWhereAllowed : (ℕ → ℕ → Type 0) → RunFault → Type 0
 StopsWhereAllowed may_stop (Refused refusal) = refusal.fault ≡ OfSource GateStopped → may_stop refusal.rank (line_behind refusal.call)
 StopsWhereAllowed may_stop fault = ⊤

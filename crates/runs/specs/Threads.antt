@@ -36,6 +36,6 @@ abbrev pub AllPromise : {I G : Type 0} → (I → Option (List ℕ)) → (G → 
 AllPromise left may_stop sources feeds gate started =
     Along (λ source feed one. Promises left may_stop source feed gate one) sources feeds started
 
--- at each place stands what came of the source and the feed there
+-- at each place is what came of the source and the feed there
 abbrev pub AreFedFrom : {I : Type 0} → (I → Option (List ℕ)) → (ℕ → ℕ → Type 0) → List (Source I) → List Feed → List Fed → Type 0
 AreFedFrom left may_stop sources feeds fed = Along (λ source feed one. IsFedFrom left may_stop source feed one) sources feeds fed

@@ -1,5 +1,5 @@
--- What an answer says of traces, where the sources' inputs tell them. These are the words of `run`; what it
--- stands on speaks of each rank alone, by the words of `Ranks`.
+-- What an answer says of traces, where the sources' inputs know them. These are the words of `run`; what it
+-- rests on speaks of each rank alone, by the words of `Ranks`.
 use Rattle.moves.specs.declared.reading.Reading.{Reading}
 use Rattle.std.specs.Prelude.{◌≡◌, ◌↔◌, ℕ, ◌<◌, Bool, true, false, ⊤, Option, Some, None, List, length, map, slice_get, All}
 use Rattle.mpicall.specs.Source.{coming, ended}
@@ -32,7 +32,7 @@ is_from_outside fault = false
 abbrev pub AreFresh : {I : Type 0} → List (Source I) → Type 0
 AreFresh sources = All (λ source. ended source ≡ None) sources
 
--- the sources tell these traces, one a rank
+-- the sources have these traces, one a rank
 abbrev pub Tells : {I : Type 0} → (I → Option (List ℕ)) → List (Source I) → List Trace → Type 0
 Tells left sources traces = map (coming left) sources ≡ map Some traces
 

@@ -32,7 +32,8 @@ at_turns (source ∷ sources) (turn ∷ turns) = at_turn source turn ∷ at_turn
 abbrev pub first_turn : Turn
 first_turn = record { line = 0; done = false; over = false }
 
--- the items are all that is read of a source, with the end mark Sealed only behind the record that ends the list
+-- the items are all that is read of a source, with the end mark Sealed only after the record that ends the
+-- list
 pub record IsWhole (told : Option Trace) (may_stop : ℕ → Type 0) (items : List Item) : Type 0 where
   pub fed : IsFed told may_stop items
   pub sealed : end_mark_of items ≡ Some Sealed → is_ended (calls_among items) ≡ true
@@ -47,7 +48,7 @@ abbrev pub CameOf : {I : Type 0} → (I → Option (List ℕ)) → (ℕ → Type
 CameOf left may_stop source turn items false = IsGoing left source turn items
 CameOf left may_stop source turn items true = IsWhole (coming left source) may_stop items
 
--- unless memory was wanted, what is kept of the rank is what the items give that were read of its source
+-- unless memory ran out, what is kept of the rank is what the items give that were read of its source
 pub record IsTurnOf {I : Type 0} (left : I → Option (List ℕ)) (may_stop : ℕ → ℕ → Type 0) (rank : ℕ) (source : Source I) (turn : AtTurn I) (kept : Kept) : Type 0 where
   pub items : List Item
   pub places : length kept.faults ≡ length kept.recording
@@ -76,7 +77,7 @@ pub record IsLater {I : Type 0} (left : I → Option (List ℕ)) (may_stop : ℕ
   pub ready : IsReady old → IsReady new
   pub turn : (source : Source I) → IsTurnOf left may_stop rank source old before → IsTurnOf left may_stop rank source new after
 
--- at each rank's place stands the turn of the source there
+-- at each rank's place is the turn of the source there
 pub record AreTurnsOf {I : Type 0} (left : I → Option (List ℕ)) (may_stop : ℕ → ℕ → Type 0) (sources : List (Source I)) (turns : List (AtTurn I)) (kept : Kept) : Type 0 where
   pub count : length turns ≡ length sources
   pub each : (rank : ℕ) (source : Source I) (turn : AtTurn I) → slice_get sources rank ≡ Some source → slice_get turns rank ≡ Some turn → IsTurnOf left may_stop rank source turn kept
@@ -91,7 +92,7 @@ pub record AreLater {I : Type 0} (left : I → Option (List ℕ)) (may_stop : �
   pub ready : All (λ turn. IsReady turn) old → All (λ turn. IsReady turn) new
   pub turns : (sources : List (Source I)) → AreTurnsOf left may_stop sources old before → AreTurnsOf left may_stop sources new after
 
--- all of a rank's source was read, and unless memory was wanted, what its items give is kept of the rank
+-- all of a rank's source was read, and unless memory ran out, what its items give is kept of the rank
 pub record IsReadOf {I : Type 0} (left : I → Option (List ℕ)) (may_stop : ℕ → ℕ → Type 0) (rank : ℕ) (source : Source I) (kept : Kept) : Type 0 where
   pub items : List Item
   pub whole : IsWhole (coming left source) (may_stop rank) items

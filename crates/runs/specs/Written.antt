@@ -1,4 +1,4 @@
--- What a run leaves on its output: the report of a recording that its sources tell.
+-- What a run leaves on its output: the report of a recording that its sources have.
 use Rattle.moves.specs.declared.reading.Reading.{Reading}
 use Rattle.std.specs.Prelude.{◌≡◌, ℕ, Option, List}
 use Rattle.std.specs.Io.KnownBytes.{Appends}
@@ -18,7 +18,8 @@ use Rattle.gather.specs.declared.fault.RunFault.{RunFault}
 use Rattle.gather.specs.declared.fault.RunFault.TheVariants.{Write}
 
 -- the report of a run, and the verdict that it says: they are those of a recording, which is closed and has the
--- calls of each rank whose source tells its trace; where all of them tell, it is the recording of their traces
+-- calls of each rank whose source has a known trace; where all of them have, it is the recording of their
+-- traces
 pub record IsReportOver {I : Type 0} (left : I → Option (List ℕ)) (sources : List (Source I)) (reading : Reading) (groups : Groups) (format : Format) (verdict : Verdict) (report : List ℕ) : Type 0 where
   pub recording : Lists
   pub accepted : AcceptsAll groups (told_by left sources) recording
@@ -28,11 +29,11 @@ pub record IsReportOver {I : Type 0} (left : I → Option (List ℕ)) (sources :
 
 -- what a run leaves on its output, by its sources, its reading, its head and the format of its report
 module _ {I O : Type 0} (left : I → Option (List ℕ)) (written : O → Option (List ℕ)) (failures : O → ℕ) (sources : List (Source I)) (reading : Reading) (groups : Groups) (format : Format) (old new : O) where
-  -- the report stands behind what was there
+  -- the report follows what was there
   abbrev pub WritesReport : Verdict → Type 0
   WritesReport verdict = (report : List ℕ) × IsReportOver left sources reading groups format verdict report × Appends (written old) (written new) report
 
-  -- a beginning of the report stands behind what was there, and one more write failed
+  -- a prefix of the report follows what was there, and one more write failed
   abbrev pub FailsToReport : Type 0
   FailsToReport =
       ((verdict : Verdict) × (report : List ℕ) × IsReportOver left sources reading groups format verdict report × AppendsBeginning (written old) (written new) report)

@@ -6,19 +6,20 @@
 //!
 //! What it promises, as contracts that are proved:
 //!
-//! - At Ok, where the sources' inputs tell their bytes, no rank had a fault, and the verdict is that of the
+//! - At Ok, where the sources' inputs know their bytes, no rank had a fault, and the verdict is that of the
 //!   traces that these bytes hold by definition. It is `Hang` exactly if some rank is held; where no list was
 //!   left open, exactly if some rank comes to its Finalize in no run over them.
 //! - The output then has the report of these traces, in the format that was asked for.
-//! - At a refusal nothing was written. Where the bytes are told, no lower rank has a fault, and the place and
-//!   the fault are that rank's first by definition, unless the fault is one of a read, the gate or a thread.
-//! - A write that failed is told only where that device's count of failures rose.
+//! - At a refusal nothing was written. Where the bytes are known, no lower rank has a fault, and the place
+//!   and the fault are that rank's first by definition, unless the fault is one of a read, the gate or a
+//!   thread.
+//! - A write that failed is reported only where that device's count of failures rose.
 //!
-//! By threads it stands on the sessions of the crate `gather`; `threads` feeds one from a source by a thread for
+//! By threads it uses the sessions of the crate `gather`; `threads` feeds one from a source by a thread for
 //! each rank. By turns each record goes straight to what a session keeps.
 //!
-//! The definitions stand in `specs/`: `Told` says what an answer says where the inputs tell their bytes, `Written`
-//! what was written then, `Runs` what a run answers by what was read.
+//! The definitions are in `specs/`: `Told` says what an answer says where the inputs know their bytes,
+//! `Written` what was written then, `Runs` what a run answers by what was read.
 //!
 //! ```text
 //! let head = Head::read(alloc, b"ranks 1\n")?;

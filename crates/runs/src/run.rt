@@ -202,7 +202,7 @@ fn report<O: Output>(
 /// Reads the sources of all ranks at once, in the way that is asked for and each to its end, and writes the report
 /// of the run by the given reading: whether some rank can't reach its Finalize, whatever way the run goes, who waits
 /// for whom and why, and what else is wrong. Where some list was left open it is whether some rank is held. The
-/// first fault of the lowest rank that has one is told instead, and then nothing is written.
+/// first fault of the lowest rank that has one is reported instead, and then nothing is written.
 ///
 /// There is one source a rank, in rank order; none of them may have been asked before. At most `capacity`
 /// records of a rank that a thread reads wait to be judged. Before each record is read the gate is asked. All
@@ -228,7 +228,7 @@ where
     requires one_a_rank { length sources.items ≡ ranks_of head }
     requires fresh { AreFresh sources.items }
 
-    // The answer is that of the traces which the sources' bytes hold, where the inputs tell them.
+    // The answer is that of the traces which the sources' bytes hold, where the inputs know them.
     ensures verdict { IfOk result (λ verdict. (traces : List TraceValue) →
         Tells I.left sources.items traces → IsVerdictOver reading head traces verdict) }
     ensures refused { IfErr result (λ fault. (traces : List TraceValue) →
@@ -241,7 +241,7 @@ where
     // What is written is the report of those traces, with that verdict.
     ensures written { IfOk result (WritesReport I.left O.written O.failures sources.items reading head format out.old out.new) }
 
-    // A write that failed is told only where the device's count rose.
+    // A write that failed is reported only where the device's count rose.
     ensures no_write_failed { OnOk result (O.failures out.new ≡ O.failures out.old) }
     ensures output { IfErr result (LeavesOutput I.left O.written O.failures sources.items reading head format out.old out.new) }
 {

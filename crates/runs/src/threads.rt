@@ -144,7 +144,7 @@ impl<I: Input, G: Gate> Started<I, G> {
         }
     }
 
-    /// Waits until the thread ended, and tells what came of it.
+    /// Waits until the thread ended, and answers what came of it.
     pub fn finish(self, rt: &impl Threads) -> Fed
         ensures { (source : SourceValue I) (feed : FeedValue) (gate : G) →
             Promises I.left G.may_stop source feed gate self → IsFedFrom I.left (G.may_stop gate) source feed result }
@@ -192,7 +192,7 @@ impl<I: Input, G: Gate> Started<I, G> {
         started
     }
 
-    /// Waits until all threads ended, and tells what came of each. `fed` has room for them.
+    /// Waits until all threads ended, and answers what came of each. `fed` has room for them.
     pub fn finish_all(started: Vec<Started<I, G>>, fed: Vec<Fed>, rt: &impl Threads) -> Vec<Fed>
     where
         I: Drop,

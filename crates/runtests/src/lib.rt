@@ -1,7 +1,7 @@
 //! Tests of the crates that judge runs, through their public calls, of what no row of text can say: memory that is
 //! refused, sessions, watches, and whole runs over threads and by turns.
 //!
-//! They stand in a crate of their own, so that those crates are proved once, and not again with their tests.
+//! They are in a crate of their own, so that those crates are proved once, and not again with their tests.
 #![tactic(auto)]
 
 #[cfg(test)]

@@ -63,7 +63,7 @@ impl Opened {
         }
     }
 
-    /// None where the session isn't opened for want of memory.
+    /// None where the session isn't opened for lack of memory.
     pub(crate) fn unless_refused(
         alloc: Global,
         head: &[u8],
@@ -85,7 +85,7 @@ impl Opened {
         }
     }
 
-    /// Puts a line's record on a rank's feed, takes it, and tells what was found.
+    /// Puts a line's record on a rank's feed, takes it, and answers what was found.
     pub(crate) fn deal(&mut self, rank: u16, line: &[u8]) -> Result<Stepped, Fail>
         ensures { list_published self.new.collector ≡ list_published self.old.collector }
     {

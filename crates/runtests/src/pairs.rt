@@ -35,7 +35,7 @@ fn record_at(pairs: &Pairs, rank: u16, place: u32) -> Option<Record> {
     }
 }
 
-/// Whether both tell the same of the requests of a call.
+/// Whether both answer the same of the requests of a call.
 fn have_same_requests(one: &Pairs, other: &Pairs, rank: u16, place: u32) -> bool {
     for req in 0..4u32 {
         let index = req as usize;
@@ -48,7 +48,7 @@ fn have_same_requests(one: &Pairs, other: &Pairs, rank: u16, place: u32) -> bool
     true
 }
 
-/// Whether both tell the same of a call.
+/// Whether both answer the same of a call.
 fn have_same_call(one: &Pairs, other: &Pairs, rank: u16, place: u32) -> bool {
     record_at(one, rank, place) == record_at(other, rank, place)
         && one.partner(rank, place, Half::Send) == other.partner(rank, place, Half::Send)
@@ -57,7 +57,7 @@ fn have_same_call(one: &Pairs, other: &Pairs, rank: u16, place: u32) -> bool {
         && have_same_requests(one, other, rank, place)
 }
 
-/// Whether both tell the same of a rank's calls, and of a communicator with the rank's number.
+/// Whether both answer the same of a rank's calls, and of a communicator with the rank's number.
 fn have_same_rank(one: &Pairs, other: &Pairs, rank: u16) -> bool {
     for place in 0..8u32 {
         if !have_same_call(one, other, rank, place)
@@ -70,8 +70,8 @@ fn have_same_rank(one: &Pairs, other: &Pairs, rank: u16) -> bool {
     one.accepted(rank) == other.accepted(rank) && one.is_ended(rank) == other.is_ended(rank)
 }
 
-/// Adds the rank's next call, again where memory is refused. Until then the pairs tell what the others tell, to
-/// which it was not added.
+/// Adds the rank's next call, again where memory is refused. Until then the pairs answer what the others do,
+/// to which it was not added.
 fn add_again(
     pairs: &mut Pairs,
     others: Option<&Pairs>,

@@ -67,7 +67,7 @@ pub(crate) fn put_at(feeds: &mut Vec<Feed>, rank: u16, record: Record) -> bool
     feeds[usize::from(rank)].try_put(record).is_ok()
 }
 
-/// Ends a feed: sealed behind its end record, else torn with the fault. The receipt may be lost.
+/// Ends a feed: sealed after its end record, else torn with the fault. The receipt may be lost.
 fn end_feed(feed: Feed, fault: SourceFault, is_lost: bool) -> Option<Receipt>
     ensures { IfSome result (λ receipt. receipt_ring receipt ≡ feed_ring feed) }
 {
@@ -270,7 +270,7 @@ fn put_both<R: Threads + Wait + Sync>(
     )
 }
 
-/// Steps with each rank once, and tells whether all have ended.
+/// Steps with each rank once, and answers whether all have ended.
 fn step_each(collector: &mut Collector) -> bool
     ensures { rings collector.new ≡ rings collector.old }
 {
@@ -311,7 +311,8 @@ fn two_of(feeds: Vec<Feed>) -> Option<(Feed, Feed)>
 }
 
 impl Opened {
-    /// Puts two ranks' records by a thread each while a third one steps, and tells whether the close has an outcome.
+    /// Puts two ranks' records by a thread each while a third one steps, and answers whether the close has an
+    /// outcome.
     fn put_by_threads<R: Threads + Wait + Sync>(self, alloc: Global, rt: &R) -> Result<bool, Fail> {
         let (feeds, collector) = self.into_parts();
         let Some((first, second)) = two_of(feeds) else {
@@ -376,7 +377,7 @@ fn deal_a_thousand(session: &mut Opened) -> Result<u32, Fail> {
     Ok(discarded)
 }
 
-/// What comes of a thousand messages. None where the session isn't opened for want of memory.
+/// What comes of a thousand messages. None where the session isn't opened for lack of memory.
 fn thrown_away(alloc: Global, wait: &impl Wait) -> Result<Option<Thrown>, Fail> {
     let strict = Reading::Strict;
     let Some(mut session) = Opened::unless_refused(alloc, b"ranks 2\n", strict, 1, 0, wait)? else {

@@ -8,7 +8,7 @@ use mpicall::line::read_line;
 use std::alloc::Global;
 use std::test::Fail;
 
-/// Offers the call of a line, and tells why it is refused, if it is.
+/// Offers the call of a line, and answers why it is refused, if it is.
 fn refusal(analyser: &mut Analyser, rank: u16, line: &str) -> Result<Option<OfferFault>, Fail> {
     let call = read_line(line.as_bytes())?;
     if rank >= analyser.head().ranks() {

@@ -1,4 +1,4 @@
-//! Watches of small sessions, in one thread and beside the collector.
+//! Watches of small sessions, in one thread, and next to the collector.
 
 ghost use Rattle.std.specs.Prelude.{◌≡◌, All, IfOk, map};
 ghost use Rattle.rankfeed.specs.Rings.{feed_ring};
@@ -52,7 +52,7 @@ impl Opened {
         Ok(self.collector.publish(wait)?)
     }
 
-    /// Deals a run of two ranks with a publication behind each record.
+    /// Deals a run of two ranks with a publication after each record.
     fn deal_free(&mut self, wait: &impl Wait) -> Result<(), Fail> {
         for &(rank, line) in &FREE {
             self.deal(rank, line)?;
@@ -169,7 +169,7 @@ fn watches_of_many_ranks(rt: HostRuntime) -> Result<(), Fail> {
 }
 
 /// What comes of a session of 1,024 ranks in one thread, each in one barrier and the last rank first: how many
-/// stand behind it, by a watch, and the verdict with the touches.
+/// after it, by a watch, and the verdict with the touches.
 fn barrier_of_1024(alloc: Global, wait: &impl Wait) -> Result<(u16, Verdict, u64), Fail> {
     let mut session = opened(alloc, b"ranks 1024\n", 1, wait)?;
     for before in 0..1024u16 {
@@ -237,10 +237,10 @@ fn watches_read_beside_the_collector(rt: HostRuntime) -> Result<(), Fail> {
     Ok(())
 }
 
-/// What a watch is told of two ranks' stands behind each record of a thousand messages.
+/// What a watch is told of two ranks' stands after each record of a thousand messages.
 #[derive(Drop)]
 struct Seen {
-    /// The stands behind the last record.
+    /// The stands after the last record.
     stands: [Result<Option<u32>, Gone>; 2],
     /// How many records were thrown away, and how many of them changed the stands.
     discarded: u32,
@@ -267,7 +267,7 @@ impl Opened {
     }
 }
 
-/// What a watch is told of a thousand messages. None where the session isn't opened for want of memory.
+/// What a watch is told of a thousand messages. None where the session isn't opened for lack of memory.
 fn seen_of_a_thousand(alloc: Global, wait: &impl Wait) -> Result<Option<Seen>, Fail> {
     let Some(mut session) = Opened::unless_refused(
         alloc,

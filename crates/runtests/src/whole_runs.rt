@@ -147,7 +147,7 @@ impl Gate for StopsAt {
     }
 }
 
-/// At each of its questions: one for each of the three records, and one for the end behind them.
+/// At each of its questions: one for each of the three records, and one for the end after them.
 #[test]
 fn a_gate_stops_a_rank(rt: HostRuntime) -> Result<(), Fail> {
     for texts in [TEXTS, CUT_OFF] {
@@ -157,7 +157,7 @@ fn a_gate_stops_a_rank(rt: HostRuntime) -> Result<(), Fail> {
     Ok(())
 }
 
-/// Asserts that the place at which a gate stops a rank is told, for each place.
+/// Asserts that the place at which a gate stops a rank is reported, for each place.
 fn stops_at_each_question<R: Abort + AllocGlobal + Threads + Wait + Sync>(
     rt: &R,
     texts: &[&'static [u8]],
@@ -234,7 +234,7 @@ fn answer_over<R: Threads + Wait + Sync>(
     Ok(answer)
 }
 
-/// Rank 0's second read fails, behind its first line.
+/// Rank 0's second read fails, after its first line.
 #[test]
 fn a_read_fails_behind_a_line(rt: HostRuntime) -> Result<(), Fail> {
     let failed = RankFault::OfSource(SourceFault::ReadFailed);

@@ -38,7 +38,7 @@ pub further_is_more : (xs ys : List ℕ) → is_further xs ys ≡ true → sum x
 further_is_more xs ys e =
     let more = (and_parts (is_no_lower xs ys) (nat_lt (sum xs) (sum ys)) e).1 in grind (arith, nat_tests, more)
 
--- what may stand behind the last of a list
+-- what may follow the last of a list
 abbrev pub may_follow : Option Stands → Stands → Bool
 may_follow None stands = true
 may_follow (Some last) stands = is_further last.places stands.places

@@ -1,4 +1,4 @@
--- The list of publications: what each shows, and how one more is written behind it.
+-- The list of publications: what each shows, and how one more is written after it.
 use Rattle.moves.specs.declared.reading.Reading.{Reading}
 use Rattle.std.specs.Prelude.{◌≡◌, ◌⊎◌, ℕ, ◌==◌, Bool, true, false, List, [], ◌∷◌, ◌++◌, length, replicate, if◌then◌else◌, Option, Some, None, IfSome, MatchBool, All, slice_get}
 use Rattle.logbook.specs.Pages.{Book, Cell, Named, Step, View}

@@ -1,7 +1,7 @@
-//! How the list of publications is kept, and how one more is written behind it.
+//! How the list of publications is kept, and how one more is written after it.
 //!
-//! The list stands nowhere in memory. It is known to proofs alone, by tokens without bytes: who has one knows a
-//! beginning of the list, and two beginnings of one list always agree. One number is shared, how many publications
+//! The list is nowhere in memory. It is known to proofs alone, by tokens without bytes: who has one knows a
+//! prefix of the list, and two prefixes of one list always agree. One number is shared, how many publications
 //! there are, and it grows in the very step in which the list does.
 
 ghost use Rattle.std.specs.Prelude.{◌≡◌, ◌+◌, ◌<◌, ◌^◌, [], ◌∷◌, ◌++◌, length, IfSome};
@@ -31,7 +31,7 @@ impl Rule<Stands, u64> for Listed {
     ghost moves = { λ ask before after answer. Unit {0} };
 }
 
-/// Who appends gains nothing beside the publication.
+/// Who appends gains nothing besides the publication.
 pub struct Nothing;
 
 impl Gain<Stands, u64> for Nothing {
@@ -40,7 +40,7 @@ impl Gain<Stands, u64> for Nothing {
     ghost after = { λ names about answer. ftrue };
 }
 
-/// The step that writes stands behind the list.
+/// The step that writes stands at the end of the list.
 pub struct Appends;
 
 impl Play<Stands, u64> for Appends {
@@ -71,7 +71,7 @@ pub(crate) fn begin() -> (Count, Known)
     (Word::tracked(1, &mut first), known)
 }
 
-/// Writes stands behind the list, of which all is known. None where somebody else did so before.
+/// Writes stands at the end of the list, of which all is known. None where somebody else did so before.
 pub(crate) fn append(count: &Count, known: Known, number: u64, stands: &Stands) -> Option<Known>
     requires head { count.now ≡ head_of known.book }
     requires number { number ≡ length known.log }

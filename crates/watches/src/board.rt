@@ -1,4 +1,4 @@
-//! The board on which the last publication stands, for watches that read it without waiting.
+//! The board on which the last publication is, for watches that read it without waiting.
 
 ghost use Rattle.std.specs.Prelude.{◌≡◌, ◌<◌, ◌≤◌, ◌⊎◌, IfOk, IfSome};
 ghost use Rattle.left_right.specs.Sides.{view};
@@ -48,7 +48,7 @@ impl Protocol<Publication, View> for OneList {
     ghost first = { nobody };
 }
 
-/// A step that sees what stands on the board.
+/// A step that sees what is on the board.
 pub struct Sees;
 
 impl Outcome<Publication, View> for Sees {
@@ -57,7 +57,7 @@ impl Outcome<Publication, View> for Sees {
     ghost then = { SeesList };
 }
 
-/// What the board tells of its list, and a reader learns.
+/// What the board says of its list, and a reader learns.
 pub struct Names;
 
 impl Split<View> for Names {

@@ -4,14 +4,15 @@
 //!
 //! - `stands::Stands::set` makes a tuple the stands of an analyser's ranks, all of one moment.
 //! - `publisher::Publisher` has the stands that were published so far. `publish` adds those that it is given, none
-//!   lower than before, shows them to all watches and tells of them; it may wait for a watch that is being read.
-//!   `covers` says that a watch answers by one of them.
+//!   lower than before, shows them to all watches and answers them; it may wait for a watch that is being
+//!   read. `covers` says that a watch answers by one of them.
 //! - `watch::Watch` answers a rank's stand in the last publication that it saw or was told of. It may not wait, and its
 //!   answers for a rank never fall.
 //!
-//! Sessions of the crate `gather` publish by it. The definitions stand in `specs/`: `Stands` says what a state that
-//! some run passes is, `Publications` what is published, `Publishers` and `Watches` what contracts see of those who
-//! publish and read. Nobody has to believe `Shown`: it says how the board is kept, and no public contract cites it.
+//! Sessions of the crate `gather` publish by it. The definitions are in `specs/`: `Stands` says what a state
+//! that some run passes is, `Publications` what is published, `Publishers` and `Watches` what contracts see
+//! of those who publish and read. Nobody has to believe `Shown`: it says how the board is kept, and no public
+//! contract cites it.
 //!
 //! ```text
 //! let (mut publisher, mut watches) = Publisher::open(alloc, 2, 1, wait)?;

@@ -90,8 +90,8 @@ impl Publication {
         }
     }
 
-    /// Becomes the publication of these stands behind this one, which is the last. It answers whether it did; where
-    /// the ranks are no further it stays as it is.
+    /// Becomes the publication of these stands after this one, which is the last. It answers whether it did;
+    /// where the ranks are no further it stays as it is.
     pub(crate) fn become_next(&mut self, count: &Count, stands: &Stands) -> bool
         requires { count.now ≡ head_of (book_of self.old) }
         ensures yes { result ≡ true → list_known self.new ≡ list_known self.old ++ stands.now ∷ [] }

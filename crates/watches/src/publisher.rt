@@ -148,8 +148,8 @@ impl Publisher {
         Ok(Told::of(&self.last))
     }
 
-    /// Whether what a watch of these publications knows is a beginning of them, so that the watch answers by one of
-    /// them. If not, they are a beginning of what it knows.
+    /// Whether what a watch of these publications knows is a prefix of them, so that the watch answers by one
+    /// of them. If not, they are a prefix of what it knows.
     pub fn covers(&self, watch: &Watch) -> bool
         requires { list_watched watch.now ≡ book_published self.now }
         ensures value { result ≡ nat_le (length (seen_by watch.now)) (length (published_by self.now)) }

@@ -11,7 +11,7 @@ use mpigroup::limits::MOST_RANKS;
 /// The most ranks that a run may have.
 const PLACES: usize = MOST_RANKS as usize;
 
-/// The stands of all ranks at one moment: a place for each rank that a run may have, 0 behind the last rank.
+/// The stands of all ranks at one moment: a place for each rank that a run may have, 0 after the last rank.
 #[derive(Clone, Copy, PartialEq, Eq)]
 pub struct Stands {
     pub places: [u32; PLACES],

@@ -1,4 +1,4 @@
-//! A watch: it tells how far each rank has come, and never waits.
+//! A watch: it says how far each rank has come, and never waits.
 //!
 //! A watch answers by the last publication that it has seen or was told of. What it knows only grows, so its answers
 //! for a rank never fall, and none is below what it was told. A thread that shows where each rank stands while a
@@ -54,7 +54,7 @@ pub struct Watch {
     ghost same: { ForSome reader (λ reader. view reader.place ≡ list_shown known) },
 }
 
-/// What is told of a publication. Threads may share it.
+/// What is answered of a publication. Threads may share it.
 #[derive(Drop)]
 pub struct Told {
     publication: Publication,
@@ -73,8 +73,8 @@ impl Told {
     }
 }
 
-/// Looks at the board, and keeps what is shown there if it is later than what is known. It tells whether the
-/// board was there.
+/// Looks at the board, and keeps what is shown there if it is later than what is known. It answers whether
+/// the board was there.
 fn look(reader: BoardReader, known: &mut Publication) -> (BoardReader, bool)
     requires same { view reader.place ≡ list_shown known.old }
     ensures same { view result.0.place ≡ list_shown known.new }

@@ -1,4 +1,4 @@
-//! Values as text, one behind another.
+//! Values as text, one after another.
 
 ghost use Rattle.std.specs.Prelude.{◌≡◌, ◌++◌, false, nat_lt, OnOk, string_bytes};
 ghost use Rattle.serde_json.specs.View.{view};
@@ -8,7 +8,7 @@ ghost use Rattle.reports.specs.ArrayTexts.{key_text};
 use serde_json::{Value, json};
 use std::alloc::{AllocError, Global};
 
-/// Puts the value behind the text.
+/// Puts the value after the text.
 pub(crate) fn push_value(alloc: Global, text: &mut String, value: &Value) -> Result<(), AllocError>
     requires { has_float (view value.now) ≡ false }
     ensures { OnOk result (string_bytes text.new ≡ string_bytes text.old ++ compact_text (view value.now)) }
@@ -18,7 +18,7 @@ pub(crate) fn push_value(alloc: Global, text: &mut String, value: &Value) -> Res
     Ok(())
 }
 
-/// Puts an element of an array behind the text, by its index there: each but the first has a comma before it.
+/// Puts an element of an array after the text, by its index there: each but the first has a comma before it.
 pub(crate) fn push_element(
     alloc: Global,
     text: &mut String,
@@ -34,7 +34,7 @@ pub(crate) fn push_element(
     push_value(alloc, text, value)
 }
 
-/// Puts a key of an object behind the text, with what stands before and behind it.
+/// Puts a key of an object after the text, with what comes before and after it.
 pub(crate) fn push_key(
     alloc: Global,
     text: &mut String,

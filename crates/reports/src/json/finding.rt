@@ -30,7 +30,7 @@ fn finding_value(alloc: Global, finding: &Finding) -> Result<Value, AllocError>
     Ok(Value::from(finding_text(alloc, finding)?))
 }
 
-/// Puts the findings behind the text, as the elements of an array, one at a time.
+/// Puts the findings after the text, as the elements of an array, one at a time.
 pub(crate) fn push_findings(
     alloc: Global,
     text: &mut String,

@@ -56,8 +56,8 @@ fn rank_value(
     json!(in alloc; {"at": stand, "call": call, "needs": needs, "rank": rank})
 }
 
-/// Puts the stuck ranks behind the text, as the elements of an array. Each is written before the next is made, so
-/// that values of one rank's needs alone are there at a time.
+/// Puts the stuck ranks after the text, as the elements of an array. Each is written before the next is made,
+/// so that values of one rank's needs alone are there at a time.
 pub(crate) fn push_ranks(
     alloc: Global,
     text: &mut String,

@@ -61,7 +61,7 @@ impl Printer {
         }
     }
 
-    /// Gives the rest to the output, and tells whether a write failed.
+    /// Gives the rest to the output, and answers whether a write failed.
     #[tactic(auto, using(crate::proofs::PrintingLemmas::printed_all))]
     pub(crate) fn finish<O: Output>(&mut self, out: &mut O) -> Result<(), DeviceFault>
         ensures { (begun : Option (List ℕ)) (count : ℕ) (text : List ℕ) →

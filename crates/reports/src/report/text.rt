@@ -260,7 +260,7 @@ fn write_findings<O: Output>(printer: &mut Printer, out: &mut O, findings: &[Fin
     }
 }
 
-/// Writes the report of a run as text, by way of a page in place; after a fault a beginning of it was
+/// Writes the report of a run as text, by way of a page in place; after a fault a prefix of it was
 /// written.
 pub(crate) fn write_text<O: Output>(
     analyser: &Analyser,

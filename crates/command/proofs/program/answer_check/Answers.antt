@@ -1,4 +1,4 @@
--- A report stands on standard output, or the fault is told.
+-- A report is on standard output, or the fault is told.
 use Rattle.std.proofs.Common.{ℕ, List, Bor, map, refl, inl}
 use Rattle.command.specs.Ends.{EndsInReport}
 use Rattle.command.specs.Outputs.{Whole}

@@ -1,4 +1,4 @@
--- The number of calls stands on standard output, or the fault is told.
+-- The number of calls is on standard output, or the fault is told.
 use Rattle.std.proofs.Common.{refl, inl}
 use Rattle.command.specs.Ends.{EndsInCount}
 use Rattle.command.specs.Lints.{IsFaultOfLint}

@@ -11,7 +11,7 @@ with_version = on_top (λ s. record s { has_version = true })
 pub returns-clause-app : goal.returns-clause-app
 returns-clause-app c =
     let base : app_of c.version.result ≡ with_version (new_app (codes "check")) =
-    ap app_of_fields c.version.ensures ∙ ap with_version (ap app_of_fields c.after_help.ensures ∙ (ap app_of_fields c.long_about.ensures ∙ (ap app_of_fields c.about.ensures ∙ c.new.ensures.app))) in
+    ap app_of_fields c.version.ensures ∙ ap with_version (ap app_of_fields c.after_help.ensures ∙ (ap app_of_fields c.override_usage.ensures ∙ (ap app_of_fields c.long_about.ensures ∙ (ap app_of_fields c.about.ensures ∙ c.new.ensures.app)))) in
     let one : app_of c.in_ok-arg.field-0 ≡ with_rule (with_version (new_app (codes "check"))) head_rule =
     c.in_ok-arg.ensures.shape c.head_argument.ensures.local ∙ ap₂ with_rule base c.head_argument.ensures.rule in
     let two : app_of c.in_ok-arg-2.field-0 ≡ with_rule (with_rule (with_version (new_app (codes "check"))) head_rule) traces_rule =

@@ -19,7 +19,7 @@ without_help_subcommand = on_top (λ s. record s { disable_help_subcommand = tru
 pub returns : goal.returns
 unfolding program
 returns c =
-    let named = ap app_of_fields c.after_help.ensures ∙ (ap app_of_fields c.about.ensures ∙ c.new.ensures.app) in
+    let named = ap app_of_fields c.after_help.ensures ∙ (ap app_of_fields c.override_usage.ensures ∙ (ap app_of_fields c.about.ensures ∙ c.new.ensures.app)) in
     let versioned = ap app_of_fields c.version.ensures ∙ ap with_version named in
     let bare = ap app_of_fields c.no_binary_name.ensures ∙ ap without_binary_name versioned in
     let required = ap app_of_fields c.subcommand_required.ensures ∙ ap with_required_subcommand bare in

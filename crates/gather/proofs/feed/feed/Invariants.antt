@@ -1,4 +1,4 @@
--- The records put so far are a beginning of what was told, the next line stands behind them, and no read failed.
+-- The records put so far are a prefix of what was told, the next line follows them, and no read failed.
 use Rattle.std.proofs.Common.{◌≡◌, None}
 use Rattle.mpicall.specs.Source.{ended, input_of}
 use Rattle.rankfeed.specs.Rings.{feed_ring, sent_by}

@@ -1,4 +1,4 @@
--- One record more was read; or none, since one stands behind the last.
+-- One record more was read; or none, since one follows the last.
 use Rattle.std.proofs.Common.{rules, refl, ◌∙◌}
 use Rattle.gather.proofs.FedLemmas.{one_further, next_line, coming_closed, fed_closed}
 use Rattle.gather.proofs.feed.next_of.Goals as goal

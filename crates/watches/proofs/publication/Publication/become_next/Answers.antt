@@ -7,7 +7,7 @@ use Rattle.watches.proofs.PrefixLemmas.{prefix_get}
 use Rattle.watches.proofs.AppendLemmas.{last_of_snoc}
 use Rattle.watches.proofs.publication.Publication.become_next.Goals as goal
 
--- one more behind a list that rises
+-- one more after a list that rises
 rises_on : (list longer : List Stands) (last stands : Stands) → longer ≡ list ++ stands ∷ [] → last_published list ≡ Some last → is_rising list ≡ true → is_further last.places stands.places ≡ true → is_rising longer ≡ true
 rises_on list longer last stands is end rising further =
     ap is_rising is ∙ rising_snoc list stands rising (subst (λ (last : Option Stands). may_follow last stands ≡ true) (sym end) further)
