@@ -130,8 +130,8 @@ class Sizes(unittest.TestCase):
     def test_notes_and_imports_count_nothing_and_long_lines_count_again(self):
         specs = SPECS.replace("two = one + one", "two = one" + " + one" * 30)
         tree = believed.Tree({"crates/low/specs/Words.antt": specs})
-        self.assertEqual(believed.size_of(tree, [("low", "Words", "two")])[:2], (1, 3))
-        self.assertEqual(believed.size_of(tree, [("low", "Words", "one")]), (1, 2, 19))
+        self.assertEqual(believed.size_of(tree, [("low", "Words", "two")])[:3], (1, 2, 3))
+        self.assertEqual(believed.size_of(tree, [("low", "Words", "one")]), (1, 2, 2, 19))
 
     def test_a_definition_of_the_wrong_folder_is_found(self):
         texts = {
