@@ -33,7 +33,7 @@ module _ {T : Type 0} where
       first_is [] = refl
       first_is (entry ∷ list) = refl
 
-  -- the contents once the first value of a list is taken off, once one is put behind it, and once all are
+  -- the contents once the first value of a list is taken off, once one is put after it, and once all are
   pub contents_drop : (lists : List (List (ℕ × T))) (l : ℕ) → contents (set lists l (drop 1 (list_at lists l))) ≡ set (contents lists) l (drop 1 (list_at (contents lists) l))
   contents_drop lists l =
       contents_set lists l (drop 1 (list_at lists l))

@@ -29,7 +29,7 @@ three_third xs i u j v k w k_in = get_or-set_same (set (set xs i u) j v) k w 0 (
 three_long : (xs : List ℕ) (i u j v k w : ℕ) → length (set (set (set xs i u) j v) k w) ≡ length xs
 three_long xs i u j v k w = length-set (set (set xs i u) j v) k w ∙ length-set (set xs i u) j v ∙ length-set xs i u
 
--- the two rings, one with no number of the other, and the second with a number behind its head
+-- the two rings, one with no number of the other, and the second with a number after its head
 pub record Two (nexts prevs : List ℕ) (t : ℕ) (ts : List ℕ) (f x : ℕ) (xs : List ℕ) : Type 0 where
   pub cells : length nexts ≡ length prevs
   pub to : Chain nexts prevs t ts t

@@ -50,7 +50,7 @@ abbrev pub first_value : {T : Type 0} → List (ℕ × T) → Option T
 first_value [] = None
 first_value (entry ∷ list) = Some entry.1
 
--- what stands behind a node in its list
+-- what follows a node in its list
 abbrev pub behind : {T : Type 0} → List (ℕ × T) → ℕ → List (ℕ × T)
 behind [] n = []
 behind (entry ∷ list) n = if n == entry.0 then list else behind list n
@@ -68,7 +68,7 @@ unlinked lists n = map (λ list. without_node list n) lists
 abbrev pub linked : {T : Type 0} → List (List (ℕ × T)) → ℕ → ℕ → T → List (List (ℕ × T))
 linked lists l n v = slice_set lists l (list_at lists l ++ (n, v) ∷ [])
 
--- the lists once all of list `from` is put behind list `to`
+-- the lists once all of list `from` is put after list `to`
 abbrev pub spliced : {T : Type 0} → List (List (ℕ × T)) → ℕ → ℕ → List (List (ℕ × T))
 spliced lists to from = slice_set (slice_set lists to (list_at lists to ++ list_at lists from)) from []
 

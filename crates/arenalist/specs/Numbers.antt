@@ -24,7 +24,7 @@ abbrev pub without : ℕ → List ℕ → List ℕ
 without n [] = []
 without n (x ∷ xs) = if n == x then without n xs else x ∷ without n xs
 
--- what stands behind a number
+-- what follows a number
 abbrev pub after : ℕ → List ℕ → List ℕ
 after n [] = []
 after n (x ∷ xs) = if n == x then xs else after n xs

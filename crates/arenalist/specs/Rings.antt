@@ -56,7 +56,7 @@ prevs_spliced nexts prevs t f = set (set (set prevs (get_or nexts f 0) (get_or p
 abbrev pub around : List ℕ → ℕ → List ℕ
 around nexts h = walk nexts (length nexts) h h
 
--- `c` is the first of the cells, each is linked to the one behind it, and the last to `z`
+-- `c` is the first of the cells, each is linked to the one after it, and the last to `z`
 abbrev pub Leads : List ℕ → ℕ → List ℕ → ℕ → Type 0
 Leads nexts c [] z = c ≡ z
 Leads nexts c (x ∷ xs) z = (c ≡ x) × Leads nexts (get_or nexts x 0) xs z

@@ -249,7 +249,7 @@ impl Links {
         self.owners[cell as usize] = None;
     }
 
-    /// Puts all cells of a list behind those of another, and answers how many they are.
+    /// Puts all cells of a list after those of another, and answers how many they are.
     pub(crate) fn splice(&mut self, to: u32, from: u32) -> u64
         requires to { to < length self.old.lists }
         requires from { from < length self.old.lists }
@@ -281,7 +281,7 @@ impl Links {
         if first == head { None } else { Some(first) }
     }
 
-    /// The cell behind one in its list.
+    /// The cell after one in its list.
     pub(crate) fn next(&self, cell: u32) -> Option<u32>
         requires { 0 < in_all cell self.now.lists }
         ensures { (l : ℕ) → 0 < count cell (list_at self.now.lists l) →

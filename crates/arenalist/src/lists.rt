@@ -162,7 +162,7 @@ impl<T> Lists<T> {
         }
     }
 
-    /// The node behind one in its list.
+    /// The node after one in its list.
     pub fn next(&self, node: Node) -> Option<Node>
         requires { IsLinked self.now.lists node }
         ensures { (l : ℕ) → HasNode (list_at self.now.lists l) node →
@@ -275,7 +275,7 @@ impl<T> Lists<T> {
         self.work = self.work.saturating_add(2);
     }
 
-    /// Moves all nodes of a list behind those of another. They keep their numbers and values.
+    /// Moves all nodes of a list after those of another. They keep their numbers and values.
     pub fn append(&mut self, to: ListId, from: ListId)
         requires to { to < length self.old.lists }
         requires from { from < length self.old.lists }

@@ -24,7 +24,7 @@ with_note_set lists rank old new note is_rank read more =
     map-set (λ (it : NotedList). it.calls) lists rank new
     ∙ ap (λ (calls : List Noted). set (map (λ (it : NotedList). it.calls) lists) rank calls) (more ∙ ap (λ (calls : List Noted). calls ++ note ∷ []) (sym before))
 
--- the rank's list has another partner beside a call
+-- the rank's list has another partner with a call
 pub partnered_set : (lists : List NotedList) (rank place : ℕ) (half : Half) (there : ℕ) (old new : NotedList) → rank < length lists → old ≡ get_or lists rank old → new.calls ≡ partnered_in old.calls place half there → map (λ (it : NotedList). it.calls) (set lists rank new) ≡ partnered (map (λ (it : NotedList). it.calls) lists) rank place half there
 partnered_set lists rank place half there old new is_rank read more =
     let before : notes_of (map (λ (it : NotedList). it.calls) lists) rank ≡ old.calls =

@@ -45,7 +45,7 @@ number_next p xs y absent passes =
     (position_or_len_push p xs y ∙ ap (λ b. cond b (length xs + cond (p y) 0 1) (position_or_len p xs)) (eq-eqb _ _ absent) ∙ ap (λ b. length xs + cond b 0 1) passes ∙ omega arith)
     (omega (arith, one_more))
 
--- nothing is written behind a list
+-- nothing is written after a list
 pub set_past : {X : Type 0} (xs : List X) (i : ℕ) (y : X) → length xs ≤ i → set xs i y ≡ xs
 set_past [] i y past = refl
 set_past (x ∷ xs) zero y past = absurd (omega arith)
@@ -55,7 +55,7 @@ pub on_ok_then : {T E : Type 0} (r : Result T E) {P Q : Type 0} → (P → Q) �
 on_ok_then (Ok x) step h = step h
 on_ok_then (Err e) step h = h
 
--- the number of a key that had none is behind the others
+-- the number of a key that had none is after the others
 pub number_past : {K : Type 0} (p : K → Bool) (xs : List K) (y : K) → position_or_len p xs ≡ length xs → (i : ℕ) → position p (xs ++ y ∷ []) ≡ Some i → length xs ≤ i
 number_past p xs y absent i h =
     let number = cond_some (ltb (position_or_len p (xs ++ y ∷ [])) (length (xs ++ y ∷ []))) (position_or_len p (xs ++ y ∷ [])) i h in

@@ -112,7 +112,7 @@ stored_push entries starts starts' entry stored added short few = record {
   few = omega (arith, length-append entries (entry ∷ []));
 }
 
--- a call of a name and what stands behind it is no wait, and starts no request
+-- a call of a name and what follows it is no wait, and starts no request
 pub record IsApart (call : Call) : Type 0 where
   pub starts : starts_of call ≡ None
   pub waits : waits_for call ≡ []
@@ -222,7 +222,7 @@ same_maps {Y = Y} f g (x ∷ xs) agree =
     let rest : map f xs ≡ map g xs = same_maps f g xs agree in
     cc
 
--- what stands beside an entry's call is another: all calls stay
+-- what stands with an entry's call is another: all calls stay
 request_beside : (entries : List Entry) (i : ℕ) (old : Entry) (beside : Beside) → slice_get entries i ≡ Some old → (place : ℕ) → request_at (set entries i (record { call = old.call; beside = beside })) place ≡ request_at entries place
 request_beside [] i old beside h place = refl
 request_beside (entry ∷ entries) zero old beside h zero = ap (λ (e : Entry). request_of e.call) (sym (same_Some entry old h))
@@ -251,7 +251,7 @@ module _ (entries entries' : List Entry) (same : (place : ℕ) → request_at en
         (λ p some. ap (λ (o : Option ℕ). is_some o) (same p) ∙ some) (unpack_starts starts entry.call) stored.started;
   }
 
--- so all is stored as before, and the notes have another beside the one
+-- so all is stored as before, and the notes have another with the one
 stored_as : (entries : List Entry) (starts : List ℕ) (old : Entry) (beside : Beside) → IsStored entries starts old → IsStored entries starts (record { call = old.call; beside = beside })
 stored_as entries starts old beside stored = record { ranged = stored.ranged; within = stored.within; started = stored.started }
 

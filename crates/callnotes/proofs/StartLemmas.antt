@@ -31,7 +31,7 @@ waits_unpacked entries starts _ = refl
 none_completed : {call : Call} (entries : List Entry) → IsApart call → completes call ≡ reqs_at entries (completed_among call [])
 none_completed entries apart = apart.completes ∙ sym (ap (λ (places : List ℕ). reqs_at entries places) apart.among)
 
--- and completes what those of its starts start which stand beside what it completes
+-- and completes what those of its starts start which stand with what it completes
 by_starts : (entries : List Entry) (starts : List ℕ) (packed : Packed) → completes (unpack entries starts packed) ≡ reqs_at entries (completed_among (unpack entries starts packed) (unpack_starts starts packed))
 by_starts entries starts (Waitany chosen first count) =
     ap (take 1) (drop-map (req_at entries) chosen (part starts first count)) ∙ take-map (req_at entries) 1 (drop chosen (part starts first count))
@@ -49,7 +49,7 @@ completes_at entries starts entry note index is =
     (ap (λ (reqs : List ℕ). slice_get reqs index) (by_starts entries starts entry.call)
     ∙ slice_get-map (req_at entries) (completed_starts (noted_of entries starts entry)) index)
 
--- the first of the places whose call starts the request is beside the first such request
+-- the first of the places whose call starts the request is with the first such request
 prefix_map : (f : ℕ → ℕ) (test : ℕ → Bool) (xs : List ℕ) → prefix_len test (map f xs) ≡ prefix_len (λ x. test (f x)) xs
 prefix_map f test [] = refl
 prefix_map f test (x ∷ xs) = ap (λ (n : ℕ). cond (test (f x)) (1 + n) 0) (prefix_map f test xs)
@@ -73,7 +73,7 @@ start_found entries starts entry note req is =
     ∙ ap (option_and_then (slice_get (unpack_starts starts entry.call))) (position_map (req_at entries) (λ other. other == req) (unpack_starts starts entry.call))
     ∙ at_position (λ place. req_at entries place == req) (unpack_starts starts entry.call))
 
--- one more request is written behind those of the places before
+-- one more request is written after those of the places before
 pub written : (f : ℕ → ℕ) (into places : List ℕ) (i found : ℕ) → i < length into → i < length places → found ≡ f (get_or places i 0) → take i into ≡ map f (take i places) → take (i + 1) (set into i found) ≡ map f (take (i + 1) places)
 written f (x ∷ into) (place ∷ places) zero found room here is before = rw is refl
 written f (x ∷ into) (place ∷ places) (suc i) found room here is before =

@@ -1,4 +1,4 @@
--- What is kept beside a call: the wave that a collective joins, and where the partners of a message's halves
+-- What is kept with a call: the wave that a collective joins, and where the partners of a message's halves
 -- stand.
 use Rattle.std.specs.Prelude.{ℕ, Option, Some, None}
 use Rattle.callnotes.specs.declared.envelope.Half.{Half}

@@ -1,4 +1,4 @@
--- Notes: the calls of each rank, each with what is kept beside it and, at a wait, the places that started the
+-- Notes: the calls of each rank, each with what is kept with it and, at a wait, the places that started the
 -- requests which it names.
 use Rattle.std.specs.Prelude.{◌≡◌, ℕ, ◌≤◌, ◌==◌, Option, Some, unwrap_or, option_and_then, List, [], ◌∷◌, ◌++◌, map, length, take, drop, slice_get, slice_set}
 use Rattle.std.specs.List.{position}
@@ -12,7 +12,7 @@ use Rattle.callnotes.specs.Beside.{partner_in, with_partner}
 use Rattle.callnotes.specs.Recordings.{Lists}
 use Rattle.callnotes.specs.Requests.{starts, waits_for}
 
--- a call, what is kept beside it, and the places that started the requests which it names: one place
+-- a call, what is kept with it, and the places that started the requests which it names: one place
 -- for each request, in its order
 pub record Noted : Type 0 where
   pub call : Call
@@ -50,7 +50,7 @@ calls_in notes = map (λ note. note.call) notes
 abbrev pub recording_of : List (List Noted) → Lists
 recording_of lists = map calls_in lists
 
--- the place of a half's partner that is kept beside the rank's call at the place
+-- the place of a half's partner that is kept with the rank's call at the place
 abbrev pub kept_at : List (List Noted) → Half → ℕ → ℕ → Option ℕ
 kept_at lists half rank place = option_and_then (λ note. partner_in half note.beside) (slice_get (notes_of lists rank) place)
 
@@ -58,7 +58,7 @@ kept_at lists half rank place = option_and_then (λ note. partner_in half note.b
 abbrev pub note_with : Half → ℕ → Noted → Noted
 note_with half there note = record { call = note.call; beside = with_partner half there note.beside; starts = note.starts }
 
--- the notes of a rank with the place of a partner beside the call at the place, if one stands there
+-- the notes of a rank with the place of a partner with the call at the place, if one stands there
 abbrev pub partnered_in : List Noted → ℕ → Half → ℕ → List Noted
 partnered_in notes place half there = option_map_or (λ note. slice_set notes place (note_with half there note)) (slice_get notes place) notes
 
@@ -93,7 +93,7 @@ request_among calls place = option_and_then starts (slice_get calls place)
 abbrev pub AreStarts : List Call → Call → List ℕ → Type 0
 AreStarts calls wait places = map (request_among calls) places ≡ map (λ req. Some req) (waits_for wait)
 
--- what stands beside the requests that a wait completes, of what stands beside those that it names
+-- what stands with the requests that a wait completes, of what stands with those that it names
 abbrev pub completed_among : Call → List ℕ → List ℕ
 completed_among (Waitany chosen reqs) beside = take 1 (drop chosen beside)
 completed_among _ beside = beside
@@ -102,6 +102,6 @@ completed_among _ beside = beside
 abbrev pub completed_starts : Noted → List ℕ
 completed_starts note = completed_among note.call note.starts
 
--- the place that started a request which a wait names: it stands beside the first such number
+-- the place that started a request which a wait names: it stands with the first such number
 abbrev pub start_of : Noted → ℕ → Option ℕ
 start_of note req = option_and_then (slice_get note.starts) (position (λ other. other == req) (waits_for note.call))

@@ -59,7 +59,7 @@ unpack_starts starts (Waitall first count) = part starts first count
 unpack_starts starts (Waitany chosen first count) = part starts first count
 unpack_starts starts _ = []
 
--- the call of a name and what stands behind it; none of an operation and of a wait
+-- the call of a name and what follows it; none of an operation and of a wait
 abbrev pub plain_of : Packed → Option Call
 plain_of (Nothing name) = Some (call_by name laid.Nothing)
 plain_of (Message name comm source tag) = Some (call_by name (laid.Message comm source tag))
@@ -87,7 +87,7 @@ end_of (Waitall first count) = first + count
 end_of (Waitany chosen first count) = first + count
 end_of _ = 0
 
--- a call with what is kept beside it
+-- a call with what is kept with it
 abbrev pub noted : Call → Beside → List ℕ → Noted
 noted call beside starts = record { call = call; beside = beside; starts = starts }
 

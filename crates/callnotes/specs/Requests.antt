@@ -43,12 +43,12 @@ does_complete req call = is_among req (completes call)
 abbrev pub last_of : List ℕ → Option ℕ
 last_of numbers = slice_get numbers (length numbers - 1)
 
--- the place, unless a call behind it completes the request
+-- the place, unless a later call completes the request
 abbrev pub unless_completed : List Call → ℕ → ℕ → Option ℕ
 unless_completed calls req place = if list_any (does_complete req) (drop (place + 1) calls) then None else Some place
 
 -- The place that started the request as it stands after the calls: the last of the calls that starts it,
--- unless a call behind completes it.
+-- unless a later call completes it.
 abbrev pub started_in : List Call → ℕ → Option ℕ
 started_in calls req = option_and_then (unless_completed calls req) (last_of (places (does_start req) calls))
 

@@ -1,11 +1,15 @@
-//! What is kept beside a call.
+//! What is kept with a call.
+//!
+//! The wave and the starts are known when the call is added and never change, since they depend on earlier
+//! calls of the same rank alone. A partner is written at both calls when the later one comes. So a partner
+//! is read from the call, without its envelope.
 
 ghost use Rattle.std.specs.Prelude.{◌≡◌};
 ghost use Rattle.callnotes.specs.Beside.{partner_in, wave_in, with_partner};
 
 use crate::envelope::Half;
 
-/// What is kept beside a call: the number of the wave that a collective joins, and the places of the calls
+/// What is kept with a call: the number of the wave that a collective joins, and the places of the calls
 /// that its halves go with, as far as they came.
 #[derive(Clone, Copy)]
 pub enum Beside {

@@ -184,7 +184,7 @@ impl<'a> CallRef<'a> {
         Note::of(self.entry, self.entries, self.starts).completed_count()
     }
 
-    /// Whether no call of the rank comes behind this one.
+    /// Whether no call of the rank comes after this one.
     #[inline(always)]
     pub fn ends_list(&self) -> bool
         ensures { result ≡ ends_list self.now }

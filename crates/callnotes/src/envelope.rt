@@ -42,7 +42,7 @@ pub struct Message {
     pub tag: u32,
 }
 
-/// What a message carries beside its data. Source and destination are ranks of the communicator's
+/// What a message carries besides its data. Source and destination are ranks of the communicator's
 /// group.
 #[derive(Clone, Copy, PartialEq, Eq)]
 pub struct Envelope {

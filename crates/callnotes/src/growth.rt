@@ -1,4 +1,8 @@
 //! How lists grow that may become long.
+//!
+//! Such lists make room for 128 KB at their 65th element. Lists that grow together then leave few small
+//! blocks that nobody uses again. The C library gives a block of that size pages of its own, as long as no
+//! larger block was given back before.
 
 ghost use Rattle.std.specs.Prelude.{◌≤◌};
 

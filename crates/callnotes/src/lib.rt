@@ -3,7 +3,7 @@
 //!
 //! What it promises, as contracts that are proved, by definitions of `specs/`:
 //!
-//! - `notes::Notes` has the noted calls of each rank, each with what is kept beside it: the number of its wave or
+//! - `notes::Notes` has the noted calls of each rank, each with what is kept with it: the number of its wave or
 //!   the places of its partners, and at a wait the places that started its requests. What was noted is
 //!   answered again (`Notes`). `call_ref::CallRef` shows a call in its place.
 //! - `next_call::NextCall` is a call with what it does, found out once. `envelope` tells messages and their

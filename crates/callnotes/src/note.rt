@@ -1,4 +1,4 @@
-//! A noted call, with what is kept beside it.
+//! A noted call, with what is kept with it.
 
 ghost use Rattle.std.specs.Prelude.{◌≡◌, ◌==◌, length, slice_get, find};
 ghost use Rattle.callnotes.specs.Beside.{partner_in, wave_in};
@@ -21,7 +21,7 @@ fn first_start(req: u32, entries: &[Entry], places: &[u32]) -> Option<u32>
     starts.find(|place| req_at(entries, *place) == req)
 }
 
-/// A noted call. Contracts see the call with what is kept beside it.
+/// A noted call. Contracts see the call with what is kept with it.
 #[derive(Drop)]
 pub struct Note<'a> {
     entry: &'a Entry,
@@ -62,7 +62,7 @@ impl<'a> Note<'a> {
         CallRef::of(self.entry, self.entries, self.starts)
     }
 
-    /// The place of a half's partner that is kept beside the call.
+    /// The place of a half's partner that is kept with the call.
     #[inline(always)]
     pub fn partner(&self, half: Half) -> Option<u32>
         ensures { result ≡ partner_in half self.now.beside }
@@ -118,7 +118,7 @@ impl<'a> Note<'a> {
         self.completed_starts().get(index).copied()
     }
 
-    /// The place that started a request which the call names: that beside the first such number. None
+    /// The place that started a request which the call names: that with the first such number. None
     /// where the call names no such request.
     pub fn start_of(&self, req: u32) -> Option<u32>
         ensures { result ≡ start_of self.now req }

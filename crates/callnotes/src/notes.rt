@@ -84,7 +84,7 @@ impl Notes {
         list.reserve(call)
     }
 
-    /// Notes the rank's next call, with what is kept beside it and the places that started the requests which
+    /// Notes the rank's next call, with what is kept with it and the places that started the requests which
     /// it names: one for each, in its order. This takes no memory.
     #[inline(always)]
     pub fn note(&mut self, rank: u16, call: &Record, beside: Beside, starts: &[u32])
@@ -98,7 +98,7 @@ impl Notes {
         list.note(call, beside, starts);
     }
 
-    /// Keeps the place of a half's partner beside the rank's call at the place, if one stands there.
+    /// Keeps the place of a half's partner with the rank's call at the place, if one stands there.
     #[inline(always)]
     pub fn set_partner(&mut self, rank: u16, place: u32, half: Half, there: u32)
         ensures { self.new.lists ≡ partnered self.old.lists rank place half there }

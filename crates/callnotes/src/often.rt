@@ -1,4 +1,13 @@
 //! The kinds of calls that come often, for each of which there are paths of its own in the crates above.
+//!
+//! What admits a call, what a rank does that reaches it, and a look at it have the kind's number as a
+//! parameter. One function is built for each kind, and the compiler drops each question that the kind
+//! answers. Each has the contract of the general function.
+//!
+//! To keep in mind here: the kit drops `#[inline(always)]` without a word from a function that becomes too
+//! large, so what comes rarely is `#[inline(never)]`. Each local value that is no number is cleared where
+//! its function begins, so rare arms are functions of their own. A kind that is only assumed
+//! (`unreachable!`) is forgotten before looks are built, so looks ask for it.
 
 ghost use Rattle.std.specs.Prelude.{◌≡◌};
 ghost use Rattle.callnotes.specs.Often.{kind_no};

@@ -1,5 +1,8 @@
-//! Calls stored compactly: a call with what is kept beside it takes 32 bytes, and each request that a wait for
+//! Calls stored compactly: a call with what is kept with it takes 32 bytes, and each request that a wait for
 //! several names 4 more.
+//!
+//! A wait keeps the places of the calls that started its requests, and no numbers. The analyser asks for
+//! places at each step; numbers are wanted for reports alone, at the price of one look-up each.
 
 ghost use Rattle.std.specs.Prelude.{◌≡◌, List, ℕ, unwrap_or};
 ghost use Rattle.mpicall.specs.declared.call.Call.TheVariants.{Finalize};
@@ -101,7 +104,7 @@ pub(crate) enum Packed {
     },
 }
 
-/// A call, and what is kept beside it.
+/// A call, and what is kept with it.
 #[derive(Clone, Copy)]
 pub(crate) struct Entry {
     pub call: Packed,
@@ -111,7 +114,7 @@ pub(crate) struct Entry {
 const _: () = prove!(size_of::<Entry>() <= 32);
 
 impl Packed {
-    /// The call of a name and what stands behind it; None for an operation and a wait.
+    /// The call of a name and what follows it; None for an operation and a wait.
     #[inline(always)]
     pub(crate) fn plain(&self) -> Option<Call>
         ensures { result ≡ plain_of self.now }

@@ -49,7 +49,7 @@ fn count(reqs: &Reqs) -> u8
     reqs.as_slice().len() as u8
 }
 
-/// A name and what stands behind it, packed.
+/// A name and what follows it, packed.
 fn pack_laid(name: Name, laid: Laid) -> Packed
     requires { IsTrue (list_all is_in_range (laid_arguments laid)) }
     ensures call { (entries : List Entry) (starts : List ℕ) → unpack entries starts result ≡ call_by name laid }

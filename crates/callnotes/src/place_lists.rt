@@ -110,7 +110,7 @@ impl PlaceLists {
         self.lists.len()
     }
 
-    /// Makes one more list, without places, behind the others.
+    /// Makes one more list, without places, after the others.
     pub fn add(&mut self, alloc: Global) -> Result<(), AllocError>
         ensures ok { OnOk result (self.new.places ≡ self.old.places ++ [] ∷ []) }
         ensures err { OnErr result (self.new.places ≡ self.old.places) }

@@ -19,7 +19,7 @@ use std::marker::Model;
 /// So many calls fill a block.
 const ENTRIES_A_BLOCK: usize = 4096;
 
-/// Puts the numbers behind others, for which there is room.
+/// Puts the numbers after others, for which there is room.
 fn push_all(to: &mut Vec<u32>, numbers: &[u32])
     requires { vec_len to.old + length numbers.now ≤ vec_capacity to.old }
     ensures { to.new.items ≡ to.old.items ++ numbers.now }
@@ -29,7 +29,7 @@ fn push_all(to: &mut Vec<u32>, numbers: &[u32])
     }
 }
 
-/// The noted calls of a rank, in its order. Contracts see each call with what is kept beside it, and for
+/// The noted calls of a rank, in its order. Contracts see each call with what is kept with it, and for
 /// how many more there is room.
 pub(crate) struct RankNotes {
     entries: Vec<Entry>,
@@ -97,7 +97,7 @@ impl RankNotes {
         Ok(())
     }
 
-    /// Notes the rank's next call, with what is kept beside it and the places that started the requests which
+    /// Notes the rank's next call, with what is kept with it and the places that started the requests which
     /// it names.
     #[inline(always)]
     pub(crate) fn note(&mut self, call: &Record, beside: Beside, starts: &[u32])
@@ -115,7 +115,7 @@ impl RankNotes {
         });
     }
 
-    /// Keeps the place of a half's partner beside the call at the place, if one stands there.
+    /// Keeps the place of a half's partner with the call at the place, if one stands there.
     #[inline(always)]
     pub(crate) fn set_partner(&mut self, place: u32, half: Half, there: u32)
         ensures { self.new.calls ≡ partnered_in self.old.calls place half there }

@@ -1,4 +1,7 @@
 //! The words that the process is given, and the program on them.
+//!
+//! The end of the program is a value that can't be dropped and is let go only as an exit code. So a `main`
+//! that throws the status away doesn't compile.
 
 ghost use Rattle.std.specs.Prelude.{◌≡◌, IfOk, OnErr, map, string_bytes};
 ghost use Rattle.std.specs.Process.{exit_status};

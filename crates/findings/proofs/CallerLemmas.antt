@@ -1,4 +1,4 @@
--- Members without a call in a wave: nothing is found of them in it, nor in those behind it.
+-- Members without a call in a wave: nothing is found of them in it, nor in those after it.
 use Rattle.std.proofs.Common.{◌≡◌, ℕ, ◌≤◌, Bool, false, Option, Some, None, List, [], ◌∷◌, ◌++◌, inl, inr, length, flat_map, refl, ap, ◌∙◌, arith}
 use Rattle.std.specs.Prelude.{is_some, option_and_then}
 use Rattle.std.specs.List.{filter}

@@ -1,4 +1,4 @@
--- Findings: what is wrong with a recorded run beside what makes it hang. They are over the whole recording,
+-- Findings: what is wrong with a recorded run besides what makes it hang. They are over the whole recording,
 -- whether its calls are reached or not. Each list here is in the order of the report.
 use Rattle.std.specs.Prelude.{ℕ, ℤ, pos, ◌-◌, ◌==◌, Bool, true, false, not, ◌&&◌, Option, Some, None, is_some, is_none, option_and_then, if◌then◌else◌, List, [], ◌∷◌, ◌++◌, flat_map, length, map, slice_get, slice_index}
 use Rattle.std.specs.List.{list_all, list_any, range_with_len}
@@ -132,7 +132,7 @@ abbrev pub is_completed : Lists → ℕ → ℕ → ℕ → Bool
 is_completed recording rank req start =
     list_any (completes_start recording rank req start) (range_with_len 0 (length (calls_of recording rank)))
 
--- none does, and none can come behind the rank's list
+-- none does, and none can come after the rank's list
 abbrev pub is_lost : Lists → ℕ → ℕ → ℕ → Bool
 is_lost recording rank req start = not (is_completed recording rank req start) && not (is_left_open recording rank)
 

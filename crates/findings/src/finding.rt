@@ -1,4 +1,8 @@
-//! What is wrong with a recorded run beside what makes it hang.
+//! What is wrong with a recorded run besides what makes it hang.
+//!
+//! Each kind is found by going through communicators, waves and members, or ranks and places, so that the
+//! order of the report is that of the search. Messages, requests and groups are looked for only if the
+//! tables say that there may be one (`has_unreceived`, `may_have_active`, `has_made`).
 
 ghost use Rattle.std.specs.Prelude.{◌≡◌, ◌++◌, IfOk, OnOk};
 ghost use Rattle.findings.specs.Findings.{kinds_of, roots_of, findings_of};

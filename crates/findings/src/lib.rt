@@ -1,4 +1,4 @@
-//! What is wrong with a recorded run beside what makes it hang.
+//! What is wrong with a recorded run besides what makes it hang.
 //!
 //! What it promises, as contracts that are proved, by definitions of `specs/`:
 //!

@@ -1,4 +1,7 @@
 //! The collector: it takes the records of all ranks from their feeds, in any order.
+//!
+//! What is kept depends on the items alone, and not on sources: who fills a feed is another promise
+//! (`IsFed`). Both meet where the receipts are handed to `close`.
 
 ghost use Rattle.std.specs.Prelude.{◌≡◌, ◌<◌, Some, None, false, length, map, slice_get, IfSome};
 ghost use Rattle.rankfeed.specs.Rings.{taker_ring, receipt_ring};

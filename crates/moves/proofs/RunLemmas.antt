@@ -39,7 +39,7 @@ moved_stand_below s u rank k h is_rank behind =
     (λ e. rw (get_or-set_other s rank k (get_or s rank 0 + 1) 0 e) h)
     (cases_eq k rank)
 
--- a rank that stands behind `u` may move and stays at most there
+-- a rank that is not as far as `u` may move, and then is at most there
 moved_below : (s u : State) (rank : ℕ) → StandsNoLater s u → rank < length s → get_or s rank 0 < get_or u rank 0 → StandsNoLater (moved s rank) u
 moved_below s u rank h is_rank behind = record {
   ranks = length_moved s rank ∙ h.ranks;

@@ -77,7 +77,7 @@ waits_comm reading groups recording s progress awaited rank place other comm (in
     subst (λ (c : ℕ). NeedsWave groups recording s progress other c) same wave.2
 waits_comm reading groups recording s progress awaited rank place other comm (inr new) = absurd (omega (arith, new.0, new.1))
 
--- what the reaching of a place costs beside the wakes of a wave: four for each half, four for a probe, and one for a
+-- what the reaching of a place costs besides the wakes of a wave: four for each half, four for a probe, and one for a
 -- change of how far its wave is
 both_cost : (reading : Reading) (groups : Groups) (recording : Lists) (s : State) (progress new : Progress) (rank place : ℕ) (w : WaitLists) → IsReaching reading groups recording s progress w rank place → new.changes ≤ progress.changes + 1 → (wave_of recording rank place ≡ None → new.changes ≡ progress.changes) → load (all_woken groups recording rank place w None) + new.changes + 3 ≤ load w + progress.changes + cost_of (slice_get (calls_of recording rank) place)
 both_cost reading groups recording s progress new rank place w h changes no_change =

@@ -26,7 +26,7 @@ every_maximal_run_ends_at_the_stands reading groups recording =
     (same_ranks recording)
     (maximal_runs_end_alike (can_move reading groups recording) (map length recording) (can_move_is_persistent reading groups recording) (can_move_is_bounded reading groups recording))
 
--- a rank whose end is not behind it keeps it so
+-- a rank that is not past its end stays so
 passes_not : (reading : Reading) (groups : Groups) (recording : Lists) (s t : State) (rank place : ℕ) (end : Call) → slice_get (calls_of recording rank) place ≡ Some end → ends_list end ≡ true → get_or s rank 0 ≤ place → Step (can_move reading groups recording) s t → get_or t rank 0 ≤ place
 passes_not reading groups recording s t rank place end is_there ends before step =
     rw step.moves_on

@@ -174,7 +174,7 @@ each_cost w (partner ∷ more) room short =
     let first = wakens_partner w partner room in
     omega (arith, partner_cost w partner room (short w (wakens_none w)), each_cost next more (room_on w next first room) (λ x wakens. short x (wakens_both w next x first wakens)))
 
--- whom the reaching of a call wakes, beside the members of a wave: who waits for it as a partner, or at a probe
+-- whom the reaching of a call wakes, besides the members of a wave: who waits for it as a partner, or at a probe
 abbrev pub partners_of : Groups → Lists → List ℕ → ℕ → ℕ → List (Option (ℕ × ℕ))
 partners_of groups recording awaited rank place =
     partner_of groups recording rank place SendHalf ∷ partner_of groups recording rank place RecvHalf ∷ prober_of groups recording awaited rank place ∷ []

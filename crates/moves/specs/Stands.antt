@@ -64,7 +64,7 @@ LongerRecordingsLowerNoStand =
     (reading : Reading) (groups : Groups) (recording longer : Lists) → GoesOn recording longer →
     StandsNoLater (stands_of reading groups recording) (stands_of reading groups longer)
 
--- Law: no run moves a rank past a call that ends its list, so a call behind it is never reached.
+-- Law: no run moves a rank past a call that ends its list, so a call after it is never reached.
 abbrev pub NoCallBehindTheEndIsReached : Type 0
 NoCallBehindTheEndIsReached =
     (reading : Reading) (groups : Groups) (recording : Lists) (rank place : ℕ) (call : Call) (states : List State) → IsRunOver reading groups recording states →

@@ -58,7 +58,7 @@ abbrev pub met_of : Progress → ℕ → ℕ
 met_of progress comm = slice_index progress.met.items comm
 
 -- Each member has reached its calls of the complete waves, and so many members theirs of the next wave. The
--- member behind those has not, unless it is excepted.
+-- member after those has not, unless it is excepted.
 pub record AreWaves (groups : Groups) (recording : Lists) (stands : State) (progress : Progress) (IsExcepted : ℕ → ℕ → Type 0) : Type 0 where
   pub completes : length progress.complete.items ≡ length groups
   pub meets : length progress.met.items ≡ length groups

@@ -1,4 +1,8 @@
 //! The analyser: it takes records one by one, of any rank, and knows at any time where the ranks stand.
+//!
+//! The bound on touches is an account in the analyser's invariant, and no counter of the code. A call pays
+//! 3 when it is accepted, 13 when it is reached, 2 when it is passed and 4 when its wave is complete: 22 in
+//! all, of the 24 that the contract promises. Looks aren't counted.
 
 ghost use Rattle.std.specs.Prelude.{◌≡◌, ◌≢◌, ◌<◌, ◌≤◌, ◌↔◌, [], ◌∷◌, length, true, replicate, slice_get, option_map, None, Some, Err, IfOk, IfErr, IfSome, OnOk, OnErr};
 ghost use Rattle.std.specs.List.{list_all, range_with_len};

@@ -1,5 +1,8 @@
 //! Looks: whether a rank can move on where it stands, and if not, what it waits for. A look takes no memory,
 //! and it ends at the first need that is not met.
+//!
+//! A call that its rank hasn't reached meets no need of anybody, so no look follows it. A look at a wave
+//! compares two numbers: how many waves of the communicator are complete, and the number of the wave.
 
 ghost use Rattle.std.specs.Prelude.{◌≡◌, ◌<◌, Some, true, nat_lt, length, slice_get, slice_index};
 ghost use Rattle.std.specs.List.{list_all};

@@ -1,4 +1,9 @@
 //! How far the waves are: which of them are complete where the ranks stand.
+//!
+//! The waves of a communicator become complete in their order. So it is enough to know how many are, and
+//! how many members, from the first of the group on, have reached their call of the next one. A rank
+//! changes something only if it is the next member that is missing; then the members after it are asked in
+//! turn. So members are asked at most three times for each call in a wave.
 
 ghost use Rattle.std.specs.Prelude.{◌≡◌, ◌≢◌, ◌+◌, ◌<◌, ◌≤◌, ◌↔◌, ℕ, Some, None, true, false, length, replicate, slice_index, IfOk, IfSome};
 ghost use Rattle.mpigroup.specs.Groups.{group_of, world_rank_of};

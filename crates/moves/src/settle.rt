@@ -1,4 +1,8 @@
 //! Ranks that move on until none can, by looks at those alone that something woke.
+//!
+//! A rank that is taken off the worklist moves on until it waits. That the loop within the loop ends is
+//! shown by one number: the calls that are not passed, times one more than the ranks, plus the length of
+//! the worklist.
 
 ghost use Rattle.std.specs.Prelude.{◌≡◌, ◌<◌, ◌≤◌, true, false, None, length, slice_get, slice_index, IfSome};
 ghost use Rattle.callnotes.specs.Recordings.{calls_of};

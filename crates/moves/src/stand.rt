@@ -26,7 +26,7 @@ pub fn longer_recordings_lower_no_stand()
     ensures { LongerRecordingsLowerNoStand }
 {}
 
-/// No run moves a rank past a call that ends its list, so a call behind it is never reached.
+/// No run moves a rank past a call that ends its list, so a call after it is never reached.
 #[tactic(auto, using(crate::proofs::StandLemmas::no_call_behind_the_end_is_reached))]
 pub fn no_call_behind_the_end_is_reached()
     ensures { NoCallBehindTheEndIsReached }

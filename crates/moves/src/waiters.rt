@@ -1,4 +1,13 @@
 //! Ranks to look at, and ranks that wait.
+//!
+//! There is a list for each rank and each communicator, and the worklist, all in one arena. A rank that
+//! waits for the partner of a message is in its own list, whether the partner has come or not; one that
+//! waits for a wave is in its communicator's. When a call is reached, `partner` names the rank to wake, and
+//! its list is appended to the worklist. All that wait for a communicator wake when one of its waves is
+//! complete; those that wait for a later wave look once and wait again.
+//!
+//! A rank at a probe is found by the destination of a send that is reached, so probes are never searched
+//! for.
 
 ghost use Rattle.std.specs.Prelude.{◌≡◌, ◌+◌, ◌<◌, ◌≤◌, [], length, drop, replicate, slice_get, slice_set, IfOk, IfNone, OnOk, OnSome};
 ghost use Rattle.arenalist.specs.Numbers.{list_at};

@@ -1,4 +1,4 @@
--- A number is put behind those that the cells hold.
+-- A number is put after those that the cells hold.
 use Rattle.std.proofs.Common.{◌≡◌, ℕ, ◌+◌, ◌-◌, ◌<◌, List, drop, set, replicate, sym, ap, ◌∙◌, arith}
 use Rattle.std.proofs.lemmas.List.{drop-drop, drop-set-lt, drop-replicate}
 

@@ -50,7 +50,7 @@ cut_in_line stage None left held is keeps none short = tt
 cut_in_line stage (Some text) left held is keeps none short =
     (held, held_left (Some text) left held keeps, rw is (part_of_line held none short))
 
--- nothing came behind the end record
+-- nothing came after the end record
 pub cut_behind_end : (stage : Stage) (known left : Option (List ℕ)) (held : List ℕ) → stage ≡ Ended → Keeps known (prepend_known held left) → held ≡ [] → CutsOff stage known left []
 cut_behind_end stage None left held is keeps none = tt
 cut_behind_end stage (Some text) left held is keeps none =
@@ -68,7 +68,7 @@ first_line : (body behind : List ℕ) → WithoutFeed body → lines_of (body ++
 first_line [] behind h = refl
 first_line (byte ∷ body) behind h = rw (not_feed byte body h, first_line body behind (tail_without_feed byte body h)) refl
 
--- the trace that goes on behind a record
+-- the trace that goes on after a record
 abbrev goes_on : Bool → List ℕ → Trace
 goes_on ends behind = cond ends (ends_here (end_with_behind (lines_of behind))) (trace_of behind)
 
@@ -111,7 +111,7 @@ gives_spelled held (Some left) call n begins =
     let first = ap trace_of (begins_with held left call n begins) ∙ trace_spelled call rest begins.spells.in_ranges_is in
     (goes_on (ends_list call) rest, first, sym (goes_behind (ends_list call) rest))
 
--- the trace of some lines is no end that stands behind a record
+-- the trace of some lines is no end that follows a record
 first_no_end : (reading : Result Call LineFault) (line : List ℕ) (behind : List (List ℕ)) (others : Trace) → trace_with reading behind others ≡ ends_here (end_with_behind (line ∷ behind)) → ⊥
 first_no_end (Ok call) line behind others e = let no = ap (λ (t : Trace). t.records) e in cc
 first_no_end (Err fault) line behind others e = let no = ap (λ (t : Trace). t.end) e in cc
@@ -120,7 +120,7 @@ no_end_alone : (lines : List (List ℕ)) → trace_of_lines lines ≡ ends_here 
 no_end_alone [] e = let no = ap (λ (t : Trace). t.end) e in cc
 no_end_alone (line ∷ behind) e = first_no_end (record_of_line line) line behind (trace_of_lines behind) e
 
--- how far a source is that goes on behind a record
+-- how far a source is that goes on after a record
 follows : (ends : Bool) (rest : List ℕ) (now : Stage) → ended_at now ≡ None → trace_at now (Some rest) ≡ Some (goes_on ends rest) → now ≡ cond ends Ended Reading
 unfolding trace_of
 follows true rest Reading none e = let same : trace_of rest ≡ ends_here (end_with_behind (lines_of rest)) = cc in absurd (no_end_alone (lines_of rest) same)

@@ -40,7 +40,7 @@ some_field bytes = split_as (λ byte. byte == 32) bytes (position (λ byte. byte
 
 pub ruleset field_steps = (split_at_first_space, split_without_space)
 
--- a word at the front, behind which a space stands, is the first field
+-- a word at the front, after which a space stands, is the first field
 word_place : (word bytes : List ℕ) → position (λ byte. byte == 32) word ≡ None → take (length word) bytes ≡ word → length word < length bytes → get_or bytes (length word) 0 ≡ 32 → position (λ byte. byte == 32) bytes ≡ Some (length word)
 word_place word bytes none front less space =
     let all : length word ≤ position_or_len (λ byte. byte == 32) word = none_passes (ltb (position_or_len (λ byte. byte == 32) word) (length word)) (position_or_len (λ byte. byte == 32) word) (length word) refl none in

@@ -14,7 +14,7 @@ use Rattle.mpicall.specs.Argument.{NumberUpTo, Number}
 use Rattle.mpicall.specs.Reading.{next_argument}
 use Rattle.mpicall.proofs.FieldLemmas.{split_at_first_space, split_without_space}
 
--- a digit behind others
+-- a digit after others
 pub value-snoc : (n : ℕ) (cs : List ℕ) (c : ℕ) → value_after n (cs ++ c ∷ []) ≡ value_after n cs * 10 + (c - 48)
 value-snoc n [] c = refl
 value-snoc n (d ∷ cs) c = value-snoc (n * 10 + (d - 48)) cs c
@@ -74,7 +74,7 @@ front_number limit bytes count number front some first =
     let within : nat_le number limit ≡ true = le-leb number limit front.are.within in
     rw (some_digits count bytes some front.are.few, front.are.digits, first, front.are.value, within) refl
 
--- the number of the first field, and the fields behind it
+-- the number of the first field, and the fields after it
 number_first : (limit number : ℕ) (field : List ℕ) (fields behind : List (List ℕ)) → fields ≡ field ∷ behind → number_up_to limit field ≡ Some number → next_argument (NumberUpTo limit) fields ≡ Some (Number limit number, behind)
 number_first limit number field fields behind is reads = rw is (rw reads refl)
 

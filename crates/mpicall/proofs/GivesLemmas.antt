@@ -148,7 +148,7 @@ gives_line_fault (Some known) (Some left) held n fault keeps (inr (is, none)) so
     let old : trace_of known ≡ ends_here (Torn (Line fault)) = ap trace_of (sym keeps) ∙ unended held left n fault some is none (rw whole at read) in
     (old, ap Some (sym old))
 
--- Behind `finalize`.
+-- After `finalize`.
 
 abbrev pub end_behind : List ℕ → Trace
 end_behind behind = ends_here (end_with_behind (lines_of behind))

@@ -1,4 +1,4 @@
--- The call of a name and of what stands behind it has that name and these arguments.
+-- The call of a name and of what follows it has that name and these arguments.
 use Rattle.std.proofs.Common.{◌≡◌, ℕ, true, List, [], length, sym, ap, ◌∙◌, refl, Some}
 use Rattle.mpicall.specs.Laid.{laid_arguments, layout_by, call_by, is_laid}
 use Rattle.mpicall.specs.Limits.{names_enough}
@@ -15,7 +15,7 @@ use Rattle.mpicall.specs.declared.word.Name.{Name}
 use Rattle.mpicall.specs.declared.word.Name.TheVariants as name
 use Rattle.mpicall.specs.declared.word.Word.TheVariants.{Named}
 
--- the layout of a name and of what stands behind it are one
+-- the layout of a name and of what follows it are one
 laid_back : (it : Laid) (n : Name) → layout_by it ≡ layout_of n → (arguments_of (call_by n it) ≡ laid_arguments it) × (word_of_call (call_by n it) ≡ Named n) × (names_enough (call_by n it) ≡ true)
 laid_back Nothing name.Waitall e = cc
 laid_back (Message comm source tag) name.Waitall e = cc

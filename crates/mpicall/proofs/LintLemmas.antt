@@ -71,7 +71,7 @@ counts_none end call count = not_failed (is_none end) count
 
 -- Records that came before a read failed.
 
--- so many records were given, and they are the first of those that came, where a read fails behind them
+-- so many records were given, and they are the first of those that came, where a read fails after them
 abbrev pub FirstGiven : Stage → Option (List ℕ) → Stage → Option (List ℕ) → ℕ → Type 0
 FirstGiven old known now next count =
     (given : List Call) × (count ≡ capped (length given))

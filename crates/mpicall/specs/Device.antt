@@ -6,7 +6,7 @@ use Rattle.std.specs.Io.KnownBytes.{Appends}
 abbrev pub one_more : ℕ → ℕ
 one_more count = min (count + 1) (2 ^ 64 - 1)
 
--- the count behind a call that failed, or didn't
+-- the count after a call that failed, or didn't
 abbrev pub count_if : Bool → ℕ → ℕ
 count_if failed count = if failed then one_more count else count
 
@@ -18,6 +18,6 @@ CountsFailure old new answer = MatchResult answer (λ _. new ≡ old) (λ _. new
 abbrev pub MakesProgress : {E : Type 0} → Result ℕ E → List ℕ → Type 0
 MakesProgress answer bytes = IfOk answer (λ n. 0 < length bytes → 0 < n)
 
--- known bytes grow by a beginning of `bytes`
+-- known bytes grow by a prefix of `bytes`
 abbrev pub AppendsBeginning : Option (List ℕ) → Option (List ℕ) → List ℕ → Type 0
 AppendsBeginning old new bytes = (n : ℕ) × Appends old new (take n bytes)

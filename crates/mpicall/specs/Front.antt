@@ -11,7 +11,7 @@ pub record AreDigits (limit : ℕ) (bytes : List ℕ) (count number : ℕ) : Typ
   pub value : value_of (take count bytes) ≡ number
   pub within : number ≤ limit
 
--- and a space stands behind them, or nothing
+-- and a space follows them, or nothing
 pub record IsFront (limit : ℕ) (bytes : List ℕ) (count number : ℕ) : Type 0 where
   pub are : AreDigits limit bytes count number
   pub ends : count < length bytes → slice_index bytes count ≡ space

@@ -1,4 +1,4 @@
--- The calls that are no operation and no wait: a name, and what stands behind it by the layout of the name.
+-- The calls that are no operation and no wait: a name, and what follows it by the layout of the name.
 use Rattle.std.specs.Prelude.{Bool, true, false, Option, Some, None, List, [], ◌∷◌}
 use Rattle.mpicall.specs.Argument.{Argument, PeerOf, Colour, Key, New, comm_argument, tag_argument, bytes_arguments}
 use Rattle.mpicall.specs.declared.call.Peer.TheVariants.{Null}
@@ -11,7 +11,7 @@ use Rattle.mpicall.specs.declared.word.Layout.TheVariants as layout
 use Rattle.mpicall.specs.declared.word.Name.{Name}
 use Rattle.mpicall.specs.declared.word.Name.TheVariants as name
 
--- the name of a call and what stands behind it; none of an operation and of a wait
+-- the name of a call and what follows it; none of an operation and of a wait
 abbrev pub laid_of : Call → Option (Name × Laid)
 laid_of (call.Sendrecv comm dest send_tag source recv_tag bytes) = Some (name.Sendrecv, Exchange comm dest send_tag source recv_tag bytes)
 laid_of (call.Dup comm new) = Some (name.Dup, Copy comm new)

@@ -33,7 +33,7 @@ root_forms Scatter = root_form ∷ []
 root_forms Reduce = root_form ∷ []
 root_forms _ = []
 
--- the bytes of a message may stand behind so many fields: where there is one field more
+-- the bytes of a message may follow so many fields: where there is one field more
 abbrev pub bytes_forms : ℕ → ℕ → List Form
 bytes_forms plain count = if count == plain + 1 then bytes_form ∷ [] else []
 
@@ -45,7 +45,7 @@ operation_forms (Send Buffered) count = comm_form ∷ PeerForm ∷ tag_form ∷ 
 operation_forms Recv count = comm_form ∷ PeerForm ∷ tag_form ∷ []
 operation_forms (Coll collective) count = comm_form ∷ root_forms collective
 
--- the shape of what stands behind a name, where there are so many fields
+-- the shape of what follows a name, where there are so many fields
 abbrev pub shape_by : Layout → ℕ → Shape
 shape_by Nothing count = Fixed []
 shape_by Message count = Fixed (comm_form ∷ PeerForm ∷ tag_form ∷ [])
@@ -56,7 +56,7 @@ shape_by ChosenRequest count = Chosen
 shape_by Copy count = Fixed (comm_form ∷ comm_form ∷ [])
 shape_by Split count = Fixed (comm_form ∷ ColourForm ∷ KeyForm ∷ NewForm ∷ [])
 
--- the forms of the fields behind a name that is no wait's
+-- the forms of the fields after a name that is no wait's
 abbrev pub laid_forms : Layout → ℕ → List Form
 laid_forms layout count = forms_in (shape_by layout count)
   where
@@ -64,13 +64,13 @@ laid_forms layout count = forms_in (shape_by layout count)
     forms_in (Fixed forms) = forms
     forms_in _ = []
 
--- the shape of a word's line that has so many fields behind it; what starts an operation has its request in front
+-- the shape of a word's line that has so many fields after it; what starts an operation has its request in front
 abbrev pub shape_of : Word → ℕ → Shape
 shape_of (Blocking operation) count = Fixed (operation_forms operation count)
 shape_of (Started operation) count = Fixed (request_form ∷ operation_forms operation (count - 1))
 shape_of (Named name) count = shape_by (layout_of name) count
 
--- a line of this shape may have so many fields behind its word
+-- a line of this shape may have so many fields after its word
 abbrev pub takes_count : Shape → ℕ → Bool
 takes_count (Fixed forms) count = length forms == count
 takes_count Requests count = nat_le 1 count && nat_le count MOST_REQUESTS
@@ -94,13 +94,13 @@ all_in_form Chosen (index ∷ requests) = is_in_form (index_form (length request
 abbrev pub is_any : List ℕ → Bool
 is_any field = bytes_eq field (codes "any")
 
--- how many fields stand before a source, behind which its tag stands
+-- how many fields stand before a source, after which its tag stands
 abbrev pub source_by : Layout → Option ℕ
 source_by Message = Some 1
 source_by Exchange = Some 3
 source_by _ = None
 
--- the same behind a word
+-- the same after a word
 abbrev pub source_place : Word → Option ℕ
 source_place (Blocking Recv) = Some 1
 source_place (Started Recv) = Some 2
@@ -112,7 +112,7 @@ abbrev pub wildcard_at : Option ℕ → List (List ℕ) → Bool
 wildcard_at None fields = false
 wildcard_at (Some place) fields = list_any is_any (take 2 (drop place fields))
 
--- the first fault of the fields behind a word
+-- the first fault of the fields after a word
 abbrev pub fault_behind : Word → List (List ℕ) → Option LineFault
 fault_behind word fields =
     if takes_count (shape_of word (length fields)) (length fields)
@@ -136,7 +136,7 @@ fault_of_line line =
     if nat_lt most_bytes (length line) then Some TooLong
     else (if has_line_feed line then fault_of_fields (split_fields (body_of line)) else Some NoLineFeed)
 
--- the fields behind a word are as many as it takes, each in its form and range
+-- the fields after a word are as many as it takes, each in its form and range
 abbrev pub fits : Word → List (List ℕ) → Bool
 fits word fields = takes_count (shape_of word (length fields)) (length fields) && all_in_form (shape_of word (length fields)) fields
 

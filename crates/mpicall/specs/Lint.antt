@@ -13,7 +13,7 @@ use Rattle.mpicall.specs.declared.source.Source.{Source}
 abbrev pub capped : ℕ → ℕ
 capped count = min count (2 ^ 64 - 1)
 
--- a fault is the trace's end, and its place the number of the records before it; a read may fail behind
+-- a fault is the trace's end, and its place the number of the records before it; a read may fail after
 -- each of them
 abbrev pub EndsWith : Trace → ℕ → SourceFault → Type 0
 EndsWith trace call ReadFailed = (given : ℕ) × (given ≤ length trace.records) × (call ≡ capped given)

@@ -30,12 +30,12 @@ use Rattle.mpicall.specs.declared.word.Word.TheVariants.{Blocking, Started, Name
 use Rattle.mpicall.specs.declared.word.Name.TheVariants as name
 use Rattle.mpicall.specs.declared.fault.LineFault.{LineFault}
 
--- an argument that was read, and the fields behind it
+-- an argument that was read, and the fields after it
 abbrev pub with_behind : List (List ℕ) → Option Argument → Option (Argument × List (List ℕ))
 with_behind fields None = None
 with_behind fields (Some argument) = Some (argument, fields)
 
--- the argument of the first of some fields, and the fields behind it
+-- the argument of the first of some fields, and the fields after it
 abbrev pub next_argument : Form → List (List ℕ) → Option (Argument × List (List ℕ))
 next_argument form [] = None
 next_argument form (field ∷ fields) = with_behind fields (read_argument form field)
@@ -45,12 +45,12 @@ abbrev pub put_before : Argument → Option (List Argument × List (List ℕ)) �
 put_before argument None = None
 put_before argument (Some others) = Some (argument ∷ others.0, others.1)
 
--- the first argument, and what is taken of the fields behind it
+-- the first argument, and what is taken of the fields after it
 abbrev pub take_behind : Option (Argument × List (List ℕ)) → (List (List ℕ) → Option (List Argument × List (List ℕ))) → Option (List Argument × List (List ℕ))
 take_behind None others = None
 take_behind (Some first) others = put_before first.0 (others first.1)
 
--- the arguments of the first fields, and the fields behind them
+-- the arguments of the first fields, and the fields after them
 abbrev pub take_arguments : List Form → List (List ℕ) → Option (List Argument × List (List ℕ))
 take_arguments [] fields = Some ([], fields)
 take_arguments (form ∷ forms) fields = take_behind (next_argument form fields) (λ behind. take_arguments forms behind)
@@ -61,7 +61,7 @@ all_taken None = None
 all_taken (Some (arguments, [])) = Some arguments
 all_taken (Some (arguments, field ∷ fields)) = None
 
--- a reader takes what stands behind a name of a layout, of all the fields
+-- a reader takes what follows a name of a layout, of all the fields
 abbrev pub TakesLaid : Layout → List (List ℕ) → Option Laid → Type 0
 TakesLaid wanted fields answer =
     MatchOption answer (all_taken (take_arguments (laid_forms wanted (length fields)) fields) ≡ None)
@@ -114,7 +114,7 @@ kind_named AllreduceName root = Allreduce
 kind_named ScanName root = Scan
 kind_named ExscanName root = Exscan
 
--- what stands behind a name of a layout, of its arguments
+-- what follows a name of a layout, of its arguments
 abbrev pub laid_by : Layout → List Argument → Laid
 laid_by layout.Message a = Message (numeral_in (at a 0)) (peer_in (at a 1)) (numeral_in (at a 2))
 laid_by layout.Exchange a = Exchange (numeral_in (at a 0)) (peer_in (at a 1)) (numeral_in (at a 2)) (peer_in (at a 3)) (numeral_in (at a 4)) (number_at a 5)
@@ -170,7 +170,7 @@ abbrev pub ReadsInto : Result (Unit {0}) LineFault → Call → Call → Result 
 ReadsInto answer old new reading =
     MatchResult answer (λ _. reading ≡ Ok new) (λ fault. (reading ≡ Err fault) × (new ≡ old))
 
--- a reader of the fields behind a word leaves the call that they spell, or they don't fit the word and it
+-- a reader of the fields after a word leaves the call that they spell, or they don't fit the word and it
 -- leaves its place alone
 abbrev pub ReadsBehind : Word → List (List ℕ) → Bool → Call → Call → Type 0
 ReadsBehind word fields answer old new =

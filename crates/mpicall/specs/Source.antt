@@ -76,7 +76,7 @@ CutsOff stage (Some text) left calls =
     (came : List ℕ) × Consumes (Some text) left came × IfSome (trace_at stage (Some came)) (BreaksOffBehind calls)
 
 -- the same of a source whose input failed, where it tells its bytes: these are the records of what came of the bytes
--- that the source had not used before. Behind them came less than a line, and nothing behind an end record
+-- that the source had not used before. After them came less than a line, and nothing after an end record
 abbrev pub IsCutOff : {I : Type 0} → (I → Option (List ℕ)) → Source I → Source I → List Call → Type 0
 IsCutOff left old new calls = CutsOff old.stage (unread left old) (left (input_of new)) calls
 
@@ -110,7 +110,7 @@ answer_into (Ok true) call = Ok (Some call)
 answer_into (Ok false) call = Ok None
 answer_into (Err fault) call = Err fault
 
--- a record that a source gave is the first of those that came, where a read fails behind it
+-- a record that a source gave is the first of those that came, where a read fails after it
 abbrev pub ComesBeforeTheCut : {I : Type 0} → (I → Option (List ℕ)) → Type 0
 ComesBeforeTheCut {I} left =
     (old now failed : Source I) (call : Call) (calls : List Call)

@@ -17,7 +17,7 @@ use Rattle.mpicall.specs.declared.word.Word.TheVariants.{Blocking, Started, Name
 use Rattle.mpicall.specs.declared.word.Name.{Name}
 use Rattle.mpicall.specs.declared.word.Name.TheVariants as name
 
--- the bytes between and behind the fields
+-- the bytes between and after the fields
 abbrev pub space : ℕ
 space = 32
 

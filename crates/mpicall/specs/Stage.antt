@@ -6,7 +6,7 @@ use Rattle.mpicall.specs.declared.source.Stage.{Stage}
 use Rattle.mpicall.specs.declared.source.Stage.TheVariants.{Reading, Ended, Failed}
 use Rattle.mpicall.specs.declared.fault.SourceFault.TheVariants.{GateStopped, ThreadNotStarted}
 
--- behind a record
+-- after a record
 abbrev pub stage_behind : Call → Stage
 stage_behind call = if ends_list call then Ended else Reading
 

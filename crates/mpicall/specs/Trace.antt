@@ -17,7 +17,7 @@ pub record Trace : Type 0 where
   pub records : List Call
   pub end : Ending
 
--- the end of a source whose end record has these lines behind it
+-- the end of a source whose end record has these lines after it
 abbrev pub end_with_behind : List (List ℕ) → Ending
 end_with_behind [] = Sealed
 end_with_behind (_ ∷ _) = Torn TextAfterFinalize
@@ -30,8 +30,8 @@ put_first call trace = record { records = call ∷ trace.records; end = trace.en
 abbrev pub ends_here : Ending → Trace
 ends_here end = record { records = []; end = end }
 
--- the trace of some lines, by spelling and first fault: a line is the spelling of a record, behind which
--- either the list ends or the trace of the lines behind follows; or it has a first fault, which ends the
+-- the trace of some lines, by spelling and first fault: a line is the spelling of a record, after which
+-- either the list ends or the trace of the lines after follows; or it has a first fault, which ends the
 -- trace. Each text has just one such trace, `trace_of`: `each_text_has_one_trace` says so
 abbrev pub IsTraceOf : List (List ℕ) → Trace → Type 0
 IsTraceOf [] trace = trace ≡ ends_here (Torn NoFinalize)
@@ -40,7 +40,7 @@ IsTraceOf (line ∷ behind) trace =
     × MatchBool (ends_list call) (rest ≡ ends_here (end_with_behind behind)) (IsTraceOf behind rest))
     ⊎ ((fault : LineFault) × (fault_of_line line ≡ Some fault) × (trace ≡ ends_here (Torn (Line fault))))
 
--- the trace of the next line's reading, the lines behind it, and the trace of these
+-- the trace of the next line's reading, the lines after it, and the trace of these
 abbrev pub trace_with : Result Call LineFault → List (List ℕ) → Trace → Trace
 trace_with (Ok call) behind trace = put_first call (if ends_list call then ends_here (end_with_behind behind) else trace)
 trace_with (Err fault) behind trace = ends_here (Torn (Line fault))

@@ -39,14 +39,14 @@ operation_text (Coll collective) = collective_text collective
 abbrev pub start_letter : ℕ
 start_letter = 105
 
--- what the table of names says of a name: its text, and what stands behind it
+-- what the table of names says of a name: its text, and what follows it
 abbrev pub name_text : Name → List ℕ
 name_text name = get_or (map (λ row. row.0.now) NAMES) (tag_of the_type name) []
 
 abbrev pub layout_of : Name → Layout
 layout_of name = get_or (map (λ row. row.2) NAMES) (tag_of the_type name) Nothing
 
--- the letter before a word, and the text behind that
+-- the letter before a word, and the text after that
 abbrev pub letter_of : Word → List ℕ
 letter_of (Started operation) = start_letter ∷ []
 letter_of _ = []

@@ -1,4 +1,8 @@
-//! The fields of a whole line: a word, and what its shape wants behind it.
+//! The fields of a whole line: a word, and what its shape wants after it.
+//!
+//! Words are compared one after the other: a `match` on byte strings leaves goals open for longer words.
+//! The six words that come most often are tried first, byte by byte at the front of the line, before the
+//! end of the field is known.
 
 ghost use Rattle.std.specs.Prelude.{◌≡◌, ◌≤◌, [], ◌∷◌, true, false, List, ℕ, length, MatchOption, MatchBool};
 ghost use Rattle.mpicall.specs.Reading.{ReadsBehind, ReadsFields, requests_fit, SpellsRequests};
@@ -70,7 +74,7 @@ fn read_waitany(mut fields: Fields<'_>, into: &mut Call) -> bool
     true
 }
 
-/// Reads the call of a name and the fields behind it.
+/// Reads the call of a name and the fields after it.
 fn read_named(name: Name, fields: Fields<'_>, into: &mut Call) -> bool
     ensures { ReadsBehind (Named name) fields.entry result into.old into.new }
 {
@@ -82,7 +86,7 @@ fn read_named(name: Name, fields: Fields<'_>, into: &mut Call) -> bool
     }
 }
 
-/// Reads the call of a word and the fields behind it; says whether there is one, and else leaves the
+/// Reads the call of a word and the fields after it; says whether there is one, and else leaves the
 /// place alone.
 fn read_behind(word: Word, fields: Fields<'_>, into: &mut Call) -> bool
     ensures { ReadsBehind word fields.entry result into.old into.new }
@@ -94,7 +98,7 @@ fn read_behind(word: Word, fields: Fields<'_>, into: &mut Call) -> bool
     }
 }
 
-/// Takes off the word of a call that comes often, where the fields begin with one and others stand behind it. It is
+/// Takes off the word of a call that comes often, where the fields begin with one and others follow it. It is
 /// found by the first bytes, before the field's end is sought.
 #[inline(always)]
 fn next_often(fields: &mut Fields<'_>) -> Option<Word>

@@ -117,7 +117,7 @@ pub enum Call {
         new: Option<u16>,
     },
     Finalize,
-    /// What came behind was not recorded: the list is left open.
+    /// What came after was not recorded: the list is left open.
     Open,
 }
 
@@ -125,7 +125,7 @@ impl Call {
     ghost use Rattle.std.specs.Prelude.{◌≡◌};
     ghost use Rattle.mpicall.specs.Ending.{ends_list};
 
-    /// Whether no call of the rank comes behind this one.
+    /// Whether no call of the rank comes after this one.
     pub fn ends_list(&self) -> bool
         ensures { result ≡ ends_list self.now }
     {

@@ -34,7 +34,7 @@ pub trait Output {
 
     ghost failures: { Self → ℕ };
 
-    /// Writes a beginning of `from`, and says how many bytes that is: one at least, where `from` has
+    /// Writes a prefix of `from`, and says how many bytes that is: one at least, where `from` has
     /// any. An error writes nothing.
     fn write_some(&mut self, from: &[u8]) -> Result<usize, DeviceFault>
         ensures bound { WritesAtMost result from.now }
@@ -43,7 +43,7 @@ pub trait Output {
         ensures count { CountsFailure (failures self.old) (failures self.new) result };
 }
 
-/// Writes all the bytes, or a beginning of them and then tells the output's fault.
+/// Writes all the bytes, or a prefix of them and then tells the output's fault.
 pub fn write_all<O: Output>(output: &mut O, bytes: &[u8]) -> Result<(), DeviceFault>
     ensures ok { OnOk result (Appends (O.written output.old) (O.written output.new) bytes.now) }
     ensures fault { OnErr result (AppendsBeginning (O.written output.old) (O.written output.new) bytes.now) }

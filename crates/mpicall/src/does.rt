@@ -6,7 +6,7 @@ ghost use Rattle.mpicall.specs.Does.{does_of};
 use crate::call::{Call, Peer};
 use crate::word::root_of;
 
-/// What a call says of one of its messages beside the communicator: who is at the other end, and the tag.
+/// What a call says of one of its messages besides the communicator: who is at the other end, and the tag.
 #[derive(Clone, Copy, PartialEq, Eq)]
 pub struct Side {
     pub peer: Peer,

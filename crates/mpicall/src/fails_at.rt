@@ -1,4 +1,7 @@
 //! A device that fails once, at one stated call.
+//!
+//! At the stated call the device adds one failure of its own; each other call is one of the device within.
+//! So a test sees what is answered after a failure, too.
 
 ghost use Rattle.std.specs.Prelude.{◌≡◌, Some};
 ghost use Rattle.std.specs.Io.{ReadsAtMost, WritesAtMost};

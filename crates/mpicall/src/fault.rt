@@ -42,7 +42,7 @@ pub const LINE_FAULTS: [(&str, &str); 7] = [
 pub enum SourceFault {
     /// The next line is no spelling of a record.
     Line(LineFault),
-    /// There are bytes behind the line of the end record, `finalize` or `open`.
+    /// There are bytes after the line of the end record, `finalize` or `open`.
     TextAfterFinalize,
     /// The bytes end where a line would begin, and no end record came.
     NoFinalize,
@@ -57,7 +57,7 @@ pub enum SourceFault {
 /// How a source's records, or those of a feed, end.
 #[derive(Clone, Copy, PartialEq, Eq)]
 pub enum Ending {
-    /// With the end record, and nothing behind it.
+    /// With the end record, and nothing after it.
     Sealed,
     /// They stop here, for the fault.
     Torn(SourceFault),

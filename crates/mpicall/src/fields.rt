@@ -96,7 +96,7 @@ impl<'a> Fields<'a> {
         }
     }
 
-    /// Takes the next field off where it is this word, which has no space, and others stand behind it; says whether it
+    /// Takes the next field off where it is this word, which has no space, and others follow it; says whether it
     /// did. Else the fields stay as they are.
     #[inline(always)]
     pub(crate) fn take_word(&mut self, word: &[u8]) -> bool

@@ -1,4 +1,7 @@
 //! The first fault of the fields of a line that no record is read from.
+//!
+//! An empty field comes before other faults of fields, but it is looked for last: only a line that has some
+//! fault can have one, so good lines are walked once.
 
 ghost use Rattle.std.specs.Prelude.{◌≡◌, ◌≤◌, Some, false, length, take, drop};
 ghost use Rattle.std.specs.List.{list_any};
@@ -49,7 +52,7 @@ fn field_count(operation: Operation, count: usize) -> usize
     }
 }
 
-/// Whether so many fields may stand behind a name.
+/// Whether so many fields may follow a name.
 fn layout_takes(layout: Layout, count: usize) -> bool
     ensures { result ≡ takes_count (shape_by layout count) count }
 {
@@ -93,7 +96,7 @@ fn source_by(layout: Layout) -> Option<usize>
     }
 }
 
-/// The same behind a word.
+/// The same after a word.
 fn source_place(word: Word) -> Option<usize>
     ensures { result ≡ source_place word }
 {
@@ -123,7 +126,7 @@ fn skip(fields: &mut Fields<'_>)
     let _ = fields.next_field();
 }
 
-/// Whether one of two fields is a wildcard, behind `place` others.
+/// Whether one of two fields is a wildcard, after `place` others.
 #[tactic(auto, using(crate::proofs::WildcardLemmas::wildcard_steps))]
 fn has_wildcard(place: usize, mut fields: Fields<'_>) -> bool
     ensures { result ≡ wildcard_at (Some place) fields.entry }

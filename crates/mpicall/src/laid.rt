@@ -1,4 +1,4 @@
-//! The calls that are no operation and no wait: a name, and what stands behind it, by the layout of the name.
+//! The calls that are no operation and no wait: a name, and what follows it, by the layout of the name.
 
 ghost use Rattle.std.specs.Prelude.{◌≡◌, IfSome};
 ghost use Rattle.mpicall.specs.Laid.{laid_of, call_by};
@@ -6,7 +6,7 @@ ghost use Rattle.mpicall.specs.Laid.{laid_of, call_by};
 use crate::call::{Call, Peer};
 use crate::word::Name;
 
-/// What stands behind the name of such a call: a variant for each layout that such names have.
+/// What follows the name of such a call: a variant for each layout that such names have.
 #[derive(Clone, Copy, PartialEq, Eq)]
 pub enum Laid {
     Nothing,
@@ -36,7 +36,7 @@ pub enum Laid {
 }
 
 impl Call {
-    /// The name of the call and what stands behind it; None for an operation and a wait.
+    /// The name of the call and what follows it; None for an operation and a wait.
     #[inline(always)]
     pub fn laid(&self) -> Option<(Name, Laid)>
         ensures value { result ≡ laid_of self.now }
@@ -87,7 +87,7 @@ impl Call {
 }
 
 impl Name {
-    /// The call of the name and what stands behind it; a receive from nobody where they don't go together.
+    /// The call of the name and what follows it; a receive from nobody where they don't go together.
     #[inline(always)]
     pub fn call(self, laid: Laid) -> Call
         ensures { result ≡ call_by self laid }

@@ -8,7 +8,7 @@
 //!
 //! - `line::read_line` answers a record exactly where the line is that record's spelling and the record's
 //!   fields are in their ranges, and a fault exactly where it is the line's first fault.
-//!   `spelling::write_line` writes the spelling, or after a fault of the output a beginning of it. No
+//!   `spelling::write_line` writes the spelling, or after a fault of the output a prefix of it. No
 //!   spelling begins another one. `page::Page` puts lines together in place.
 //! - The records that `source::Source::next` gives, and its end, are those of the input's bytes, however
 //!   the input cuts them into pieces: each text has one trace, by the spellings and the first fault of its

@@ -16,7 +16,7 @@ use std::error::Error;
 use std::fmt;
 use std::sync::Wait;
 
-/// The fault with which a source ends, behind `call` records; that number stays at the greatest `u64`.
+/// The fault with which a source ends, after `call` records; that number stays at the greatest `u64`.
 #[derive(Clone, Copy, Debug, PartialEq, Eq)]
 pub struct LintFault {
     pub call: u64,

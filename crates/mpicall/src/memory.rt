@@ -1,4 +1,8 @@
 //! Inputs and outputs over memory, which tell their bytes.
+//!
+//! Growing is the only way in which an output over memory can fail. It counts that as a failed write, so
+//! that it meets the contract of every output. Inputs and outputs can also be asked for small pieces, so
+//! that tests see texts cut at any place.
 
 ghost use Rattle.std.specs.Prelude.{◌≡◌, ◌+◌, ◌<◌, [], Some};
 ghost use Rattle.std.specs.Io.{ReadsAtMost, WritesAtMost};

@@ -164,7 +164,7 @@ impl Page {
         self.push_str(word.stem());
     }
 
-    /// Adds what stands behind a name.
+    /// Adds what follows a name.
     fn push_laid(&mut self, laid: Laid)
         requires { length self.old + 1000 ≤ PAGE_BYTES }
         ensures value { self.new ≡ line_with self.old (laid_arguments laid) }

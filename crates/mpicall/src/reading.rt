@@ -186,7 +186,7 @@ fn last_bytes(fields: &mut Fields<'_>) -> Option<Option<u32>>
     Some(Some(bytes))
 }
 
-/// A communicator, a peer and a tag, behind which the bytes may stand last.
+/// A communicator, a peer and a tag, after which the bytes may stand last.
 #[inline(always)]
 fn last_message(fields: &mut Fields<'_>) -> Option<(u16, Peer, u32, Option<u32>)>
     ensures { MatchOption result
@@ -367,7 +367,7 @@ fn last_copy(fields: &mut Fields<'_>) -> Option<Laid>
     Some(Laid::Copy { comm, new })
 }
 
-/// What a split has behind it.
+/// What a split has after it.
 fn last_split(fields: &mut Fields<'_>) -> Option<Laid>
     ensures { TakesLaid layout.Split fields.old result }
 {
@@ -384,7 +384,7 @@ fn last_split(fields: &mut Fields<'_>) -> Option<Laid>
     })
 }
 
-/// What stands behind a name of a layout that no wait has.
+/// What follows a name of a layout that no wait has.
 fn last_laid(layout: Layout, fields: &mut Fields<'_>) -> Option<Laid>
     requires { is_laid layout ≡ true }
     ensures { TakesLaid layout fields.old result }

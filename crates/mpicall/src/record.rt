@@ -113,7 +113,7 @@ fn are_bytes_in_range(mode: Mode, bytes: Option<u32>) -> bool
     }
 }
 
-/// Whether what stands behind a name is in its ranges.
+/// Whether what follows a name is in its ranges.
 fn is_laid_in_ranges(laid: Laid) -> bool
     ensures { result ≡ list_all is_in_range (laid_arguments laid) }
 {
@@ -300,7 +300,7 @@ impl Record {
         }
     }
 
-    /// Whether no call of the rank comes behind this one.
+    /// Whether no call of the rank comes after this one.
     pub fn ends_list(&self) -> bool
         ensures { result ≡ ends_list self.now }
     {

@@ -1,5 +1,13 @@
 //! Lines that came before, held in place with their records: the traces of programs are loops, so that most lines
 //! equal one of the last few.
+//!
+//! The policy has two modes. While lines repeat, the line that came after the last one before is expected,
+//! and else one with the same mark is compared. After 32 more misses than hits, lines are read plainly, and
+//! only the line that came again last is still compared, up to 16 misses in a row. That mode ends after
+//! some 4,000 lines, or if expected lines bring the count below 32 again.
+//!
+//! A sought line is always compared with the kept one as a whole, and the kept one is known to spell its
+//! record. So the policy is a matter of time alone, and nothing is proved of it.
 
 ghost use Rattle.std.specs.Prelude.{◌≡◌, ◌≤◌, true, length, take, IfOk, MatchOption, MatchBool};
 ghost use Rattle.mpicall.specs.Reading.{record_of_line, ReadsInto, Spells, BeginsWith};
@@ -40,7 +48,7 @@ struct KnownLine {
 #[derive(Drop)]
 pub(crate) struct Remembered {
     kept: [KnownLine; MOST_KEPT],
-    /// The place of the line that came last behind each.
+    /// The place of the line that came last after each.
     behind: [u8; MOST_KEPT],
     /// The place of the last line with each mark.
     places: [u8; 256],
@@ -120,7 +128,7 @@ impl Remembered {
         }
     }
 
-    /// Notes that the line at a place came, behind the last one.
+    /// Notes that the line at a place came, after the last one.
     fn note(&mut self, at: u8) {
         if let Some(behind) = self.behind.get_mut(usize::from(self.last)) {
             *behind = at;
@@ -128,7 +136,7 @@ impl Remembered {
         self.last = at;
     }
 
-    /// The place of the line that is expected: the one that came behind the last line before, or, where few lines come
+    /// The place of the line that is expected: the one that came after the last line before, or, where few lines come
     /// again, the last that did.
     #[inline(always)]
     fn expected(&self) -> Option<u8> {

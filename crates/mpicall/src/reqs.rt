@@ -22,7 +22,7 @@ impl Model for Reqs {
 
     ghost view = { λ r. take r.len r.cells };
 
-    // the cells behind the numbers are 0, so that the list gives the fields back
+    // the cells after the numbers are 0, so that the list gives the fields back
     ghost invariant = { λ r. (1 ≤ r.len) × (r.len ≤ MOST_REQUESTS) × (length r.cells ≡ MOST_REQUESTS) × (drop r.len r.cells ≡ replicate (MOST_REQUESTS - r.len) 0) };
 
     ghost inverse = { λ xs. record { cells = xs ++ replicate (MOST_REQUESTS - length xs) 0; len = length xs } };
@@ -74,7 +74,7 @@ impl Reqs {
         usize::from(self.len) == MOST_REQUESTS
     }
 
-    /// Adds a number behind the others.
+    /// Adds a number after the others.
     #[tactic(auto, using(crate::proofs::CellLemmas::cell_steps))]
     pub(crate) fn push(&mut self, number: u32)
         requires { length self.old < MOST_REQUESTS }

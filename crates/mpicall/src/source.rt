@@ -1,4 +1,8 @@
 //! A source of records: the lines of an input, read one by one.
+//!
+//! A source takes 24 KB in place: a buffer of 16 KB, into which reads go straight, and the last lines with
+//! their records. So a source takes no memory of its own. A record has 264 bytes, so it is read into one
+//! place of the caller's, which is written once the whole line was read: a fault leaves it as it was.
 
 ghost use Rattle.mpicall.specs.Stage.{is_own, stage_behind};
 ghost use Rattle.mpicall.specs.Lines.{lines_of};
@@ -19,14 +23,14 @@ enum Stage {
     Reading,
     /// The end record was the last one.
     Ended,
-    /// The bytes ended behind the end record, and None was answered.
+    /// The bytes ended after the end record, and None was answered.
     Done,
     /// This fault was answered.
     Failed(SourceFault),
 }
 
 /// A source of records over an input. It asks its input only while what it holds neither has a line
-/// feed nor is longer than a line may be, and behind the end record only while it holds nothing.
+/// feed nor is longer than a line may be, and after the end record only while it holds nothing.
 #[derive(Drop)]
 pub struct Source<I> {
     input: I,
@@ -61,7 +65,7 @@ impl<I: Input> Source<I> {
         }
     }
 
-    /// The next line's record; None once the bytes end behind the end record. A fault is answered for
+    /// The next line's record; None once the bytes end after the end record. A fault is answered for
     /// good, and so is None.
     pub fn next(&mut self) -> Result<Option<Record>, SourceFault>
         ensures trace { Gives (coming I.left self.old) (coming I.left self.new) result }
@@ -84,7 +88,7 @@ impl<I: Input> Source<I> {
     }
 
     /// Reads the next line's record into one place, for those that read many: a record takes some 264
-    /// bytes. False once the bytes end behind the end record. Only a true answer changes the place. A
+    /// bytes. False once the bytes end after the end record. Only a true answer changes the place. A
     /// fault is answered for good, and so is false.
     pub fn next_into(&mut self, into: &mut Record) -> Result<bool, SourceFault>
         ensures trace { Gives (coming I.left self.old) (coming I.left self.new) (answer_into result into.new) }
@@ -168,7 +172,7 @@ impl<I: Input> Source<I> {
         }
     }
 
-    /// Looks for bytes behind the end record.
+    /// Looks for bytes after the end record.
     fn read_end(&mut self) -> Result<bool, SourceFault>
         requires { self.old.stage ≡ Ended }
         ensures trace { (call : CallValue) → Gives (coming I.left self.old) (coming I.left self.new) (answer_into result call) }
@@ -202,7 +206,7 @@ pub fn each_text_has_one_trace()
     ensures { (bytes : List ℕ) (trace : Trace) → IsTraceOf (lines_of bytes) trace ↔ (trace ≡ trace_of bytes) }
 {}
 
-/// How far a source is behind a record.
+/// How far a source is after a record.
 fn stage_behind(entry: &Record) -> Stage
     ensures { result ≡ stage_behind entry.now }
 {

@@ -12,7 +12,7 @@ use crate::page::Page;
 use crate::record::Record;
 
 #[tactic(auto, unfolding(crate::specs::Spelling::spelling))]
-/// Writes the one spelling of a record; after a fault a beginning of it was written.
+/// Writes the one spelling of a record; after a fault a prefix of it was written.
 pub fn write_line<O: Output>(entry: &Record, output: &mut O) -> Result<(), DeviceFault>
     ensures ok { OnOk result
         (Appends (O.written output.old) (O.written output.new) (spelling entry.now)) }

@@ -1,4 +1,6 @@
 //! The bytes that were read ahead of an input, held in place.
+//!
+//! Held bytes are moved to the front of the buffer only if there is no room left after them.
 
 ghost use Rattle.std.specs.Prelude.{◌≡◌, ◌≢◌, true, false, Ok, ◌+◌, ◌-◌, ◌≤◌, ◌<◌, ℕ, List, [], ◌++◌, length, drop, IsTrue, IfOk, MatchOption, OnErr, ◌↔◌};
 ghost use Rattle.std.specs.Io.KnownBytes.{Keeps, prepend_known, IsAtEnd};
@@ -34,7 +36,7 @@ impl Model for Window {
     ghost invariant = { λ w. (w.start ≤ w.end) × (w.end ≤ CAPACITY) };
 }
 
-/// Makes room behind the bytes that are held from `start` to `end`; they go to the buffer's front
+/// Makes room after the bytes that are held from `start` to `end`; they go to the buffer's front
 /// where that is needed.
 fn make_room(buffer: &mut [u8; CAPACITY], start: &mut usize, end: &mut usize)
     requires order { start.old ≤ end.old }
@@ -86,7 +88,7 @@ impl Window {
         self.start += count;
     }
 
-    /// Reads once, straight behind the held bytes, and says how many bytes came; 0 at the input's end.
+    /// Reads once, straight after the held bytes, and says how many bytes came; 0 at the input's end.
     pub(crate) fn fill<I: Input>(&mut self, input: &mut I) -> Result<usize, DeviceFault>
         requires { length self.old ≤ MOST_LINE_BYTES }
         ensures known { Keeps

@@ -29,7 +29,7 @@ pub enum Operation {
     Coll(Collective),
 }
 
-/// What stands behind a word that is no operation's.
+/// What follows a word that is no operation's.
 #[derive(Clone, Copy, PartialEq, Eq)]
 pub enum Layout {
     /// Nothing.
@@ -64,7 +64,7 @@ pub enum Name {
     Open,
 }
 
-/// The text of each name and what stands behind it: a row each, in the order of the variants of `Name`.
+/// The text of each name and what follows it: a row each, in the order of the variants of `Name`.
 pub const NAMES: [(&str, Name, Layout); 9] = [
     ("waitall", Name::Waitall, Layout::Requests),
     ("wait", Name::Wait, Layout::Request),
@@ -117,7 +117,7 @@ impl Word {
         }
     }
 
-    /// The text behind that.
+    /// The text after that.
     pub fn stem(self) -> &'static str
         ensures value { result.now ≡ stem_of self }
         ensures short { length result.now ≤ 9 }
@@ -129,7 +129,7 @@ impl Word {
     }
 }
 
-/// What stands behind a name.
+/// What follows a name.
 pub(crate) fn layout_of(name: Name) -> Layout
     ensures { result ≡ layout_of name }
 {
@@ -197,7 +197,7 @@ fn operation_of(field: &[u8]) -> Option<Operation>
     }
 }
 
-/// The word that starts the operation that a field spells behind its `i`.
+/// The word that starts the operation that a field spells after its `i`.
 fn started_word(field: &[u8]) -> Option<Word>
     ensures { result ≡ started_word field.now }
 {

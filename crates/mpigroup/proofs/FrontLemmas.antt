@@ -88,7 +88,7 @@ is_front xs n k much some is =
       ];
     }
 
--- a fault of a line hides what stands behind it
+-- a fault of a line hides what follows it
 same_fault : (ranks number : ℕ) (line other : List ℕ) (more others : List (List ℕ)) (kind : HeadFaultKind) → group_of_line ranks number line ≡ Err kind → group_of_line ranks number other ≡ Err kind → groups_of_lines ranks number (line ∷ more) ≡ groups_of_lines ranks number (other ∷ others)
 same_fault ranks number line other more others kind e d =
     ap (λ r. put_line (at_line number r) (groups_of_lines ranks (number + 1) more)) e ∙ sym (ap (λ r. put_line (at_line number r) (groups_of_lines ranks (number + 1) others)) d)
@@ -100,7 +100,7 @@ past_cases xs n k ranks number past f = elim f.front [
   | inr h ↦ ap (groups_of_lines ranks number) h.1 ∙ same_fault ranks number (take n xs) (take k xs) (lines_of (drop n (take n xs))) (lines_of (drop k xs)) TooManyComms (group_of_line-past ranks number (take n xs) past) (group_of_line-past ranks number (take k xs) past) ∙ sym (ap (groups_of_lines ranks number) f.whole_text)
 ]
 
--- where the lines behind the first of a front say what they say in the text, so does the front
+-- where the lines after the first of a front say what they say in the text, so does the front
 further_cases : (xs : List ℕ) (n k ranks number : ℕ) → number ≤ MOST_COMMS → MOST_HEAD_LINE_BYTES < n → IsFront n k xs → (k ≤ MOST_HEAD_LINE_BYTES → k ≤ n → groups_of_lines ranks (number + 1) (lines_of (take (n - k) (drop k xs))) ≡ groups_of_lines ranks (number + 1) (lines_of (drop k xs))) → groups_of_lines ranks number (lines_of (take n xs)) ≡ groups_of_lines ranks number (lines_of xs)
 further_cases xs n k ranks number few much f same = elim f.front [
   | inl h ↦

@@ -17,7 +17,7 @@ pub record AreMembers (ranks : ℕ) (all : List (List ℕ)) (group : List ℕ) (
   pub once : has_twice group ≡ false
   pub canonical : list_all is_canonical numbers ≡ list_all is_canonical all
 
--- a number that stands in a front and again behind it stands twice
+-- a number that stands in a front and again after it stands twice
 has_twice-found : (xs : List ℕ) (x : ℕ) (ys : List ℕ) → list_any (λ y. eqb y x) xs ≡ true → has_twice (xs ++ x ∷ ys) ≡ true
 has_twice-found [] x ys found = cc
 has_twice-found (y ∷ xs) x ys found = elim (or_cases (eqb y x) (list_any (λ z. eqb z x) xs) found) [

@@ -86,7 +86,7 @@ found_below cmp exact y q (z ∷ ys) all some = found_below_at cmp exact y q z y
 no_both : {T : Type 0} (cmp : T → T → Ordering) (o : IsTotalOrder cmp) (x y : T) → cmp x y ≡ Less → cmp y x ≡ Less → ⊥
 no_both cmp o x y e d = let f : Less ≡ Greater = sym e ∙ o.antisymm x y ∙ ap ordering_reverse d in cc
 
--- behind an equal first element stand the same elements
+-- after an equal first element stand the same elements
 same_behind : {T : Type 0} (cmp : T → T → Ordering) (exact : (x y : T) → cmp x y ≡ Equal → x ≡ y) (x q : T) (xs ys : List T) (r : Ordering) → cmp q x ≡ r → AllByRecursion (λ z. cmp x z ≡ Less) xs → AllByRecursion (λ z. cmp x z ≡ Less) ys → has cmp q (x ∷ xs) ≡ has cmp q (x ∷ ys) → has cmp q xs ≡ has cmp q ys
 same_behind cmp exact x q xs ys Less e s t same = rw e at same
 same_behind cmp exact x q xs ys Greater e s t same = rw e at same

@@ -1,4 +1,4 @@
--- Lines behind the first that are read one by one.
+-- Lines after the first that are read one by one.
 use Rattle.std.proofs.Common.{◌≡◌, ℕ, ◌+◌, ◌≤◌, true, List, [], ◌∷◌, ◌++◌, length, sym, ap, ◌∙◌, refl, arith, Result, Ok, Err, append_assoc, length-append, map, drop, ltb, inl, inr}
 use Rattle.std.specs.List.{list_all}
 use Rattle.std.proofs.lemmas.List.Folds.{list_all-append}
@@ -10,7 +10,7 @@ use Rattle.mpigroup.specs.declared.limits.TheConstants.{MOST_COMMS}
 use Rattle.mpigroup.specs.declared.fault.HeadFault.{HeadFault}
 use Rattle.mpigroup.specs.HeadText.{is_group, is_head_line, is_comm_line, checked_group, group_of_fields, group_of_line, at_line, put_front, put_line, groups_of_lines}
 
--- the groups behind others, or the first fault there
+-- the groups after others, or the first fault there
 abbrev pub behind_groups : Groups → Result Groups HeadFault → Result Groups HeadFault
 behind_groups groups (Ok more) = Ok (groups ++ more)
 behind_groups groups (Err fault) = Err fault

@@ -53,7 +53,7 @@ filter-run c (x ∷ xs) all rise = elim (cases_Bool (eqb x.colour c)) [
       rw other (filter-above c xs (at_least_more (suc c) x.colour xs above rise.0))
 ]
 
--- behind them come greater colours
+-- after them come greater colours
 above_run : (c : ℕ) (xs : List Member) → AtLeast c xs → ColoursRise xs → AtLeast (suc c) (drop (run c xs) xs)
 above_run c [] all rise = tt
 above_run c (x ∷ xs) all rise = elim (cases_Bool (eqb x.colour c)) [
@@ -70,7 +70,7 @@ rise_behind c (x ∷ xs) rise = elim (cases_Bool (eqb x.colour c)) [
   | inr other ↦ rw other rise
 ]
 
--- members of another colour are those behind the front
+-- members of another colour are those after the front
 filter-behind : (c d : ℕ) (xs : List Member) → (c ≡ d → ⊥) → filter (has_colour d) xs ≡ filter (has_colour d) (drop (run c xs) xs)
 filter-behind c d [] apart = refl
 filter-behind c d (x ∷ xs) apart = elim (cases_Bool (eqb x.colour c)) [
@@ -82,7 +82,7 @@ filter-behind c d (x ∷ xs) apart = elim (cases_Bool (eqb x.colour c)) [
   | inr other ↦ rw other refl
 ]
 
--- the first colour, and those behind its members
+-- the first colour, and those after its members
 colours-behind : (c : ℕ) (xs : List Member) → dedup_from eqb c (map (λ m. m.colour) xs) ≡ c ∷ colours_of (drop (run c xs) xs)
 colours-behind c [] = refl
 colours-behind c (x ∷ xs) = elim (cases_Bool (eqb x.colour c)) [

@@ -20,7 +20,7 @@ words_of_head kind = get_or (map (λ row. row.1.now) HEAD_FAULTS) (tag_of the_ty
 abbrev pub text_of_head : HeadFault → List ℕ
 text_of_head fault = codes "line " ++ decimal fault.line ++ codes " " ++ code_of_head fault.kind ++ codes " " ++ words_of_head fault.kind
 
--- a fault that is told of a text is the one that the text has; want of memory says nothing of it
+-- a fault that is told of a text is the one that the text has; lack of memory says nothing of it
 abbrev pub IsHeadFaultOf : {T : Type 0} → Result T HeadFault → ReadFault → Type 0
 IsHeadFaultOf reading (Text fault) = reading ≡ Err fault
 IsHeadFaultOf reading Memory = ⊤

@@ -74,7 +74,7 @@ abbrev pub put_front : List ℕ → Result Groups HeadFault → Result Groups He
 put_front group (Ok groups) = Ok (group ∷ groups)
 put_front group (Err fault) = Err fault
 
--- a line's group and those of the lines behind it; the line's own fault comes first
+-- a line's group and those of the lines after it; the line's own fault comes first
 abbrev pub put_line : Result (List ℕ) HeadFault → Result Groups HeadFault → Result Groups HeadFault
 put_line (Ok group) behind = put_front group behind
 put_line (Err fault) behind = Err fault

@@ -5,7 +5,7 @@ use Rattle.mpigroup.specs.declared.limits.TheConstants.{MOST_RANKS, MOST_COMMS}
 use Rattle.mpigroup.specs.Groups.{Groups}
 use Rattle.mpigroup.specs.HeadText.{is_group}
 
--- so many ranks, and so many groups beside the world's, each with ranks of the run, none twice
+-- so many ranks, and so many groups besides the world's, each with ranks of the run, none twice
 pub record AreSound (ranks : ℕ) (further : Groups) : Type 0 where
   pub least : 1 ≤ ranks
   pub most : ranks ≤ MOST_RANKS

@@ -1,4 +1,8 @@
 //! A group with a table that finds its members.
+//!
+//! The table has the place of each member by its rank of the world, in 2 bytes a rank, so no look-up
+//! searches the group. It is filled while the line is read, and answers whether a rank already stood there.
+//! A place is below 1,024, so 65535 means 'no member'.
 
 ghost use Rattle.std.specs.Prelude.{◌≡◌, ◌==◌, length, position, slice_get};
 ghost use Rattle.mpigroup.specs.Places.{told_place};

@@ -1,4 +1,6 @@
 //! The head of a run: its ranks, and the group of each of its communicators.
+//!
+//! The world is kept as a number alone: its group is all ranks in order, and needs no table.
 
 ghost use Rattle.std.specs.Prelude.{ℕ, take, ◌≡◌, ◌≤◌, ◌<◌, Ok, length, slice_get, IfOk, IfErr};
 ghost use Rattle.std.specs.List.{range_with_len};
@@ -53,7 +55,7 @@ pub fn front_decides(text: &[u8])
     let _text = text;
 }
 
-/// The groups that the lines behind the first give.
+/// The groups that the lines after the first give.
 fn read_further(alloc: Global, ranks: u16, text: &[u8]) -> Result<Vec<Group>, ReadFault>
     requires least { 1 ≤ ranks }
     requires most { ranks ≤ MOST_RANKS }

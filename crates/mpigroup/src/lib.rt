@@ -7,13 +7,13 @@
 //! What the crate promises:
 //!
 //! - [`head::Head::read`] answers the groups that the text gives by the definition `read_head` of
-//!   `specs/HeadText.antt`, or the fault of the first line that has one, or want of memory in place of
+//!   `specs/HeadText.antt`, or the fault of the first line that has one, or lack of memory in place of
 //!   either. So many bytes as [`limits::DECIDING_BYTES`]
 //!   decide what a text says.
 //! - The look-ups answer by these groups, as `specs/Groups.antt` defines them.
 //! - [`head::Head::groups_are_sound`] says of every head that each group names ranks of the run, one at
 //!   least and none twice.
-//! - [`split::split_groups`] answers the groups of `specs/Splits.antt`, or want of memory.
+//! - [`split::split_groups`] answers the groups of `specs/Splits.antt`, or lack of memory.
 //!
 //! Nobody has to believe `specs/Places.antt`: it says how a group's ranks are looked up, and no public contract cites
 //! it.

@@ -24,7 +24,7 @@ fn line_feed_at(text: &[u8]) -> Option<usize>
     text.iter().position(|byte| *byte == b'\n')
 }
 
-/// The first line of a text, with its line feed if it has one, and what stands behind it; None for a
+/// The first line of a text, with its line feed if it has one, and what follows it; None for a
 /// text without bytes.
 #[tactic(auto, using(crate::proofs::LineLemmas::line_steps))]
 pub(crate) fn split_line(text: &[u8]) -> Option<(&[u8], &[u8])>
@@ -143,7 +143,7 @@ fn read_members(
     Ok(Group { members, places })
 }
 
-/// The group that a line behind the first gives, by the line's number.
+/// The group that a line after the first gives, by the line's number.
 pub(crate) fn read_group(
     alloc: Global,
     ranks: u16,

@@ -1,4 +1,7 @@
 //! The groups that a split of a communicator makes (MPI 4.0, section 7.4.2).
+//!
+//! The members are sorted once, by colour, key and old rank, and the sorted list is cut where the colour
+//! changes.
 
 ghost use Rattle.std.specs.Prelude.{◌≡◌, ◌≤◌, ◌==◌, not, length, map, position, IfOk};
 ghost use Rattle.std.specs.List.{position_or_len};

@@ -52,7 +52,7 @@ its_note : (notes : List (List Noted)) (rank place : ℕ) (noted : Noted) → Ar
 its_note notes rank place noted are_noted h =
     subst (λ (calls : List Call). IsNoted (take place calls) noted) (sym (calls_of-recorded notes rank)) (are_noted rank place noted h)
 
--- what is kept beside a call that is noted
+-- what is kept with a call that is noted
 pub kept_there : (notes : List (List Noted)) (rank place : ℕ) (half : Half) (noted : Noted) → slice_get (notes_of notes rank) place ≡ Some noted → kept_at notes half rank place ≡ partner_in half noted.beside
 kept_there notes rank place half noted h = ap (λ (o : Option Noted). option_and_then (λ note. partner_in half note.beside) o) h
 
@@ -107,7 +107,7 @@ abbrev picked_among : {A : Type 0} → Call → List A → List A
 picked_among (Waitany chosen reqs) xs = take 1 (drop chosen xs)
 picked_among _ xs = xs
 
--- a start stands beside the request of the same index
+-- a start stands with the request of the same index
 beside : (f : ℕ → Option ℕ) (starts reqs : List ℕ) (index : ℕ) → map (λ start. Some start) starts ≡ map f reqs → slice_get starts index ≡ option_and_then f (slice_get reqs index)
 beside f [] [] index h = refl
 beside f [] (req ∷ reqs) index h = cc
@@ -134,7 +134,7 @@ completed_noted notes rank place index noted are_noted h =
     ∙ ap (map (started_in before)) (sym (completes_among noted.call)) in
     rw (its_call notes rank place noted h) (sym (beside (started_in before) (completed_starts noted) (completes noted.call) index same))
 
--- the start beside the first of the requests that is the one
+-- the start with the first of the requests that is the one
 at_position : (f : ℕ → Option ℕ) (starts reqs : List ℕ) (req : ℕ) → map (λ start. Some start) starts ≡ map f reqs → option_and_then (slice_get starts) (position (λ other. eqb other req) reqs) ≡ cond (list_any (λ other. eqb other req) reqs) (f req) None
 at_position f [] [] req h = refl
 at_position f [] (r ∷ reqs) req h = cc

@@ -45,7 +45,7 @@ before_most n test (x ∷ xs) (suc i) = more (test x) (before_most (n + 1) test 
     more true h = omega (arith, h)
     more false h = h
 
--- where no receive is behind a place, all are before it
+-- where no receive is after a place, all are before it
 pub all_before : (groups : Groups) (recording : Lists) (rank place : ℕ) (e : Envelope) → receive_behind groups recording rank place e ≡ None → number_of groups recording rank RecvHalf e place ≡ length (places_of groups recording rank RecvHalf e)
 all_before groups recording rank place e none =
     let most : number_of groups recording rank RecvHalf e place ≤ length (places_of groups recording rank RecvHalf e) = before_most 0 (has_envelope groups rank RecvHalf e) (calls_of recording rank) place in

@@ -29,7 +29,7 @@ use Rattle.pairing.specs.declared.probes.Probes.{Probes}
 use Rattle.pairing.proofs.CallCountLemmas.{one_more_call}
 use Rattle.pairing.proofs.ProbedLemmas.{prober, no_receive, all_before, the_next_receive_takes_it, else_the_first_pending_is_seen}
 
--- which receive is behind a place, once a call was put in that is no receive of the envelope
+-- which receive is after a place, once a call was put in that is no receive of the envelope
 behind_same : (groups : Groups) (recording : Lists) (rank : ℕ) (call : Call) (r place : ℕ) (f : Envelope) → rank < length recording → place ≤ length (calls_of recording r) → (r ≡ rank → has_envelope groups rank RecvHalf f call ≡ false) → receive_behind groups (appended recording rank call) r place f ≡ receive_behind groups recording r place f
 behind_same groups recording rank call r place f is_rank within fails =
     ⊎_elim
@@ -47,7 +47,7 @@ behind_more : (groups : Groups) (recording : Lists) (rank : ℕ) (call : Call) (
 behind_more groups recording rank call place e is_rank within passes =
     rw (calls_of-appended recording rank call is_rank, take-append-le place (calls_of recording rank) (call ∷ []) within, places_on (has_envelope groups rank RecvHalf e) (calls_of recording rank) call, passes) refl
 
--- nothing is behind the call that was just put in
+-- nothing is after the call that was just put in
 behind_last : (groups : Groups) (recording : Lists) (rank : ℕ) (call : Call) (e : Envelope) → rank < length recording → has_envelope groups rank RecvHalf e call ≡ false → receive_behind groups (appended recording rank call) rank (length (calls_of recording rank)) e ≡ None
 behind_last groups recording rank call e is_rank fails =
     behind_same groups recording rank call rank (length (calls_of recording rank)) e is_rank (omega arith) (λ same. fails)
@@ -416,7 +416,7 @@ seats_stay groups recording seating old new seats opens are = record {
   some = λ there. are.some (rw seats at there);
 }
 
--- beside each probe may stand more than is said
+-- with each probe may stand more than is said
 pub reseated : (groups : Groups) (recording : Lists) (f g : Seating) (probes : Probes) → ((r p s : ℕ) → f r p ≡ Some s → g r p ≡ Some s) → AreSeated groups recording f probes → AreSeated groups recording g probes
 reseated groups recording f g probes more are = record {
   seat = λ r place e h.

@@ -76,7 +76,7 @@ each_is_received groups recording lawful none rank place sent =
     let enough = no_more (length (halves_of groups recording RecvHalf e)) (places_of groups recording rank SendHalf e) (rw sender at (none e)) in
     has_receive groups recording rank place e own (omega (arith, within, enough))
 
--- the number behind the last of the receives has none
+-- the number after the last of the receives has none
 none_behind : (groups : Groups) (recording : Lists) (e : Envelope) → numbered groups recording RecvHalf e (length (halves_of groups recording RecvHalf e)) ≡ None
 none_behind groups recording e = by_rank (rank_of_half groups RecvHalf e) refl
   where

@@ -96,7 +96,7 @@ pub record IsCompleted (calls : List Call) (req start end : ℕ) : Type 0 where
   pub completes_it : does_complete req call ≡ true
   pub started_there : started_in (take wait calls) req ≡ Some start
 
--- behind a start its request stays active, up to the call that completes it
+-- after a start its request stays active, up to the call that completes it
 stays_or_ends : (groups : Groups) (rank : ℕ) (calls : List Call) (req start place : ℕ) (call : Call) → IsLawfulList groups rank calls → start < place → slice_get calls place ≡ Some call → started_in (take place calls) req ≡ Some start → (started_in (take (place + 1) calls) req ≡ Some start) ⊎ IsCompleted calls req start (place + 1)
 stays_or_ends groups rank calls req start place call lawful behind here active =
     ⊎_elim
@@ -157,7 +157,7 @@ start_is_completed groups rank calls req start starter lawful here starts_it ina
     completed_before groups rank calls req start (length calls) starter lawful here starts_it (slice_get_within calls start starter here) (omega arith)
     (λ active. inactive (ap (λ (front : List Call). started_in front req) (sym (take_all (length calls) calls (omega arith))) ∙ active))
 
--- and behind a call that completes a request only a later start of it is active
+-- and after a call that completes a request only a later start of it is active
 later_start : (calls : List Call) (req wait start : ℕ) (call : Call) (more : ℕ) → slice_get calls wait ≡ Some call → does_complete req call ≡ true → wait + 1 + more ≤ length calls → started_in (take (wait + 1 + more) calls) req ≡ Some start → wait ≤ start
 later_start calls req wait start call zero here completes_it within active =
     let same : wait + 1 + 0 ≡ wait + 1 = omega arith in

@@ -9,7 +9,7 @@ use Rattle.callnotes.specs.Places.{places}
 use Rattle.callnotes.specs.Waves.{joins, does_join}
 use Rattle.callnotes.specs.Seats.{Seats, list_in, HasRoomIn}
 
--- The lists: first those of the world, one for each of its ranks, and behind them one for each of the keys.
+-- The lists: first those of the world, one for each of its ranks, and after them one for each of the keys.
 pub record Joinings : Type 0 where
   pub ranks : ℕ
   pub keys : List Holding

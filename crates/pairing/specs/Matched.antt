@@ -27,7 +27,7 @@ abbrev pub pending_of : Groups → Lists → Half → Envelope → List ℕ
 pending_of groups recording half e = drop (length (halves_of groups recording (other_half half) e)) (halves_of groups recording half e)
 
 -- the envelopes in the order of their numbers; lists of pending places, for each envelope one of its sends and
--- behind it one of its receives; how many places there is room for; and the work that was done
+-- after it one of its receives; how many places there is room for; and the work that was done
 pub record Matching : Type 0 where
   pub keys : List Envelope
   pub lists : List (List ℕ)
@@ -85,7 +85,7 @@ pub record IsMatched (groups : Groups) (recording : Lists) (matching : Matching)
   pub pending : (half : Half) (e : Envelope) → pending_by matching half e ≡ pending_of groups recording half e
   pub work : matching.work ≡ work_of groups recording
 
--- the number beside the envelope of a half is its own
+-- the number next to the envelope of a half is its own
 abbrev pub HasNumber : Matching → Numbered → Type 0
 HasNumber matching half = number_in matching.keys half.envelope ≡ Some half.number
 

@@ -36,7 +36,7 @@ added_at pairs rank place = record {
   wave = joined_at pairs rank place;
 }
 
--- a refusal tells the first fault of the call, or that memory was wanted for a call without a fault
+-- a refusal tells the first fault of the call, or that memory ran out for a call without a fault
 abbrev pub TellsFault : Option CallFault → PairFault → Type 0
 TellsFault first (Refused fault) = first ≡ Some fault
 TellsFault first Memory = first ≡ None

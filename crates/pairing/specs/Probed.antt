@@ -46,19 +46,19 @@ abbrev pub HasProbesIf : Bool → Groups → Lists → Type 0
 HasProbesIf true groups recording = HasProbe groups recording
 HasProbesIf false groups recording = NoneIsProbed groups recording
 
--- the place of the receive of the envelope that stands next behind the rank's place, or at it
+-- the place of the receive of the envelope that is the next after the rank's place, or at it
 abbrev pub receive_behind : Groups → Lists → ℕ → ℕ → Envelope → Option ℕ
 receive_behind groups recording rank place e =
     slice_get (places_of groups recording rank RecvHalf e) (number_of groups recording rank RecvHalf e place)
 
--- Law: the next receive behind a probe takes the send that the probe sees.
+-- Law: the next receive after a probe takes the send that the probe sees.
 abbrev pub TheNextReceiveTakesIt : Type 0
 TheNextReceiveTakesIt =
     (groups : Groups) (recording : Lists) (rank place : ℕ) (e : Envelope) (there : ℕ) →
     probed_envelope_at groups recording rank place ≡ Some e → receive_behind groups recording rank place e ≡ Some there →
     probed_of groups recording rank place ≡ partner_of groups recording rank there RecvHalf
 
--- Law: where none is behind it, the probe sees the first send that has no receive yet.
+-- Law: where none is after it, the probe sees the first send that has no receive yet.
 abbrev pub ElseTheFirstPendingIsSeen : Type 0
 ElseTheFirstPendingIsSeen =
     (groups : Groups) (recording : Lists) (rank place sender : ℕ) (e : Envelope) →
@@ -72,7 +72,7 @@ ProbedSendsStay =
     (groups : Groups) (recording longer : Lists) (rank place other there : ℕ) → GoesOn recording longer →
     probed_of groups recording rank place ≡ Some (other, there) → probed_of groups longer rank place ≡ Some (other, there)
 
--- the same send, by where the next receive behind the probe stands
+-- the same send, by where the next receive after the probe stands
 abbrev pub seen_from : Groups → Lists → ℕ → Option ℕ → Envelope → Option (ℕ × ℕ)
 seen_from groups recording rank (Some there) e = partner_of groups recording rank there RecvHalf
 seen_from groups recording rank None e =

@@ -1,4 +1,4 @@
--- Seats. What a probe sees is settled by the next receive of its envelope behind it. Probes of one envelope
+-- Seats. What a probe sees is settled by the next receive of its envelope after it. Probes of one envelope
 -- between two of its receives share a seat, which the next of them fills with its place.
 use Rattle.std.specs.Prelude.{◌≡◌, ℕ, ◌<◌, ◌≤◌, ◌==◌, ◌&&◌, Bool, Option, Some, None, is_some, unwrap_or, if◌then◌else◌, List, [], ◌∷◌, ◌++◌, length, slice_get, slice_set, vec_len, vec_capacity}
 use Rattle.std.specs.List.{sum_by}
@@ -13,7 +13,7 @@ use Rattle.pairing.specs.declared.probes.Probes.{Probes}
 abbrev pub is_same_envelope : Envelope → Envelope → Bool
 is_same_envelope = (envelope_eq.ghosts).eq
 
--- the seat of the envelope's probes behind its last receive, if there are any: no receive has filled it yet
+-- the seat of the envelope's probes after its last receive, if there are any: no receive has filled it yet
 abbrev pub unfilled_at : Probes → Envelope → Option ℕ
 unfilled_at probes e = get is_same_envelope probes.unfilled e
 
@@ -21,14 +21,14 @@ unfilled_at probes e = get is_same_envelope probes.unfilled e
 abbrev pub seat_for : Probes → Envelope → ℕ
 seat_for probes e = unwrap_or (unfilled_at probes e) (length probes.seats.items)
 
--- which seat stands beside the rank's call at a place
+-- which seat stands with the rank's call at a place
 abbrev pub Seating : Type 0
 Seating = ℕ → ℕ → Option ℕ
 
 abbrev pub seated : Seating → ℕ → ℕ → Option ℕ → Seating
 seated seating rank place seat r p = if r == rank && p == place then seat else seating r p
 
--- Beside the probe stands a seat, which has the place of the next receive behind it; while there is none, it is
+-- With the probe stands a seat, which has the place of the next receive after it; while there is none, it is
 -- the unfilled seat of its envelope.
 pub record IsSeatOf (groups : Groups) (recording : Lists) (seating : Seating) (probes : Probes) (rank place : ℕ) (e : Envelope) : Type 0 where
   pub seat : ℕ

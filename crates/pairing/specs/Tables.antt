@@ -36,7 +36,7 @@ pub record HaveRoom (groups : Groups) (rank : ℕ) (call : Call) (room : Room) (
   pub held : HasRoomToHold tables.held call
   pub active : HasRoomToStart tables.active call
 
--- beside the rank's call stands the number of its wave, and no partner yet
+-- with the rank's call stands the number of its wave, and no partner yet
 pub record IsBeside (before : List Call) (call : Call) (beside : Beside) : Type 0 where
   pub wave : (comm : ℕ) → joins call ≡ Some comm → wave_in beside ≡ length (places (does_join comm) before)
   pub alone : (half : Half) → partner_in half beside ≡ None

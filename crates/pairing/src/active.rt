@@ -1,4 +1,8 @@
 //! Which requests of a recording are active, by look-up.
+//!
+//! Each rank has 64 cells: a request stands in the cell of its number's remainder. So a program that uses
+//! its numbers again, or counts them up, needs no hash. If another request is in that cell, it goes into a
+//! table by `indexmap`, which is asked only while something is in it.
 
 ghost use Rattle.std.specs.Prelude.{◌≡◌, ◌+◌, ◌*◌, ◌%◌, ◌^◌, ◌<◌, ◌≤◌, ◌==◌, ◌&&◌, [], Some, None, IfSome, IfNone, length, replicate, map, take, drop, ℕ, true, false, IfOk, OnOk, if◌then◌else◌};
 ghost use Rattle.std.specs.List.{list_all};
@@ -211,7 +215,7 @@ impl Active {
     }
 
     /// Writes the places that started the rank's requests of these numbers, in order, up to the first that
-    /// is not active, and answers how many it wrote. What stands behind them in `into` stays.
+    /// is not active, and answers how many it wrote. What follows them in `into` stays.
     pub(crate) fn starts_of(&self, rank: u16, reqs: &[u32], into: &mut [u32]) -> usize
         requires { length reqs.now ≤ length into.old }
         ensures written { (recording : Lists) → IsActive recording self.now →

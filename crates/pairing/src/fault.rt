@@ -1,4 +1,7 @@
 //! The first fault of a call after the calls that its rank made before.
+//!
+//! The definition of a fault is unfolded only in proofs about it. It lists nine tests; unfolded in every
+//! proof about kept calls it would slow them all down.
 
 ghost use Rattle.std.specs.Prelude.{◌≡◌, Some, true};
 ghost use Rattle.std.specs.Option.{option_map_or};

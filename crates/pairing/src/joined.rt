@@ -1,4 +1,8 @@
 //! Collectives by rank and communicator, so that a call in a wave is found without a look at other calls.
+//!
+//! A list for a communicator other than the world is made at the rank's first collective there: lists for
+//! all of 1,024 ranks and 4,096 communicators would take 100 MB before any call. A list that was made for a
+//! call which is then refused for lack of memory stays empty, which reads as no list.
 
 ghost use Rattle.std.specs.Prelude.{◌≡◌, ◌<◌, ◌≤◌, ℕ, Option, None, Some, [], true, length, replicate, IfOk, IfSome, OnOk};
 ghost use Rattle.mpicall.specs.declared.call.Call.{Call};
@@ -29,7 +33,7 @@ pub(crate) struct Waves {
     alloc: Global,
     ranks: u16,
     joined: IndexSet<Holding>,
-    // The lists of the world, one for each of its ranks, and behind them one for each that joined.
+    // The lists of the world, one for each of its ranks, and after them one for each that joined.
     lists: PlaceLists,
 }
 

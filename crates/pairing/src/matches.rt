@@ -1,5 +1,8 @@
 //! Pending sends and receives by their envelopes, so that a call's partner is found without a look at other
 //! calls.
+//!
+//! Each envelope has two lists in one arena, of which one is always empty. A half that comes takes the
+//! first of the other side off its list if there is one, and else goes to the end of its own.
 
 ghost use Rattle.std.specs.Prelude.{◌≡◌, ◌+◌, ◌*◌, ◌<◌, ◌≤◌, ◌^◌, [], Some, length, slice_get, min, option_map, true, false, IfOk, IfSome, OnOk};
 ghost use Rattle.arenalist.specs.Arena.{counted};

@@ -12,7 +12,7 @@ use callnotes::envelope::{Half, rank_of_half};
 use callnotes::notes::Notes;
 use mpigroup::head::Head;
 
-/// Notes beside a half of the rank's call, and beside the half that it met, where the other stands.
+/// Notes with a half of the rank's call, and with the half that it met, where the other stands.
 #[inline(always)]
 fn note_partners(
     head: &Head,

@@ -1,4 +1,12 @@
 //! The numbers of envelopes, so that what is kept of an envelope is found by a number.
+//!
+//! Envelopes are numbered by `indexmap` in the order of their first use. Before it is asked, one of 65,536
+//! cells is, which the envelope's fields choose: there is the number of the envelope of that cell that was
+//! looked up last. The envelope with that number is compared with the one that is asked for, so any number
+//! may stand in a cell.
+//!
+//! A number that was given for a call which is then refused stays, with empty lists, which no look-up
+//! shows.
 
 ghost use Rattle.std.specs.Prelude.{◌≡◌, ◌<◌, [], length, Some, IfOk, IfSome, OnErr, OnOk};
 ghost use Rattle.std.specs.List.{IsDistinct};
@@ -105,7 +113,7 @@ impl Numbering {
         }
     }
 
-    /// Puts an envelope behind the others.
+    /// Puts an envelope after the others.
     fn push(&mut self, envelope: Envelope) -> Result<usize, AllocError>
         ensures ok { OnOk result (self.new ≡ insert_key same_envelope self.old envelope) }
         ensures number { IfOk result (λ number. number_in self.new envelope ≡ Some number) }

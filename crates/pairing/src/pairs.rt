@@ -1,4 +1,7 @@
 //! Calls of all ranks, added one by one, with what each means for the others.
+//!
+//! A call is admitted in steps: its fault is found, then each growth that it takes is made, and only then
+//! it is noted, by functions that get no allocator. So running out of memory leaves everything as it was.
 
 ghost use Rattle.std.specs.Prelude.{◌≡◌, ◌≢◌, ◌<◌, ◌≤◌, ℕ, [], ◌∷◌, length, replicate, slice_get, option_map, None, Err, IfOk, IfErr, IfNone, IfSome, OnOk, OnErr, false, true};
 ghost use Rattle.mpigroup.specs.Groups.{ranks_of};
@@ -418,7 +421,7 @@ impl Pairs {
     }
 
     /// Adds the next call of a rank, which comes to stand at `place`. It is refused exactly where it has a
-    /// fault, with the first one, or for want of memory; and then all is as it was.
+    /// fault, with the first one, or for lack of memory; and then all is as it was.
     pub fn admit(&mut self, rank: u16, place: u32, call: &Record) -> Result<(), PairFault>
         requires is_rank { rank < length self.old.recording }
         requires is_next { place ≡ length (calls_of self.old.recording rank) }

@@ -2,13 +2,13 @@
 
 ghost use Rattle.pairing.specs.Probed.{TheNextReceiveTakesIt, ElseTheFirstPendingIsSeen, ProbedSendsStay};
 
-/// The next receive of its envelope behind a probe takes the send that the probe sees: both see the same
+/// The next receive of its envelope after a probe takes the send that the probe sees: both see the same
 /// partner, or none yet.
 pub fn the_next_receive_takes_it()
     ensures { TheNextReceiveTakesIt }
 {}
 
-/// Where no receive of its envelope stands behind a probe, it sees the first send of the envelope that no
+/// Where no receive of its envelope follows a probe, it sees the first send of the envelope that no
 /// receive has taken; none where there is no such send. A probe takes nothing itself.
 pub fn else_the_first_pending_is_seen()
     ensures { ElseTheFirstPendingIsSeen }

@@ -1,6 +1,6 @@
 //! Seats of probes.
 //!
-//! A probe (MPI 4.0, section 3.8) sees the send that the next receive of its envelope behind it takes. So what
+//! A probe (MPI 4.0, section 3.8) sees the send that the next receive of its envelope after it takes. So what
 //! is kept of a probe is where that receive stands, once it was called; before that the probe sees the first
 //! send that has no receive. Probes of one envelope between two of its receives see the same, and share a
 //! seat, which the next receive fills. No send is ever noted here.
@@ -42,7 +42,7 @@ pub(crate) fn probed_envelope(head: &Head, rank: u16, call: &NextCall<'_>) -> Op
 /// The seats of probes: there are no more of them than calls.
 #[derive(Drop)]
 pub(crate) struct Probes {
-    // For each seat the place of the next receive behind its probes, once it was called.
+    // For each seat the place of the next receive after its probes, once it was called.
     seats: Vec<Option<u32>>,
     // The seat of each envelope that was probed since its last receive.
     unfilled: IndexMap<Envelope, u32>,
@@ -125,7 +125,7 @@ impl Probes {
         }
     }
 
-    /// The place of the next receive behind the probes of a seat; None where it was not called yet.
+    /// The place of the next receive after the probes of a seat; None where it was not called yet.
     pub(crate) fn followed(&self, seat: u32) -> Option<u32>
         ensures { result ≡ option_and_then (λ (o : Option ℕ). o) (slice_get self.now.seats.items seat) }
     {

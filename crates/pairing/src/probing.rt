@@ -1,4 +1,4 @@
-//! The probes of a recording, each with its seat: a table beside those of `tables`, of which the notes, the
+//! The probes of a recording, each with its seat: a table next to those of `tables`, of which the notes, the
 //! packed calls and the lists of pending halves know nothing. All room is made before a call is put in.
 
 ghost use Rattle.std.specs.Prelude.{◌≡◌, ◌<◌, ◌^◌, ℕ, true, false, [], Some, Option, length, replicate, option_map, option_and_then, slice_get, OnOk};
@@ -59,7 +59,7 @@ impl Probing {
         self.probes.has_probes()
     }
 
-    /// The place of the receive behind the probes of a seat.
+    /// The place of the receive after the probes of a seat.
     pub(crate) fn followed(&self, seat: u32) -> Option<u32>
         ensures { result ≡ option_and_then (λ (o : Option ℕ). o) (slice_get self.now.probes.seats.items seat) }
     {

@@ -96,7 +96,7 @@ impl Tables {
         self.active.put(rank, place, call);
     }
 
-    /// What is kept beside a rank's next call, whose wave has that list, as long as its halves have no partners.
+    /// What is kept with a rank's next call, whose wave has that list, as long as its halves have no partners.
     #[inline(always)]
     pub(crate) fn beside(&self, list: Option<usize>) -> Beside
         ensures { (groups : Groups) (recording : Lists) (rank : ℕ) (call : Call) → AreTables groups recording self.now →

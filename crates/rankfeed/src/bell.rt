@@ -1,4 +1,7 @@
 //! A bell by which the taker of a feed wakes the thread that waits for room.
+//!
+//! A thread whose feed is full yields four times, asks to be woken, looks once more, and sleeps until it is
+//! woken or a millisecond is over. Nothing is promised of a bell: who isn't woken looks again.
 
 use std::alloc::{AllocError, Global};
 use std::sync::atomic::{AtomicU64, Ordering};

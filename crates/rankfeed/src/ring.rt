@@ -1,4 +1,8 @@
 //! The feed over a ring that no call waits for: the two ends, and the receipt of what was put.
+//!
+//! A ring has one place more than its capacity, for the end mark, so `seal` and `tear` never wait. The
+//! taker looks at the front item in its place, so of a record's 264 bytes only those are read that the call
+//! needs.
 
 ghost use Rattle.std.specs.Prelude.{◌≡◌, ◌<◌, ◌+◌, ◌≤◌, true, false, None, length};
 ghost use Rattle.rtrb.specs.Ring.{sent, received, all_sent, known_free, producer_capacity};

@@ -1,4 +1,7 @@
 //! The sources of all ranks, fed by threads of their own, while one collector takes what they put.
+//!
+//! The lists of threads, answers and receipts have their room before the first thread starts. So running
+//! out of memory leaves no threads that nobody takes from.
 
 ghost use Rattle.std.specs.Prelude.{◌≡◌, ◌≤◌, [], All, map, vec_len, vec_capacity};
 ghost use Rattle.rankfeed.specs.Rings.{sent_by};

@@ -1,4 +1,7 @@
 //! What comes by the feeds of all ranks, taken by turns until each has ended.
+//!
+//! Up to 1,024 items are taken from one feed before the next. So most calls come to an analyser at which
+//! their rank hasn't arrived, and cost no look; and no rank is kept waiting for good.
 
 ghost use Rattle.std.specs.Prelude.{◌<◌, length};
 ghost use Rattle.gather.specs.Collectors.{rings};

@@ -1,4 +1,8 @@
 //! One thread a rank, which puts the records of the rank's source on the rank's feed.
+//!
+//! A thread lets its source go as soon as it has ended, so the file is closed, and a program that goes on
+//! writing into a pipe after a faulty line isn't blocked. If a thread doesn't start, the closure that was
+//! to run there comes back and is called at once: it tears the feed.
 
 use core::thread::Stack;
 use gather::feed::feed;

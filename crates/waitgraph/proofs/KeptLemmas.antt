@@ -12,7 +12,7 @@ front_of zero xs ys within = refl
 front_of (suc a) [] ys within = absurd (omega (arith, within))
 front_of (suc a) (x ∷ xs) ys within = ap (λ (zs : List Need). x ∷ zs) (front_of a xs ys (omega (arith, within)))
 
--- what stands in a span stays there with more needs behind
+-- what stands in a span stays there with more needs after
 range_of : (a b : ℕ) (xs ys : List Need) → a ≤ b → b ≤ length xs → slice_range (xs ++ ys) a b ≡ slice_range xs a b
 range_of zero b xs ys least most = let e : b - 0 ≡ b = omega arith in rw e (front_of b xs ys most)
 range_of (suc a) b [] ys least most = absurd (omega (arith, least, most))
@@ -21,7 +21,7 @@ range_of (suc a) (suc b) (x ∷ xs) ys least most =
     let e : suc b - suc a ≡ b - a = omega arith in
     rw e (range_of a b xs ys (omega (arith, least)) (omega (arith, most)))
 
--- and the needs behind are those of the next span
+-- and the needs after are those of the next span
 range_behind : (xs ys : List Need) → slice_range (xs ++ ys) (length xs) (length xs + length ys) ≡ ys
 range_behind xs ys =
     let count : length xs + length ys - length xs ≡ length ys = omega arith in
@@ -38,7 +38,7 @@ same_spans needs more [] all = refl
 same_spans needs more (span ∷ spans) all =
     rw (range_of span.start span.end needs more all.0.0 all.0.1, same_spans needs more spans all.1) refl
 
--- one span more, of the needs that are put behind the others
+-- one span more, of the needs that are put after the others
 pub one_span_more : (needs more all : List Need) (spans later : List Span) (span : Span) →
     All (LiesWithin (length needs)) spans → all ≡ needs ++ more → later ≡ spans ++ span ∷ [] → span.start ≡ length needs → span.end ≡ length all →
     map (needs_at all) later ≡ map (needs_at needs) spans ++ more ∷ []

@@ -108,7 +108,7 @@ given_once {B} y h a (suc n) index other alone p q =
     by_first y h a n index other alone None is later p q = later index other p q
     by_first y h a n index other alone (Some z) is later p q = by_index y z h a n index other alone is later p q
 
--- the place behind the first of two lists
+-- the place after the first of two lists
 behind_front : {A : Type 0} (xs ys : List A) (index : ℕ) → length xs ≤ index → slice_get (xs ++ ys) index ≡ slice_get ys (index - length xs)
 behind_front [] ys index past = let e : index - 0 ≡ index = omega arith in rw e refl
 behind_front (x ∷ xs) ys zero past = absurd (omega arith)

@@ -46,7 +46,7 @@ pub is_order : IsStrictWeakOrder comes_before
 is_order = record { one_way = before_asym; chain = before_chain }
 
 -- both of two tests
--- what comes behind one that comes behind the need
+-- what comes after one that comes after the need
 all_behind : (need x : Need) (xs : List Need) → comes_before need x ≡ true → list_all (comes_before x) xs ≡ true → list_all (comes_before need) xs ≡ true
 all_behind need x [] h k = refl
 all_behind need x (y ∷ ys) h k =

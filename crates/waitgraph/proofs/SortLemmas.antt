@@ -101,7 +101,7 @@ same_first x y xs ys before other (inr h) (inl e) = e
 same_first x y xs ys before other (inr h) (inr k) =
     absurd (false≢true (sym (before_asym y x (among_all x (comes_before y) ys h other)) ∙ among_all y (comes_before x) xs k before))
 
--- what stands behind the first of one list stands behind that of the other
+-- what follows the first of one list follows that of the other
 same_rest : (need x y : Need) (xs ys : List Need) → x ≡ y → list_all (comes_before x) xs ≡ true → Among need xs → Among need (y ∷ ys) → Among need ys
 same_rest need x y xs ys first before h (inl e) =
     absurd (never_before x (subst (λ (z : Need). comes_before x z ≡ true) (sym (first ∙ e)) (among_all need (comes_before x) xs h before)))

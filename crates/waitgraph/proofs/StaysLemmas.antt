@@ -80,7 +80,7 @@ as_opened recording later h k =
     ))
     (cases_Bool (opened_of recording k))
 
--- a place that passes over the later recording: over the other too, or behind the start of an open
+-- a place that passes over the later recording: over the other too, or after the start of an open
 back : (recording later : Lists) (h : Parted recording later) (test : Call → Bool) (k number there : ℕ) → slice_get (places test (calls_of later k)) number ≡ Some there → (slice_get (places test (calls_of recording k)) number ≡ Some there) ⊎ ((opened_of recording k ≡ true) × (length (calls_of h.before k) ≤ there))
 back recording later h test k number there found =
     ⊎_elim
@@ -129,7 +129,7 @@ earlier : (before longer : Lists) (rank place req start' : ℕ) → GoesOn befor
 earlier before longer rank place req start' goes_on within found =
     start_is_a_call before rank place req start' (sym (start_stays before longer rank place req goes_on (omega (arith, within))) ∙ found)
 
--- no rank stands behind its open
+-- no rank is past its open
 before_open : (reading : Reading) (groups : Groups) (recording later : Lists) (h : Parted recording later) (k : ℕ) → calls_of recording k ≡ calls_of h.before k ++ Open ∷ [] → get_or (stands_of reading groups recording) k 0 ≤ length (calls_of h.before k)
 before_open reading groups recording later h k is =
     no_call_behind_the_end_is_reached reading groups recording k (length (calls_of h.before k)) Open (lowest_run_over reading groups recording) (every_maximal_run_ends_at_the_stands reading groups recording).0.is_run

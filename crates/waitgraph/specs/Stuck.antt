@@ -41,7 +41,7 @@ is_earlier (Lacking rank) need = false
 abbrev pub comes_before : Need → Need → Bool
 comes_before need other = nat_lt (rank_needed need) (rank_needed other) || (rank_needed need == rank_needed other && is_earlier need other)
 
--- a need put among others: those that come before it, it once, and those that come behind it
+-- a need put among others: those that come before it, it once, and those that come after it
 abbrev pub with_need : List Need → Need → List Need
 with_need needs need = filter (λ other. comes_before other need) needs ++ need ∷ filter (comes_before need) needs
 
@@ -69,7 +69,7 @@ unmet_of reading groups recording = unmet_at reading groups recording (stands_of
 abbrev pub IsIn : Need → List Need → Type 0
 IsIn need needs = (index : ℕ) × (slice_get needs index ≡ Some need)
 
--- each need of the list comes before all that are behind it
+-- each need of the list comes before all that are after it
 abbrev pub are_needs_in_order : List Need → Bool
 are_needs_in_order [] = true
 are_needs_in_order (need ∷ needs) = list_all (comes_before need) needs && are_needs_in_order needs
@@ -82,7 +82,7 @@ pub record TellsUnmet (reading : Reading) (groups : Groups) (recording : Lists) 
   pub are_all : (need : Need) → IsIn need (needs_of reading groups recording rank (slice_index (stands_of reading groups recording) rank)) → is_met (stands_of reading groups recording) need ≡ false → IsIn need (unmet_of reading groups recording rank)
 
 -- Law: over every recording, the unmet needs of a rank are those needs of its present call that are not
--- met at the stands, and each comes before those behind it, so that none is listed twice.
+-- met at the stands, and each comes before those after it, so that none is listed twice.
 abbrev pub UnmetNeedsAreToldInOrder : Type 0
 UnmetNeedsAreToldInOrder = (reading : Reading) (groups : Groups) (recording : Lists) (rank : ℕ) → TellsUnmet reading groups recording rank
 

@@ -1,4 +1,8 @@
 //! Loose and held ranks, by what each rank waits for and which lists were left open.
+//!
+//! A sweep goes over all ranks and marks each that those marked so far make loose, until a sweep marks
+//! none. Mostly two or three sweeps are enough. A worklist would want who waits for whom the other way
+//! round.
 
 ghost use Rattle.std.specs.Prelude.{◌≡◌, ◌<◌, ℕ, true, false, length, replicate, slice_set, find, IfOk};
 ghost use Rattle.std.specs.List.{filter, list_all, range_with_len};

@@ -21,7 +21,7 @@ use std::alloc::{AllocError, Global};
 use std::cmp::Ordering;
 
 /// Whether the one need comes before the other: needs are ordered by rank and then by place, and what a
-/// rank lacks comes behind its calls.
+/// rank lacks comes after its calls.
 fn comes_before(need: &Need, other: &Need) -> bool
     ensures { result ≡ comes_before need.now other.now }
 {
@@ -300,7 +300,7 @@ pub(crate) fn unmet_at(
 }
 
 /// The unmet needs of a rank are those needs of its present call that aren't met at the stands, and each
-/// comes before those behind it, so none is listed twice. It has no premise.
+/// comes before those after it, so none is listed twice. It has no premise.
 pub fn unmet_needs_are_told_in_order()
     ensures { UnmetNeedsAreToldInOrder }
 {}

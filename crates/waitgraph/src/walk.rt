@@ -1,4 +1,8 @@
 //! Walks from held rank to held rank, and the causes at which they end.
+//!
+//! A walk goes on from a held rank by one need, so the rank is on one cycle at most: it is on one exactly
+//! if the walk comes back to it. A cycle is listed at its lowest rank, so nothing is sorted and none is
+//! listed twice.
 
 ghost use Rattle.std.specs.Prelude.{◌≡◌, ◌<◌, ◌++◌, nat_le, length, map, option_map, IfOk, OnOk};
 ghost use Rattle.std.specs.Option.{option_to_list};

@@ -1,4 +1,8 @@
 //! The board on which the last publication is, for watches that read it without waiting.
+//!
+//! Of the two copies of `left_right` the one that nobody reads is written over, and the readers are turned
+//! to it. No operation is kept for the other copy, so `publish` takes no memory and can't be refused half
+//! way.
 
 ghost use Rattle.std.specs.Prelude.{◌≡◌, ◌<◌, ◌≤◌, ◌⊎◌, IfOk, IfSome};
 ghost use Rattle.left_right.specs.Sides.{view};

@@ -1,4 +1,8 @@
 //! A publication of the stands, and what is known of those before it.
+//!
+//! A publication is the stands, its number, and a token without bytes that says how the list of
+//! publications begins. Two tokens of one list always agree, so of two publications the one with more
+//! before it is the later. Stands that were published last aren't published again.
 
 ghost use Rattle.std.specs.Prelude.{◌≡◌, ◌≤◌, ◌+◌, [], ◌∷◌, ◌++◌, length, nat_le, slice_get, sum, true, false, Some};
 ghost use mathlib.Core.List.{IsPrefix};

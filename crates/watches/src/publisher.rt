@@ -1,4 +1,8 @@
 //! What publishes the stands: their list, and the board that shows the last of them where there are watches.
+//!
+//! The number of publications grows in the step in which the list does, before it is shown. To take the
+//! board down is to wait for the watches that read it; `close` waits for nobody, so the collector holds the
+//! board in a `ManuallyDrop`, and `withdraw` takes it down in order.
 
 ghost use Rattle.std.specs.Prelude.{◌≡◌, ◌≤◌, [], ◌∷◌, All, IfOk, IfSome, vec_len, vec_capacity};
 ghost use Rattle.std.specs.Option.{ForSome};

@@ -1,4 +1,8 @@
 //! The calls of the members in each wave, compared with the first member's.
+//!
+//! The calls of one wave lie far apart in memory. So 256 waves at a time are compared first, member by
+//! member, with the kinds of the first member's calls, which are looked up once for all. Only waves that
+//! are not alike are then taken one by one.
 
 ghost use Rattle.std.specs.Prelude.{◌≡◌, ◌+◌, ◌<◌, ◌≤◌, ◌-◌, ◌++◌, ℕ, [], length, flat_map, is_some, option_to_list, IsTrue, IfOk, OnOk};
 ghost use Rattle.std.specs.List.{filter, range_with_len};
@@ -203,14 +207,14 @@ fn other_members(alloc: Global, pairs: &Pairs, comm: u16) -> Result<Vec<u16>, Al
     Ok(others)
 }
 
-/// Keeps those members that have a call in the wave. Who has none there has none in the waves behind it.
+/// Keeps those members that have a call in the wave. Who has none there has none in the waves after it.
 fn keep_callers(others: &mut Vec<u16>, pairs: &Pairs, comm: u16, wave: u32)
     ensures { others.new.items ≡ filter (λ g. is_some (member_of pairs.now.groups pairs.now.recording comm wave g)) others.old.items }
 {
     others.retain(|g| pairs.member(comm, wave, *g).is_some());
 }
 
-/// What is found of a member, beside the first one's call in the wave.
+/// What is found of a member, compared with the first one's call in the wave.
 fn found_of_member(
     pairs: &Pairs,
     compared: Compared,

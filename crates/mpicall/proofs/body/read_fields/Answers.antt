@@ -1,4 +1,4 @@
--- A word and what stands behind it.
+-- A word and what follows it.
 use Rattle.mpicall.proofs.WordLemmas.{word_found}
 use Rattle.mpicall.proofs.BodyLemmas.{line_reads}
 use Rattle.mpicall.proofs.body.read_fields.Goals as goal

@@ -1,4 +1,4 @@
--- An index and the requests behind it.
+-- An index and the requests after it.
 use Rattle.std.proofs.Common.{refl}
 use Rattle.mpicall.proofs.BodyLemmas.{index_missing, index_read, list_unfit, index_unfit, index_fits}
 use Rattle.mpicall.proofs.body.read_waitany.Goals as goal

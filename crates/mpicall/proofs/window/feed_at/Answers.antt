@@ -1,4 +1,4 @@
--- By a search behind the bytes that were searched before.
+-- By a search after the bytes that were searched before.
 use Rattle.mpicall.proofs.FeedLemmas.{feed_found, feed_missing}
 use Rattle.mpicall.proofs.window.feed_at.Goals as goal
 

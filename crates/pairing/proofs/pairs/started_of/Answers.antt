@@ -1,4 +1,4 @@
--- What stands beside the request is what started it.
+-- What stands with the request is what started it.
 use Rattle.std.proofs.Common.{sym, ◌∙◌}
 use Rattle.pairing.proofs.KeptLemmas.{started_noted}
 use Rattle.pairing.proofs.pairs.started_of.Goals as goal

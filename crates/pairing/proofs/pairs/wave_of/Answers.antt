@@ -1,4 +1,4 @@
--- The wave has the number that is noted beside the call.
+-- The wave has the number that is noted with the call.
 use Rattle.std.proofs.Common.{ℕ, Some, sym, ap, ◌∙◌}
 use Rattle.mpicall.specs.declared.call.Call.{Call}
 use Rattle.callnotes.specs.Waves.{joins}

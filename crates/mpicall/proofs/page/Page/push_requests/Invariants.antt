@@ -1,4 +1,4 @@
--- The line so far, with the requests from the index on behind it, is the whole one.
+-- The line so far, with the requests from the index on after it, is the whole one.
 use Rattle.std.proofs.Common.{◌≡◌, ◌≤◌, ◌+◌, ◌*◌, drop, map, length}
 use Rattle.mpicall.specs.Argument.{request_argument}
 use Rattle.mpicall.specs.Draft.{line_with}

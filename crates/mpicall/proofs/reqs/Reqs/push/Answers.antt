@@ -1,4 +1,4 @@
--- The cells behind the numbers stay 0.
+-- The cells after the numbers stay 0.
 use Rattle.std.proofs.Common.{arith, ◌<◌, ap, length, ◌∙◌}
 use Rattle.std.proofs.lemmas.List.{length-set}
 use Rattle.mpicall.specs.Cells.{same_len}

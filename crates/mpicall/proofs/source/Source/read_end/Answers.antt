@@ -1,4 +1,4 @@
--- What stands behind `finalize`, by what is held of it.
+-- What follows `finalize`, by what is held of it.
 use Rattle.std.proofs.Common.{◌∙◌, ap, Ok}
 use Rattle.mpicall.specs.Source.{coming}
 use Rattle.mpicall.proofs.GivesLemmas.{gives_read_failed, gives_sealed, gives_text}

@@ -1,4 +1,4 @@
--- The bytes behind the first ones.
+-- The bytes after the first ones.
 use Rattle.std.proofs.Common.{arith, ◌∙◌, ap, drop, sym, length}
 use Rattle.mpicall.proofs.WindowLemmas.{dropped, window_length}
 use Rattle.mpicall.proofs.window.Window.drop_front.Goals as goal

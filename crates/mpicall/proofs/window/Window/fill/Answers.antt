@@ -1,4 +1,4 @@
--- A read adds what it gave behind the held bytes, or leaves them.
+-- A read adds what it gave after the held bytes, or leaves them.
 use Rattle.std.proofs.Common.{arith, ◌∙◌, sym, ap, take, ◌++◌, length, List, ℕ}
 use Rattle.std.proofs.lemmas.List.{length-take, length-drop}
 use Rattle.mpicall.proofs.WindowLemmas.{filled, unfilled, known_filled, known_kept, window_length}
