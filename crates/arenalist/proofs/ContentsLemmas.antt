@@ -3,7 +3,8 @@ use Rattle.std.proofs.Common.{◌≡◌, ℕ, zero, suc, List, [], ◌∷◌, �
 use Rattle.std.specs.List.{slice_get}
 use Rattle.std.proofs.lemmas.List.{map-set, map-append, drop-map, length-map}
 use Rattle.arenalist.specs.Numbers.{list_at}
-use Rattle.arenalist.specs.Arena.{contents, first_value, linked, spliced}
+use Rattle.arenalist.specs.Arena.{first_value, linked, spliced}
+use Rattle.arenalist.specs.inner.Arena.{contents}
 
 module _ {T : Type 0} where
   -- the values of a list

@@ -3,9 +3,10 @@ use Rattle.std.proofs.Common.{◌≡◌, ℕ, zero, suc, ◌+◌, ◌<◌, ◌�
 use Rattle.std.specs.Prelude.{is_some}
 use Rattle.std.proofs.lemmas.List.{map-set, length-map}
 use Rattle.std.proofs.lemmas.Bool.{cases_eq, cases_lt, eq-eqb, ne_eqb}
-use Rattle.arenalist.specs.Numbers.{count, in_all, list_at, without, after, first_of}
+use Rattle.arenalist.specs.Numbers.{list_at}
+use Rattle.arenalist.specs.inner.Numbers.{count, in_all, without, after, first_of}
 use Rattle.arenalist.specs.Arena.{value_in, or_value, value_at, times_in, times, first_node, behind, without_node, unlinked, linked, revalued_in, revalued}
-use Rattle.arenalist.specs.Slots.{entry_of, entries, entries_of}
+use Rattle.arenalist.specs.inner.Slots.{entry_of, entries, entries_of}
 use Rattle.arenalist.proofs.NumberLemmas.{count_other, count_head}
 
 -- a number is the first of a list, or not

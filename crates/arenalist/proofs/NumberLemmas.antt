@@ -3,7 +3,8 @@ use Rattle.std.proofs.Common.{◌≡◌, ℕ, zero, suc, ◌+◌, ◌<◌, ◌�
 use Rattle.std.specs.Prelude.{◌==◌, if◌then◌else◌}
 use Rattle.std.proofs.lemmas.List.{get_or-map}
 use Rattle.std.proofs.lemmas.Bool.{cases_eq, cases_lt, eq-eqb, ne_eqb}
-use Rattle.arenalist.specs.Numbers.{count, in_all, list_at, without, after}
+use Rattle.arenalist.specs.Numbers.{list_at}
+use Rattle.arenalist.specs.inner.Numbers.{count, in_all, without, after}
 
 pub count-append : (r : ℕ) (xs ys : List ℕ) → count r (xs ++ ys) ≡ count r xs + count r ys
 count-append r [] ys = omega arith

@@ -1,8 +1,9 @@
 -- The lists that cells know as theirs.
 use Rattle.std.proofs.Common.{◌≡◌, ℕ, ◌<◌, ◌++◌, Option, Some, None, List, [], ◌∷◌, length, map, get_or, set, sym, ap, subst, ◌∙◌, ⊎_elim, arith, get_or-set_same, get_or-set_other}
 use Rattle.std.proofs.lemmas.Bool.{cases_eq}
-use Rattle.arenalist.specs.Numbers.{count, in_all, list_at, without}
-use Rattle.arenalist.specs.Links.{AreOwned}
+use Rattle.arenalist.specs.Numbers.{list_at}
+use Rattle.arenalist.specs.inner.Numbers.{count, in_all, without}
+use Rattle.arenalist.specs.inner.Links.{AreOwned}
 use Rattle.arenalist.proofs.NumberLemmas.{count_one, count_other, count_in_all, count_without, count_without_same, list_at-without, get_or-push_default, count_back, count_back_other}
 
 -- a cell that no list has is put at the back of one

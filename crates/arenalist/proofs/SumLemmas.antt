@@ -1,7 +1,8 @@
 -- Sums over the first numbers, and how long lists are whose numbers are few.
 use Rattle.std.proofs.Common.{◌≡◌, ℕ, zero, suc, ◌+◌, ◌<◌, ◌≤◌, ◌≢◌, List, [], ◌∷◌, length, refl, ⊎_elim, arith}
 use Rattle.std.proofs.lemmas.Bool.{cases_eq}
-use Rattle.arenalist.specs.Numbers.{count, sum_to}
+use Rattle.arenalist.specs.Numbers.{sum_to}
+use Rattle.arenalist.specs.inner.Numbers.{count}
 use Rattle.arenalist.proofs.NumberLemmas.{count_one, count_other}
 
 pub sum_least : (n : ℕ) (f g : ℕ → ℕ) → ((k : ℕ) → k < n → f k ≤ g k) → sum_to n f ≤ sum_to n g

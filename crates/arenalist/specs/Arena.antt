@@ -8,10 +8,6 @@ pub record Arena (T : Type 0) : Type 0 where
   pub spare : ℕ
   pub work : ℕ
 
--- the values of each list, for those who do not want nodes
-abbrev pub contents : {T : Type 0} → List (List (ℕ × T)) → List (List T)
-contents lists = map (λ list. map (λ entry. entry.1) list) lists
-
 -- the value at a node of a list
 abbrev pub value_in : {T : Type 0} → List (ℕ × T) → ℕ → Option T
 value_in [] n = None

@@ -1,6 +1,4 @@
 pub mod Arena
 pub mod Numbers
-pub mod Rings
-pub mod Links
-pub mod Slots
 pub mod Lends
+pub mod inner

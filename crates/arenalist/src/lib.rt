@@ -15,8 +15,8 @@
 //! - With a spare node `push_back` can't be refused.
 //!
 //! Those who do not want nodes read the map by `contents`, which gives each list's values
-//! (`proofs/ContentsLemmas.antt` says what each call does to them). Nobody has to believe `Rings`, `Links` and `Slots`
-//! of `specs/`: they say how the lists are kept, and no public contract cites them.
+//! (`proofs/ContentsLemmas.antt` says what each call does to them). What only proofs and private contracts
+//! cite is in `specs/inner/`, and nobody has to believe it.
 //!
 //! ```text
 //! let mut lists = Lists::new(alloc);

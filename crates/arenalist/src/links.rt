@@ -2,9 +2,10 @@
 
 ghost use Rattle.std.specs.Prelude.{◌≡◌, ◌≢◌, ◌+◌, ◌-◌, ◌<◌, ◌≤◌, ◌^◌, ℕ, [], ◌∷◌, ◌++◌, length, map, slice_set, slice_index, None, Some, IfOk, OnOk, OnErr};
 ghost use Rattle.std.specs.Vec.{vec_len, vec_capacity};
-ghost use Rattle.arenalist.specs.Numbers.{count, in_all, list_at, without, after, first_of};
-ghost use Rattle.arenalist.specs.Rings.{nexts_linked, prevs_linked, nexts_unlinked, prevs_unlinked, nexts_spliced, prevs_spliced, around, IsRound};
-ghost use Rattle.arenalist.specs.Links.{owners_given};
+ghost use Rattle.arenalist.specs.Numbers.{list_at};
+ghost use Rattle.arenalist.specs.inner.Numbers.{count, in_all, without, after, first_of};
+ghost use Rattle.arenalist.specs.inner.Rings.{nexts_linked, prevs_linked, nexts_unlinked, prevs_unlinked, nexts_spliced, prevs_spliced, around, IsRound};
+ghost use Rattle.arenalist.specs.inner.Links.{owners_given};
 
 use std::alloc::{AllocError, Global};
 use std::marker::Model;
@@ -136,8 +137,8 @@ impl Drop for Links {
 
 impl Model for Links {
     ghost use Rattle.std.specs.Prelude.{length};
-    ghost use Rattle.arenalist.specs.Rings.{rings_of, lists_of};
-    ghost use Rattle.arenalist.specs.Links.{Linked, AreLinks};
+    ghost use Rattle.arenalist.specs.inner.Rings.{rings_of, lists_of};
+    ghost use Rattle.arenalist.specs.inner.Links.{Linked, AreLinks};
 
     ghost Value = { Linked };
 

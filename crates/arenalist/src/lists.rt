@@ -4,7 +4,8 @@ ghost use Rattle.std.specs.Prelude.{◌≡◌, ◌+◌, ◌-◌, ◌*◌, ◌<�
 ghost use Rattle.std.specs.Option.{ForSome};
 ghost use Rattle.std.specs.Borrow.{sem};
 ghost use Rattle.std.specs.Vec.{vec_len, vec_capacity};
-ghost use Rattle.arenalist.specs.Lends.{lends_slot, lends_value};
+ghost use Rattle.arenalist.specs.Lends.{lends_value};
+ghost use Rattle.arenalist.specs.inner.Lends.{lends_slot};
 ghost use Rattle.arenalist.specs.Numbers.{list_at};
 ghost use Rattle.arenalist.specs.Arena.{value_at, HasNode, IsLinked, times, first_node, first_value, behind, unlinked, linked, spliced, IsFirst, counted};
 
@@ -69,7 +70,7 @@ impl<T> Model for Lists<T> {
     ghost use Rattle.std.specs.Prelude.{length};
     ghost use Rattle.std.specs.Vec.{vec_capacity};
     ghost use Rattle.arenalist.specs.Arena.{Arena};
-    ghost use Rattle.arenalist.specs.Slots.{entries_of, IsArena};
+    ghost use Rattle.arenalist.specs.inner.Slots.{entries_of, IsArena};
 
     ghost Value = { Arena T };
 

@@ -30,7 +30,8 @@ use Rattle.callnotes.specs.Beside.{with_partner}
 use Rattle.callnotes.specs.Limits.{most_calls}
 use Rattle.callnotes.specs.Requests.{starts as starts_of, waits_for, completes as completes_of}
 use Rattle.callnotes.specs.Notes.{Noted, listed, calls_in, note_with, partnered_in, request_among, AreStarts, completed_among}
-use Rattle.callnotes.specs.Packed.{request_of, kind_no_of, request_at, req_at, reqs_at, part, unpack, unpack_starts, end_of, noted, noted_of, StartRequests, IsStored, AreStored, listed_starts}
+use Rattle.callnotes.specs.Packed.{noted}
+use Rattle.callnotes.specs.inner.Packed.{request_of, kind_no_of, request_at, req_at, reqs_at, part, unpack, unpack_starts, end_of, noted_of, StartRequests, IsStored, AreStored, listed_starts}
 use Rattle.callnotes.proofs.OptionLemmas.{same_map}
 
 -- a part of a list stays as the list goes on

@@ -12,7 +12,7 @@ use Rattle.mpicall.specs.declared.laid.Laid.TheVariants as laid
 use Rattle.callnotes.specs.declared.packed.Entry.{Entry}
 use Rattle.callnotes.specs.Requests.{starts, waits_for, completes, started_in}
 use Rattle.callnotes.specs.Notes.{Noted, request_among, completed_among, completed_starts, start_of}
-use Rattle.callnotes.specs.Packed.{req_at, reqs_at, part, unpack, unpack_starts, noted_of}
+use Rattle.callnotes.specs.inner.Packed.{req_at, reqs_at, part, unpack, unpack_starts, noted_of}
 use Rattle.callnotes.proofs.PackedLemmas.{IsApart, laid_apart}
 use Rattle.callnotes.proofs.RequestLemmas.{started}
 use Rattle.callnotes.proofs.OptionLemmas.{is_it}

@@ -9,6 +9,6 @@ pub mod Waves
 pub mod Communicators
 pub mod Beside
 pub mod Notes
-pub mod Slots
 pub mod Packed
 pub mod Seats
+pub mod inner

@@ -8,8 +8,7 @@ use Rattle.std.specs.Option.{option_map_or}
 use Rattle.mpigroup.specs.Groups.{or_empty}
 use Rattle.callnotes.specs.declared.beside.Beside.{Beside}
 use Rattle.callnotes.specs.declared.envelope.Half.{Half}
-use Rattle.callnotes.specs.Beside.{partner_in, with_partner}
-use Rattle.callnotes.specs.Recordings.{Lists}
+use Rattle.callnotes.specs.Beside.{with_partner}
 use Rattle.callnotes.specs.Requests.{starts, waits_for}
 
 -- a call, what is kept with it, and the places that started the requests which it names: one place
@@ -24,11 +23,6 @@ pub record Noted : Type 0 where
 pub record NoteRoom : Type 0 where
   pub calls : ℕ
   pub starts : ℕ
-
--- the noted calls of one rank
-pub record NotedList : Type 0 where
-  pub calls : List Noted
-  pub room : NoteRoom
 
 -- the noted calls of each rank
 pub record Notebook : Type 0 where
@@ -46,13 +40,6 @@ with_note lists rank note = slice_set lists rank (notes_of lists rank ++ note �
 -- the calls that were noted, as a recording
 abbrev pub calls_in : List Noted → List Call
 calls_in notes = map (λ note. note.call) notes
-
-abbrev pub recording_of : List (List Noted) → Lists
-recording_of lists = map calls_in lists
-
--- the place of a half's partner that is kept with the rank's call at the place
-abbrev pub kept_at : List (List Noted) → Half → ℕ → ℕ → Option ℕ
-kept_at lists half rank place = option_and_then (λ note. partner_in half note.beside) (slice_get (notes_of lists rank) place)
 
 -- a note with the place of a half's partner
 abbrev pub note_with : Half → ℕ → Noted → Noted

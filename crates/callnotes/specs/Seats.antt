@@ -2,11 +2,6 @@
 use Rattle.std.specs.Prelude.{ℕ, ◌<◌, unwrap_or, List, [], ◌∷◌, ◌++◌, length, slice_get, slice_set}
 use Rattle.mpigroup.specs.Groups.{or_empty}
 
--- places in the order in which they came, and how many there is room for
-pub record Listed : Type 0 where
-  pub places : List ℕ
-  pub room : ℕ
-
 -- the places of each list, and for how many each has room
 pub record Seats : Type 0 where
   pub places : List (List ℕ)

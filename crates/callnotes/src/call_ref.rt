@@ -8,7 +8,7 @@ ghost use Rattle.callnotes.specs.Requests.{starts, completes};
 ghost use Rattle.callnotes.specs.Waves.{joins};
 ghost use Rattle.callnotes.specs.Kinds.{bytes_told, kind_of, mode_of};
 ghost use Rattle.callnotes.specs.Often.{kind_no};
-ghost use Rattle.callnotes.specs.Packed.{IsStored, unpack};
+ghost use Rattle.callnotes.specs.inner.Packed.{IsStored, unpack};
 
 use crate::envelope::{Half, Message, message_by, probed_by};
 use crate::note::Note;
@@ -32,7 +32,7 @@ pub struct CallRef<'a> {
 
 impl<'a> Model for CallRef<'a> {
     ghost use Rattle.mpicall.specs.declared.call.Call.{Call};
-    ghost use Rattle.callnotes.specs.Packed.{IsStored, unpack};
+    ghost use Rattle.callnotes.specs.inner.Packed.{IsStored, unpack};
 
     ghost Value = { Call };
 

@@ -14,9 +14,10 @@
 //! - Laws of waves, each on a function that does nothing: a wave has at most one call of each rank, and waves stay as
 //!   a recording goes on.
 //!
-//! The definitions stand in `specs/`, to be read in the order of docs/DEFINITIONS.md. Nobody has to believe `Beside`,
-//! `Notes`, `Often`, `Packed`, `Seats` and `Slots`: they say how calls are kept and which path they take, and no
-//! contract of a crate above whose caller is a user of the library cites them.
+//! The definitions stand in `specs/`, to be read in the order of docs/DEFINITIONS.md. `Beside`, `Notes`,
+//! `Often`, `Packed` and `Seats` say how calls are kept and which path they take; no contract of a crate
+//! above whose caller is a user of the library cites them. What only proofs and private contracts cite is in
+//! `specs/inner/`, and nobody has to believe it.
 //!
 //! A call takes 32 bytes with the partners of its halves or the number of its wave, and each request that a wait for
 //! several names 4 more. No look-up takes memory or goes through a list of calls: that is seen in the code alone.

@@ -4,7 +4,7 @@ ghost use Rattle.std.specs.Prelude.{◌≡◌, ◌==◌, length, slice_get, find
 ghost use Rattle.callnotes.specs.Beside.{partner_in, wave_in};
 ghost use Rattle.callnotes.specs.Requests.{completes};
 ghost use Rattle.callnotes.specs.Notes.{completed_starts, start_of};
-ghost use Rattle.callnotes.specs.Packed.{IsStored, req_at, noted_of};
+ghost use Rattle.callnotes.specs.inner.Packed.{IsStored, req_at, noted_of};
 
 use crate::call_ref::CallRef;
 use crate::envelope::Half;
@@ -31,7 +31,7 @@ pub struct Note<'a> {
 
 impl<'a> Model for Note<'a> {
     ghost use Rattle.callnotes.specs.Notes.{Noted};
-    ghost use Rattle.callnotes.specs.Packed.{IsStored, noted_of};
+    ghost use Rattle.callnotes.specs.inner.Packed.{IsStored, noted_of};
 
     ghost Value = { Noted };
 

@@ -8,7 +8,7 @@ ghost use Rattle.std.specs.Prelude.{◌≡◌, List, ℕ, unwrap_or};
 ghost use Rattle.mpicall.specs.declared.call.Call.TheVariants.{Finalize};
 ghost use Rattle.mpicall.specs.Does.{does_of};
 ghost use Rattle.callnotes.specs.Requests.{starts};
-ghost use Rattle.callnotes.specs.Packed.{request_of, plain_of, unpack};
+ghost use Rattle.callnotes.specs.inner.Packed.{request_of, plain_of, unpack};
 ghost use Rattle.callnotes.specs.declared.packed.Entry.{Entry};
 
 use crate::beside::Beside;

@@ -7,7 +7,7 @@ ghost use Rattle.mpicall.specs.Laid.{laid_arguments, call_by};
 ghost use Rattle.mpicall.specs.Limits.{few_enough, names_enough, in_ranges};
 ghost use Rattle.callnotes.specs.Requests.{waits_for};
 ghost use Rattle.callnotes.specs.Notes.{listed};
-ghost use Rattle.callnotes.specs.Packed.{request_at, req_at, reqs_at, part, unpack, unpack_starts, end_of, listed_starts};
+ghost use Rattle.callnotes.specs.inner.Packed.{request_at, req_at, reqs_at, part, unpack, unpack_starts, end_of, listed_starts};
 ghost use Rattle.callnotes.specs.declared.packed.Entry.{Entry};
 
 use crate::packed::{Entry, Packed};

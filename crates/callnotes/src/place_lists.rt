@@ -19,7 +19,7 @@ struct PlaceList {
 impl Model for PlaceList {
     ghost use Rattle.std.specs.Prelude.{length};
     ghost use Rattle.std.specs.Vec.{vec_capacity};
-    ghost use Rattle.callnotes.specs.Seats.{Listed};
+    ghost use Rattle.callnotes.specs.inner.Seats.{Listed};
 
     ghost Value = { Listed };
 

@@ -49,8 +49,8 @@ impl Drop for RankNotes {
 
 impl Model for RankNotes {
     ghost use Rattle.std.specs.Prelude.{◌-◌, map, vec_len, vec_capacity};
-    ghost use Rattle.callnotes.specs.Notes.{NotedList};
-    ghost use Rattle.callnotes.specs.Packed.{AreStored, noted_of};
+    ghost use Rattle.callnotes.specs.inner.Notes.{NotedList};
+    ghost use Rattle.callnotes.specs.inner.Packed.{AreStored, noted_of};
 
     ghost Value = { NotedList };
 

@@ -16,7 +16,8 @@ use Rattle.reports.specs.declared.report.Format.{Format}
 use Rattle.moves.specs.declared.reading.Reading.{Reading}
 use Rattle.command.specs.declared.words.Words.{Words}
 use Rattle.command.specs.declared.words.Words.TheVariants.{Check, Lint, Said, NoMemory}
-use Rattle.command.specs.Asked.{Answers, CheckRun, Names, Says, SaysError, Task, program, run_of, task_in, task_of}
+use Rattle.command.specs.Asked.{Answers, CheckRun, Task, program, run_of, task_in, task_of}
+use Rattle.command.specs.inner.Asked.{Names, Says, SaysError}
 
 pub said_where_none : (task : Option Task) (text : Text) (said : Words) → task ≡ None → Says text true said → Names task said
 said_where_none task text (Check head files reading format capacity) none says = absurd says

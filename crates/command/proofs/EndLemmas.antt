@@ -1,12 +1,13 @@
 -- How the end of the program follows from the ends of its parts.
 use Rattle.std.proofs.Common.{◌≡◌, ◌≢◌, ◌⊎◌, ◌∙◌, ℕ, Option, Result, Ok, Err, List, refl, sym, ap, subst, false, inl, inr, Global, String, string_bytes}
 use Rattle.clap.specs.Walk.{Text}
-use Rattle.command.specs.Answer.{Complains, IsAnswered, IsOfError, Refuses, Shows}
+use Rattle.command.specs.inner.Answer.{Complains, IsAnswered, IsOfError, Refuses, Shows}
 use Rattle.command.specs.Asked.{Answers}
 use Rattle.command.specs.Ends.{Ends, IsDone, IsFaultOf, IsLeftAt, IsTried, TellsLine}
 use Rattle.command.specs.Faults.{status_of_fault}
 use Rattle.command.specs.FaultTexts.{line_of_fault}
-use Rattle.command.specs.Outputs.{Written, Nothing, Whole, Broken, Becomes, FailsToWrite, LeavesAtFault, Tries, Writes}
+use Rattle.command.specs.Outputs.{Written, Nothing, Whole, Broken, Becomes, FailsToWrite, Tries, Writes}
+use Rattle.command.specs.inner.Outputs.{LeavesAtFault}
 use Rattle.command.specs.declared.fault.Fault.{Fault}
 use Rattle.command.specs.declared.fault.Fault.TheVariants.{Memory, Write}
 use Rattle.command.specs.declared.program.Complaint.{Complaint}

@@ -17,10 +17,11 @@ use Rattle.gather.specs.declared.fault.Refusal.{Refusal}
 use Rattle.gather.specs.declared.fault.RunFault.{RunFault}
 use Rattle.gather.specs.declared.fault.RunFault.TheVariants as run
 use Rattle.command.specs.Faults.{of_run}
-use Rattle.command.specs.Texts.{IsCounted, IsFaultOfCheck, IsFaultOfFront, IsFaultOfHead, IsHeadOf, IsRefusalOfRun, IsReportOf}
+use Rattle.command.specs.Texts.{IsCounted, IsFaultOfCheck, IsHeadOf, IsRefusalOfRun, IsReportOf}
+use Rattle.command.specs.inner.Texts.{IsFaultOfFront, IsFaultOfHead}
 use Rattle.command.specs.declared.fault.Fault.{Fault}
 use Rattle.command.specs.declared.fault.Fault.TheVariants.{Head, Refused, Failed, Memory}
-use Rattle.command.specs.Front.{IsFrontOf, deciding_bytes}
+use Rattle.command.specs.inner.Front.{IsFrontOf, deciding_bytes}
 
 abbrev Text : Type 0
 Text = List ℕ

@@ -1,6 +1,6 @@
 -- What a command line asks for, by clap's own definitions: what it makes of words, with
 -- the program's command.
-use Rattle.std.specs.Prelude.{◌≡◌, ◌⊎◌, ℕ, Bool, true, false, Option, Some, None, List, [], ◌∷◌, codes, map, string_bytes, option_and_then, option_map, bytes_eq, if◌then◌else◌, not}
+use Rattle.std.specs.Prelude.{◌≡◌, ◌⊎◌, ℕ, Bool, true, false, Option, Some, None, List, [], ◌∷◌, codes, map, option_and_then, option_map, bytes_eq, if◌then◌else◌}
 use Rattle.clap.specs.Lexer.{usize_max}
 use Rattle.std.specs.Option.{option_map_or}
 use Rattle.clap.specs.Walk.{Row, Rule, Text, first_of, all_of}
@@ -135,13 +135,6 @@ AreWrong words =
     ((kind : ErrorKind) × IsAmong kind (fault_of program words) × (is_text kind ≡ false))
     ⊎ ((fault_of program words ≡ []) × (task_in words ≡ None))
 
--- the answer has the task, says that there is none, or has no memory
-abbrev pub Names : Option Task → Words → Type 0
-Names task (Check head files reading format capacity) = task ≡ Some (CheckRun head.now (map (λ file. file.now) files.items) reading format capacity)
-Names task (Lint file) = task ≡ Some (LintTrace file.now)
-Names task (Said text is_error) = (task ≡ None) × (is_error ≡ true)
-Names task NoMemory = Unit {0}
-
 -- a text is said of words that ask for it, or of words that are wrong
 abbrev pub SaysRightly : List Text → Bool → Type 0
 SaysRightly words true = AreWrong words
@@ -153,17 +146,3 @@ Answers words (Check head files reading format capacity) = Asks words (CheckRun 
 Answers words (Lint file) = Asks words (LintTrace file.now)
 Answers words (Said text is_error) = SaysRightly words is_error
 Answers words NoMemory = Unit {0}
-
--- the text is said, or there is no memory for it
-abbrev pub Says : Text → Bool → Words → Type 0
-Says text is_error (Check head files reading format capacity) = ⊥
-Says text is_error (Lint file) = ⊥
-Says text is_error (Said said is_said) = (string_bytes said ≡ text) × (is_said ≡ is_error)
-Says text is_error NoMemory = Unit {0}
-
--- a text is said of an error of this kind, or there is no memory for it
-abbrev pub SaysError : ErrorKind → Words → Type 0
-SaysError kind (Check head files reading format capacity) = ⊥
-SaysError kind (Lint file) = ⊥
-SaysError kind (Said text is_error) = is_text kind ≡ not is_error
-SaysError kind NoMemory = Unit {0}

@@ -2,15 +2,14 @@ pub mod Numbers
 pub mod Capacities
 pub mod Limits
 pub mod Asked
-pub mod Front
 pub mod Statuses
 pub mod Faults
 pub mod FaultTexts
 pub mod Outputs
 pub mod Ends
-pub mod Answer
 pub mod Texts
 pub mod Given
 pub mod Lints
 pub mod Shelves
 pub mod HeadToHead
+pub mod inner

@@ -3,8 +3,6 @@ use Rattle.std.specs.Prelude.{◌≡◌, ◌⊎◌, ℕ, Option, List, ◌++◌,
 use Rattle.std.specs.Fmt.{decimal}
 use Rattle.std.specs.Io.KnownBytes.{Appends}
 use Rattle.mpicall.specs.Device.{one_more, AppendsBeginning}
-use Rattle.command.specs.declared.fault.Fault.{Fault}
-use Rattle.command.specs.declared.fault.Fault.TheVariants.{Write}
 
 -- the report of a trace that is in its format, by the number of its calls
 abbrev pub lint_report : ℕ → List ℕ
@@ -36,8 +34,3 @@ module _ {O : Type 0} (written : O → Option (List ℕ)) (failures : O → ℕ)
   Becomes old new Nothing = new ≡ old
   Becomes old new (Whole text) = Writes old new text
   Becomes old new (Broken text) = FailsToWrite old new text
-
-  -- only a write that failed leaves the output other than it was
-  abbrev pub LeavesAtFault : O → O → Fault → Type 0
-  LeavesAtFault old new Write = (text : List ℕ) × FailsToWrite old new text
-  LeavesAtFault old new fault = new ≡ old

@@ -1,7 +1,6 @@
 -- What a check says of the texts of its files.
 use Rattle.std.specs.Prelude.{◌≡◌, ◌≢◌, ◌⊎◌, ◌<◌, ℕ, true, false, Option, Some, None, Ok, Err, IfSome, List, length, map, Contains, ⊤}
 use Rattle.std.specs.Borrow.{Bor}
-use Rattle.std.specs.Io.KnownBytes.{Appends}
 use Rattle.mpicall.specs.Trace.{trace_of}
 use Rattle.mpicall.specs.declared.fault.SourceFault.TheVariants.{GateStopped}
 use Rattle.mpigroup.specs.Groups.{Groups, ranks_of}
@@ -27,26 +26,6 @@ IsHeadOf told groups = IfSome told (λ text. read_head text ≡ Ok groups)
 abbrev pub IsUnopened : (List ℕ → Option (List ℕ)) → List ℕ → Type 0
 IsUnopened told path = told path ≡ None
 
--- the fault is one of opening or of reading the head, or the first fault of its text, where that is known
-abbrev pub IsFaultOfHead : (List ℕ → Option (List ℕ)) → List ℕ → Fault → Type 0
-IsFaultOfHead told head (Open path) = (path.now ≡ head) × IsUnopened told head
-IsFaultOfHead told head ReadHead = ⊤
-IsFaultOfHead told head (Head fault) = IfSome (told head) (λ text. read_head text ≡ Err fault)
-IsFaultOfHead told head Memory = ⊤
-IsFaultOfHead told head fault = ⊥
-
--- the same of the front that was read of it
-abbrev pub IsFaultOfFront : List ℕ → Fault → Type 0
-IsFaultOfFront front (Head fault) = read_head front ≡ Err fault
-IsFaultOfFront front Memory = ⊤
-IsFaultOfFront front fault = ⊥
-
--- one of the files couldn't be opened, or memory ran out
-abbrev pub IsFaultOfOpening : (List ℕ → Option (List ℕ)) → List (Bor (List ℕ)) → Fault → Type 0
-IsFaultOfOpening told files (Open path) = Contains files path × IsUnopened told path.now
-IsFaultOfOpening told files Memory = ⊤
-IsFaultOfOpening told files fault = ⊥
-
 -- the text of the head gives groups, and the verdict is that of the traces which the other texts hold, by the
 -- reading
 pub record IsVerdictOfTexts (reading : Reading) (head : List ℕ) (texts : List (List ℕ)) (verdict : Verdict) : Type 0 where
@@ -69,11 +48,6 @@ pub record IsReportOf (reading : Reading) (format : Format) (head : Option (List
   pub of_texts : (text : List ℕ) (texts : List (List ℕ)) → head ≡ Some text → files ≡ map Some texts → IsRunOfTexts text texts groups recording
   pub report_is : report ≡ report_of format reading groups recording
   pub verdict_is : verdict ≡ verdict_of reading groups recording
-
--- the report follows what was there
-abbrev pub WritesReportOf : {O : Type 0} → (O → Option (List ℕ)) → O → O → Reading → Format → Option (List ℕ) → List (Option (List ℕ)) → Verdict → Type 0
-WritesReportOf written old new reading format head files verdict =
-    (report : List ℕ) × IsReportOf reading format head files verdict report × Appends (written old) (written new) report
 
 -- the head was read and gives groups, and the number of the files is another than that of their ranks
 pub record IsWrongCount (told : List ℕ → Option (List ℕ)) (head : List ℕ) (ranks count : ℕ) (files : List (Bor (List ℕ))) : Type 0 where

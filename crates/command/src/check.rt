@@ -6,9 +6,10 @@ ghost use Rattle.mpicall.specs.Source.{coming};
 ghost use Rattle.mpicall.specs.Trace.{trace_of};
 ghost use Rattle.mpigroup.specs.HeadText.{read_head};
 ghost use Rattle.runs.specs.Told.{AreFresh};
-ghost use Rattle.command.specs.Front.{IsFrontFault, IsFrontOf};
-ghost use Rattle.command.specs.Outputs.{LeavesAtFault};
-ghost use Rattle.command.specs.Texts.{IsFaultOfCheck, IsFaultOfFront, IsFaultOfHead, IsFaultOfOpening, IsHeadOf, IsVerdictOfTexts, WritesReportOf};
+ghost use Rattle.command.specs.inner.Front.{IsFrontFault, IsFrontOf};
+ghost use Rattle.command.specs.inner.Outputs.{LeavesAtFault};
+ghost use Rattle.command.specs.Texts.{IsFaultOfCheck, IsHeadOf, IsVerdictOfTexts};
+ghost use Rattle.command.specs.inner.Texts.{IsFaultOfFront, IsFaultOfHead, IsFaultOfOpening, WritesReportOf};
 
 use crate::capacity::Capacity;
 use crate::fault::Fault;

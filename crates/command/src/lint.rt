@@ -3,7 +3,8 @@
 ghost use Rattle.std.specs.Prelude.{◌≡◌, IfOk, IfErr, OnOk};
 ghost use Rattle.std.specs.Io.KnownBytes.{Appends};
 ghost use Rattle.command.specs.Lints.{IsCountOf, IsFaultOfLint, IsFaultOfTrace};
-ghost use Rattle.command.specs.Outputs.{LeavesAtFault, lint_report};
+ghost use Rattle.command.specs.Outputs.{lint_report};
+ghost use Rattle.command.specs.inner.Outputs.{LeavesAtFault};
 
 use crate::fault::Fault;
 use crate::opener::Opener;

@@ -1,7 +1,7 @@
 //! The whole program, over any files and outputs.
 
 ghost use Rattle.std.specs.Prelude.{◌≡◌, map};
-ghost use Rattle.command.specs.Answer.{Complains, IsAnswered, Refuses, Shows, TellsFaultLine};
+ghost use Rattle.command.specs.inner.Answer.{Complains, IsAnswered, Refuses, Shows, TellsFaultLine};
 ghost use Rattle.command.specs.Ends.{Ends, EndsInCount, EndsInReport, IsDone, IsFaultOf};
 ghost use Rattle.command.specs.FaultTexts.{line_of_fault};
 ghost use Rattle.command.specs.Faults.{status_of_fault};

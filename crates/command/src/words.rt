@@ -7,7 +7,8 @@ ghost use Rattle.clap.specs.Values.{kind_of};
 ghost use Rattle.clap.specs.Walk.{rows_of, rule_of};
 ghost use Rattle.clap.specs.declared.builder.command.Command.TheViews.{out-Command as fields_of};
 ghost use Rattle.clap.specs.declared.error.kind.ErrorKind.TheVariants.{OutOfMemory};
-ghost use Rattle.command.specs.Asked.{Answers, LintTrace, Names, Says, SaysError, capacity_of, capacity_rule, check, check_of, eager_rule, format_of, head_rule, is_text, json_rule, lint, lint_of, program, run_of, task_of, trace_rule, traces_rule};
+ghost use Rattle.command.specs.Asked.{Answers, LintTrace, capacity_of, capacity_rule, check, check_of, eager_rule, format_of, head_rule, is_text, json_rule, lint, lint_of, program, run_of, task_of, trace_rule, traces_rule};
+ghost use Rattle.command.specs.inner.Asked.{Names, Says, SaysError};
 
 use crate::capacity::{Capacity, LEAST, MOST};
 use crate::limit::read_reading;

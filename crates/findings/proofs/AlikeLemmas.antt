@@ -15,7 +15,7 @@ use Rattle.mpicall.specs.Word.{text_of}
 use Rattle.callnotes.specs.Kinds.{kind_of}
 use Rattle.findings.specs.declared.finding.wave.Compared.{Compared}
 use Rattle.findings.specs.declared.finding.wave.Compared.TheVariants.{Kinds, Roots}
-use Rattle.findings.specs.Comparisons.{comparison_of, kind_in}
+use Rattle.findings.specs.inner.Comparisons.{comparison_of, kind_in}
 use Rattle.findings.specs.Places.{call_of_member}
 use Rattle.mpigroup.specs.Groups.{Groups, group_of}
 use Rattle.callnotes.specs.Recordings.{Lists}

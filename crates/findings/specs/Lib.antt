@@ -1,4 +1,3 @@
 pub mod Places
 pub mod Findings
-pub mod Comparisons
-pub mod Makings
+pub mod inner

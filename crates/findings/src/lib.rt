@@ -9,8 +9,7 @@
 //!   recording and asks for no stands.
 //! - What lacks a receive or a wait where a list was left open is no finding, since it may yet come.
 //!
-//! Nobody has to believe `Comparisons` and `Makings`: they say how findings are looked for, and no public contract
-//! cites them.
+//! What only proofs and private contracts cite is in `specs/inner/`, and nobody has to believe it.
 //!
 //! ```text
 //! // rank 0: bcast 0 0 / isend 0 0 1 7 / finalize      rank 1: barrier 0 / finalize

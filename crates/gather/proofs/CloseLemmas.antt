@@ -24,11 +24,13 @@ use Rattle.gather.specs.Answers.{PlacedFault, fault_of_end, fault_of_rank, fault
 use Rattle.gather.specs.declared.fault.Refusal.{Refusal}
 use Rattle.gather.specs.declared.collector.Collector.{Collector}
 use Rattle.gather.specs.Collectors.{rings, kept, received_from}
-use Rattle.gather.specs.Closes.{IsOutcomeOf, IsOutcomeOver, Closes, Concludes}
+use Rattle.gather.specs.Closes.{IsOutcomeOf, Closes, Concludes}
+use Rattle.gather.specs.inner.Closes.{IsOutcomeOver}
 use Rattle.gather.specs.declared.outcome.CloseFault.{CloseFault}
 use Rattle.gather.specs.declared.outcome.CloseFault.TheVariants.{Memory, Unproved, Refused}
 use Rattle.gather.specs.Collected.{fault_of_mark, fault_of_items, records_before, IsKeptOf, Kept, fault_at, refusal_in, refusal_kept}
-use Rattle.gather.specs.Takers.{received_in, Collects}
+use Rattle.gather.specs.Takers.{received_in}
+use Rattle.gather.specs.inner.Takers.{Collects}
 use Rattle.gather.specs.Receipts.{trace_of_items, missing_from, first_missing, traces_held, AreAllOf, AllReceived, AreReceiptsOf}
 use Rattle.gather.proofs.CollectedLemmas.{calls_among-append, torn_has_fault}
 use Rattle.gather.proofs.DrainLemmas.{ends_with_mark, ends_in, some_mark}

@@ -28,9 +28,11 @@ use Rattle.gather.specs.declared.ledger.Stepped.{Stepped}
 use Rattle.gather.specs.declared.ledger.Stepped.TheVariants.{Refused, Discarded, Empty, Ended}
 use Rattle.gather.specs.declared.collector.Collector.{Collector}
 use Rattle.gather.specs.Collectors.{KeepsWhatCame}
-use Rattle.gather.specs.Takers.{received_in, Takes, Collects}
+use Rattle.gather.specs.Takers.{received_in, Takes}
+use Rattle.gather.specs.inner.Takers.{Collects}
 use Rattle.gather.proofs.TakerLemmas.{items_stay, takers_stay}
-use Rattle.gather.specs.Collected.{fault_of_mark, fault_of_items, IsKeptOf, Kept, fault_at, AreKeptOf, IsKeptIn, LeavesOthers, is_accepting, with_record, with_fault, wanting, torn, EntersRecord, Enters}
+use Rattle.gather.specs.Collected.{fault_of_mark, fault_of_items, IsKeptOf, Kept, fault_at, IsKeptIn, is_accepting, with_record, with_fault, wanting, torn, EntersRecord, Enters}
+use Rattle.gather.specs.inner.Collected.{AreKeptOf, LeavesOthers}
 
 -- the records and the end mark of items with one more
 

@@ -19,8 +19,9 @@ use Rattle.gather.specs.declared.ledger.Stepped.{Stepped}
 use Rattle.gather.specs.declared.ledger.Stepped.TheVariants.{Refused, Discarded, Empty, Ended}
 use Rattle.gather.specs.declared.collector.Collector.{Collector}
 use Rattle.gather.specs.Collected.{Kept, Enters}
-use Rattle.gather.specs.Receipts.{Meets}
-use Rattle.gather.specs.Collectors.{kept, received_from, left_from, Steps, ReceivesFrom, PublishesNothing}
+use Rattle.gather.specs.inner.Receipts.{Meets}
+use Rattle.gather.specs.Collectors.{kept, received_from, left_from, Steps, PublishesNothing}
+use Rattle.gather.specs.inner.Collectors.{ReceivesFrom}
 use Rattle.gather.proofs.TakerLemmas.{items_at, items_stay}
 use Rattle.gather.proofs.CollectedLemmas.{end_mark_of-push, enters_leaves}
 use Rattle.mpigroup.proofs.ListLemmas.{slice_get-set_same}

@@ -8,7 +8,8 @@ use Rattle.rankfeed.specs.Rings.{FeedName, receipt_ring}
 use Rattle.rankfeed.specs.declared.ring.Receipt.{Receipt}
 use Rattle.gather.specs.declared.collector.Collector.{Collector}
 use Rattle.gather.specs.Receipts.{AreReceiptsOf, AreAllOf, AllReceived, missing_from, first_missing}
-use Rattle.gather.specs.Collectors.{rings, kept, received_from, ReceivesFrom, list_published, published, has_watches}
+use Rattle.gather.specs.Collectors.{rings, kept, received_from, list_published, published, has_watches}
+use Rattle.gather.specs.inner.Collectors.{ReceivesFrom}
 
 -- the front of what is left of a list
 

@@ -10,7 +10,8 @@ use Rattle.rankfeed.specs.Rings.{feed_ring, taker_ring, received_by}
 use Rattle.rankfeed.specs.declared.ring.Feed.{Feed}
 use Rattle.rankfeed.specs.declared.ring.Taker.{Taker}
 use Rattle.gather.specs.Collected.{IsKeptOf, IsKeptIn, Kept, nothing_kept, fault_at}
-use Rattle.gather.specs.Takers.{rank_fed, received_in, Collects}
+use Rattle.gather.specs.Takers.{rank_fed, received_in}
+use Rattle.gather.specs.inner.Takers.{Collects}
 
 -- nothing was received
 pub nothing_received : (takers : List Taker) (rank : ℕ) → All (λ taker. received_by taker ≡ []) takers → received_in takers rank ≡ []

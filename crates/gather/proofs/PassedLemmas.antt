@@ -8,7 +8,7 @@ use Rattle.moves.proofs.AnalyserLemmas.{goes_on_by}
 use Rattle.rankfeed.specs.Rings.{taker_ring}
 use Rattle.rankfeed.specs.declared.answer.Took.{Took}
 use Rattle.rankfeed.specs.declared.ring.Taker.{Taker}
-use Rattle.gather.specs.Takers.{Collects}
+use Rattle.gather.specs.inner.Takers.{Collects}
 use Rattle.watches.specs.Publications.{ArePassed}
 use Rattle.gather.specs.Collected.{Kept, Enters, EntersRecord, is_accepting, fault_behind_kept, wanting, with_fault, torn}
 use Rattle.gather.specs.declared.fault.RankFault.{RankFault}

@@ -5,7 +5,8 @@ use Rattle.std.proofs.lemmas.List.{length-map}
 use Rattle.std.proofs.lemmas.Option.{slice_get-map, get_or_from_slice_get, slice_get-get_or}
 use Rattle.rankfeed.specs.Items.{end_mark_of, are_ended, IsFeed}
 use Rattle.mpicall.specs.declared.call.Call.{Call}
-use Rattle.rankfeed.specs.Answers.{Receives, Looks, came_with, came_end, told_end}
+use Rattle.rankfeed.specs.Answers.{Receives, Looks, came_end, told_end}
+use Rattle.rankfeed.specs.inner.Answers.{came_with}
 use Rattle.rankfeed.specs.Rings.{taker_ring, received_by, left_for}
 use Rattle.rankfeed.specs.declared.answer.Came.{Came}
 use Rattle.rankfeed.specs.declared.answer.Took.{Took}

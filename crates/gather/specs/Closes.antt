@@ -1,7 +1,6 @@
 -- What the close of a session answers by what the receipts hold, and a ledger by what it keeps.
 use Rattle.moves.specs.declared.reading.Reading.{Reading}
 use Rattle.std.specs.Prelude.{◌≡◌, ℕ, ⊤, false, Some, None, Option, Result, Ok, Err, List}
-use Rattle.mpicall.specs.Trace.{Trace}
 use Rattle.mpigroup.specs.Groups.{Groups}
 use Rattle.callnotes.specs.Recordings.{Lists, IsClosed}
 use Rattle.rankfeed.specs.declared.ring.Receipt.{Receipt}
@@ -21,10 +20,6 @@ pub record IsOutcomeOf (refusal : Option Refusal) (reading : Reading) (groups : 
   pub same_groups : outcome.groups ≡ groups
   pub recording : outcome.recording ≡ lists
   pub closed : IsClosed lists
-
--- the same over the traces of all ranks
-abbrev pub IsOutcomeOver : Reading → Groups → List Trace → Analysed → Type 0
-IsOutcomeOver reading groups traces outcome = IsOutcomeOf (refusal_of groups traces) reading groups (recording_of_traces traces) outcome
 
 -- Unproved names a rank without a receipt. Only where all is there, the answer is the refusal of the lowest
 -- rank that has a fault, or else the outcome of the records.

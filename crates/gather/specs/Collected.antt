@@ -1,7 +1,7 @@
 -- What a collector keeps of the ranks' records, which come from their feeds in any order: for each rank the
 -- records before its first fault, and that fault.
 use Rattle.moves.specs.declared.reading.Reading.{Reading}
-use Rattle.std.specs.Prelude.{◌≡◌, ◌≢◌, ◌⊎◌, ℕ, ◌+◌, Bool, true, false, not, ◌&&◌, is_none, unwrap_or, if◌then◌else◌, Option, Some, None, List, [], ◌∷◌, length, take, replicate, slice_get, slice_set}
+use Rattle.std.specs.Prelude.{◌≡◌, ◌⊎◌, ℕ, ◌+◌, Bool, true, false, not, ◌&&◌, is_none, unwrap_or, if◌then◌else◌, Option, Some, None, List, [], ◌∷◌, length, take, replicate, slice_get, slice_set}
 use Rattle.mpicall.specs.declared.call.Call.{Call}
 use Rattle.mpigroup.specs.Groups.{Groups, ranks_of, or_empty}
 use Rattle.callnotes.specs.Recordings.{Lists, calls_of, appended}
@@ -59,11 +59,6 @@ fault_at faults rank = unwrap_or (slice_get faults rank) None
 abbrev pub items_of : List (List Item) → ℕ → List Item
 items_of received rank = or_empty received rank
 
--- unless memory ran out, what is kept of each rank is what its items give, however they came
-abbrev pub AreKeptOf : List (List Item) → Kept → Type 0
-AreKeptOf received kept =
-    kept.wanted ≡ false → (rank : ℕ) → IsKeptOf kept.groups rank (items_of received rank) (calls_of kept.recording rank) (fault_at kept.faults rank)
-
 -- records of the rank are still accepted: it has no fault, and memory wasn't wanted
 abbrev pub is_accepting : Kept → ℕ → Bool
 is_accepting kept rank = is_none (fault_at kept.faults rank) && not kept.wanted
@@ -119,13 +114,3 @@ refusal_kept kept = refusal_in 0 kept.faults
 -- what is kept of a rank is what these items give
 abbrev pub IsKeptIn : ℕ → List Item → Kept → Type 0
 IsKeptIn rank items kept = IsKeptOf kept.groups rank items (calls_of kept.recording rank) (fault_at kept.faults rank)
-
--- the other ranks' calls and faults are as before, and memory that was wanted is wanted still
-pub record LeavesOthers (rank : ℕ) (before after : Kept) : Type 0 where
-  pub reading : after.reading ≡ before.reading
-  pub groups : after.groups ≡ before.groups
-  pub ranks : length after.recording ≡ length before.recording
-  pub places : length after.faults ≡ length before.faults
-  pub unwanted : after.wanted ≡ false → before.wanted ≡ false
-  pub calls : (other : ℕ) → other ≢ rank → calls_of after.recording other ≡ calls_of before.recording other
-  pub faults : (other : ℕ) → other ≢ rank → fault_at after.faults other ≡ fault_at before.faults other

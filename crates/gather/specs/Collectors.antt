@@ -1,5 +1,5 @@
 -- What contracts see of a collector, and what a step with one rank's feed does.
-use Rattle.std.specs.Prelude.{◌≡◌, ◌≢◌, ℕ, Bool, true, false, Option, List, length, map}
+use Rattle.std.specs.Prelude.{◌≡◌, ℕ, Bool, false, Option, List, length, map}
 use Rattle.logbook.specs.Pages.{Book}
 use Rattle.moves.specs.Stands.{stands_of}
 use Rattle.rankfeed.specs.Rings.{FeedName, taker_ring}
@@ -61,17 +61,6 @@ list_published collector = book_published collector.publisher
 -- there are watches to which publications are shown
 abbrev pub has_watches : Collector → Bool
 has_watches collector = is_watched collector.publisher
-
--- from one rank's feed alone more was received, memory that was wanted is wanted still, and nothing was published
-pub record ReceivesFrom (rank : ℕ) (old new : Collector) : Type 0 where
-  pub names : rings new ≡ rings old
-  pub reading : (kept new).reading ≡ (kept old).reading
-  pub groups : (kept new).groups ≡ (kept old).groups
-  pub wanted : (kept old).wanted ≡ true → (kept new).wanted ≡ true
-  pub others : (other : ℕ) → other ≢ rank → received_from new other ≡ received_from old other
-  pub list : list_published new ≡ list_published old
-  pub published : published new ≡ published old
-  pub watched : has_watches new ≡ has_watches old
 
 -- where there are watches, they are shown the last publication
 abbrev pub ShowsTheLast : Collector → Type 0

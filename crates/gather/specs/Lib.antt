@@ -7,3 +7,4 @@ pub mod Collectors
 pub mod Closes
 pub mod Fed
 pub mod Reads
+pub mod inner

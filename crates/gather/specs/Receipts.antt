@@ -1,14 +1,12 @@
 -- The receipts of the ranks' feeds, what they hold, and what is received of it.
-use Rattle.std.specs.Prelude.{◌≡◌, ⊤, ℕ, ◌+◌, true, Option, Some, None, IfSome, unwrap_or, List, [], ◌∷◌, ◌++◌, map, slice_get}
+use Rattle.std.specs.Prelude.{◌≡◌, ⊤, ℕ, ◌+◌, true, Option, Some, None, IfSome, unwrap_or, List, [], ◌∷◌, slice_get}
 use Rattle.mpicall.specs.Trace.{Trace}
 use Rattle.mpicall.specs.declared.fault.SourceFault.TheVariants.{NoFinalize}
 use Rattle.rankfeed.specs.Items.{calls_among, end_mark_of, are_ended, IsFeed}
-use Rattle.rankfeed.specs.Rings.{FeedName, taker_ring, receipt_ring, sent_whole, received_by}
+use Rattle.rankfeed.specs.Rings.{FeedName, receipt_ring, sent_whole}
 use Rattle.mpicall.specs.declared.fault.Ending.TheVariants.{Torn}
 use Rattle.rankfeed.specs.declared.item.Item.{Item}
 use Rattle.rankfeed.specs.declared.ring.Receipt.{Receipt}
-use Rattle.rankfeed.specs.declared.ring.Taker.{Taker}
-use Rattle.gather.specs.Takers.{received_in, left_in}
 
 -- the trace that the items of a feed make: their records, and the end that their end mark says; items without
 -- one stop before their end record
@@ -46,9 +44,3 @@ pub record AreAllOf (receipt : Receipt) (items : List Item) : Type 0 where
 -- of each rank that has a receipt, all was received
 abbrev pub AllReceived : List (Option Receipt) → (ℕ → List Item) → Type 0
 AllReceived receipts received = (rank : ℕ) (receipt : Receipt) → slice_get receipts rank ≡ Some (Some receipt) → AreAllOf receipt (received rank)
-
--- the taker of a rank knows all that is left by the receipt, and nothing more was received
-pub record Meets (rank : ℕ) (receipt : Receipt) (old new : List Taker) : Type 0 where
-  pub names : map taker_ring new ≡ map taker_ring old
-  pub received : map received_by new ≡ map received_by old
-  pub left : AreAllOf receipt (received_in new rank ++ left_in new rank)

@@ -5,8 +5,8 @@
 
 ghost use Rattle.std.specs.Prelude.{◌≡◌, ◌<◌, Some, None, false, length, map, slice_get, IfSome};
 ghost use Rattle.rankfeed.specs.Rings.{taker_ring, receipt_ring};
-ghost use Rattle.gather.specs.Takers.{Collects, EntersNext};
-ghost use Rattle.gather.specs.Receipts.{Meets};
+ghost use Rattle.gather.specs.inner.Takers.{Collects, EntersNext};
+ghost use Rattle.gather.specs.inner.Receipts.{Meets};
 ghost use Rattle.watches.specs.Publications.{ArePassed};
 ghost use Rattle.watches.specs.Publishers.{published_by};
 
@@ -92,7 +92,8 @@ impl Collector {
     ghost use Rattle.rankfeed.specs.declared.ring.Receipt.{Receipt as ReceiptValue};
     ghost use mathlib.Core.List.{IsPrefix};
     ghost use Rattle.std.specs.Prelude.{List, nat_le, IfOk, OnOk, OnErr};
-    ghost use Rattle.gather.specs.Collectors.{rings, kept, received_from, left_from, Steps, ReceivesFrom, KeepsWhatCame, IsFinished};
+    ghost use Rattle.gather.specs.Collectors.{rings, kept, received_from, left_from, Steps, KeepsWhatCame, IsFinished};
+    ghost use Rattle.gather.specs.inner.Collectors.{ReceivesFrom};
     ghost use Rattle.gather.specs.Collectors.{published, list_published, has_watches, stands_now, ShowsTheLast, PublishesRuns, TakesNothing, PublishesNothing};
     ghost use Rattle.watches.specs.Publications.{Publishes, AreRising};
     ghost use Rattle.watches.specs.Watches.{publications_told, list_told, seen_by, list_watched, AnswersBy};

@@ -17,9 +17,10 @@
 //! - `feed::feed` puts the records of one source on a rank's feed and ends it.
 //!
 //! The definitions are in `specs/`: `Answers` says which refusal or verdict some traces have, `Collected` and
-//! `Closes` what a session keeps and answers, `Fed` what is read of a source. Those of the crate `watches` say
-//! what is published and read. Runs over the sources of all ranks, with threads or by turns, are in the crate
-//! `runs`.
+//! `Closes` what a session keeps and answers, `Fed` what is read of a source. Those of the crate `watches`
+//! say what is published and read. Runs over the sources of all ranks, with threads or by turns, are in the
+//! crate `runs`. What only proofs and private contracts cite is in `specs/inner/`, and nobody has to believe
+//! it.
 //!
 //! ```text
 //! let (mut feeds, mut collector, _watches) = Session::open(alloc, head, Reading::Strict, 64, 0, wait)?;

@@ -29,7 +29,7 @@ use Rattle.moves.specs.declared.need.Need.{Need}
 use Rattle.moves.specs.declared.need.Need.TheVariants.{At, Lacking}
 use Rattle.moves.specs.declared.progress.Progress.{Progress}
 use Rattle.moves.specs.Needs.{world_of, half_need, half_needs, probe_need, probe_needs, sends_freely, is_met}
-use Rattle.moves.specs.Waiting.{message_needs, message_needs_at, WaitsFor, IsAwaited, HasJoined, complete_of, AreWaves, IsNoException, NeedsPartner, NeedsWave, Rests}
+use Rattle.moves.specs.inner.Waiting.{message_needs, message_needs_at, WaitsFor, IsAwaited, HasJoined, complete_of, AreWaves, IsNoException, NeedsPartner, NeedsWave, Rests}
 use Rattle.moves.proofs.RunLemmas.{below_same}
 use Rattle.moves.proofs.StayLemmas.{first_calls_stay, call_stays, wave_stays, start_stays, start_is_a_call, place_before}
 use Rattle.moves.proofs.AnalyserLemmas.{goes_on_by}

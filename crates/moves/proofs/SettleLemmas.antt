@@ -12,7 +12,8 @@ use Rattle.mpigroup.specs.Groups.{Groups, group_of}
 use Rattle.callnotes.specs.Limits.{most_calls}
 use Rattle.callnotes.specs.Recordings.{Lists, calls_of, appended}
 use Rattle.callnotes.specs.Waves.{wave_of}
-use Rattle.arenalist.specs.Numbers.{count, in_all, list_at, sum_to}
+use Rattle.arenalist.specs.Numbers.{list_at, sum_to}
+use Rattle.arenalist.specs.inner.Numbers.{count, in_all}
 use Rattle.arenalist.proofs.NumberLemmas.{count_in_all, found_in}
 use Rattle.arenalist.proofs.SumLemmas.{sum_least, sum_count}
 use Rattle.callnotes.proofs.PlacesLemmas.{no_calls}
@@ -22,8 +23,8 @@ use Rattle.moves.specs.Needs.{may_pass, can_move}
 use Rattle.moves.specs.Stands.{call_count}
 use Rattle.moves.specs.Analysed.{most_touches, ranks_waiting}
 use Rattle.moves.specs.declared.progress.Progress.{Progress}
-use Rattle.moves.specs.Links.{linked_ranks, AreListed}
-use Rattle.moves.specs.Waiting.{HasJoined, HasArrived, complete_of, met_of, AreWaves, IsNoException, NeedsPartner, NeedsWave, Rests, WaitLists, own_list, comm_list, with_rank, with_awaited, WaitsFor, WaitsIn, HasLists, HoldsBetweenLooks, IsNobody, IsInHand, IsSettled, IsReaching, to_do, paid, cost_of, touches_of}
+use Rattle.moves.specs.inner.Links.{linked_ranks, AreListed}
+use Rattle.moves.specs.inner.Waiting.{HasJoined, HasArrived, complete_of, met_of, AreWaves, IsNoException, NeedsPartner, NeedsWave, Rests, WaitLists, own_list, comm_list, with_rank, with_awaited, WaitsFor, WaitsIn, HasLists, HoldsBetweenLooks, IsNobody, IsInHand, IsSettled, IsReaching, to_do, paid, cost_of, touches_of}
 use Rattle.moves.proofs.RunLemmas.{get_start, reached_step, reached_ranks, total_moved, total_most}
 use Rattle.moves.proofs.StandLemmas.{reached_within}
 use Rattle.moves.proofs.NeedLemmas.{length_of_calls}

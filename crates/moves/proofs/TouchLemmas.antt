@@ -15,9 +15,10 @@ use Rattle.callnotes.proofs.WaveLemmas.{the_call_in_a_wave_joins_it, no_other_ca
 use Rattle.moves.specs.Runs.{State, moved}
 use Rattle.moves.specs.Stands.{call_count}
 use Rattle.moves.specs.declared.progress.Progress.{Progress}
-use Rattle.arenalist.specs.Numbers.{count, sum_to}
+use Rattle.arenalist.specs.Numbers.{sum_to}
+use Rattle.arenalist.specs.inner.Numbers.{count}
 use Rattle.arenalist.proofs.SumLemmas.{sum_least, sum_both, sum_zero, sum_count}
-use Rattle.moves.specs.Waiting.{complete_of, NeedsWave, done_in, done_of, paid_by, paid, cost_of}
+use Rattle.moves.specs.inner.Waiting.{complete_of, NeedsWave, done_in, done_of, paid_by, paid, cost_of}
 use Rattle.moves.proofs.StayLemmas.{wave_stays}
 use Rattle.moves.proofs.WaveLemmas.{earlier_place}
 use Rattle.moves.proofs.WaitLemmas.{open_parts}

@@ -18,7 +18,7 @@ use Rattle.callnotes.proofs.OptionLemmas.{and_then_parts}
 use Rattle.moves.specs.Runs.{State}
 use Rattle.moves.specs.declared.progress.Progress.{Progress}
 use Rattle.moves.specs.Needs.{member_need, wave_needs, operation_needs, operation_needs_at, request_needs, needs_of_call, is_met, can_move}
-use Rattle.moves.specs.Waiting.{message_needs, IsAwaited, HasJoined, complete_of, met_of, AreWaves, IsNoException, is_open, open_wave, NeedsPartner, NeedsWave, Rests}
+use Rattle.moves.specs.inner.Waiting.{message_needs, IsAwaited, HasJoined, complete_of, met_of, AreWaves, IsNoException, is_open, open_wave, NeedsPartner, NeedsWave, Rests}
 use Rattle.moves.proofs.LookLemmas.{passes_more, fails_at, list_all-flat_map}
 use Rattle.moves.proofs.NeedLemmas.{can_pass}
 use Rattle.moves.proofs.WaveLemmas.{met_joined, joined_met, joined_before}

@@ -19,8 +19,9 @@ use Rattle.pairing.specs.Probed.{probed_envelope, probed_envelope_at, probed_by,
 use Rattle.callnotes.proofs.OptionLemmas.{and_then_parts, map_parts}
 use Rattle.pairing.proofs.PartnerLemmas.{numbered_parts, numbered_half}
 use Rattle.pairing.proofs.ProbedLemmas.{prober}
-use Rattle.arenalist.specs.Numbers.{count, list_at}
-use Rattle.moves.specs.Waiting.{WaitLists, own_list, comm_list, woken, awaits, woken_at, woken_partner, sent_to, sees, prober_of, woken_prober, woken_comm, WaitsFor, HasLists}
+use Rattle.arenalist.specs.Numbers.{list_at}
+use Rattle.arenalist.specs.inner.Numbers.{count}
+use Rattle.moves.specs.inner.Waiting.{WaitLists, own_list, comm_list, woken, awaits, woken_at, woken_partner, sent_to, sees, prober_of, woken_prober, woken_comm, WaitsFor, HasLists}
 use Rattle.moves.proofs.LinkLemmas.{Wakes, wakes_none, wakes_both, wakes_list, woken_there, woken_work}
 
 -- the greatest count

@@ -17,7 +17,7 @@ use Rattle.moves.specs.Runs.{State}
 use Rattle.moves.specs.declared.need.Need.TheVariants.{At, Lacking}
 use Rattle.moves.specs.declared.progress.Progress.{Progress}
 use Rattle.moves.specs.Needs.{member_need, is_met}
-use Rattle.moves.specs.Waiting.{HasJoined, complete_of, met_of, AreWaves, IsNoException}
+use Rattle.moves.specs.inner.Waiting.{HasJoined, complete_of, met_of, AreWaves, IsNoException}
 
 -- a member whose need is met has joined, and back
 joined_there : (recording : Lists) (s : State) (comm wave member : ℕ) (there : Option ℕ) → place_in_wave recording comm wave member ≡ there → is_met s (option_map_or (At member) there (Lacking member)) ≡ true → HasJoined recording s comm wave member

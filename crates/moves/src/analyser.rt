@@ -52,8 +52,8 @@ impl Drop for Analyser {
 
 impl Model for Analyser {
     ghost use Rattle.moves.specs.Analysed.{Analysed};
-    ghost use Rattle.moves.specs.Waiting.{touches_of};
-    ghost use Rattle.moves.specs.Positions.{AreSettled};
+    ghost use Rattle.moves.specs.inner.Waiting.{touches_of};
+    ghost use Rattle.moves.specs.inner.Positions.{AreSettled};
 
     ghost Value = { Analysed };
 

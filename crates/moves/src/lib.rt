@@ -19,10 +19,10 @@
 //! or a buffered send, nor one that tells no bytes.
 //!
 //! The definitions stand in `specs/`, to be read in the order of docs/DEFINITIONS.md: `Needs` says what a
-//! call needs before its rank moves on, `Runs` and `Stands` where runs end. What a call over a communicator sends,
-//! receives, probes for and joins follows from `does_of` of `mpicall`; which calls start requests and complete them is
-//! said by the tables of `callnotes`. Nobody has to believe `Waiting` and `Links`: they say how the analyser keeps its
-//! lists, and no public contract cites them.
+//! call needs before its rank moves on, `Runs` and `Stands` where runs end. What a call over a communicator
+//! sends, receives, probes for and joins follows from `does_of` of `mpicall`; which calls start requests and
+//! complete them is said by the tables of `callnotes`. What only proofs and private contracts cite is in
+//! `specs/inner/`, and nobody has to believe it.
 //!
 //! A rank that cannot move on is linked where it waits: for the partner of one of its messages, for the send that
 //! its probe would see, or for a communicator's next wave. A call that is reached puts those that wait for it onto

@@ -9,8 +9,8 @@ ghost use Rattle.std.specs.List.{list_all};
 ghost use Rattle.callnotes.specs.Limits.{most_calls};
 ghost use Rattle.callnotes.specs.Recordings.{calls_of};
 ghost use Rattle.moves.specs.Needs.{half_needs, probe_needs, is_met};
-ghost use Rattle.moves.specs.Waiting.{message_needs, open_wave};
-ghost use Rattle.moves.specs.Positions.{IsCallAt, KnowWaves, OperationTells, RequestTells, RequestsTell, CallTells, RankTells};
+ghost use Rattle.moves.specs.inner.Waiting.{message_needs, open_wave};
+ghost use Rattle.moves.specs.inner.Positions.{IsCallAt, KnowWaves, OperationTells, RequestTells, RequestsTell, CallTells, RankTells};
 
 use crate::need::is_reached;
 use crate::progress::Progress;

@@ -10,7 +10,7 @@ ghost use Rattle.mpigroup.specs.Groups.{group_of, world_rank_of};
 ghost use Rattle.callnotes.specs.Limits.{most_calls};
 ghost use Rattle.callnotes.specs.Waves.{wave_of};
 ghost use Rattle.moves.specs.Needs.{member_need, is_met};
-ghost use Rattle.moves.specs.Waiting.{complete_of, met_of, is_open, open_wave, AreWaves, IsNoException};
+ghost use Rattle.moves.specs.inner.Waiting.{complete_of, met_of, is_open, open_wave, AreWaves, IsNoException};
 
 use crate::need::{Need, is_met, members};
 use mpigroup::head::Head;

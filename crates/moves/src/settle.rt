@@ -10,8 +10,8 @@ ghost use Rattle.callnotes.specs.Limits.{most_calls};
 ghost use Rattle.pairing.specs.Partners.{partner_of};
 ghost use Rattle.callnotes.specs.declared.envelope.Half.{Half as HalfValue};
 ghost use Rattle.moves.specs.Runs.{moved};
-ghost use Rattle.moves.specs.Waiting.{comm_list, sent_to, sees, prober_of, woken_partner, woken_prober, woken_peers, woken_comm};
-ghost use Rattle.moves.specs.Positions.{AreKept, AreReached, AreSettled, GoOn, HaveArrival, HaveInHand, HaveWoken, left_to_do};
+ghost use Rattle.moves.specs.inner.Waiting.{comm_list, sent_to, sees, prober_of, woken_partner, woken_prober, woken_peers, woken_comm};
+ghost use Rattle.moves.specs.inner.Positions.{AreKept, AreReached, AreSettled, GoOn, HaveArrival, HaveInHand, HaveWoken, left_to_do};
 
 use crate::look::{Look, look_at};
 use crate::waiters::Waiters;

@@ -12,7 +12,7 @@
 ghost use Rattle.std.specs.Prelude.{◌≡◌, ◌+◌, ◌<◌, ◌≤◌, [], length, drop, replicate, slice_get, slice_set, IfOk, IfNone, OnOk, OnSome};
 ghost use Rattle.arenalist.specs.Numbers.{list_at};
 ghost use Rattle.arenalist.specs.Arena.{counted};
-ghost use Rattle.moves.specs.Waiting.{own_list, comm_list, woken, with_rank, with_awaited, woken_at};
+ghost use Rattle.moves.specs.inner.Waiting.{own_list, comm_list, woken, with_rank, with_awaited, woken_at};
 
 use arenalist::lists::Lists;
 use std::alloc::{AllocError, Global};
@@ -37,8 +37,8 @@ impl Drop for Waiters {
 
 impl Model for Waiters {
     ghost use Rattle.std.specs.Prelude.{length, ◌≤◌, ◌+◌};
-    ghost use Rattle.arenalist.specs.Arena.{contents};
-    ghost use Rattle.moves.specs.Waiting.{WaitLists};
+    ghost use Rattle.arenalist.specs.inner.Arena.{contents};
+    ghost use Rattle.moves.specs.inner.Waiting.{WaitLists};
 
     ghost Value = { WaitLists };
 

@@ -4,9 +4,11 @@ use Rattle.std.specs.Fmt.{decimal}
 use Rattle.std.specs.List.{list_all}
 use Rattle.std.proofs.lemmas.Bool.Decides.{nat_tests}
 use Rattle.std.proofs.lemmas.List.{length-map}
-use Rattle.mpicall.specs.Argument.{Argument, Number, spell, is_in_range, form_of, request_form, request_argument, index_argument, comm_form, is_in_form}
+use Rattle.mpicall.specs.Argument.{Argument, Number, spell, is_in_range, request_form, request_argument, index_argument, comm_form, is_in_form}
+use Rattle.mpicall.specs.inner.Argument.{form_of}
 use Rattle.mpicall.specs.Limits.{in_ranges, names_enough, few_enough}
-use Rattle.mpicall.specs.Line.{Fixed, shape_of, root_forms, all_requests, fits}
+use Rattle.mpicall.specs.Line.{Fixed, shape_of, root_forms, all_requests}
+use Rattle.mpicall.specs.inner.Line.{fits}
 use Rattle.mpicall.specs.Reading.{taken, arguments_in, call_of, kind_named, numeral_in, request_in}
 use Rattle.mpicall.specs.Spelling.{word_of_call, arguments_of, name_of, root_of, root_arguments}
 use Rattle.mpicall.proofs.ArgumentLemmas.{is_small, reads_back, argument_field, IsField, le_to, le_from}

@@ -8,13 +8,14 @@ use Rattle.std.proofs.lemmas.Bool.{and_parts}
 use Rattle.mpicall.specs.Ending.{ends_list}
 use Rattle.mpicall.specs.Limits.{in_ranges}
 use Rattle.mpicall.specs.Lines.{most_bytes, has_line_feed, lines_of}
-use Rattle.mpicall.specs.Reading.{record_of_line, BeginsWith}
+use Rattle.mpicall.specs.Reading.{record_of_line}
+use Rattle.mpicall.specs.inner.Reading.{BeginsWith}
 use Rattle.mpicall.specs.Source.{Gives, CutsOff, BreaksOffBehind, breaks_off, ended_at, trace_at}
 use Rattle.mpicall.specs.Spelling.{space, line_feed, fields_of, spelling}
-use Rattle.mpicall.specs.Stage.{stage_behind}
+use Rattle.mpicall.specs.inner.Stage.{stage_behind}
 use Rattle.mpicall.specs.Trace.{Trace, IsTraceOf, trace_of, trace_of_lines, trace_with, ends_here, put_first, end_with_behind}
 use Rattle.mpicall.specs.declared.fault.Ending.TheVariants.{Torn}
-use Rattle.mpicall.specs.Window.{NoFeedBelow}
+use Rattle.mpicall.specs.inner.Window.{NoFeedBelow}
 use Rattle.mpicall.proofs.BeginningLemmas.{WithoutFeed, body_without_feed, no_feed_here}
 use Rattle.mpicall.proofs.GivesLemmas.{held_left, last_is_feed}
 use Rattle.mpicall.proofs.LineLemmas.{spelling_read, no_line_feed}

@@ -5,7 +5,7 @@ use Rattle.std.proofs.lemmas.Bool.{cases_lt}
 use Rattle.std.proofs.lemmas.List.{take_all, length-drop, get_or-drop}
 use Rattle.memchr.specs.Find.{IsFirstByte, is_byte}
 use Rattle.mpicall.specs.Spelling.{line_feed}
-use Rattle.mpicall.specs.Window.{NoFeedBelow, FirstFeed}
+use Rattle.mpicall.specs.inner.Window.{NoFeedBelow, FirstFeed}
 
 rest_is : (bytes : List ℕ) (from : ℕ) → from ≤ length bytes → take (length bytes - from) (drop from bytes) ≡ drop from bytes
 rest_is bytes from within = take_all (length bytes - from) (drop from bytes) (omega (arith, length-drop from bytes))

@@ -1,7 +1,8 @@
 -- How the first space cuts a body into its first field and the rest.
 use Rattle.std.proofs.Common.{◌≡◌, ◌==◌, Option, ℕ, ◌+◌, ◌-◌, ◌<◌, ◌≤◌, Bool, true, false, List, [], ◌∷◌, length, take, drop, refl, subst, arith, rules, Some, None, cond, ltb, length-drop, get_or}
 use Rattle.std.specs.List.{slice_split, position, position_or_len}
-use Rattle.mpicall.specs.Lines.{is_empty, split_fields}
+use Rattle.mpicall.specs.Lines.{split_fields}
+use Rattle.mpicall.specs.inner.Lines.{is_empty}
 use Rattle.std.proofs.lemmas.Bool.{lt-ltb}
 use Rattle.std.proofs.lemmas.List.{take_all, get_or-take}
 use Rattle.std.proofs.lemmas.List.Quantifiers.{position-Some}

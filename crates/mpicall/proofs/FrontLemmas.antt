@@ -8,7 +8,7 @@ use Rattle.std.specs.List.{position, position_or_len}
 use Rattle.std.specs.Str.{all_ascii_digits}
 use Rattle.std.specs.Char.{is_ascii_digit}
 use Rattle.mpicall.specs.Number.{value_after, number_up_to, is_canonical, has_leading_zero}
-use Rattle.mpicall.specs.Front.{AreDigits, IsFront}
+use Rattle.mpicall.specs.inner.Front.{AreDigits, IsFront}
 use Rattle.mpicall.specs.Lines.{split_fields}
 use Rattle.mpicall.specs.Argument.{NumberUpTo, Number}
 use Rattle.mpicall.specs.Reading.{next_argument}

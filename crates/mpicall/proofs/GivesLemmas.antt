@@ -8,11 +8,11 @@ use Rattle.std.proofs.lemmas.Bool.{and_parts}
 use Rattle.mpicall.specs.Spelling.{line_feed}
 use Rattle.mpicall.specs.Lines.{most_bytes, has_line_feed}
 use Rattle.mpicall.specs.Reading.{record_of_line}
-use Rattle.mpicall.specs.Window.{NoFeedBelow, HasNoFeed, EndsLine}
+use Rattle.mpicall.specs.inner.Window.{NoFeedBelow, HasNoFeed, EndsLine}
 use Rattle.mpicall.specs.Trace.{Trace, trace_of, trace_of_lines, trace_with, ends_here, put_first, end_with_behind}
 use Rattle.mpicall.specs.declared.fault.Ending.TheVariants.{Sealed, Torn}
 use Rattle.mpicall.specs.Lines.{lines_of}
-use Rattle.mpicall.specs.Stage.{stage_behind, is_own}
+use Rattle.mpicall.specs.inner.Stage.{stage_behind, is_own}
 use Rattle.mpicall.specs.Source.{Gives, trace_at, IsOwnFault}
 use Rattle.mpicall.proofs.LineLemmas.{read_has_feed, too_long}
 use Rattle.mpicall.proofs.TraceLemmas.{line_at_feed, line_without_feed, onto_line}

@@ -1,9 +1,12 @@
 -- The call of a name and of what follows it has that name and these arguments.
 use Rattle.std.proofs.Common.{◌≡◌, ℕ, true, List, [], length, sym, ap, ◌∙◌, refl, Some}
-use Rattle.mpicall.specs.Laid.{laid_arguments, layout_by, call_by, is_laid}
+use Rattle.mpicall.specs.Laid.{laid_arguments, call_by}
+use Rattle.mpicall.specs.inner.Laid.{layout_by, is_laid}
 use Rattle.mpicall.specs.Limits.{names_enough}
-use Rattle.mpicall.specs.Line.{Fixed, shape_by, shape_of, laid_forms}
-use Rattle.mpicall.specs.Reading.{take_arguments, all_taken}
+use Rattle.mpicall.specs.Line.{Fixed, shape_by, shape_of}
+use Rattle.mpicall.specs.inner.Line.{laid_forms}
+use Rattle.mpicall.specs.Reading.{take_arguments}
+use Rattle.mpicall.specs.inner.Reading.{all_taken}
 use Rattle.mpicall.specs.Spelling.{arguments_of, word_of_call}
 use Rattle.mpicall.specs.Word.{layout_of}
 use Rattle.mpicall.specs.declared.call.Call.{Call}

@@ -8,12 +8,14 @@ use Rattle.std.specs.List.{list_all, list_any}
 use Rattle.std.proofs.lemmas.Bool.Decides.{nat_tests}
 use Rattle.std.proofs.lemmas.List.{length-map, drop_all, take-append-drop}
 use Rattle.std.proofs.lemmas.Bool.{and_parts, and_from}
-use Rattle.mpicall.specs.Argument.{Argument, Number, PeerOf, Colour, Key, New, Form, NumberUpTo, PeerForm, ColourForm, KeyForm, NewForm, spell, is_in_range, form_of, read_argument, read_peer, read_number_or, is_in_form, comm_form, tag_form, bytes_form, request_form, request_argument, bytes_arguments}
+use Rattle.mpicall.specs.Argument.{Argument, Number, PeerOf, Colour, Key, New, Form, NumberUpTo, PeerForm, ColourForm, KeyForm, NewForm, spell, is_in_range, read_argument, read_peer, read_number_or, is_in_form, comm_form, tag_form, bytes_form, request_form, request_argument, bytes_arguments}
+use Rattle.mpicall.specs.inner.Argument.{form_of}
 use Rattle.mpicall.specs.declared.limits.TheConstants.{GREATEST_COMM, GREATEST_COLOUR}
 use Rattle.mpicall.specs.declared.call.Call.{Call}
 use Rattle.mpicall.specs.Limits.{in_ranges, names_enough, few_enough}
 use Rattle.mpicall.proofs.BodyLemmas.{fixed_all}
-use Rattle.mpicall.specs.Line.{Shape, Fixed, Requests, Chosen, root_forms, bytes_forms, operation_forms, shape_of, each_in_form, all_requests, takes_count, all_in_form, fits, source_place, wildcard_at, fault_by_word, fault_of_fields, fault_of_line}
+use Rattle.mpicall.specs.Line.{Shape, Fixed, Requests, Chosen, root_forms, bytes_forms, operation_forms, shape_of, each_in_form, all_requests, takes_count, all_in_form, source_place, wildcard_at, fault_by_word, fault_of_fields, fault_of_line}
+use Rattle.mpicall.specs.inner.Line.{fits}
 use Rattle.mpicall.specs.Lines.{is_blank, most_bytes, has_line_feed, body_of, split_fields}
 use Rattle.mpicall.specs.Word.{word_of, text_of}
 use Rattle.mpicall.proofs.WordLemmas.{word_has}
@@ -21,7 +23,8 @@ use Rattle.mpicall.proofs.LineLemmas.{body_spells}
 use Rattle.mpicall.specs.declared.fault.LineFault.{LineFault}
 use Rattle.mpicall.specs.declared.fault.LineFault.TheVariants.{EmptyField, FieldCount, FieldForm, Wildcard, TooLong, NoLineFeed}
 use Rattle.mpicall.specs.Number.{number_up_to, signed_of, value_of}
-use Rattle.mpicall.specs.Reading.{at, numeral_in, number_at, peer_in, colour_in, key_in, new_in, kind_named, call_of, arguments_in, request_in, take_arguments, taken, put_before, take_behind, with_behind, call_by_word, call_of_fields, Spells}
+use Rattle.mpicall.specs.Reading.{at, numeral_in, number_at, peer_in, colour_in, key_in, new_in, kind_named, call_of, arguments_in, request_in, take_arguments, taken, put_before, take_behind, with_behind, call_by_word, call_of_fields}
+use Rattle.mpicall.specs.inner.Reading.{Spells}
 use Rattle.mpicall.specs.Spelling.{word_of_call, arguments_of, name_of, root_of, root_arguments, fields_of, line_feed}
 use Rattle.mpicall.proofs.ArgumentLemmas.{map_some, le_to, le_from}
 use Rattle.mpicall.proofs.DecimalLemmas.{number-decimal, value_decimal}

@@ -2,7 +2,7 @@
 use Rattle.std.proofs.Common.{◌≡◌, ℕ, List, [], ◌∷◌, ◌++◌, append_assoc, map, refl, ap, ◌∙◌}
 use Rattle.std.specs.List.{join_with_byte}
 use Rattle.mpicall.specs.Argument.{Argument, spell}
-use Rattle.mpicall.specs.Draft.{line_with}
+use Rattle.mpicall.specs.inner.Draft.{line_with}
 use Rattle.mpicall.specs.Spelling.{space, word_of_call, arguments_of, fields_of}
 use Rattle.mpicall.specs.Word.{text_of}
 use Rattle.mpicall.specs.declared.call.Call.{Call}

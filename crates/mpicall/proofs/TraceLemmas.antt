@@ -3,7 +3,7 @@ use Rattle.std.proofs.Common.{◌≡◌, ◌≢◌, ℕ, true, false, ◌==◌, 
 use Rattle.std.proofs.lemmas.Bool.Decides.{nat_tests}
 use Rattle.std.specs.List.{onto_first}
 use Rattle.mpicall.specs.Spelling.{line_feed}
-use Rattle.mpicall.specs.Window.{NoFeedBelow, FirstFeed}
+use Rattle.mpicall.specs.inner.Window.{NoFeedBelow, FirstFeed}
 use Rattle.mpicall.specs.Lines.{lines_of}
 
 no_feed : (byte : ℕ) → byte ≢ line_feed → (byte == line_feed) ≡ false

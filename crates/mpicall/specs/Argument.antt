@@ -103,14 +103,6 @@ root_form = NumberUpTo GREATEST_RANK
 abbrev pub index_form : ℕ → Form
 index_form count = NumberUpTo (count - 1)
 
--- the form of an argument
-abbrev pub form_of : Argument → Form
-form_of (Number greatest n) = NumberUpTo greatest
-form_of (PeerOf peer) = PeerForm
-form_of (Colour colour) = ColourForm
-form_of (Key key) = KeyForm
-form_of (New new) = NewForm
-
 -- what a field says that is a number up to a limit, or a text where there is none
 abbrev pub read_number_or : List ℕ → ℕ → List ℕ → Option (Option ℕ)
 read_number_or text greatest field =

@@ -1,13 +1,11 @@
 -- The calls that are no operation and no wait: a name, and what follows it by the layout of the name.
-use Rattle.std.specs.Prelude.{Bool, true, false, Option, Some, None, List, [], ◌∷◌}
+use Rattle.std.specs.Prelude.{Option, Some, None, List, [], ◌∷◌}
 use Rattle.mpicall.specs.Argument.{Argument, PeerOf, Colour, Key, New, comm_argument, tag_argument, bytes_arguments}
 use Rattle.mpicall.specs.declared.call.Peer.TheVariants.{Null}
 use Rattle.mpicall.specs.declared.call.Call.{Call}
 use Rattle.mpicall.specs.declared.call.Call.TheVariants as call
 use Rattle.mpicall.specs.declared.laid.Laid.{Laid}
 use Rattle.mpicall.specs.declared.laid.Laid.TheVariants.{Nothing, Message, Exchange, Copy, Split}
-use Rattle.mpicall.specs.declared.word.Layout.{Layout}
-use Rattle.mpicall.specs.declared.word.Layout.TheVariants as layout
 use Rattle.mpicall.specs.declared.word.Name.{Name}
 use Rattle.mpicall.specs.declared.word.Name.TheVariants as name
 
@@ -39,18 +37,3 @@ laid_arguments (Exchange comm dest send_tag source recv_tag bytes) =
     comm_argument comm ∷ PeerOf dest ∷ tag_argument send_tag ∷ PeerOf source ∷ tag_argument recv_tag ∷ bytes_arguments bytes
 laid_arguments (Copy comm new) = comm_argument comm ∷ comm_argument new ∷ []
 laid_arguments (Split comm colour key new) = comm_argument comm ∷ Colour colour ∷ Key key ∷ New new ∷ []
-
--- its layout
-abbrev pub layout_by : Laid → Layout
-layout_by Nothing = layout.Nothing
-layout_by (Message comm source tag) = layout.Message
-layout_by (Exchange comm dest send_tag source recv_tag bytes) = layout.Exchange
-layout_by (Copy comm new) = layout.Copy
-layout_by (Split comm colour key new) = layout.Split
-
--- no wait has the layout
-abbrev pub is_laid : Layout → Bool
-is_laid layout.Request = false
-is_laid layout.Requests = false
-is_laid layout.Chosen = false
-is_laid _ = true

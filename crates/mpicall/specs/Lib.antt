@@ -1,13 +1,10 @@
 pub mod Number
-pub mod Front
 pub mod Argument
 pub mod Word
 pub mod Laid
 pub mod Spelling
 pub mod Limits
 pub mod Does
-pub mod Draft
-pub mod Cells
 pub mod Lines
 pub mod Line
 pub mod Reading
@@ -15,8 +12,7 @@ pub mod Device
 pub mod Devices
 pub mod Ending
 pub mod Trace
-pub mod Window
-pub mod Stage
 pub mod Source
 pub mod Lint
 pub mod Codes
+pub mod inner

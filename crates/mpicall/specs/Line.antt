@@ -56,14 +56,6 @@ shape_by ChosenRequest count = Chosen
 shape_by Copy count = Fixed (comm_form ∷ comm_form ∷ [])
 shape_by Split count = Fixed (comm_form ∷ ColourForm ∷ KeyForm ∷ NewForm ∷ [])
 
--- the forms of the fields after a name that is no wait's
-abbrev pub laid_forms : Layout → ℕ → List Form
-laid_forms layout count = forms_in (shape_by layout count)
-  where
-    forms_in : Shape → List Form
-    forms_in (Fixed forms) = forms
-    forms_in _ = []
-
 -- the shape of a word's line that has so many fields after it; what starts an operation has its request in front
 abbrev pub shape_of : Word → ℕ → Shape
 shape_of (Blocking operation) count = Fixed (operation_forms operation count)
@@ -135,16 +127,3 @@ unfoldable pub fault_of_line : List ℕ → Option LineFault
 fault_of_line line =
     if nat_lt most_bytes (length line) then Some TooLong
     else (if has_line_feed line then fault_of_fields (split_fields (body_of line)) else Some NoLineFeed)
-
--- the fields after a word are as many as it takes, each in its form and range
-abbrev pub fits : Word → List (List ℕ) → Bool
-fits word fields = takes_count (shape_of word (length fields)) (length fields) && all_in_form (shape_of word (length fields)) fields
-
-abbrev pub fits_word : Option Word → List (List ℕ) → Bool
-fits_word None fields = false
-fits_word (Some word) fields = fits word fields
-
--- the fields of a line are a word and what it takes
-unfoldable pub fits_line : List (List ℕ) → Bool
-fits_line [] = false
-fits_line (word ∷ fields) = fits_word (word_of word) fields

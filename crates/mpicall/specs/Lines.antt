@@ -1,8 +1,7 @@
 -- The lines of a text and their fields. A line goes through its line feed; its body is its bytes without
 -- the last line feed, and its fields are what lies between single spaces.
-use Rattle.std.specs.Prelude.{ℕ, ◌-◌, Bool, true, false, ◌&&◌, ◌==◌, nat_lt, Option, Some, None, if◌then◌else◌, List, [], ◌∷◌, length, slice_index, take}
+use Rattle.std.specs.Prelude.{ℕ, ◌-◌, Bool, ◌&&◌, ◌==◌, nat_lt, if◌then◌else◌, List, [], ◌∷◌, length, slice_index, take}
 use Rattle.std.specs.List.{slice_split, onto_first, count_by}
-use Rattle.std.specs.Borrow.{Bor}
 use Rattle.mpicall.specs.declared.limits.TheConstants.{MOST_LINE_BYTES}
 use Rattle.mpicall.specs.Spelling.{space, line_feed}
 
@@ -23,11 +22,6 @@ has_line_feed line = nat_lt 0 (length line) && slice_index line (length line - 1
 abbrev pub split_fields : List ℕ → List (List ℕ)
 split_fields body = slice_split (λ byte. byte == space) body
 
--- the fields of what is left of a body, if anything is
-abbrev pub split_some : Option (Bor (List ℕ)) → List (List ℕ)
-split_some None = []
-split_some (Some rest) = split_fields rest.now
-
 -- the bytes of a line without its line feed
 abbrev pub body_of : List ℕ → List ℕ
 body_of line = take (length line - 1) line
@@ -35,11 +29,6 @@ body_of line = take (length line - 1) line
 -- the field has no bytes
 abbrev pub is_blank : List ℕ → Bool
 is_blank field = length field == 0
-
--- no fields are left
-abbrev pub is_empty : List (List ℕ) → Bool
-is_empty [] = true
-is_empty (_ ∷ _) = false
 
 -- how many lines of a text have their line feed
 abbrev pub whole_lines : List ℕ → ℕ

@@ -1,17 +1,13 @@
 -- How the fields of a line are read, and the record that a line without a fault spells. Nobody has to
 -- believe this: `read_line` promises that `record_of_line` gives a record exactly where the line is its
 -- spelling, and else the line's first fault.
-use Rattle.std.specs.Prelude.{◌≡◌, ◌<◌, ◌≤◌, ◌++◌, ℕ, ℤ, pos, Bool, true, false, ◌&&◌, nat_le, MatchBool, Option, Some, None, Result, Ok, Err, MatchResult, MatchOption, option_map, List, [], ◌∷◌, length, map, get_or, slice_get, drop, take}
-use Rattle.std.specs.List.{list_all}
-use Rattle.mpicall.specs.declared.limits.TheConstants.{MOST_REQUESTS}
-use Rattle.mpicall.specs.Limits.{in_ranges, names_enough, few_enough}
-use Rattle.mpicall.specs.Argument.{is_in_range, spell, Argument, Number, PeerOf, Colour, Key, New, Form, request_argument, index_argument, read_argument}
+use Rattle.std.specs.Prelude.{ℕ, ℤ, pos, Option, Some, None, Result, Ok, Err, option_map, List, [], ◌∷◌, length, map, get_or, slice_get, drop}
+use Rattle.mpicall.specs.Argument.{Argument, Number, PeerOf, Colour, Key, New, Form, request_argument, index_argument, read_argument}
 use Rattle.mpicall.specs.Number.{value_of}
-use Rattle.mpicall.specs.Laid.{laid_arguments, layout_by, call_by}
+use Rattle.mpicall.specs.Laid.{call_by}
 use Rattle.mpicall.specs.Word.{word_of, layout_of}
-use Rattle.mpicall.specs.Spelling.{arguments_of, word_of_call, fields_of, spelling, line_feed}
-use Rattle.mpicall.specs.Line.{Shape, Fixed, Requests, Chosen, shape_of, laid_forms, fault_of_line, fits, fits_line, all_requests}
-use Rattle.mpicall.specs.Lines.{body_of, split_fields, most_bytes}
+use Rattle.mpicall.specs.Line.{Shape, Fixed, Requests, Chosen, shape_of, fault_of_line}
+use Rattle.mpicall.specs.Lines.{body_of, split_fields}
 use Rattle.mpicall.specs.declared.call.Peer.{Peer}
 use Rattle.mpicall.specs.declared.call.Peer.TheVariants.{Null}
 use Rattle.mpicall.specs.declared.call.Kind.{Kind}
@@ -54,24 +50,6 @@ take_behind (Some first) others = put_before first.0 (others first.1)
 abbrev pub take_arguments : List Form → List (List ℕ) → Option (List Argument × List (List ℕ))
 take_arguments [] fields = Some ([], fields)
 take_arguments (form ∷ forms) fields = take_behind (next_argument form fields) (λ behind. take_arguments forms behind)
-
--- the arguments that were taken, where no fields are left
-abbrev pub all_taken : Option (List Argument × List (List ℕ)) → Option (List Argument)
-all_taken None = None
-all_taken (Some (arguments, [])) = Some arguments
-all_taken (Some (arguments, field ∷ fields)) = None
-
--- a reader takes what follows a name of a layout, of all the fields
-abbrev pub TakesLaid : Layout → List (List ℕ) → Option Laid → Type 0
-TakesLaid wanted fields answer =
-    MatchOption answer (all_taken (take_arguments (laid_forms wanted (length fields)) fields) ≡ None)
-    (λ it. (take_arguments (laid_forms wanted (length fields)) fields ≡ Some (laid_arguments it, [])) × (layout_by it ≡ wanted))
-
--- a reader leaves the call of a word that all the fields spell by its forms, or leaves its place alone
-abbrev pub ReadsWhole : Word → List Form → List (List ℕ) → Option (Unit {0}) → Call → Call → Type 0
-ReadsWhole word forms fields answer old new =
-    MatchOption answer ((all_taken (take_arguments forms fields) ≡ None) × (new ≡ old))
-    (λ _. (all_taken (take_arguments forms fields) ≡ Some (arguments_of new)) × (word_of_call new ≡ word) × (names_enough new ≡ true))
 
 -- the number, the peer and so on of an argument that is one
 abbrev pub numeral_in : Argument → ℕ
@@ -164,46 +142,3 @@ call_unless (Some fault) call = Err fault
 -- the record that a line spells, or its first fault
 unfoldable pub record_of_line : List ℕ → Result Call LineFault
 record_of_line line = call_unless (fault_of_line line) (call_of_fields (split_fields (body_of line)))
-
--- what a reader answers, and the call that it leaves, are those of a reading; a fault leaves the place alone
-abbrev pub ReadsInto : Result (Unit {0}) LineFault → Call → Call → Result Call LineFault → Type 0
-ReadsInto answer old new reading =
-    MatchResult answer (λ _. reading ≡ Ok new) (λ fault. (reading ≡ Err fault) × (new ≡ old))
-
--- a reader of the fields after a word leaves the call that they spell, or they don't fit the word and it
--- leaves its place alone
-abbrev pub ReadsBehind : Word → List (List ℕ) → Bool → Call → Call → Type 0
-ReadsBehind word fields answer old new =
-    MatchBool answer
-    ((fields ≡ map spell (arguments_of new)) × (word_of_call new ≡ word) × (in_ranges new ≡ true))
-    ((fits word fields ≡ false) × (new ≡ old))
-
--- the same of all the fields of a line
-abbrev pub ReadsFields : List (List ℕ) → Bool → Call → Call → Type 0
-ReadsFields fields answer old new =
-    MatchBool answer ((fields ≡ fields_of new) × (in_ranges new ≡ true)) ((fits_line fields ≡ false) × (new ≡ old))
-
--- fields that are requests, as many as one wait may name
-abbrev pub requests_fit : List (List ℕ) → Bool
-requests_fit fields = nat_le 1 (length fields) && nat_le (length fields) MOST_REQUESTS && all_requests fields
-
--- the fields spell these requests
-pub record SpellsRequests (fields : List (List ℕ)) (reqs : List ℕ) : Type 0 where
-  pub fields_are : fields ≡ map spell (map request_argument reqs)
-  pub in_range : list_all is_in_range (map request_argument reqs) ≡ true
-  pub enough : few_enough reqs ≡ true
-
--- the line is a call's spelling, and the call's fields are in their ranges
-pub record Spells (line : List ℕ) (call : Call) : Type 0 where
-  pub line_is : line ≡ spelling call
-  pub in_ranges_is : in_ranges call ≡ true
-
--- some bytes begin with the `n` bytes of a call's spelling, and the call's fields are in their ranges
-pub record BeginsWith (bytes : List ℕ) (call : Call) (n : ℕ) : Type 0 where
-  pub within : n ≤ length bytes
-  pub spells : Spells (take n bytes) call
-
--- the line isn't too long and has its line feed; this is its body
-pub record IsBody (line body : List ℕ) : Type 0 where
-  pub line_is : line ≡ body ++ line_feed ∷ []
-  pub short : length body < most_bytes

@@ -5,8 +5,8 @@
 //! end of the field is known.
 
 ghost use Rattle.std.specs.Prelude.{◌≡◌, ◌≤◌, [], ◌∷◌, true, false, List, ℕ, length, MatchOption, MatchBool};
-ghost use Rattle.mpicall.specs.Reading.{ReadsBehind, ReadsFields, requests_fit, SpellsRequests};
-ghost use Rattle.mpicall.specs.Line.{fits_line};
+ghost use Rattle.mpicall.specs.inner.Reading.{ReadsBehind, ReadsFields, requests_fit, SpellsRequests};
+ghost use Rattle.mpicall.specs.inner.Line.{fits_line};
 ghost use Rattle.mpicall.specs.Word.{text_of};
 ghost use Rattle.mpicall.specs.declared.word.Name.TheVariants as name;
 ghost use Rattle.mpicall.specs.declared.word.Word.TheVariants.{Named};
@@ -127,7 +127,7 @@ fn next_often(fields: &mut Fields<'_>) -> Option<Word>
 
 /// Takes the first field off; answers the word of the format that it is, if it is one.
 #[inline(never)]
-#[tactic(auto, unfolding(crate::specs::Line::fits_line))]
+#[tactic(auto, unfolding(crate::specs::inner::Line::fits_line))]
 fn next_any(fields: &mut Fields<'_>) -> Option<Word>
     ensures { MatchOption result (fits_line fields.old ≡ false) (λ word. fields.old ≡ text_of word ∷ fields.new) }
 {

@@ -3,7 +3,8 @@
 ghost use Rattle.std.specs.Prelude.{◌≡◌, ◌≤◌, [], ◌∷◌, ◌==◌, None, Some, true, length, take, position, IfSome, MatchBool, MatchOption};
 ghost use Rattle.std.specs.List.{list_any};
 ghost use Rattle.mpicall.specs.Spelling.{space};
-ghost use Rattle.mpicall.specs.Lines.{split_fields, is_blank, is_empty};
+ghost use Rattle.mpicall.specs.Lines.{split_fields, is_blank};
+ghost use Rattle.mpicall.specs.inner.Lines.{is_empty};
 ghost use Rattle.mpicall.specs.Argument.{NumberUpTo, Number};
 ghost use Rattle.mpicall.specs.Reading.{next_argument};
 
@@ -18,7 +19,7 @@ pub struct Fields<'a> {
 
 impl<'a> Model for Fields<'a> {
     ghost use Rattle.std.specs.Prelude.{List, ℕ};
-    ghost use Rattle.mpicall.specs.Lines.{split_some};
+    ghost use Rattle.mpicall.specs.inner.Lines.{split_some};
 
     ghost Value = { List (List ℕ) };
 

@@ -5,7 +5,8 @@
 
 ghost use Rattle.std.specs.Prelude.{◌≡◌, ◌≤◌, Some, false, length, take, drop};
 ghost use Rattle.std.specs.List.{list_any};
-ghost use Rattle.mpicall.specs.Line.{root_forms, operation_forms, shape_of, shape_by, takes_count, is_any, source_by, source_place, wildcard_at, fault_of_fields, fits_line};
+ghost use Rattle.mpicall.specs.Line.{root_forms, operation_forms, shape_of, shape_by, takes_count, is_any, source_by, source_place, wildcard_at, fault_of_fields};
+ghost use Rattle.mpicall.specs.inner.Line.{fits_line};
 ghost use Rattle.mpicall.specs.Lines.{is_blank};
 
 use crate::call::Mode;
@@ -138,7 +139,7 @@ fn has_wildcard(place: usize, mut fields: Fields<'_>) -> bool
 }
 
 /// The first fault of fields that don't fit.
-#[tactic(auto, unfolding(crate::specs::Line::fits_line, crate::specs::Line::fault_of_fields))]
+#[tactic(auto, unfolding(crate::specs::inner::Line::fits_line, crate::specs::Line::fault_of_fields))]
 pub(crate) fn fault_of_fields(mut fields: Fields<'_>) -> LineFault
     requires few { length fields ≤ MOST_LINE_BYTES }
     requires unfit { fits_line fields ≡ false }

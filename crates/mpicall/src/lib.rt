@@ -26,10 +26,10 @@
 //! - Every call but `lint` returns, whatever the bytes are; a source may have no end.
 //!
 //! The definitions stand in `specs/`: `Number`, `Argument`, `Word`, `Laid` and `Spelling` say how a call is
-//! spelled, `Limits` which calls are records, `Ending` which of them end a list, `Does` what they do over their
-//! communicators, `Lines` and `Line` what is wrong with a line, `Trace` what the bytes of a source are, and
-//! `Device`, `Source` and `Lint` what a function does. Nobody has to believe `Draft`, `Front`, `Window`, `Stage`
-//! and `Cells`, which only proofs and private functions use, nor `Reading`: `Trace` cites it, and
+//! spelled, `Limits` which calls are records, `Ending` which of them end a list, `Does` what they do over
+//! their communicators, `Lines` and `Line` what is wrong with a line, `Trace` what the bytes of a source are,
+//! and `Device`, `Source` and `Lint` what a function does. What only proofs and private contracts cite is in
+//! `specs/inner/`, and nobody has to believe it. `Trace` cites `Reading`, and
 //! `source::each_text_has_one_trace` says what that comes to without it.
 //!
 //! ```text

@@ -2,7 +2,7 @@
 
 ghost use Rattle.std.specs.Prelude.{◌≡◌, ◌&&◌, ◌≤◌, nat_le, Some, None, IfSome, if◌then◌else◌};
 ghost use Rattle.std.specs.Str.{all_ascii_digits};
-ghost use Rattle.mpicall.specs.Front.{IsFront};
+ghost use Rattle.mpicall.specs.inner.Front.{IsFront};
 ghost use Rattle.mpicall.specs.Number.{has_leading_zero, is_canonical, number_up_to, value_of, negative, signed_of};
 
 use crate::limits::GREATEST_KEY;

@@ -4,7 +4,7 @@ ghost use Rattle.std.specs.Prelude.{◌≡◌, ◌+◌, ◌*◌, ◌≤◌, ◌<
 ghost use Rattle.std.specs.Fmt.{decimal, signed_decimal};
 ghost use Rattle.std.specs.List.{join_with_byte};
 ghost use Rattle.mpicall.specs.Argument.{PeerOf, comm_argument, tag_argument, request_argument, bytes_arguments, peer_field, number_or};
-ghost use Rattle.mpicall.specs.Draft.{line_with};
+ghost use Rattle.mpicall.specs.inner.Draft.{line_with};
 ghost use Rattle.mpicall.specs.Laid.{laid_arguments};
 ghost use Rattle.mpicall.specs.Spelling.{space, arguments_of, fields_of, root_of, root_arguments};
 ghost use Rattle.mpicall.specs.Word.{text_of};

@@ -4,11 +4,13 @@
 
 ghost use Rattle.std.specs.Prelude.{◌≡◌, ◌≤◌, ◌-◌, [], ◌∷◌, Some, None, true, false, length, IfSome, MatchOption};
 ghost use Rattle.mpicall.specs.Argument.{NumberUpTo, PeerForm, ColourForm, KeyForm, NewForm, Number, PeerOf, Colour, Key, New, comm_form, tag_form, request_form, root_form, comm_argument, tag_argument, request_argument, bytes_arguments, root_argument};
-ghost use Rattle.mpicall.specs.Laid.{is_laid};
-ghost use Rattle.mpicall.specs.Lines.{is_empty};
+ghost use Rattle.mpicall.specs.inner.Laid.{is_laid};
+ghost use Rattle.mpicall.specs.inner.Lines.{is_empty};
 ghost use Rattle.mpicall.specs.Spelling.{name_of, root_of, root_arguments};
-ghost use Rattle.mpicall.specs.Line.{root_forms, bytes_forms, operation_forms, laid_forms};
-ghost use Rattle.mpicall.specs.Reading.{next_argument, take_arguments, all_taken, TakesLaid, ReadsWhole};
+ghost use Rattle.mpicall.specs.Line.{root_forms, bytes_forms, operation_forms};
+ghost use Rattle.mpicall.specs.inner.Line.{laid_forms};
+ghost use Rattle.mpicall.specs.Reading.{next_argument, take_arguments};
+ghost use Rattle.mpicall.specs.inner.Reading.{all_taken, TakesLaid, ReadsWhole};
 ghost use Rattle.mpicall.specs.Word.{layout_of};
 ghost use Rattle.mpicall.specs.declared.word.Layout.TheVariants as layout;
 ghost use Rattle.mpicall.specs.declared.word.Name.TheVariants as name;

@@ -6,7 +6,7 @@ ghost use Rattle.mpicall.specs.Argument.{PeerOf, comm_argument, tag_argument, re
 ghost use Rattle.mpicall.specs.Ending.{ends_list};
 ghost use Rattle.mpicall.specs.Laid.{laid_arguments};
 ghost use Rattle.mpicall.specs.Limits.{in_ranges, may_tell};
-ghost use Rattle.mpicall.specs.Reading.{ReadsFields};
+ghost use Rattle.mpicall.specs.inner.Reading.{ReadsFields};
 ghost use Rattle.mpicall.specs.Spelling.{root_of, root_arguments};
 ghost use Rattle.mpicall.specs.declared.call.Call.TheVariants.{Coll, Finalize};
 

@@ -10,7 +10,8 @@
 //! record. So the policy is a matter of time alone, and nothing is proved of it.
 
 ghost use Rattle.std.specs.Prelude.{◌≡◌, ◌≤◌, true, length, take, IfOk, MatchOption, MatchBool};
-ghost use Rattle.mpicall.specs.Reading.{record_of_line, ReadsInto, Spells, BeginsWith};
+ghost use Rattle.mpicall.specs.Reading.{record_of_line};
+ghost use Rattle.mpicall.specs.inner.Reading.{ReadsInto, Spells, BeginsWith};
 ghost use Rattle.mpicall.specs.declared.remembered.TheConstants.{MOST_KEPT_BYTES};
 
 use crate::fault::LineFault;

@@ -15,7 +15,7 @@ pub struct Reqs {
 
 impl Model for Reqs {
     ghost use Rattle.std.specs.Prelude.{List, ℕ, ◌≡◌, ◌≤◌, ◌-◌, ◌++◌, length, take, drop, replicate};
-    ghost use Rattle.mpicall.specs.Cells.{same_cells, same_len};
+    ghost use Rattle.mpicall.specs.inner.Cells.{same_cells, same_len};
     ghost use Rattle.mpicall.specs.declared.limits.TheConstants.{MOST_REQUESTS};
 
     ghost Value = { List ℕ };

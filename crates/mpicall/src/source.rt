@@ -4,7 +4,7 @@
 //! their records. So a source takes no memory of its own. A record has 264 bytes, so it is read into one
 //! place of the caller's, which is written once the whole line was read: a fault leaves it as it was.
 
-ghost use Rattle.mpicall.specs.Stage.{is_own, stage_behind};
+ghost use Rattle.mpicall.specs.inner.Stage.{is_own, stage_behind};
 ghost use Rattle.mpicall.specs.Lines.{lines_of};
 ghost use Rattle.mpicall.specs.Trace.{Trace, IsTraceOf, trace_of};
 ghost use Rattle.std.specs.Prelude.{◌≡◌, ◌↔◌, List, [], ◌≢◌, ℕ, true, Some, None, Ok, Err, option_map, IfErr, IfSome};

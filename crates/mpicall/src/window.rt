@@ -5,7 +5,7 @@
 ghost use Rattle.std.specs.Prelude.{◌≡◌, ◌≢◌, true, false, Ok, ◌+◌, ◌-◌, ◌≤◌, ◌<◌, ℕ, List, [], ◌++◌, length, drop, IsTrue, IfOk, MatchOption, OnErr, ◌↔◌};
 ghost use Rattle.std.specs.Io.KnownBytes.{Keeps, prepend_known, IsAtEnd};
 ghost use Rattle.mpicall.specs.Device.{CountsFailure};
-ghost use Rattle.mpicall.specs.Window.{Fills, held_between, NoFeedBelow, FirstFeed, EndsLine};
+ghost use Rattle.mpicall.specs.inner.Window.{Fills, held_between, NoFeedBelow, FirstFeed, EndsLine};
 
 use crate::device::{DeviceFault, Input};
 use crate::limits::MOST_LINE_BYTES;
@@ -26,7 +26,7 @@ pub(crate) struct Window {
 
 impl Model for Window {
     ghost use Rattle.std.specs.Prelude.{List, ℕ, ◌≤◌};
-    ghost use Rattle.mpicall.specs.Window.{held_between};
+    ghost use Rattle.mpicall.specs.inner.Window.{held_between};
     ghost use Rattle.mpicall.specs.declared.window.TheConstants.{CAPACITY};
 
     ghost Value = { List ℕ };

@@ -6,7 +6,7 @@ use Rattle.std.proofs.lemmas.Option.{slice_get_within}
 use Rattle.std.proofs.lemmas.Bool.{cases_Bool, eqb-true, eqb-false, eq-eqb, ne_eqb, or_left, or_right}
 use Rattle.mpicall.specs.Number.{is_canonical, value_of}
 use Rattle.mpigroup.proofs.ListLemmas.{slice_get-set_same, slice_get-set_other}
-use Rattle.mpigroup.specs.Places.{told_place, is_free, new_member}
+use Rattle.mpigroup.specs.inner.Places.{told_place, is_free, new_member}
 use Rattle.mpigroup.specs.declared.group.TheConstants.{NO_PLACE}
 
 -- the table tells the places of these members

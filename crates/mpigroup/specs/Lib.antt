@@ -3,4 +3,4 @@ pub mod Codes
 pub mod HeadText
 pub mod Heads
 pub mod Splits
-pub mod Places
+pub mod inner

@@ -5,7 +5,7 @@
 //! A place is below 1,024, so 65535 means 'no member'.
 
 ghost use Rattle.std.specs.Prelude.{◌≡◌, ◌==◌, length, position, slice_get};
-ghost use Rattle.mpigroup.specs.Places.{told_place};
+ghost use Rattle.mpigroup.specs.inner.Places.{told_place};
 
 use std::marker::Model;
 
@@ -30,7 +30,7 @@ impl Drop for Group {
 
 impl Model for Group {
     ghost use Rattle.std.specs.Prelude.{ℕ, List};
-    ghost use Rattle.mpigroup.specs.Places.{IsPlaced};
+    ghost use Rattle.mpigroup.specs.inner.Places.{IsPlaced};
 
     ghost Value = { List ℕ };
 

@@ -6,7 +6,8 @@ ghost use Rattle.std.specs.Prelude.{ℕ, take, ◌≡◌, ◌≤◌, ◌<◌, Ok
 ghost use Rattle.std.specs.List.{range_with_len};
 ghost use Rattle.std.specs.Option.{option_copied};
 ghost use Rattle.mpigroup.specs.Groups.{group_of, ranks_of, size_of, world_rank_of, group_rank_of};
-ghost use Rattle.mpigroup.specs.Heads.{AreSound, IsGroup};
+ghost use Rattle.mpigroup.specs.Heads.{IsGroup};
+ghost use Rattle.mpigroup.specs.inner.Heads.{AreSound};
 ghost use Rattle.mpigroup.specs.Codes.{IsHeadFaultOf};
 ghost use Rattle.mpicall.specs.Lines.{lines_of};
 ghost use Rattle.mpigroup.specs.HeadText.{groups_of_lines, read_head};
@@ -39,7 +40,7 @@ impl Drop for Head {
 impl Model for Head {
     ghost use Rattle.std.specs.Prelude.{◌∷◌, ℕ, List};
     ghost use Rattle.std.specs.List.{range_with_len};
-    ghost use Rattle.mpigroup.specs.Heads.{AreSound};
+    ghost use Rattle.mpigroup.specs.inner.Heads.{AreSound};
 
     ghost Value = { List (List ℕ) };
 

@@ -15,8 +15,7 @@
 //!   least and none twice.
 //! - [`split::split_groups`] answers the groups of `specs/Splits.antt`, or lack of memory.
 //!
-//! Nobody has to believe `specs/Places.antt`: it says how a group's ranks are looked up, and no public contract cites
-//! it.
+//! What only proofs and private contracts cite is in `specs/inner/`, and nobody has to believe it.
 //!
 //! In the code alone it is seen that no look-up searches a group or takes memory.
 //!

@@ -7,7 +7,7 @@ ghost use Rattle.mpicall.specs.Number.{is_canonical};
 ghost use Rattle.mpigroup.specs.Codes.{IsHeadFaultOf};
 ghost use Rattle.mpicall.specs.Lines.{lines_of};
 ghost use Rattle.mpigroup.specs.HeadText.{is_head_line, ranks_of_fields, ranks_of_line, group_of_fields, group_of_line, at_line};
-ghost use Rattle.mpigroup.specs.Places.{new_member};
+ghost use Rattle.mpigroup.specs.inner.Places.{new_member};
 ghost use Rattle.mpigroup.specs.declared.fault.HeadFaultKind.TheVariants.{Group as GroupFault, CommLine};
 
 use crate::fault::{HeadFaultKind, ReadFault};

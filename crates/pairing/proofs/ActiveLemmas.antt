@@ -7,7 +7,7 @@ use Rattle.std.proofs.lemmas.Grind.{common_steps}
 use Rattle.mpicall.specs.declared.call.Call.{Call}
 use Rattle.callnotes.specs.Recordings.{Lists, calls_of, appended}
 use Rattle.callnotes.specs.Requests.{does_start, does_complete, started_in, is_active, HasActive}
-use Rattle.pairing.specs.Starts.{cell_in, place_at, place_in, has_place, IsActive}
+use Rattle.pairing.specs.inner.Starts.{cell_in, place_at, place_in, has_place, IsActive}
 use Rattle.pairing.specs.declared.active.Request.{Request}
 use Rattle.pairing.specs.declared.active.Start.{Start}
 use Rattle.pairing.specs.declared.active.Active.{Active}

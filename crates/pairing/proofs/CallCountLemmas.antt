@@ -12,7 +12,7 @@ use Rattle.mpigroup.specs.declared.limits.TheConstants.{MOST_RANKS}
 use Rattle.callnotes.specs.Limits.{most_calls}
 use Rattle.callnotes.specs.Recordings.{Lists, calls_of, appended}
 use Rattle.pairing.specs.Faults.{IsLawfulList, IsLawful}
-use Rattle.pairing.specs.Probing.{calls_in_all}
+use Rattle.pairing.specs.inner.Probing.{calls_in_all}
 use Rattle.pairing.proofs.FaultLemmas.{fault_none}
 
 pub one_more_call : (recording : Lists) (rank : ℕ) (call : Call) → rank < length recording → calls_in_all (appended recording rank call) ≡ calls_in_all recording + 1

@@ -16,10 +16,12 @@ use Rattle.callnotes.specs.declared.envelope.Half.TheVariants.{Send as SendHalf,
 use Rattle.pairing.specs.declared.matches.Halves.{Halves}
 use Rattle.pairing.specs.declared.matches.Numbered.{Numbered}
 use Rattle.callnotes.specs.Envelopes.{other_half, envelope_of, same_envelope, rank_of_half, has_envelope}
-use Rattle.pairing.specs.Kept.{AreNoted, ArePartnered}
-use Rattle.pairing.specs.Matched.{halves_of, pending_of, Matching, Filing, filed_on, filed_halves, worked_if, worked, number_in, pending_at, pending_by, IsGrown, IsMatched, ArePaired, IsNext}
+use Rattle.pairing.specs.inner.Kept.{AreNoted, ArePartnered}
+use Rattle.pairing.specs.Matched.{halves_of, pending_of}
+use Rattle.pairing.specs.inner.Matched.{Matching, Filing, filed_on, filed_halves, worked_if, worked, number_in, pending_at, pending_by, IsGrown, IsMatched, ArePaired, IsNext}
 use Rattle.pairing.specs.Work.{count_halves, halves_in, halves_from, work_of}
-use Rattle.callnotes.specs.Notes.{Noted, notes_of, recording_of, with_note, kept_at}
+use Rattle.callnotes.specs.Notes.{Noted, notes_of, with_note}
+use Rattle.callnotes.specs.inner.Notes.{recording_of, kept_at}
 use Rattle.callnotes.specs.Beside.{partner_in}
 use Rattle.pairing.specs.Partners.{envelope_at, places_of, number_of, numbered, partner_of}
 use Rattle.callnotes.specs.Places.{places}

@@ -9,7 +9,7 @@ use Rattle.std.proofs.lemmas.Grind.{common_steps}
 use Rattle.mpicall.specs.declared.call.Call.{Call}
 use Rattle.callnotes.specs.Recordings.{Lists, calls_of, appended}
 use Rattle.callnotes.specs.Communicators.{makes, does_make, made_at, NoneIsMade, HasMade}
-use Rattle.pairing.specs.Holdings.{is_same_holding, has_holding, IsHolding}
+use Rattle.pairing.specs.inner.Holdings.{is_same_holding, has_holding, IsHolding}
 use Rattle.pairing.specs.declared.held.Held.{Held}
 use Rattle.pairing.specs.declared.held.Holding.{Holding}
 use Rattle.callnotes.proofs.OptionLemmas.{and_then_parts, is_it}

@@ -9,7 +9,7 @@ use Rattle.std.proofs.lemmas.Option.{none-some, same_Some}
 use Rattle.indexmap.specs.IndexSet.{insert_key}
 use Rattle.mpicall.specs.declared.call.Call.{Call}
 use Rattle.pairing.specs.declared.held.Holding.{Holding}
-use Rattle.pairing.specs.Joined.{Joinings, is_key, list_number, list_of, IsJoined, IsListFor}
+use Rattle.pairing.specs.inner.Joined.{Joinings, is_key, list_number, list_of, IsJoined, IsListFor}
 use Rattle.callnotes.specs.Places.{places}
 use Rattle.callnotes.specs.Recordings.{Lists, calls_of, appended}
 use Rattle.callnotes.specs.Seats.{Seats, list_in, with_place_in}

@@ -10,13 +10,15 @@ use Rattle.mpicall.specs.declared.call.Call.{Call}
 use Rattle.mpigroup.specs.Groups.{Groups, ranks_of, world_rank_of, group_rank_of}
 use Rattle.callnotes.specs.declared.envelope.Envelope.{Envelope}
 use Rattle.callnotes.specs.declared.envelope.Half.{Half}
-use Rattle.callnotes.specs.Notes.{Noted, notes_of, completed_among, completed_starts, start_of, calls_in, recording_of, kept_at}
+use Rattle.callnotes.specs.Notes.{Noted, notes_of, completed_among, completed_starts, start_of, calls_in}
+use Rattle.callnotes.specs.inner.Notes.{recording_of, kept_at}
 use Rattle.callnotes.specs.declared.envelope.Half.TheVariants.{Send as SendHalf, Recv as RecvHalf}
 use Rattle.callnotes.specs.declared.envelope.Message.{Message}
 use Rattle.pairing.specs.declared.matches.Halves.{Halves}
 use Rattle.callnotes.specs.Beside.{partner_in, wave_in}
-use Rattle.pairing.specs.Kept.{IsNoted, AreNoted, ArePartnered}
-use Rattle.pairing.specs.Matched.{halves_of, filed_halves, worked, ArePaired}
+use Rattle.pairing.specs.inner.Kept.{IsNoted, AreNoted, ArePartnered}
+use Rattle.pairing.specs.Matched.{halves_of}
+use Rattle.pairing.specs.inner.Matched.{filed_halves, worked, ArePaired}
 use Rattle.pairing.proofs.FiledLemmas.{envelopes, filed_call, pending_to, partnered_to, paired_from, work_on}
 use Rattle.callnotes.proofs.OptionLemmas.{map_parts}
 use Rattle.pairing.proofs.PartnerLemmas.{partner_parts}
@@ -28,7 +30,7 @@ use Rattle.callnotes.specs.Requests.{waits_for, completes, started_in, started_o
 use Rattle.callnotes.specs.Waves.{joins, does_join, wave_of}
 use Rattle.pairing.specs.Pairs.{completed_of}
 use Rattle.pairing.specs.Faults.{fault_of, IsLawfulList, IsLawful}
-use Rattle.pairing.specs.Tables.{AreOthers, AreTables, GoOnBy, IsKept}
+use Rattle.pairing.specs.inner.Tables.{AreOthers, AreTables, GoOnBy, IsKept}
 use Rattle.pairing.specs.declared.tables.Tables.{Tables}
 use Rattle.pairing.proofs.FaultLemmas.{lawful_push, lawful_end}
 use Rattle.callnotes.proofs.RecordingLemmas.{calls_of-appended, calls_of-appended_other}

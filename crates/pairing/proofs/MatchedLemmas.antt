@@ -9,14 +9,15 @@ use Rattle.std.proofs.lemmas.Map.Keys.{apart_from_distinct}
 use Rattle.std.proofs.lemmas.Option.{slice_get_within, get_or_from_slice_get}
 use Rattle.std.proofs.lemmas.Bool.{false≢true, cases_Bool}
 use Rattle.indexmap.specs.IndexSet.{insert_key}
-use Rattle.arenalist.specs.Arena.{contents, first_value, linked}
+use Rattle.arenalist.specs.Arena.{first_value, linked}
+use Rattle.arenalist.specs.inner.Arena.{contents}
 use Rattle.arenalist.specs.Numbers.{list_at}
 use Rattle.arenalist.proofs.ContentsLemmas.{values, contents_at, contents_drop, contents_linked, first_content}
 use Rattle.callnotes.specs.declared.envelope.Envelope.{Envelope}
 use Rattle.callnotes.specs.declared.envelope.Half.{Half}
 use Rattle.callnotes.specs.declared.envelope.Half.TheVariants.{Send as SendHalf, Recv as RecvHalf}
 use Rattle.callnotes.specs.Envelopes.{other_half, same_envelope}
-use Rattle.pairing.specs.Matched.{Matching, HaveLists, number_in, list_no, pending_at, pending_by, met_if, met, HasPending, IsGrown}
+use Rattle.pairing.specs.inner.Matched.{Matching, HaveLists, number_in, list_no, pending_at, pending_by, met_if, met, HasPending, IsGrown}
 use Rattle.callnotes.proofs.NumberLemmas.{position_at, position_cases, number_stays, number_past}
 use Rattle.callnotes.proofs.PlaceLemmas.{slice_get_there}
 use Rattle.pairing.proofs.RequestLaws.{some_parts}

@@ -10,7 +10,7 @@ use Rattle.callnotes.specs.declared.envelope.Envelope.{Envelope}
 use Rattle.callnotes.specs.declared.envelope.Half.{Half}
 use Rattle.callnotes.specs.declared.envelope.Half.TheVariants.{Send as SendHalf, Recv as RecvHalf}
 use Rattle.callnotes.specs.Envelopes.{other_half, same_envelope, rank_of_half}
-use Rattle.pairing.specs.Matched.{Filing, is_half, filed_on}
+use Rattle.pairing.specs.inner.Matched.{Filing, is_half, filed_on}
 use Rattle.pairing.proofs.PartnerLemmas.{same_envelope_true, same_envelope_refl, other_other}
 use Rattle.callnotes.proofs.PlaceLemmas.{slice_get-front}
 

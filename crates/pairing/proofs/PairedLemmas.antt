@@ -13,9 +13,10 @@ use Rattle.callnotes.specs.declared.envelope.Half.{Half}
 use Rattle.callnotes.specs.declared.envelope.Half.TheVariants.{Send as SendHalf, Recv as RecvHalf}
 use Rattle.callnotes.specs.declared.envelope.Message.{Message}
 use Rattle.callnotes.specs.Envelopes.{other_half, message_of, envelope_by, envelope_of, rank_of_half}
-use Rattle.pairing.specs.Kept.{AreNoted}
-use Rattle.pairing.specs.Matched.{Matching, Filing, filed_on, number_in, list_no, pending_at, pending_by, met_if, met, ArePaired, IsNext}
-use Rattle.callnotes.specs.Notes.{Noted, notes_of, recording_of, kept_at, partnered}
+use Rattle.pairing.specs.inner.Kept.{AreNoted}
+use Rattle.pairing.specs.inner.Matched.{Matching, Filing, filed_on, number_in, list_no, pending_at, pending_by, met_if, met, ArePaired, IsNext}
+use Rattle.callnotes.specs.Notes.{Noted, notes_of, partnered}
+use Rattle.callnotes.specs.inner.Notes.{recording_of, kept_at}
 use Rattle.pairing.specs.Partners.{envelope_at}
 use Rattle.callnotes.specs.Recordings.{Lists}
 use Rattle.callnotes.specs.Waves.{joins}

@@ -14,8 +14,9 @@ use Rattle.callnotes.specs.declared.beside.Beside.{Beside}
 use Rattle.callnotes.specs.declared.beside.Beside.TheVariants.{Nothing, Wave, Sent, Received, Exchanged}
 use Rattle.callnotes.specs.Beside.{partner_in, with_partner}
 use Rattle.callnotes.specs.Envelopes.{other_half}
-use Rattle.pairing.specs.Kept.{IsNoted, AreNoted}
-use Rattle.callnotes.specs.Notes.{Noted, notes_of, calls_in, recording_of, note_with, kept_at, partnered_in, partnered}
+use Rattle.pairing.specs.inner.Kept.{IsNoted, AreNoted}
+use Rattle.callnotes.specs.Notes.{Noted, notes_of, calls_in, note_with, partnered_in, partnered}
+use Rattle.callnotes.specs.inner.Notes.{recording_of, kept_at}
 use Rattle.callnotes.specs.Waves.{joins}
 use Rattle.callnotes.proofs.NumberLemmas.{set_past}
 

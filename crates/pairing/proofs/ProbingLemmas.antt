@@ -22,8 +22,9 @@ use Rattle.callnotes.proofs.PlacesLemmas.{places_on}
 use Rattle.callnotes.proofs.OptionLemmas.{and_then_parts}
 use Rattle.pairing.proofs.PartnerLemmas.{own_rank, has_it, same_envelope_true, same_envelope_refl}
 use Rattle.callnotes.proofs.RecordingLemmas.{calls_of-appended, calls_of-appended_other}
-use Rattle.pairing.specs.Probed.{probed_envelope, probed_envelope_at, probed_of, receive_behind, seen_from, HasProbe, HasProbesIf}
-use Rattle.pairing.specs.Probing.{is_same_envelope, unfilled_at, seat_for, Seating, seated, IsSeatOf, AreSeated, Sits, Follows, filled}
+use Rattle.pairing.specs.Probed.{probed_envelope, probed_envelope_at, probed_of, receive_behind, HasProbe}
+use Rattle.pairing.specs.inner.Probed.{seen_from, HasProbesIf}
+use Rattle.pairing.specs.inner.Probing.{is_same_envelope, unfilled_at, seat_for, Seating, seated, IsSeatOf, AreSeated, Sits, Follows, filled}
 use Rattle.pairing.specs.declared.matches.Numbered.{Numbered}
 use Rattle.pairing.specs.declared.probes.Probes.{Probes}
 use Rattle.pairing.proofs.CallCountLemmas.{one_more_call}

@@ -1,15 +1,9 @@
 pub mod Partners
-pub mod Holdings
-pub mod Starts
 pub mod Faults
 pub mod LeftOpen
 pub mod Pairs
 pub mod Work
 pub mod Matched
-pub mod Joined
 pub mod Codes
-pub mod Kept
 pub mod Probed
-pub mod Probing
-pub mod Seated
-pub mod Tables
+pub mod inner

@@ -1,7 +1,7 @@
 -- Probes (MPI 4.0, section 3.8): MPI_Probe returns once there is a message that a receive with its source, tag
 -- and communicator would take at that point, and takes nothing itself. So a probe sees the send that the next
 -- receive of its envelope gets. It is no receive: a message has halves of sends and receives alone.
-use Rattle.std.specs.Prelude.{◌≡◌, ℕ, Bool, true, false, Option, Some, None, option_map, option_and_then, slice_get}
+use Rattle.std.specs.Prelude.{◌≡◌, ℕ, Option, Some, None, option_map, option_and_then, slice_get}
 use Rattle.mpicall.specs.declared.call.Call.{Call}
 use Rattle.mpigroup.specs.Groups.{Groups, group_rank_of}
 use Rattle.callnotes.specs.declared.envelope.Envelope.{Envelope}
@@ -41,11 +41,6 @@ pub record HasProbe (groups : Groups) (recording : Lists) : Type 0 where
 abbrev pub NoneIsProbed : Groups → Lists → Type 0
 NoneIsProbed groups recording = (rank place : ℕ) → probed_of groups recording rank place ≡ None
 
--- an answer whether there are probes; where there are none, no call sees a send
-abbrev pub HasProbesIf : Bool → Groups → Lists → Type 0
-HasProbesIf true groups recording = HasProbe groups recording
-HasProbesIf false groups recording = NoneIsProbed groups recording
-
 -- the place of the receive of the envelope that is the next after the rank's place, or at it
 abbrev pub receive_behind : Groups → Lists → ℕ → ℕ → Envelope → Option ℕ
 receive_behind groups recording rank place e =
@@ -71,9 +66,3 @@ abbrev pub ProbedSendsStay : Type 0
 ProbedSendsStay =
     (groups : Groups) (recording longer : Lists) (rank place other there : ℕ) → GoesOn recording longer →
     probed_of groups recording rank place ≡ Some (other, there) → probed_of groups longer rank place ≡ Some (other, there)
-
--- the same send, by where the next receive after the probe stands
-abbrev pub seen_from : Groups → Lists → ℕ → Option ℕ → Envelope → Option (ℕ × ℕ)
-seen_from groups recording rank (Some there) e = partner_of groups recording rank there RecvHalf
-seen_from groups recording rank None e =
-    option_and_then (λ sender. option_map (λ there. (sender, there)) (slice_get (pending_of groups recording SendHalf e) 0)) (rank_of_half groups SendHalf e)

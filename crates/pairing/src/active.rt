@@ -12,7 +12,7 @@ ghost use Rattle.std.proofs.Common.{rules};
 ghost use Rattle.indexmap.specs.IndexMap.{spare};
 ghost use Rattle.callnotes.specs.Recordings.{Lists, calls_of, appended};
 ghost use Rattle.callnotes.specs.Requests.{started_in, is_among, is_active, does_start, HasActive};
-ghost use Rattle.pairing.specs.Starts.{cell_no, cell_in, place_at, place_in, has_place, known_front, IsActive, HasRoomToStart};
+ghost use Rattle.pairing.specs.inner.Starts.{cell_no, cell_in, place_at, place_in, has_place, known_front, IsActive, HasRoomToStart};
 
 use callnotes::next_call::NextCall;
 use indexmap::IndexMap;

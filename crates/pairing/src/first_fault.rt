@@ -5,8 +5,8 @@ ghost use Rattle.std.specs.List.{list_all};
 ghost use Rattle.callnotes.specs.Limits.{most_calls};
 ghost use Rattle.callnotes.specs.Recordings.{Lists, calls_of, has_end};
 ghost use Rattle.pairing.specs.Faults.{holds_comm, starts_afresh, waits_for_active, is_fresh_comm, makes_afresh, fault_of};
-ghost use Rattle.pairing.specs.Holdings.{IsHolding};
-ghost use Rattle.pairing.specs.Starts.{has_place, IsActive};
+ghost use Rattle.pairing.specs.inner.Holdings.{IsHolding};
+ghost use Rattle.pairing.specs.inner.Starts.{has_place, IsActive};
 
 use crate::active::Active;
 use crate::fault::{CallFault, are_distinct, comm_exists, is_member, peers_exist};

@@ -7,7 +7,7 @@
 ghost use Rattle.std.specs.Prelude.{◌≡◌, ◌<◌, ◌≤◌, ℕ, Option, None, Some, [], true, length, replicate, IfOk, IfSome, OnOk};
 ghost use Rattle.mpicall.specs.declared.call.Call.{Call};
 ghost use Rattle.mpigroup.specs.Groups.{Groups};
-ghost use Rattle.pairing.specs.Joined.{list_number, list_of, IsJoined, IsListFor, HasRoomToJoin};
+ghost use Rattle.pairing.specs.inner.Joined.{list_number, list_of, IsJoined, IsListFor, HasRoomToJoin};
 ghost use Rattle.callnotes.specs.Limits.{most_calls};
 ghost use Rattle.callnotes.specs.Places.{places};
 ghost use Rattle.callnotes.specs.Recordings.{Lists, calls_of, appended};
@@ -51,7 +51,7 @@ impl Drop for Waves {
 
 impl Model for Waves {
     ghost use Rattle.std.specs.Prelude.{◌≡◌, ◌+◌, length};
-    ghost use Rattle.pairing.specs.Joined.{Joinings};
+    ghost use Rattle.pairing.specs.inner.Joined.{Joinings};
 
     ghost Value = { Joinings };
 

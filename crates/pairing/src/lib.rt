@@ -18,10 +18,9 @@
 //!   messages of one envelope do not overtake; in a list without faults each request that a wait names has its
 //!   start, and no request is started while it is active; partners and what probes see stay as a recording goes on.
 //!
-//! What a call means by itself, and how it is kept, is the matter of `callnotes`. The definitions stand in `specs/`,
-//! to be read in the order of docs/DEFINITIONS.md. Nobody has to believe `Holdings`, `Joined`, `Kept`, `Matched`,
-//! `Probing`, `Seated`, `Starts` and `Tables`: they say how `Pairs` keeps its tables, and no public contract cites
-//! them.
+//! What a call means by itself, and how it is kept, is the matter of `callnotes`. The definitions stand in
+//! `specs/`, to be read in the order of docs/DEFINITIONS.md. What only proofs and private contracts cite is
+//! in `specs/inner/`, and nobody has to believe it.
 //!
 //! No look-up takes memory or goes through a list of calls: that is seen in the code alone.
 //!

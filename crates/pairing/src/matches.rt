@@ -8,7 +8,7 @@ ghost use Rattle.std.specs.Prelude.{◌≡◌, ◌+◌, ◌*◌, ◌<◌, ◌≤
 ghost use Rattle.arenalist.specs.Arena.{counted};
 ghost use Rattle.callnotes.specs.Envelopes.{other_half};
 ghost use Rattle.callnotes.specs.declared.envelope.Envelope.{Envelope};
-ghost use Rattle.pairing.specs.Matched.{list_no, number_in, pending_at, pending_by, met, HasNumber, HasPending, HasRoomFor, IsGrown};
+ghost use Rattle.pairing.specs.inner.Matched.{list_no, number_in, pending_at, pending_by, met, HasNumber, HasPending, HasRoomFor, IsGrown};
 
 use crate::numbering::Numbering;
 use arenalist::lists::Lists;
@@ -64,8 +64,8 @@ impl Drop for Matches {
 
 impl Model for Matches {
     ghost use Rattle.std.specs.Prelude.{length};
-    ghost use Rattle.arenalist.specs.Arena.{contents};
-    ghost use Rattle.pairing.specs.Matched.{Matching, HaveLists};
+    ghost use Rattle.arenalist.specs.inner.Arena.{contents};
+    ghost use Rattle.pairing.specs.inner.Matched.{Matching, HaveLists};
 
     ghost Value = { Matching };
 

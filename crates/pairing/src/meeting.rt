@@ -3,8 +3,9 @@
 ghost use Rattle.std.specs.Prelude.{◌≡◌, ◌+◌, ◌≤◌, ◌<◌, Some, option_map, IfSome, is_some};
 ghost use Rattle.arenalist.specs.Arena.{counted};
 ghost use Rattle.callnotes.specs.Envelopes.{other_half, rank_of_half};
-ghost use Rattle.callnotes.specs.Notes.{recording_of, partnered};
-ghost use Rattle.pairing.specs.Matched.{Filing, filed_on, filed_halves, worked_if, worked, HasNumber, ArePaired, IsNext};
+ghost use Rattle.callnotes.specs.Notes.{partnered};
+ghost use Rattle.callnotes.specs.inner.Notes.{recording_of};
+ghost use Rattle.pairing.specs.inner.Matched.{Filing, filed_on, filed_halves, worked_if, worked, HasNumber, ArePaired, IsNext};
 ghost use Rattle.callnotes.specs.declared.envelope.Half.TheVariants.{Send as SendHalf, Recv as RecvHalf};
 
 use crate::matches::{Halves, Matches, Numbered};

@@ -12,7 +12,7 @@ ghost use Rattle.std.specs.Prelude.{◌≡◌, ◌<◌, [], length, Some, IfOk, 
 ghost use Rattle.std.specs.List.{IsDistinct};
 ghost use Rattle.indexmap.specs.IndexSet.{insert_key};
 ghost use Rattle.callnotes.specs.Envelopes.{same_envelope};
-ghost use Rattle.pairing.specs.Matched.{number_in};
+ghost use Rattle.pairing.specs.inner.Matched.{number_in};
 
 use callnotes::envelope::Envelope;
 use indexmap::IndexSet;

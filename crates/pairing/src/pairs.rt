@@ -8,19 +8,21 @@ ghost use Rattle.mpigroup.specs.Groups.{ranks_of};
 ghost use Rattle.callnotes.specs.Limits.{most_calls};
 ghost use Rattle.callnotes.specs.Recordings.{Lists, calls_of, appended, is_ended, has_end};
 ghost use Rattle.pairing.specs.Partners.{partner_of, EachIsReceived, HasUnreceived};
-ghost use Rattle.pairing.specs.Probed.{probed_of, seen_from, HasProbe, NoneIsProbed};
+ghost use Rattle.pairing.specs.Probed.{probed_of, HasProbe, NoneIsProbed};
+ghost use Rattle.pairing.specs.inner.Probed.{seen_from};
 ghost use Rattle.callnotes.specs.Often.{kind_no};
-ghost use Rattle.pairing.specs.Seated.{IsProbing};
+ghost use Rattle.pairing.specs.inner.Seated.{IsProbing};
 ghost use Rattle.callnotes.specs.Communicators.{NoneIsMade, HasMade};
 ghost use Rattle.callnotes.specs.Requests.{started_in, started_of, waits_for, HasActive};
-ghost use Rattle.pairing.specs.Joined.{IsListFor};
+ghost use Rattle.pairing.specs.inner.Joined.{IsListFor};
 ghost use Rattle.callnotes.specs.Waves.{wave_of, member_of};
 ghost use Rattle.pairing.specs.Faults.{fault_of, waits_for_active, IsLawful};
 ghost use Rattle.pairing.specs.Pairs.{with_call, joined_at, added_at, TellsFault, completed_of};
-ghost use Rattle.pairing.specs.Kept.{AreNoted, ArePartnered};
+ghost use Rattle.pairing.specs.inner.Kept.{AreNoted, ArePartnered};
 ghost use Rattle.pairing.specs.Work.{work_of};
-ghost use Rattle.callnotes.specs.Notes.{notes_of, recording_of, HasRoom};
-ghost use Rattle.pairing.specs.Tables.{AreTables, HaveRoom, GoOnBy, IsKept};
+ghost use Rattle.callnotes.specs.Notes.{notes_of, HasRoom};
+ghost use Rattle.callnotes.specs.inner.Notes.{recording_of};
+ghost use Rattle.pairing.specs.inner.Tables.{AreTables, HaveRoom, GoOnBy, IsKept};
 ghost use Rattle.pairing.specs.declared.added.PairFault.TheVariants.{Refused};
 
 use crate::added::{Added, Joined, PairFault};
@@ -66,10 +68,10 @@ impl Drop for Pairs {
 }
 
 impl Model for Pairs {
-    ghost use Rattle.pairing.specs.Seated.{IsProbing};
-    ghost use Rattle.callnotes.specs.Notes.{recording_of};
+    ghost use Rattle.pairing.specs.inner.Seated.{IsProbing};
+    ghost use Rattle.callnotes.specs.inner.Notes.{recording_of};
     ghost use Rattle.pairing.specs.Pairs.{Paired};
-    ghost use Rattle.pairing.specs.Tables.{IsKept};
+    ghost use Rattle.pairing.specs.inner.Tables.{IsKept};
 
     ghost Value = { Paired };
 

@@ -10,8 +10,9 @@ ghost use Rattle.mpigroup.specs.Groups.{Groups, group_rank_of};
 ghost use Rattle.callnotes.specs.declared.envelope.Half.TheVariants.{Recv as RecvHalf};
 ghost use Rattle.callnotes.specs.Envelopes.{envelope_by};
 ghost use Rattle.callnotes.specs.Recordings.{Lists};
-ghost use Rattle.pairing.specs.Probed.{probed_envelope, HasProbesIf};
-ghost use Rattle.pairing.specs.Probing.{seat_for, Seating, AreSeated, HasRoomToSit, Sits, Follows};
+ghost use Rattle.pairing.specs.Probed.{probed_envelope};
+ghost use Rattle.pairing.specs.inner.Probed.{HasProbesIf};
+ghost use Rattle.pairing.specs.inner.Probing.{seat_for, Seating, AreSeated, HasRoomToSit, Sits, Follows};
 
 use crate::matches::Numbered;
 use callnotes::envelope::{Envelope, Half, Message, envelope_by};

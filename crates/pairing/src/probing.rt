@@ -7,8 +7,8 @@ ghost use Rattle.callnotes.specs.declared.envelope.Half.TheVariants.{Recv as Rec
 ghost use Rattle.callnotes.specs.Envelopes.{envelope_of};
 ghost use Rattle.callnotes.specs.Recordings.{Lists, calls_of, appended};
 ghost use Rattle.pairing.specs.Probed.{HasProbe, NoneIsProbed};
-ghost use Rattle.pairing.specs.Probing.{seat_for, seated, Sits};
-ghost use Rattle.pairing.specs.Seated.{seat_in, IsProbing, HasRoomForProbe, HasRoomToProbe};
+ghost use Rattle.pairing.specs.inner.Probing.{seat_for, seated, Sits};
+ghost use Rattle.pairing.specs.inner.Seated.{seat_in, IsProbing, HasRoomForProbe, HasRoomToProbe};
 
 use crate::matches::Halves;
 use crate::probes::{Probes, probed_envelope};

@@ -6,10 +6,10 @@ ghost use Rattle.mpigroup.specs.Groups.{Groups};
 ghost use Rattle.callnotes.specs.Limits.{most_calls};
 ghost use Rattle.callnotes.specs.Recordings.{Lists, calls_of, appended};
 ghost use Rattle.callnotes.specs.Seats.{HasRoomIn};
-ghost use Rattle.pairing.specs.Holdings.{HasRoomToHold};
-ghost use Rattle.pairing.specs.Joined.{IsListFor};
-ghost use Rattle.pairing.specs.Starts.{HasRoomToStart};
-ghost use Rattle.pairing.specs.Tables.{AreOthers, AreTables, HaveRoom, IsBeside};
+ghost use Rattle.pairing.specs.inner.Holdings.{HasRoomToHold};
+ghost use Rattle.pairing.specs.inner.Joined.{IsListFor};
+ghost use Rattle.pairing.specs.inner.Starts.{HasRoomToStart};
+ghost use Rattle.pairing.specs.inner.Tables.{AreOthers, AreTables, HaveRoom, IsBeside};
 
 use crate::active::Active;
 use crate::held::Held;

@@ -9,7 +9,8 @@ use Rattle.mpicall.specs.declared.fault.Ending.{Ending}
 use Rattle.mpicall.specs.declared.fault.Ending.TheVariants.{Sealed, Torn}
 use Rattle.rankfeed.specs.declared.item.Item.{Item}
 use Rattle.rankfeed.specs.declared.item.Item.TheVariants.{Entry, Mark}
-use Rattle.rankfeed.specs.Items.{may_follow, last_behind, last_item, follow_on, are_in_order, item_ends_list, end_the_list, mark_in, end_mark_of, calls_among, IsFeed}
+use Rattle.rankfeed.specs.Items.{last_behind, last_item, item_ends_list, end_the_list, mark_in, end_mark_of, calls_among, IsFeed}
+use Rattle.rankfeed.specs.inner.Items.{may_follow, follow_on, are_in_order}
 
 pub last_behind-append : (before : Option Item) (xs ys : List Item) → last_behind before (xs ++ ys) ≡ last_behind (last_behind before xs) ys
 last_behind-append before [] ys = refl

@@ -7,8 +7,10 @@ use Rattle.atomic_table.proofs.Lists.{at_set, at_snoc}
 use Rattle.crossbeam_channel.specs.Fifo.{Pushes, Pops, Forks, Merges, Learns}
 use Rattle.rankfeed.specs.declared.item.Item.{Item}
 use Rattle.rankfeed.specs.declared.channel.rule.Hand.{Hand}
-use Rattle.rankfeed.specs.Items.{may_follow, last_item, are_in_order, end_mark_of, are_ended}
-use Rattle.rankfeed.specs.Relays.{hand, Fits, Relayed, Put, Leaves, Taken, left_in_relay}
+use Rattle.rankfeed.specs.Items.{last_item, end_mark_of, are_ended}
+use Rattle.rankfeed.specs.inner.Items.{may_follow, are_in_order}
+use Rattle.rankfeed.specs.Relays.{left_in_relay}
+use Rattle.rankfeed.specs.inner.Relays.{hand, Fits, Relayed, Put, Leaves, Taken}
 use Rattle.rankfeed.proofs.ItemLemmas.{last_item-push, in_order_push, next_may_follow}
 
 at_end : (l : List Hand) (a b : Hand) (j : ℕ) → get_elem? l j ≢ some b → get_elem? (l ++ a ∷ []) j ≡ some b → j ≡ length l

@@ -15,13 +15,6 @@ abbrev pub handed_back : PutFault → Call
 handed_back (Full call) = call
 handed_back (Closed call) = call
 
--- what a taker takes, where a look finds this and that record is the one at the front
-abbrev pub came_with : Came → Call → Took
-came_with Came.Record call = Record call
-came_with Came.Empty call = Empty
-came_with Came.Sealed call = Sealed
-came_with (Came.Torn fault) call = Torn fault
-
 -- how a taker answers an end mark, and where it looks alone
 abbrev pub told_end : Ending → Took
 told_end Ending.Sealed = Sealed

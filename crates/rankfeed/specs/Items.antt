@@ -1,22 +1,11 @@
 -- What a feed carries: records, and after them one end mark.
-use Rattle.std.specs.Prelude.{◌≡◌, Bool, true, false, not, ◌&&◌, Option, Some, None, is_some, List, [], ◌∷◌, ◌++◌}
+use Rattle.std.specs.Prelude.{◌≡◌, Bool, true, false, Option, Some, None, is_some, List, [], ◌∷◌, ◌++◌}
 use Rattle.mpicall.specs.declared.call.Call.{Call}
 use Rattle.mpicall.specs.Ending.{ends_list}
 use Rattle.mpicall.specs.declared.fault.Ending.{Ending}
-use Rattle.mpicall.specs.declared.fault.Ending.TheVariants.{Sealed, Torn}
+use Rattle.mpicall.specs.declared.fault.Ending.TheVariants.{Sealed}
 use Rattle.rankfeed.specs.declared.item.Item.{Item}
 use Rattle.rankfeed.specs.declared.item.Item.TheVariants.{Entry, Mark}
-
--- what may follow what: the item before, if there is one, and the item after it. The end record of a rank's
--- list is MPI_Finalize (MPI 4.0, section 11.2.2), or the record that the list was left open
-abbrev pub may_follow : Option Item → Item → Bool
-may_follow None (Entry call) = true
-may_follow None (Mark Sealed) = false
-may_follow None (Mark (Torn fault)) = true
-may_follow (Some (Entry earlier)) (Entry call) = not (ends_list earlier)
-may_follow (Some (Entry earlier)) (Mark Sealed) = ends_list earlier
-may_follow (Some (Entry earlier)) (Mark (Torn fault)) = true
-may_follow (Some (Mark earlier)) next = false
 
 -- the last of the items after a first one; that one where there are no more
 abbrev pub last_behind : Option Item → List Item → Option Item
@@ -26,14 +15,6 @@ last_behind before (next ∷ items) = last_behind (Some next) items
 -- the last item, if there is one
 abbrev pub last_item : List Item → Option Item
 last_item items = last_behind None items
-
--- each item may follow the one before it
-abbrev pub follow_on : Option Item → List Item → Bool
-follow_on before [] = true
-follow_on before (next ∷ items) = may_follow before next && follow_on (Some next) items
-
-abbrev pub are_in_order : List Item → Bool
-are_in_order items = follow_on None items
 
 -- the last item is the record that ends its rank's list
 abbrev pub item_ends_list : Option Item → Bool

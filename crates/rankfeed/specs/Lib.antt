@@ -3,3 +3,4 @@ pub mod Answers
 pub mod Rings
 pub mod Relays
 pub mod Channels
+pub mod inner

@@ -5,7 +5,8 @@
 ghost use Rattle.std.specs.Prelude.{◌≡◌, ◌<◌, ◌^◌, ◌+◌, ◌≤◌, true, false, None, length};
 ghost use Rattle.crossbeam_channel.specs.Claims.{view, IsSeatAt};
 ghost use Rattle.crossbeam_channel.specs.Ends.{sends_on, receives_on, ruled_capacity};
-ghost use Rattle.rankfeed.specs.Items.{may_follow, last_item, are_in_order, end_the_list, end_mark_of, are_ended};
+ghost use Rattle.rankfeed.specs.Items.{last_item, end_the_list, end_mark_of, are_ended};
+ghost use Rattle.rankfeed.specs.inner.Items.{may_follow, are_in_order};
 
 use crate::answer::{Met, Took, Unsealed};
 use crate::item::Item;

@@ -24,8 +24,9 @@
 //! calls may wait.
 //!
 //! The definitions are in `specs/`: `Items` says what a feed carries, `Answers` what its answers mean,
-//! `Rings` and `Channels` what contracts see of the two ends. Nobody has to believe the rule in `Relays`: of
-//! it contracts see `left_in` alone, what a taker of a channel knows to be left.
+//! `Rings` and `Channels` what contracts see of the two ends. What only proofs and private contracts cite is
+//! in `specs/inner/`, and nobody has to believe it. Of the rule in `Relays` contracts see `left_in` alone,
+//! what a taker of a channel knows to be left.
 //!
 //! ```text
 //! let (mut feed, mut taker) = Feed::open(alloc, rank, 64)?;

@@ -6,7 +6,8 @@
 
 ghost use Rattle.std.specs.Prelude.{◌≡◌, ◌<◌, ◌+◌, ◌≤◌, true, false, None, length};
 ghost use Rattle.rtrb.specs.Ring.{sent, received, all_sent, known_free, producer_capacity};
-ghost use Rattle.rankfeed.specs.Items.{may_follow, last_item, are_in_order, end_the_list, end_mark_of, are_ended};
+ghost use Rattle.rankfeed.specs.Items.{last_item, end_the_list, end_mark_of, are_ended};
+ghost use Rattle.rankfeed.specs.inner.Items.{may_follow, are_in_order};
 
 use crate::answer::{Came, Met, PutFault, Took, Unsealed};
 use crate::bell::Bell;
@@ -22,7 +23,8 @@ struct InOrder;
 
 impl Protocol<Item> for InOrder {
     ghost use Rattle.std.specs.Prelude.{◌≡◌, true};
-    ghost use Rattle.rankfeed.specs.Items.{may_follow, last_item};
+    ghost use Rattle.rankfeed.specs.Items.{last_item};
+    ghost use Rattle.rankfeed.specs.inner.Items.{may_follow};
 
     ghost allows = { λ before next. may_follow (last_item before) next ≡ true };
 }

@@ -14,7 +14,7 @@ use Rattle.waitgraph.specs.Causes.{causes_of}
 use Rattle.findings.specs.Findings.{findings_of}
 use Rattle.waitgraph.specs.Stuck.{stuck_of}
 use Rattle.waitgraph.specs.Verdicts.{verdict_of}
-use Rattle.reports.specs.ArrayTexts.{values_text, elements_text, key_text}
+use Rattle.reports.specs.inner.ArrayTexts.{values_text, elements_text, key_text}
 use Rattle.reports.specs.JsonReport.{each, cause_data, finding_data, rank_data, report_data, json_report}
 use Rattle.reports.specs.TextReport.{verdict_text}
 

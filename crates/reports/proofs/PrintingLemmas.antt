@@ -12,7 +12,7 @@ use Rattle.mpicall.specs.Device.{one_more, AppendsBeginning, CountsFailure}
 use Rattle.mpicall.specs.Spelling.{space, line_feed}
 use Rattle.waitgraph.specs.Causes.{CycleOf}
 use Rattle.reports.specs.TextReport.{cause_line}
-use Rattle.reports.specs.Printing.{IsPrinted, KeepsPrinted, Prints}
+use Rattle.reports.specs.inner.Printing.{IsPrinted, KeepsPrinted, Prints}
 use Rattle.reports.specs.declared.report.printer.Printer.{Printer}
 
 -- a prefix of a text is one of a longer text

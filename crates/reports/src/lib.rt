@@ -10,8 +10,7 @@
 //!
 //! `finding::push_finding` has the one text of a finding (`FindingTexts`).
 //!
-//! Nobody has to believe `Printing` and `ArrayTexts`: they say how a report is put together, and no public contract
-//! cites them.
+//! What only proofs and private contracts cite is in `specs/inner/`, and nobody has to believe it.
 //!
 //! ```text
 //! let graph = Graph::of(alloc, &analyser)?;

@@ -27,13 +27,16 @@ use Rattle.rankfeed.specs.declared.answer.Unsealed.{Unsealed}
 use Rattle.rankfeed.specs.declared.ring.Feed.{Feed}
 use Rattle.rankfeed.specs.declared.ring.Receipt.{Receipt}
 use Rattle.gather.specs.Answers.{PlacedFault, fault_of_rank, fault_onward, fault_of_end, or_behind, refusal_or, refusal_from, refusal_of, recording_of_traces}
-use Rattle.gather.specs.Closes.{Closes, IsOutcomeOver}
+use Rattle.gather.specs.Closes.{Closes}
+use Rattle.gather.specs.inner.Closes.{IsOutcomeOver}
 use Rattle.gather.specs.Fed.{marked, end_behind, mark_of, Begins, EndsAs, StopsAs, IsFed, line_behind}
-use Rattle.runs.specs.Ranks.{told_by, AcceptsAll, AcceptsRank, HasNoFault, IsLowestRefusal, IsRefusalOf}
+use Rattle.runs.specs.Ranks.{told_by, AcceptsAll, AcceptsRank}
+use Rattle.runs.specs.inner.Ranks.{HasNoFault, IsLowestRefusal, IsRefusalOf}
 use Rattle.gather.specs.Receipts.{trace_of_items, AreReceiptsOf, missing_from, first_missing, traces_held}
 use Rattle.gather.specs.Collected.{Kept, nothing_kept}
 use Rattle.gather.specs.Collectors.{rings, kept}
-use Rattle.runs.specs.Runs.{receipt_of, receipt_in, AreFedBy, IsOutcomeOfFeeds, IsRefusalOfFeeds, IsSameSession, RefusesFeeds, StopsWhereAllowed, of_close}
+use Rattle.runs.specs.Runs.{AreFedBy, IsRefusalOfFeeds, RefusesFeeds, StopsWhereAllowed}
+use Rattle.runs.specs.inner.Runs.{receipt_of, receipt_in, IsOutcomeOfFeeds, IsSameSession, of_close}
 use Rattle.gather.specs.declared.outcome.CloseFault.{CloseFault}
 use Rattle.gather.specs.declared.outcome.CloseFault.TheVariants.{Memory, Unproved, Refused}
 use Rattle.gather.specs.declared.collector.Collector.{Collector}

@@ -19,9 +19,11 @@ use Rattle.waitgraph.proofs.VerdictLemmas.{hang_tells_of_a_held_rank, hang_tells
 use Rattle.moves.proofs.StandLemmas.{no_run_brings_a_stuck_rank_to_its_end, every_maximal_run_ends_at_the_stands}
 use Rattle.gather.specs.Answers.{fault_of_rank, refusal_or, refusal_from, recording_of_traces, SomeRankCannotEnd}
 use Rattle.runs.specs.Told.{Tells, IsVerdictOver, RefusesOver}
-use Rattle.runs.specs.Ranks.{told_by, AcceptsAll, AcceptsRank, LeavesRunReport, RefusesRun, IsRefusalOf}
+use Rattle.runs.specs.Ranks.{told_by, AcceptsAll, AcceptsRank}
+use Rattle.runs.specs.inner.Ranks.{LeavesRunReport, RefusesRun, IsRefusalOf}
 use Rattle.runs.proofs.HeldLemmas.{found_at, lowest_refusal}
-use Rattle.runs.specs.Runs.{of_close, RefusesFeeds, StopsWhereAllowed}
+use Rattle.runs.specs.Runs.{RefusesFeeds, StopsWhereAllowed}
+use Rattle.runs.specs.inner.Runs.{of_close}
 use Rattle.gather.specs.declared.outcome.CloseFault.{CloseFault}
 use Rattle.gather.specs.declared.outcome.CloseFault.TheVariants as close
 use Rattle.runs.specs.Written.{IsReportOver, LeavesOutput, WritesReport}

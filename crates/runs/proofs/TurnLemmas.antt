@@ -18,10 +18,11 @@ use Rattle.mpicall.specs.declared.fault.Ending.TheVariants.{Sealed, Torn}
 use Rattle.rankfeed.specs.declared.item.Item.{Item}
 use Rattle.rankfeed.specs.declared.item.Item.TheVariants.{Entry, Mark}
 use Rattle.rankfeed.proofs.ItemLemmas.{last_item-push}
-use Rattle.gather.specs.Collected.{Kept, nothing_kept, torn, EntersRecord, IsKeptIn, LeavesOthers}
+use Rattle.gather.specs.Collected.{Kept, nothing_kept, torn, EntersRecord, IsKeptIn}
+use Rattle.gather.specs.inner.Collected.{LeavesOthers}
 use Rattle.gather.specs.Fed.{marked, Continues, IsFed}
 use Rattle.gather.specs.Reads.{IsReading}
-use Rattle.runs.specs.Turns.{AtTurn, at_turn, at_turns, first_turn, IsReady, IsWhole, IsGoing, CameOf, IsTurnOf, source_of, IsBegun, IsOver, IsLater, AreTurnsOf, AreLater, IsReadOf, AreReadOf}
+use Rattle.runs.specs.inner.Turns.{AtTurn, at_turn, at_turns, first_turn, IsReady, IsWhole, IsGoing, CameOf, IsTurnOf, source_of, IsBegun, IsOver, IsLater, AreTurnsOf, AreLater, IsReadOf, AreReadOf}
 use Rattle.gather.specs.declared.fault.RankFault.TheVariants.{OfSource}
 use Rattle.gather.specs.declared.ledger.Stepped.{Stepped}
 use Rattle.runs.specs.declared.turn.Turn.{Turn as Progress}

@@ -11,12 +11,14 @@ use Rattle.pairing.proofs.FaultLemmas.{an_ended_lawful_list_is_closed}
 use Rattle.rankfeed.specs.Items.{calls_among, end_mark_of}
 use Rattle.rankfeed.specs.declared.item.Item.{Item}
 use Rattle.gather.specs.Answers.{PlacedFault, fault_of_rank, refusal_or, refusal_from, refusal_of, recording_of_traces}
-use Rattle.gather.specs.Closes.{IsOutcomeOf, IsOutcomeOver, Concludes}
+use Rattle.gather.specs.Closes.{IsOutcomeOf, Concludes}
+use Rattle.gather.specs.inner.Closes.{IsOutcomeOver}
 use Rattle.gather.specs.Collected.{records_before, Kept, fault_at, refusal_in, refusal_kept}
 use Rattle.gather.specs.Fed.{IsFed}
 use Rattle.gather.specs.Receipts.{trace_of_items}
-use Rattle.runs.specs.Runs.{AreFedBy, IsOutcomeOfFeeds, IsRefusalOfFeeds, RefusesFeeds, of_close}
-use Rattle.runs.specs.Turns.{IsReadOf, AreReadOf}
+use Rattle.runs.specs.Runs.{AreFedBy, IsRefusalOfFeeds, RefusesFeeds}
+use Rattle.runs.specs.inner.Runs.{IsOutcomeOfFeeds, of_close}
+use Rattle.runs.specs.inner.Turns.{IsReadOf, AreReadOf}
 use Rattle.gather.specs.declared.fault.Refusal.{Refusal}
 use Rattle.gather.specs.declared.outcome.CloseFault.{CloseFault}
 use Rattle.gather.specs.declared.outcome.CloseFault.TheVariants.{Memory, Unproved, Refused}

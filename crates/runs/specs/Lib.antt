@@ -2,6 +2,6 @@ pub mod Told
 pub mod Ranks
 pub mod Written
 pub mod Threads
-pub mod Turns
 pub mod Along
 pub mod Runs
+pub mod inner

@@ -5,7 +5,7 @@
 
 ghost use Rattle.std.specs.Prelude.{◌≡◌, ◌≤◌, [], All, map, vec_len, vec_capacity};
 ghost use Rattle.rankfeed.specs.Rings.{sent_by};
-ghost use Rattle.runs.specs.Runs.{IsSameSession};
+ghost use Rattle.runs.specs.inner.Runs.{IsSameSession};
 ghost use Rattle.runs.specs.Threads.{AreFedFrom};
 ghost use Rattle.runs.specs.Told.{AreFresh};
 

@@ -19,7 +19,8 @@
 //! each rank. By turns each record goes straight to what a session keeps.
 //!
 //! The definitions are in `specs/`: `Told` says what an answer says where the inputs know their bytes,
-//! `Written` what was written then, `Runs` what a run answers by what was read.
+//! `Written` what was written then, `Runs` what a run answers by what was read. What only proofs and private
+//! contracts cite is in `specs/inner/`, and nobody has to believe it.
 //!
 //! ```text
 //! let head = Head::read(alloc, b"ranks 1\n")?;

@@ -7,9 +7,10 @@ ghost use Rattle.waitgraph.specs.Verdicts.{verdict_of};
 ghost use Rattle.std.specs.Io.KnownBytes.{Appends};
 ghost use Rattle.reports.specs.Reports.{report_of};
 ghost use Rattle.runs.specs.Told.{AreFresh, Tells, IsVerdictOver, RefusesOver};
-ghost use Rattle.runs.specs.Ranks.{LeavesRunReport};
+ghost use Rattle.runs.specs.inner.Ranks.{LeavesRunReport};
 ghost use Rattle.runs.specs.Written.{LeavesOutput, WritesReport};
-ghost use Rattle.runs.specs.Runs.{receipt_of, of_close, IsOutcomeOfFeeds, RefusesFeeds, StopsWhereAllowed};
+ghost use Rattle.runs.specs.Runs.{RefusesFeeds, StopsWhereAllowed};
+ghost use Rattle.runs.specs.inner.Runs.{receipt_of, of_close, IsOutcomeOfFeeds};
 
 use crate::gathering::in_threads;
 use crate::threads::{Fed, NotStarted};

@@ -5,7 +5,7 @@
 
 ghost use Rattle.std.specs.Prelude.{◌<◌, length};
 ghost use Rattle.gather.specs.Collectors.{rings};
-ghost use Rattle.runs.specs.Runs.{IsSameSession};
+ghost use Rattle.runs.specs.inner.Runs.{IsSameSession};
 
 use gather::collector::Collector;
 use gather::ledger::Stepped;

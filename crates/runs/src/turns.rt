@@ -4,7 +4,7 @@ ghost use Rattle.std.specs.Prelude.{◌≡◌, ◌<◌, true, false, None, All, 
 ghost use Rattle.mpicall.specs.Source.{ended};
 ghost use Rattle.gather.specs.Collected.{nothing_kept};
 ghost use Rattle.runs.specs.Told.{AreFresh};
-ghost use Rattle.runs.specs.Turns.{at_turn, at_turns, first_turn, IsReady, IsLater, AreLater, AreReadOf};
+ghost use Rattle.runs.specs.inner.Turns.{at_turn, at_turns, first_turn, IsReady, IsLater, AreLater, AreReadOf};
 
 use crate::turn::Turn;
 use gather::feed::next_of;

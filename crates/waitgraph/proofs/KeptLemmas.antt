@@ -4,7 +4,7 @@ use Rattle.std.specs.List.{All, AllByRecursion, slice_range}
 use Rattle.std.proofs.lemmas.List.{length-append, map-append, take_all}
 use Rattle.std.proofs.lemmas.List.Elements.{recursion_from_All}
 use Rattle.moves.specs.declared.need.Need.{Need}
-use Rattle.waitgraph.specs.Spans.{needs_at, LiesWithin}
+use Rattle.waitgraph.specs.inner.Spans.{needs_at, LiesWithin}
 use Rattle.waitgraph.specs.declared.waits.Span.{Span}
 
 front_of : (a : ℕ) (xs ys : List Need) → a ≤ length xs → take a (xs ++ ys) ≡ take a xs

@@ -30,7 +30,8 @@ use Rattle.waitgraph.specs.Least.{Set}
 use Rattle.waitgraph.specs.Loose.{standing_of, is_on, loosens, are_loose, is_held_at}
 use Rattle.pairing.specs.LeftOpen.{leaves_open, is_left_open}
 use Rattle.waitgraph.specs.Held.{opened_of, standing_by, standings_at, is_held, held_of}
-use Rattle.waitgraph.specs.Waits.{needs_in, waits_of}
+use Rattle.waitgraph.specs.Waits.{needs_in}
+use Rattle.waitgraph.specs.inner.Waits.{waits_of}
 use Rattle.waitgraph.specs.Stays.{calls_before_open, StandsInPlace, HeldRanksStay}
 use Rattle.waitgraph.specs.Stuck.{unmet_of}
 use Rattle.waitgraph.specs.declared.standing.Standing.{Standing}

@@ -14,7 +14,8 @@ use Rattle.callnotes.specs.Recordings.{Lists, calls_of, IsClosed}
 use Rattle.moves.specs.Stands.{stands_of}
 use Rattle.moves.specs.declared.need.Need.{Need}
 use Rattle.moves.specs.declared.need.Need.TheVariants.{At, Lacking}
-use Rattle.waitgraph.specs.Waits.{Waits, needs_in, waits_of}
+use Rattle.waitgraph.specs.Waits.{Waits, needs_in}
+use Rattle.waitgraph.specs.inner.Waits.{waits_of}
 use Rattle.waitgraph.specs.Least.{Set, after_rounds}
 use Rattle.waitgraph.specs.Loose.{set_of, standing_of, is_on, loosens_at, loosens, are_loose, is_held_at}
 use Rattle.pairing.specs.LeftOpen.{leaves_open, is_left_open}

@@ -18,7 +18,8 @@ use Rattle.moves.specs.Stands.{stands_of}
 use Rattle.moves.specs.declared.need.Need.{Need}
 use Rattle.moves.specs.declared.need.Need.TheVariants.{At}
 use Rattle.waitgraph.specs.Stuck.{unmet_of}
-use Rattle.waitgraph.specs.Waits.{Waits, needs_in, waits_of}
+use Rattle.waitgraph.specs.Waits.{Waits, needs_in}
+use Rattle.waitgraph.specs.inner.Waits.{waits_of}
 use Rattle.pairing.specs.LeftOpen.{leaves_open, is_left_open}
 use Rattle.waitgraph.specs.Held.{opened_of, standing_by, standing_at, standings_at, is_held}
 use Rattle.waitgraph.specs.Loose.{standing_of, are_held, onward_by, onward_of, FitTogether, GoesOnOrEnds}

@@ -1,6 +1,5 @@
 pub mod Stuck
 pub mod Waits
-pub mod Spans
 pub mod Least
 pub mod Loose
 pub mod Held
@@ -8,3 +7,4 @@ pub mod Causes
 pub mod Graphs
 pub mod Verdicts
 pub mod Stays
+pub mod inner

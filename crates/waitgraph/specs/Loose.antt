@@ -1,5 +1,5 @@
 -- Ranks that may yet move on if lists go on that were left open, and ranks that are held whatever comes.
-use Rattle.std.specs.Prelude.{◌≡◌, ℕ, zero, suc, ◌+◌, ◌<◌, ◌⊎◌, Bool, true, false, not, ◌&&◌, ◌||◌, find, slice_index_or, Option, Some, None, option_map, unwrap_or, if◌then◌else◌, List, length, slice_get}
+use Rattle.std.specs.Prelude.{◌≡◌, ℕ, ◌⊎◌, Bool, true, false, not, ◌&&◌, ◌||◌, find, slice_index_or, Option, Some, None, option_map, unwrap_or, if◌then◌else◌, List, length, slice_get}
 use Rattle.std.specs.List.{list_all}
 use Rattle.moves.specs.declared.need.Need.{Need}
 use Rattle.moves.specs.declared.need.Need.TheVariants.{At, Lacking}
@@ -91,15 +91,3 @@ TheLooseAreTheLeast =
     (opened : Set) (standings : List Standing) (waits : Waits) →
     IsClosedUnder (loosens opened standings waits) (are_loose opened standings waits)
     × ((set : Set) → IsClosedUnder (loosens opened standings waits) set → IsWithin (are_loose opened standings waits) set)
-
--- how many of the first ranks are in the set
-abbrev pub size : Set → ℕ → ℕ
-size set zero = 0
-size set (suc n) = if set n then size set n + 1 else size set n
-
--- a sweep over the ranks marks none but those of each set that is closed, and at least one where it says so; where
--- it marks none, the marked ones are closed
-pub record Sweeps (rule : SetRule) (ranks : ℕ) (old new : Set) (some : Bool) : Type 0 where
-  pub within : (set : Set) → IsClosedUnder rule set → IsWithin old set → IsWithin new set
-  pub closed : some ≡ false → IsClosedUnder rule new
-  pub more : some ≡ true → size old ranks < size new ranks

@@ -5,7 +5,6 @@ use Rattle.std.specs.List.{range_with_len}
 use Rattle.mpigroup.specs.Groups.{Groups, or_empty}
 use Rattle.callnotes.specs.Recordings.{Lists}
 use Rattle.moves.specs.Runs.{State}
-use Rattle.moves.specs.Stands.{stands_of}
 use Rattle.moves.specs.declared.need.Need.{Need}
 use Rattle.waitgraph.specs.Stuck.{unmet_at}
 
@@ -16,10 +15,6 @@ Waits = List (List Need)
 -- the unmet needs of each rank in a state
 abbrev pub waits_at : Reading → Groups → Lists → State → Waits
 waits_at reading groups recording stands = map (unmet_at reading groups recording stands) (range_with_len 0 (length recording))
-
--- and at the stands
-abbrev pub waits_of : Reading → Groups → Lists → Waits
-waits_of reading groups recording = waits_at reading groups recording (stands_of reading groups recording)
 
 -- the unmet needs of a rank
 abbrev pub needs_in : Waits → ℕ → List Need

@@ -16,7 +16,7 @@
 //!   stuck too; the loose ranks are the least set that has each rank which it makes loose; the walk from each
 //!   held rank comes to a listed cause, each listed cause is the end of such a walk, and none is listed twice.
 //!
-//! Nobody has to believe `Spans`: it says how needs are kept, and no public contract cites it.
+//! What only proofs and private contracts cite is in `specs/inner/`, and nobody has to believe it.
 //!
 //! ```text
 //! // rank 0: send 0 1 0 / recv 0 1 0 / finalize      rank 1: send 0 0 0 / recv 0 0 0 / finalize

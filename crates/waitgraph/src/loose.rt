@@ -8,7 +8,8 @@ ghost use Rattle.std.specs.Prelude.{◌≡◌, ◌<◌, ℕ, true, false, length
 ghost use Rattle.std.specs.List.{filter, list_all, range_with_len};
 ghost use Rattle.waitgraph.specs.Causes.{walks_in};
 ghost use Rattle.waitgraph.specs.Stays.{HeldRanksStay};
-ghost use Rattle.waitgraph.specs.Loose.{set_of, standing_of, is_on, loosens, are_loose, are_held, goes_on, onward, onward_by, onward_of, Sweeps, HeldRanksGoOn, TheLooseAreTheLeast};
+ghost use Rattle.waitgraph.specs.Loose.{set_of, standing_of, is_on, loosens, are_loose, are_held, goes_on, onward, onward_by, onward_of, HeldRanksGoOn, TheLooseAreTheLeast};
+ghost use Rattle.waitgraph.specs.inner.Loose.{Sweeps};
 
 use crate::onward::Onward;
 use crate::standing::Standing;

@@ -31,7 +31,7 @@ impl Model for Waits {
     ghost use Rattle.std.specs.Prelude.{List, length, map};
     ghost use Rattle.std.specs.List.{All};
     ghost use Rattle.moves.specs.declared.need.Need.{Need};
-    ghost use Rattle.waitgraph.specs.Spans.{needs_at, LiesWithin};
+    ghost use Rattle.waitgraph.specs.inner.Spans.{needs_at, LiesWithin};
 
     ghost Value = { List (List Need) };
 

@@ -6,7 +6,8 @@ use mathlib.Core.List.{IsPrefix}
 use prog.Atomic.{either}
 use Rattle.logbook.specs.Pages.{Cell, cell, keeps, no_nib, step, Moves, Goes}
 use Rattle.watches.specs.declared.stands.Stands.{Stands}
-use Rattle.watches.specs.Publications.{IsLogged, AppendsOne, last_published}
+use Rattle.watches.specs.Publications.{last_published}
+use Rattle.watches.specs.inner.Publications.{IsLogged, AppendsOne}
 use Rattle.watches.proofs.PrefixLemmas.{prefix_whole}
 
 abbrev pub shown : List Stands → List Stands

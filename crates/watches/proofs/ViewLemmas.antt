@@ -4,7 +4,7 @@ use mathlib.Core.Option.{some}
 use lib.ListN.{get_elem?}
 use Rattle.left_right.specs.Register.{Admits, Turns, TurnsAt, Forks, Merges}
 use Rattle.atomic_table.proofs.Lists.{at_set, at_snoc}
-use Rattle.watches.specs.Shown.{KnowOneList, SeesList, nobody, list_shown}
+use Rattle.watches.specs.inner.Shown.{KnowOneList, SeesList, nobody, list_shown}
 use Rattle.watches.specs.declared.publication.Publication.{Publication}
 use Rattle.watches.specs.declared.board.View.{View}
 

@@ -1,7 +1,6 @@
 -- The list of publications: what each shows, and how one more is written after it.
 use Rattle.moves.specs.declared.reading.Reading.{Reading}
-use Rattle.std.specs.Prelude.{◌≡◌, ◌⊎◌, ℕ, ◌==◌, Bool, true, false, List, [], ◌∷◌, ◌++◌, length, replicate, if◌then◌else◌, Option, Some, None, IfSome, MatchBool, All, slice_get}
-use Rattle.logbook.specs.Pages.{Book, Cell, Named, Step, View}
+use Rattle.std.specs.Prelude.{◌≡◌, ◌⊎◌, Bool, true, false, List, [], ◌∷◌, ◌++◌, replicate, if◌then◌else◌, Option, Some, None, IfSome, All, slice_get}
 use Rattle.mpigroup.specs.Groups.{Groups}
 use Rattle.mpigroup.specs.declared.limits.TheConstants.{MOST_RANKS}
 use Rattle.callnotes.specs.Recordings.{Lists}
@@ -39,16 +38,3 @@ Publishes stands old new = (new ≡ old ++ stands ∷ []) ⊎ ((new ≡ old) × 
 -- each is a state that some run over the recording passes
 abbrev pub ArePassed : Reading → Groups → Lists → List Stands → Type 0
 ArePassed reading groups recording list = All (λ stands. IsPassed reading groups recording stands.places) list
-
--- Below is how the list is kept: a book that only grows, and a shared number, which is the list's length.
-
-pub record IsLogged (cells : List Cell) (log : List Stands) : Type 0 where
-  pub words : cells ≡ (length log, true) ∷ (0, true) ∷ []
-
--- the shared number of a book
-abbrev pub head_of : Book → Named
-head_of book = record { tracked = true; key = 0; book = book }
-
--- where the number was what it should be, the stands are one more; else it says how long the list is
-abbrev pub AppendsOne : Step Stands → View Stands ℕ → ℕ → View Stands ℕ → Type 0
-AppendsOne step before found after = MatchBool (found == step.old) (after.0 ≡ before.0 ++ step.ask ∷ []) (length after.0 ≡ found)

@@ -5,7 +5,8 @@
 //! there are, and it grows in the very step in which the list does.
 
 ghost use Rattle.std.specs.Prelude.{◌≡◌, ◌+◌, ◌<◌, ◌^◌, [], ◌∷◌, ◌++◌, length, IfSome};
-ghost use Rattle.watches.specs.Publications.{at_start, head_of};
+ghost use Rattle.watches.specs.Publications.{at_start};
+ghost use Rattle.watches.specs.inner.Publications.{head_of};
 
 use crate::stands::Stands;
 use logbook::{Gain, Offer, Plain, Play, Rule, Seen, Start, Word};
@@ -16,7 +17,8 @@ pub struct Listed;
 impl Rule<Stands, u64> for Listed {
     ghost use Rattle.std.specs.Prelude.{[], ◌∷◌};
     ghost use base.Fml.{ftrue};
-    ghost use Rattle.watches.specs.Publications.{at_start, IsLogged};
+    ghost use Rattle.watches.specs.Publications.{at_start};
+    ghost use Rattle.watches.specs.inner.Publications.{IsLogged};
 
     ghost holds = { IsLogged };
 
@@ -44,7 +46,7 @@ impl Gain<Stands, u64> for Nothing {
 pub struct Appends;
 
 impl Play<Stands, u64> for Appends {
-    ghost use Rattle.watches.specs.Publications.{AppendsOne};
+    ghost use Rattle.watches.specs.inner.Publications.{AppendsOne};
 
     ghost then = { AppendsOne };
 }

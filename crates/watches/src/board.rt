@@ -8,7 +8,7 @@ ghost use Rattle.std.specs.Prelude.{◌≡◌, ◌<◌, ◌≤◌, ◌⊎◌, If
 ghost use Rattle.left_right.specs.Sides.{view};
 ghost use Rattle.mpigroup.specs.declared.limits.TheConstants.{MOST_RANKS};
 ghost use Rattle.watches.specs.Published.{list_known, book_of};
-ghost use Rattle.watches.specs.Shown.{list_shown, nobody};
+ghost use Rattle.watches.specs.inner.Shown.{list_shown, nobody};
 
 use crate::publication::Publication;
 use crate::watch::Watch;
@@ -45,7 +45,7 @@ impl Absorb<()> for Publication {
 pub struct OneList;
 
 impl Protocol<Publication, View> for OneList {
-    ghost use Rattle.watches.specs.Shown.{KnowOneList, nobody};
+    ghost use Rattle.watches.specs.inner.Shown.{KnowOneList, nobody};
 
     ghost holds = { KnowOneList };
 
@@ -56,7 +56,7 @@ impl Protocol<Publication, View> for OneList {
 pub struct Sees;
 
 impl Outcome<Publication, View> for Sees {
-    ghost use Rattle.watches.specs.Shown.{SeesList};
+    ghost use Rattle.watches.specs.inner.Shown.{SeesList};
 
     ghost then = { SeesList };
 }
@@ -71,7 +71,7 @@ impl Split<View> for Names {
 }
 
 impl Join<View> for Names {
-    ghost use Rattle.watches.specs.Shown.{nobody};
+    ghost use Rattle.watches.specs.inner.Shown.{nobody};
 
     ghost both = { λ v w. w };
 

@@ -11,8 +11,8 @@
 //!
 //! Sessions of the crate `gather` publish by it. The definitions are in `specs/`: `Stands` says what a state
 //! that some run passes is, `Publications` what is published, `Publishers` and `Watches` what contracts see
-//! of those who publish and read. Nobody has to believe `Shown`: it says how the board is kept, and no public
-//! contract cites it.
+//! of those who publish and read. What only proofs and private contracts cite is in `specs/inner/`, and
+//! nobody has to believe it.
 //!
 //! ```text
 //! let (mut publisher, mut watches) = Publisher::open(alloc, 2, 1, wait)?;

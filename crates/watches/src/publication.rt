@@ -6,7 +6,8 @@
 
 ghost use Rattle.std.specs.Prelude.{◌≡◌, ◌≤◌, ◌+◌, [], ◌∷◌, ◌++◌, length, nat_le, slice_get, sum, true, false, Some};
 ghost use mathlib.Core.List.{IsPrefix};
-ghost use Rattle.watches.specs.Publications.{at_start, head_of, last_published, is_rising};
+ghost use Rattle.watches.specs.Publications.{at_start, last_published, is_rising};
+ghost use Rattle.watches.specs.inner.Publications.{head_of};
 
 use crate::append::{Count, Known, append};
 use crate::stands::Stands;

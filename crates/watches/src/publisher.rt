@@ -10,7 +10,7 @@ ghost use Rattle.core.specs.Mem.{manually_drop_value};
 ghost use Rattle.mpigroup.specs.declared.limits.TheConstants.{MOST_RANKS};
 ghost use Rattle.watches.specs.Boards.{shown};
 ghost use Rattle.watches.specs.Published.{list_known, book_of};
-ghost use Rattle.watches.specs.Publications.{head_of};
+ghost use Rattle.watches.specs.inner.Publications.{head_of};
 ghost use Rattle.watches.specs.Watches.{IsWatchOf};
 
 use crate::append::{Count, begin};

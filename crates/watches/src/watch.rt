@@ -28,7 +28,7 @@ ghost use Rattle.left_right.specs.Sides.{view};
 ghost use Rattle.mpigroup.specs.declared.limits.TheConstants.{MOST_RANKS};
 ghost use Rattle.watches.specs.Published.{list_known, book_of};
 ghost use Rattle.watches.specs.Publications.{last_published, NeverFalls};
-ghost use Rattle.watches.specs.Shown.{list_shown};
+ghost use Rattle.watches.specs.inner.Shown.{list_shown};
 
 use crate::board::{OneList, Sees, View};
 use crate::publication::Publication;

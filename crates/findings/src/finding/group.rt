@@ -8,7 +8,7 @@ ghost use Rattle.callnotes.specs.Recordings.{Lists};
 ghost use Rattle.callnotes.specs.Waves.{wave_of};
 ghost use Rattle.findings.specs.Places.{call_of_member, over_places};
 ghost use Rattle.findings.specs.Findings.{same_word, all_call_alike, choice_of, choices_in, split_ranks, in_world, member_makes, is_given, makes_given, is_wrong_group, is_wrong_at, group_at, wrong_groups_of};
-ghost use Rattle.findings.specs.Makings.{is_wrong_making, is_same_making, known_of, IsKnown};
+ghost use Rattle.findings.specs.inner.Makings.{is_wrong_making, is_same_making, known_of, IsKnown};
 ghost use Rattle.findings.specs.declared.finding.making.Making.{Making};
 
 use crate::extent::{calls, members, ranks};

@@ -5,7 +5,7 @@ ghost use Rattle.std.specs.Option.{option_map_or};
 ghost use Rattle.mpigroup.specs.Groups.{Groups};
 ghost use Rattle.callnotes.specs.Recordings.{Lists};
 ghost use Rattle.findings.specs.Findings.{is_wrong_group};
-ghost use Rattle.findings.specs.Makings.{making_call, is_wrong_making};
+ghost use Rattle.findings.specs.inner.Makings.{making_call, is_wrong_making};
 
 use mpicall::call::Call;
 

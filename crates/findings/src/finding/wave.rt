@@ -11,7 +11,7 @@ ghost use Rattle.callnotes.specs.Limits.{most_calls};
 ghost use Rattle.callnotes.specs.Waves.{member_of};
 ghost use Rattle.findings.specs.Places.{call_of_member};
 ghost use Rattle.findings.specs.Findings.{found_of_member, found_in_comm, found_in_waves};
-ghost use Rattle.findings.specs.Comparisons.{comparison_of, kind_in, AreFirstKinds};
+ghost use Rattle.findings.specs.inner.Comparisons.{comparison_of, kind_in, AreFirstKinds};
 ghost use Rattle.findings.specs.declared.finding.wave.Compared.{Compared};
 ghost use Rattle.findings.specs.declared.finding.wave.TheConstants.{WAVES_A_BLOCK};
 

@@ -20,7 +20,7 @@ pub struct Relay;
 
 impl Protocol<Item, Hand> for Relay {
     ghost use Rattle.std.specs.Prelude.{true, []};
-    ghost use Rattle.rankfeed.specs.Relays.{hand, Relayed};
+    ghost use Rattle.rankfeed.specs.inner.Relays.{hand, Relayed};
 
     ghost holds = { Relayed };
 
@@ -32,7 +32,7 @@ pub struct Rights;
 
 impl Split<Hand> for Rights {
     ghost use Rattle.std.specs.Prelude.{true, false, []};
-    ghost use Rattle.rankfeed.specs.Relays.{hand};
+    ghost use Rattle.rankfeed.specs.inner.Relays.{hand};
 
     ghost left = { λ v. hand true false v.put_items [] };
 
@@ -41,7 +41,7 @@ impl Split<Hand> for Rights {
 
 impl Join<Hand> for Rights {
     ghost use Rattle.std.specs.Prelude.{true, false, []};
-    ghost use Rattle.rankfeed.specs.Relays.{hand};
+    ghost use Rattle.rankfeed.specs.inner.Relays.{hand};
 
     ghost both = { λ v w. hand true true w.put_items v.taken_items };
 
@@ -52,7 +52,7 @@ impl Join<Hand> for Rights {
 pub struct Puts;
 
 impl Outcome<Item, Hand> for Puts {
-    ghost use Rattle.rankfeed.specs.Relays.{Put};
+    ghost use Rattle.rankfeed.specs.inner.Relays.{Put};
 
     ghost then = { Put };
 }
@@ -67,13 +67,13 @@ impl Lesson<Item, Hand> for Puts {
 pub struct Takes;
 
 impl Outcome<Item, Hand> for Takes {
-    ghost use Rattle.rankfeed.specs.Relays.{Taken};
+    ghost use Rattle.rankfeed.specs.inner.Relays.{Taken};
 
     ghost then = { Taken };
 }
 
 impl Lesson<Item, Hand> for Takes {
-    ghost use Rattle.rankfeed.specs.Relays.{Leaves};
+    ghost use Rattle.rankfeed.specs.inner.Relays.{Leaves};
 
     ghost fact = { Leaves };
 }

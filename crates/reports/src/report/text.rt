@@ -7,7 +7,7 @@ ghost use Rattle.std.specs.Fmt.{decimal};
 ghost use Rattle.mpicall.specs.Spelling.{space, fields_of};
 ghost use Rattle.waitgraph.specs.Causes.{CycleOf, MissingOf, view_of};
 ghost use Rattle.waitgraph.specs.Graphs.{IsGraphOf};
-ghost use Rattle.reports.specs.Printing.{with_fields, PrintsAll, Prints};
+ghost use Rattle.reports.specs.inner.Printing.{with_fields, PrintsAll, Prints};
 ghost use Rattle.findings.specs.Places.{call_at};
 ghost use Rattle.reports.specs.TextReport.{cause_line, finding_line, need_fields, rank_lines, text_report, unmet_line, verdict_line, verdict_text};
 

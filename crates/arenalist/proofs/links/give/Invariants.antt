@@ -1,5 +1,5 @@
 use Rattle.std.proofs.Common.{◌-◌, length}
-use Rattle.arenalist.specs.Rings.{around}
+use Rattle.arenalist.specs.inner.Rings.{around}
 use Rattle.arenalist.proofs.SpliceLemmas.{Giving}
 use Rattle.arenalist.proofs.links.give.Given as goal
 

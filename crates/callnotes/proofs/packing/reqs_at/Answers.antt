@@ -1,7 +1,7 @@
 use Rattle.std.proofs.Common.{◌∙◌, ◌≤◌, length, length-set, arith}
 use Rattle.std.proofs.lemmas.List.{length-map}
 use Rattle.mpicall.specs.declared.limits.TheConstants.{MOST_REQUESTS}
-use Rattle.callnotes.specs.Packed.{req_at, reqs_at}
+use Rattle.callnotes.specs.inner.Packed.{req_at, reqs_at}
 use Rattle.callnotes.proofs.PackedLemmas.{most_of}
 use Rattle.callnotes.proofs.StartLemmas.{written}
 use Rattle.callnotes.proofs.packing.reqs_at.Goals as goal

@@ -1,6 +1,6 @@
 use Rattle.std.proofs.Common.{◌≡◌, length, take}
 use Rattle.mpicall.specs.declared.limits.TheConstants.{MOST_REQUESTS}
-use Rattle.callnotes.specs.Packed.{reqs_at}
+use Rattle.callnotes.specs.inner.Packed.{reqs_at}
 use Rattle.callnotes.proofs.packing.reqs_at.Given as goal
 
 -- the requests that the calls at the places so far start are written

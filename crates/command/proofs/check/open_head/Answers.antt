@@ -1,6 +1,6 @@
 use Rattle.std.proofs.Common.{rules, sym, subst, List, ℕ}
 use Rattle.std.proofs.lemmas.Result.{IfErr-weaker, IfOk-weaker}
-use Rattle.command.specs.Front.{IsFrontOf}
+use Rattle.command.specs.inner.Front.{IsFrontOf}
 use Rattle.command.proofs.TextLemmas.{fault_says, head_says}
 use Rattle.command.proofs.check.open_head.Goals as goal
 

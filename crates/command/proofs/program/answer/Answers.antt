@@ -1,5 +1,5 @@
 use Rattle.std.proofs.Common.{◌≡◌, ℕ, false, List, Bor, map, sym, subst}
-use Rattle.command.specs.Answer.{IsAnswered, Shows}
+use Rattle.command.specs.inner.Answer.{IsAnswered, Shows}
 use Rattle.command.specs.Ends.{EndsInReport, IsDone, IsFaultOf}
 use Rattle.command.specs.Texts.{IsFaultOfCheck}
 use Rattle.command.specs.declared.words.Words.{Words}

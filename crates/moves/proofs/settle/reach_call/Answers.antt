@@ -5,7 +5,7 @@ use Rattle.mpigroup.specs.Groups.{Groups}
 use Rattle.callnotes.specs.Recordings.{Lists}
 use Rattle.pairing.specs.Partners.{partner_of}
 use Rattle.callnotes.specs.declared.envelope.Half.TheVariants.{Send as SendHalf, Recv as RecvHalf}
-use Rattle.moves.specs.Waiting.{WaitLists, woken_partner, woken_peers, woken_comm, comm_list}
+use Rattle.moves.specs.inner.Waiting.{WaitLists, woken_partner, woken_peers, woken_comm, comm_list}
 use Rattle.moves.proofs.WakeLemmas.{all_woken, one_by_one}
 use Rattle.moves.proofs.SettleLemmas.{partners_room, reach_hand, reach_counts}
 use Rattle.moves.proofs.settle.reach_call.Goals as goal

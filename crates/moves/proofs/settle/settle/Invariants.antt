@@ -1,4 +1,4 @@
-use Rattle.moves.specs.Positions.{AreKept, GoOn, left_to_do}
+use Rattle.moves.specs.inner.Positions.{AreKept, GoOn, left_to_do}
 use Rattle.moves.proofs.settle.settle.Given as goal
 
 abbrev pub invariant-loop-rank : goal.invariant-loop-rank

@@ -1,6 +1,6 @@
 use Rattle.std.proofs.Common.{◌<◌, length, refl, ap, ◌∙◌, arith}
 use Rattle.moves.specs.Needs.{can_move}
-use Rattle.moves.specs.Waiting.{comm_list, own_list}
+use Rattle.moves.specs.inner.Waiting.{comm_list, own_list}
 use Rattle.moves.proofs.RunLemmas.{reached_ranks}
 use Rattle.moves.proofs.SettleLemmas.{hand_room, hand_links, links_partner, links_wave, wave_known, hand_moves, moved_falls}
 use Rattle.moves.proofs.settle.settle_one.Goals as goal

@@ -1,5 +1,5 @@
 use Rattle.std.proofs.Common.{◌≤◌}
-use Rattle.moves.specs.Positions.{HaveInHand, GoOn, left_to_do}
+use Rattle.moves.specs.inner.Positions.{HaveInHand, GoOn, left_to_do}
 use Rattle.moves.proofs.settle.settle_rank.Given as goal
 
 abbrev pub invariant-loop : goal.invariant-loop

@@ -4,7 +4,7 @@ use Rattle.mpigroup.specs.Groups.{Groups}
 use Rattle.callnotes.specs.Recordings.{Lists}
 use Rattle.pairing.specs.Partners.{partner_of}
 use Rattle.callnotes.specs.declared.envelope.Half.TheVariants.{Send as SendHalf, Recv as RecvHalf}
-use Rattle.moves.specs.Waiting.{WaitLists, sent_to, woken_peers}
+use Rattle.moves.specs.inner.Waiting.{WaitLists, sent_to, woken_peers}
 use Rattle.moves.proofs.settle.wake_peers.Goals as goal
 
 no_peers : (groups : Groups) (recording : Lists) (rank place : ℕ) (w : WaitLists) → partner_of groups recording rank place SendHalf ≡ None → partner_of groups recording rank place RecvHalf ≡ None → sent_to groups recording rank place ≡ None → w ≡ woken_peers groups recording rank place w

@@ -1,5 +1,5 @@
 use Rattle.std.proofs.Common.{◌≡◌, ℕ, length, sym, subst, ◌∙◌, arith}
-use Rattle.mpicall.specs.Front.{AreDigits}
+use Rattle.mpicall.specs.inner.Front.{AreDigits}
 use Rattle.mpicall.proofs.FrontLemmas.{no_digit_yet, digit_read}
 use Rattle.mpicall.proofs.number.read_front.Goals as goal
 

@@ -1,5 +1,5 @@
 -- What was read are digits, and the number so far is what they write.
-use Rattle.mpicall.specs.Front.{AreDigits}
+use Rattle.mpicall.specs.inner.Front.{AreDigits}
 use Rattle.mpicall.proofs.number.read_front.Given as goal
 
 abbrev pub invariant-loop-at : goal.invariant-loop-at

@@ -1,7 +1,7 @@
 -- What was searched has no line feed; nothing of what was known is lost, and no read failed.
 use Rattle.std.proofs.Common.{◌≡◌, ◌≤◌, ◌-◌, length}
 use Rattle.std.specs.Io.KnownBytes.{Keeps, prepend_known}
-use Rattle.mpicall.specs.Window.{NoFeedBelow}
+use Rattle.mpicall.specs.inner.Window.{NoFeedBelow}
 use Rattle.mpicall.proofs.window.line_end.Given as goal
 
 abbrev pub invariant-loop-at : goal.invariant-loop-at

@@ -1,7 +1,7 @@
 -- The requests that are left are all in the table exactly where all are.
 use Rattle.std.proofs.Common.{◌≡◌, drop}
 use Rattle.std.specs.List.{list_all}
-use Rattle.pairing.specs.Starts.{has_place}
+use Rattle.pairing.specs.inner.Starts.{has_place}
 use Rattle.pairing.proofs.first_fault.are_in.Given as goal
 
 abbrev pub invariant-loop-req : goal.invariant-loop-req

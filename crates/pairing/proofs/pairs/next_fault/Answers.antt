@@ -1,6 +1,6 @@
 -- The first fault is told by the tables of the calls before it.
 use Rattle.std.proofs.Common.{◌∙◌, sym}
-use Rattle.callnotes.specs.Notes.{recording_of}
+use Rattle.callnotes.specs.inner.Notes.{recording_of}
 use Rattle.pairing.proofs.KeptLemmas.{is_over_by, count_noted}
 use Rattle.pairing.proofs.pairs.next_fault.Goals as goal
 

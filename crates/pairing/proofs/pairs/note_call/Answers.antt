@@ -7,7 +7,7 @@ use Rattle.callnotes.specs.Recordings.{calls_of}
 use Rattle.callnotes.specs.Places.{places}
 use Rattle.callnotes.specs.Waves.{does_join}
 use Rattle.callnotes.specs.Requests.{waits_for, started_in}
-use Rattle.callnotes.specs.Notes.{recording_of}
+use Rattle.callnotes.specs.inner.Notes.{recording_of}
 use Rattle.pairing.proofs.KeptLemmas.{count_noted}
 use Rattle.pairing.proofs.NotedLemmas.{calls_of-recorded}
 use Rattle.pairing.proofs.pairs.note_call.Goals as goal

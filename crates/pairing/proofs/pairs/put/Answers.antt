@@ -1,8 +1,9 @@
 -- The call is noted, its halves meet the others, and the tables go on by it.
 use Rattle.std.proofs.Common.{◌<◌, ◌∙◌, ap, subst, sym, length, arith}
-use Rattle.pairing.specs.Matched.{Matching, halves_of, filed_halves, ArePaired}
+use Rattle.pairing.specs.Matched.{halves_of}
+use Rattle.pairing.specs.inner.Matched.{Matching, filed_halves, ArePaired}
 use Rattle.callnotes.specs.Recordings.{calls_of}
-use Rattle.callnotes.specs.Notes.{recording_of}
+use Rattle.callnotes.specs.inner.Notes.{recording_of}
 use Rattle.callnotes.specs.declared.envelope.Half.TheVariants.{Send as SendHalf, Recv as RecvHalf}
 use Rattle.pairing.proofs.FaultLemmas.{fault_none}
 use Rattle.pairing.proofs.FiledLemmas.{come_next}

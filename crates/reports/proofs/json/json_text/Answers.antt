@@ -9,7 +9,7 @@ use Rattle.waitgraph.specs.Stuck.{stuck_of}
 use Rattle.waitgraph.specs.Verdicts.{verdict_by, verdict_of}
 use Rattle.findings.specs.declared.finding.Finding.{Finding}
 use Rattle.waitgraph.specs.declared.verdict.Verdict.{Verdict}
-use Rattle.reports.specs.ArrayTexts.{elements_text, key_text}
+use Rattle.reports.specs.inner.ArrayTexts.{elements_text, key_text}
 use Rattle.reports.specs.JsonReport.{each, cause_data, finding_data, rank_data}
 use Rattle.reports.specs.TextReport.{verdict_text}
 use Rattle.reports.proofs.ArrayLemmas.{report_parts, nine}

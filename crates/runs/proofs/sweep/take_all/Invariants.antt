@@ -1,5 +1,5 @@
 -- The session is the same.
-use Rattle.runs.specs.Runs.{IsSameSession}
+use Rattle.runs.specs.inner.Runs.{IsSameSession}
 use Rattle.runs.proofs.sweep.take_all.Given as goal
 
 abbrev pub invariant-loop : goal.invariant-loop

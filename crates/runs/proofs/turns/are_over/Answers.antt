@@ -1,7 +1,7 @@
 -- One turn more was looked at, or all were.
 use Rattle.std.proofs.Common.{◌≡◌, true, arith}
 use Rattle.std.proofs.lemmas.List.Elements.{All-more}
-use Rattle.runs.specs.Turns.{first_turn}
+use Rattle.runs.specs.inner.Turns.{first_turn}
 use Rattle.runs.proofs.TurnLemmas.{over_all}
 use Rattle.runs.proofs.turns.are_over.Goals as goal
 

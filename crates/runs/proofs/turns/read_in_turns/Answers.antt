@@ -1,6 +1,6 @@
 -- All that was read of each source is kept.
 use Rattle.std.proofs.Common.{◌≡◌, ◌∙◌, All, List, map, replicate, length, ap, subst, sym, arith}
-use Rattle.runs.specs.Turns.{AtTurn, at_turns, first_turn, source_of, IsBegun, IsReady}
+use Rattle.runs.specs.inner.Turns.{AtTurn, at_turns, first_turn, source_of, IsBegun, IsReady}
 use Rattle.runs.proofs.TurnLemmas.{all_read, first_sources, first_begun, first_ready, turns_over}
 use Rattle.runs.proofs.turns.read_in_turns.Goals as goal
 

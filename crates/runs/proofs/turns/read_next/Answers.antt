@@ -1,6 +1,6 @@
 -- One record more was read and entered; or the end came, and with it the fault, if it has one.
 use Rattle.runs.proofs.TurnLemmas.{later_record, later_sealed, later_torn}
-use Rattle.runs.specs.Turns.{at_turn}
+use Rattle.runs.specs.inner.Turns.{at_turn}
 use Rattle.std.proofs.Common.{Some, ap, refl}
 use Rattle.runs.proofs.turns.read_next.Goals as goal
 

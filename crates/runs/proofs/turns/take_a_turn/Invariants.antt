@@ -1,5 +1,5 @@
 -- The turn is a later one.
-use Rattle.runs.specs.Turns.{at_turn, IsLater}
+use Rattle.runs.specs.inner.Turns.{at_turn, IsLater}
 use Rattle.runs.proofs.turns.take_a_turn.Given as goal
 
 abbrev pub invariant-loop : goal.invariant-loop

@@ -1,6 +1,6 @@
 -- The turns are later ones.
 use Rattle.std.proofs.Common.{◌≡◌, vec_len}
-use Rattle.runs.specs.Turns.{at_turns, AreLater}
+use Rattle.runs.specs.inner.Turns.{at_turns, AreLater}
 use Rattle.runs.proofs.turns.take_all_turns.Given as goal
 
 abbrev pub invariant-loop : goal.invariant-loop

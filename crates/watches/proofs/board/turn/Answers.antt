@@ -1,7 +1,7 @@
 use Rattle.std.proofs.Common.{◌≡◌, sym, ap, ◌∙◌}
 use Rattle.logbook.specs.Pages.{Book}
 use Rattle.watches.specs.Published.{book_of}
-use Rattle.watches.specs.Shown.{list_shown}
+use Rattle.watches.specs.inner.Shown.{list_shown}
 use Rattle.watches.specs.declared.publication.Publication.{Publication}
 use Rattle.watches.proofs.ViewLemmas.{sees}
 use Rattle.watches.proofs.board.turn.Goals as goal

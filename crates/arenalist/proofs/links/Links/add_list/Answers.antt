@@ -1,5 +1,5 @@
 use Rattle.std.proofs.Common.{◌≡◌, ◌++◌, ◌∷◌, [], ◌∙◌, ℕ, List, Option, None, length, ap, arith}
-use Rattle.arenalist.specs.Links.{Linked}
+use Rattle.arenalist.specs.inner.Links.{Linked}
 use Rattle.arenalist.proofs.LinkLemmas.{links_listed}
 use Rattle.arenalist.proofs.links.Links.add_list.Goals as goal
 

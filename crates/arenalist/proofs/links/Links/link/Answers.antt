@@ -1,8 +1,9 @@
 use Rattle.std.proofs.Common.{◌≡◌, ◌<◌, ◌++◌, ◌∷◌, [], ◌∙◌, get_or, set, length, refl, ap, arith}
 use Rattle.std.proofs.lemmas.List.{get_or_read}
-use Rattle.arenalist.specs.Numbers.{list_at, in_all}
-use Rattle.arenalist.specs.Rings.{rings_of}
-use Rattle.arenalist.specs.Links.{Linked}
+use Rattle.arenalist.specs.Numbers.{list_at}
+use Rattle.arenalist.specs.inner.Numbers.{in_all}
+use Rattle.arenalist.specs.inner.Rings.{rings_of}
+use Rattle.arenalist.specs.inner.Links.{Linked}
 use Rattle.arenalist.proofs.LinkLemmas.{linking, links_linked, in_rings, long_lists, its}
 use Rattle.arenalist.proofs.links.Links.link.Goals as goal
 

@@ -1,5 +1,5 @@
 use Rattle.std.proofs.Common.{length, ap, arith}
-use Rattle.arenalist.specs.Links.{Linked}
+use Rattle.arenalist.specs.inner.Links.{Linked}
 use Rattle.arenalist.proofs.LinkLemmas.{long_lists}
 use Rattle.arenalist.proofs.links.Links.list_count.Goals as goal
 

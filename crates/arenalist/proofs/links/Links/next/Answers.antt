@@ -1,8 +1,9 @@
 use Rattle.std.proofs.Common.{◌≡◌, ◌<◌, ◌∙◌, ℕ, get_or, sym, ap, arith, Some, None}
 use Rattle.std.proofs.lemmas.List.{get_or_read}
-use Rattle.arenalist.specs.Numbers.{list_at, first_of, after, count}
-use Rattle.arenalist.specs.Rings.{rings_of, lists_of}
-use Rattle.arenalist.specs.Links.{Linked}
+use Rattle.arenalist.specs.Numbers.{list_at}
+use Rattle.arenalist.specs.inner.Numbers.{first_of, after, count}
+use Rattle.arenalist.specs.inner.Rings.{rings_of, lists_of}
+use Rattle.arenalist.specs.inner.Links.{Linked}
 use Rattle.arenalist.proofs.LinkLemmas.{unlinking, behind, home, ahead}
 use Rattle.arenalist.proofs.links.Links.next.Goals as goal
 

@@ -1,8 +1,8 @@
 use Rattle.std.proofs.Common.{◌≡◌, ◌<◌, ◌++◌, [], ◌∙◌, get_or, set, length, sym, ap, arith}
 use Rattle.std.proofs.lemmas.List.{get_or_read}
 use Rattle.arenalist.specs.Numbers.{list_at}
-use Rattle.arenalist.specs.Rings.{rings_of, lists_of, around}
-use Rattle.arenalist.specs.Links.{Linked}
+use Rattle.arenalist.specs.inner.Rings.{rings_of, lists_of, around}
+use Rattle.arenalist.specs.inner.Links.{Linked}
 use Rattle.arenalist.proofs.LinkLemmas.{long_lists, its}
 use Rattle.arenalist.proofs.SpliceLemmas.{around_count, around_most, unspliced, round, splicing, links_spliced}
 use Rattle.arenalist.proofs.links.Links.splice.Goals as goal

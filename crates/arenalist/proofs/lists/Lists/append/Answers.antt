@@ -1,7 +1,7 @@
 use Rattle.std.proofs.Common.{◌≡◌, ◌∙◌, ℕ, length, sym, ap, arith}
 use Rattle.arenalist.specs.Numbers.{list_at}
 use Rattle.arenalist.specs.Arena.{Arena, spliced}
-use Rattle.arenalist.specs.Slots.{entries_of}
+use Rattle.arenalist.specs.inner.Slots.{entries_of}
 use Rattle.arenalist.proofs.EntryLemmas.{entries_at, long_entries}
 use Rattle.arenalist.proofs.ArenaLemmas.{valued_in}
 use Rattle.arenalist.proofs.SpliceLemmas.{arena_spliced, entries_spliced, entries_count}

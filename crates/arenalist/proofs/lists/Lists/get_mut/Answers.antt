@@ -2,7 +2,7 @@ use Rattle.std.proofs.Common.{◌≡◌, ◌∙◌, ℕ, List, Some, None, get_o
 use Rattle.std.proofs.lemmas.List.{get_or_read}
 use Rattle.std.specs.Prelude.{is_some}
 use Rattle.arenalist.specs.Arena.{Arena, value_at, revalued}
-use Rattle.arenalist.specs.Slots.{entries_of}
+use Rattle.arenalist.specs.inner.Slots.{entries_of}
 use Rattle.arenalist.proofs.EntryLemmas.{standing, at_some, entries_revalued}
 use Rattle.arenalist.proofs.ArenaLemmas.{given}
 use Rattle.arenalist.proofs.lists.Lists.get_mut.Goals as goal

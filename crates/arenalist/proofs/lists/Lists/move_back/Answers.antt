@@ -1,5 +1,5 @@
 use Rattle.std.proofs.Common.{◌≡◌, ◌<◌, ◌∙◌, Some, None, get_or, length, map, refl, sym, ap, arith}
-use Rattle.arenalist.specs.Numbers.{without}
+use Rattle.arenalist.specs.inner.Numbers.{without}
 use Rattle.arenalist.specs.Arena.{Arena, value_at, unlinked, linked}
 use Rattle.arenalist.proofs.NumberLemmas.{in_all_without_same}
 use Rattle.arenalist.proofs.EntryLemmas.{standing, at_some, entries_unlinked, entries_linked, long_entries}

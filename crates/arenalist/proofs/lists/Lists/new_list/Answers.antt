@@ -1,7 +1,7 @@
 use Rattle.std.proofs.Common.{◌++◌, ◌∷◌, [], ◌∙◌, ap, arith}
 use Rattle.std.proofs.lemmas.List.{map-append}
 use Rattle.arenalist.specs.Arena.{Arena}
-use Rattle.arenalist.specs.Slots.{entries}
+use Rattle.arenalist.specs.inner.Slots.{entries}
 use Rattle.arenalist.proofs.ArenaLemmas.{fewer_free, listed, entries_more}
 use Rattle.arenalist.proofs.lists.Lists.new_list.Goals as goal
 

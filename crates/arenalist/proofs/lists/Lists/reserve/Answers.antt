@@ -1,8 +1,8 @@
 use Rattle.std.proofs.Common.{◌≡◌, ◌∙◌, ℕ, length, refl, ap, subst, arith}
 use Rattle.std.specs.Vec.{vec_capacity}
 use Rattle.arenalist.specs.Arena.{Arena}
-use Rattle.arenalist.specs.Links.{Linked}
-use Rattle.arenalist.specs.Slots.{entries_of, IsArena}
+use Rattle.arenalist.specs.inner.Links.{Linked}
+use Rattle.arenalist.specs.inner.Slots.{entries_of, IsArena}
 use Rattle.arenalist.proofs.ArenaLemmas.{fewer_free, roomier, fills}
 use Rattle.arenalist.proofs.lists.Lists.reserve.Goals as goal
 

@@ -1,6 +1,6 @@
 -- The first start whose call starts the request stands with the first such request.
 use Rattle.std.proofs.Common.{ℕ, ◌==◌, find, List, sym, ap, ◌∙◌}
-use Rattle.callnotes.specs.Packed.{req_at}
+use Rattle.callnotes.specs.inner.Packed.{req_at}
 use Rattle.callnotes.proofs.StartLemmas.{start_found}
 use Rattle.callnotes.proofs.note.Note.start_of.Goals as goal
 

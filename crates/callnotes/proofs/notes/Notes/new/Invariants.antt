@@ -1,5 +1,5 @@
 use Rattle.std.proofs.Common.{◌≡◌, [], map, replicate}
-use Rattle.callnotes.specs.Notes.{NotedList}
+use Rattle.callnotes.specs.inner.Notes.{NotedList}
 use Rattle.callnotes.proofs.notes.Notes.new.Given as goal
 
 abbrev pub invariant-loop-rank : goal.invariant-loop-rank

@@ -1,6 +1,7 @@
 use Rattle.std.proofs.Common.{◌≡◌, ◌∙◌, ◌<◌, length, sym, ap, arith}
 use Rattle.std.proofs.lemmas.List.{length-map}
-use Rattle.callnotes.specs.Notes.{NotedList, Notebook, with_note}
+use Rattle.callnotes.specs.Notes.{Notebook, with_note}
+use Rattle.callnotes.specs.inner.Notes.{NotedList}
 use Rattle.callnotes.specs.Packed.{noted}
 use Rattle.callnotes.proofs.NoteLemmas.{with_note_set}
 use Rattle.callnotes.proofs.notes.Notes.note.Goals as goal

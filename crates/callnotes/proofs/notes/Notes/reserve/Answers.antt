@@ -4,7 +4,8 @@ use Rattle.std.specs.Option.{unwrap_or}
 use Rattle.std.specs.List.{slice_get}
 use Rattle.std.proofs.Math.Seq.{map-set_same}
 use Rattle.std.proofs.lemmas.List.{length-map}
-use Rattle.callnotes.specs.Notes.{NotedList, Notebook, NoteRoom, Holds, no_room}
+use Rattle.callnotes.specs.Notes.{Notebook, NoteRoom, Holds, no_room}
+use Rattle.callnotes.specs.inner.Notes.{NotedList}
 use Rattle.callnotes.proofs.NoteLemmas.{room_set}
 use Rattle.callnotes.proofs.notes.Notes.reserve.Goals as goal
 

@@ -1,5 +1,5 @@
 use Rattle.std.proofs.Common.{◌≡◌, [], map, replicate}
-use Rattle.callnotes.specs.Seats.{Listed}
+use Rattle.callnotes.specs.inner.Seats.{Listed}
 use Rattle.callnotes.proofs.place_lists.PlaceLists.new.Given as goal
 
 abbrev pub invariant-loop-index : goal.invariant-loop-index

@@ -1,7 +1,8 @@
 use Rattle.std.proofs.Common.{◌∙◌, ◌<◌, length, map, ap, arith}
 use Rattle.std.proofs.lemmas.List.{length-map}
 use Rattle.std.proofs.Math.Seq.{map-set_same}
-use Rattle.callnotes.specs.Seats.{Listed, Seats}
+use Rattle.callnotes.specs.Seats.{Seats}
+use Rattle.callnotes.specs.inner.Seats.{Listed}
 use Rattle.callnotes.proofs.SeatLemmas.{room_set, places_set}
 use Rattle.callnotes.proofs.NumberLemmas.{on_ok_then}
 use Rattle.callnotes.proofs.place_lists.PlaceLists.reserve.Goals as goal

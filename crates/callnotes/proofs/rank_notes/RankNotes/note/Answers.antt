@@ -3,8 +3,10 @@ use Rattle.std.proofs.lemmas.List.{length-map}
 use Rattle.mpicall.specs.declared.call.Call.{Call}
 use Rattle.callnotes.specs.declared.packed.Entry.{Entry}
 use Rattle.callnotes.specs.Limits.{most_calls}
-use Rattle.callnotes.specs.Notes.{Noted, NotedList, calls_in, listed, AreStarts}
-use Rattle.callnotes.specs.Packed.{noted, noted_of, listed_starts}
+use Rattle.callnotes.specs.Notes.{Noted, calls_in, listed, AreStarts}
+use Rattle.callnotes.specs.inner.Notes.{NotedList}
+use Rattle.callnotes.specs.Packed.{noted}
+use Rattle.callnotes.specs.inner.Packed.{noted_of, listed_starts}
 use Rattle.callnotes.proofs.PackedLemmas.{listed_few, notes_push, stored_push, names_more, few_listed, as_many_starts, packed_stored, packed_noted}
 use Rattle.callnotes.proofs.rank_notes.RankNotes.note.Goals as goal
 

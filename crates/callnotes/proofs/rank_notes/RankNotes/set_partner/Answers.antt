@@ -1,6 +1,7 @@
 use Rattle.std.proofs.Common.{◌∙◌, ◌<◌, length, ap, refl, arith}
 use Rattle.std.proofs.lemmas.Option.{slice_get_read}
-use Rattle.callnotes.specs.Notes.{NotedList, partnered_in}
+use Rattle.callnotes.specs.Notes.{partnered_in}
+use Rattle.callnotes.specs.inner.Notes.{NotedList}
 use Rattle.callnotes.proofs.PackedLemmas.{stored_beside, notes_beside}
 use Rattle.callnotes.proofs.rank_notes.RankNotes.set_partner.Goals as goal
 

@@ -1,7 +1,7 @@
 use Rattle.std.proofs.Common.{◌≡◌, ◌++◌}
 use Rattle.std.specs.List.{flat_map, range_with_len}
 use Rattle.findings.specs.Findings.{group_at}
-use Rattle.findings.specs.Makings.{IsKnown}
+use Rattle.findings.specs.inner.Makings.{IsKnown}
 use Rattle.findings.proofs.finding.group.add_of_rank.Given as goal
 
 abbrev pub invariant-loop-place : goal.invariant-loop-place

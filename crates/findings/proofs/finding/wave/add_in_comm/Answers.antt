@@ -1,5 +1,5 @@
 use Rattle.std.proofs.Common.{ℕ, List, ◌++◌, flat_map, ap, ◌∙◌, arith}
-use Rattle.findings.specs.Comparisons.{comparison_of}
+use Rattle.findings.specs.inner.Comparisons.{comparison_of}
 use Rattle.findings.specs.Findings.{found_of_member, found_in_wave}
 use Rattle.findings.specs.declared.finding.Finding.{Finding}
 use Rattle.findings.proofs.CallerLemmas.{fewer}

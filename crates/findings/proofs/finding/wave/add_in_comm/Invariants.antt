@@ -1,7 +1,7 @@
 use Rattle.std.proofs.Common.{◌≡◌, ◌≤◌, ◌++◌, ℕ, flat_map}
 use Rattle.std.specs.List.{range_with_len}
 use Rattle.findings.specs.Findings.{found_of_member, found_in_wave}
-use Rattle.findings.specs.Comparisons.{comparison_of}
+use Rattle.findings.specs.inner.Comparisons.{comparison_of}
 use Rattle.findings.proofs.finding.wave.add_in_comm.Given as goal
 
 -- what is found so far, and from here on nothing is found of other members than those that are kept

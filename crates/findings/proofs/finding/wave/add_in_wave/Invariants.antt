@@ -1,6 +1,6 @@
 use Rattle.std.proofs.Common.{◌≡◌, ◌++◌, flat_map, take}
 use Rattle.findings.specs.Findings.{found_of_member}
-use Rattle.findings.specs.Comparisons.{comparison_of}
+use Rattle.findings.specs.inner.Comparisons.{comparison_of}
 use Rattle.findings.proofs.finding.wave.add_in_wave.Given as goal
 
 -- what is found of the members so far

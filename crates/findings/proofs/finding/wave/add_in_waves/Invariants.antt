@@ -1,7 +1,7 @@
 use Rattle.std.proofs.Common.{◌≡◌, ◌++◌}
 use Rattle.std.specs.List.{flat_map, range_with_len}
 use Rattle.findings.specs.Findings.{found_in_comm}
-use Rattle.findings.specs.Comparisons.{comparison_of}
+use Rattle.findings.specs.inner.Comparisons.{comparison_of}
 use Rattle.findings.proofs.finding.wave.add_in_waves.Given as goal
 
 abbrev pub invariant-loop-comm : goal.invariant-loop-comm

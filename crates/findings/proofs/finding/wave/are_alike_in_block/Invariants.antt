@@ -1,6 +1,6 @@
 use Rattle.std.proofs.Common.{◌≡◌, ◌+◌, ◌<◌, ◌≤◌, ℕ, []}
 use Rattle.findings.specs.declared.finding.wave.Compared.{Compared}
-use Rattle.findings.specs.Comparisons.{comparison_of}
+use Rattle.findings.specs.inner.Comparisons.{comparison_of}
 use Rattle.findings.specs.Findings.{found_of_member}
 use Rattle.findings.proofs.finding.wave.are_alike_in_block.Given as goal
 

@@ -1,6 +1,6 @@
 use Rattle.std.proofs.Common.{◌≡◌, ◌+◌, ◌-◌, ◌<◌, ◌≤◌, ℕ, [], ⊎_elim, subst, arith}
 use Rattle.std.proofs.lemmas.Bool.{cases_lt}
-use Rattle.findings.specs.Comparisons.{comparison_of}
+use Rattle.findings.specs.inner.Comparisons.{comparison_of}
 use Rattle.findings.specs.Findings.{found_of_member}
 use Rattle.findings.proofs.AlikeLemmas.{nothing_in_comm}
 use Rattle.findings.proofs.finding.wave.are_alike_in_comm.Goals as goal

@@ -1,7 +1,7 @@
 use Rattle.std.proofs.Common.{◌≡◌, ◌<◌, ◌≤◌, ◌-◌, ℕ, [], length}
 use Rattle.mpigroup.specs.Groups.{group_of}
 use Rattle.findings.specs.declared.finding.wave.Compared.{Compared}
-use Rattle.findings.specs.Comparisons.{comparison_of}
+use Rattle.findings.specs.inner.Comparisons.{comparison_of}
 use Rattle.findings.specs.Findings.{found_of_member}
 use Rattle.findings.proofs.finding.wave.are_alike_in_comm.Given as goal
 

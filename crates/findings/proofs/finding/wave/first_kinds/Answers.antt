@@ -1,7 +1,7 @@
 use Rattle.std.proofs.Common.{◌≡◌, ◌+◌, ◌<◌, ◌≤◌, ℕ, None, length, get_or, slice_set, ⊎_elim, subst, ◌∙◌, arith}
 use Rattle.std.proofs.lemmas.Bool.{cases_lt}
 use Rattle.std.proofs.lemmas.List.{get_or-set_same, get_or-set_other, length-set}
-use Rattle.findings.specs.Comparisons.{kind_in}
+use Rattle.findings.specs.inner.Comparisons.{kind_in}
 use Rattle.findings.proofs.finding.wave.first_kinds.Goals as goal
 
 pub loop-i-preserved : goal.loop-i-preserved

@@ -1,5 +1,5 @@
 use Rattle.std.proofs.Common.{◌≡◌, ◌+◌, ◌<◌, ℕ, None, length, get_or}
-use Rattle.findings.specs.Comparisons.{kind_in}
+use Rattle.findings.specs.inner.Comparisons.{kind_in}
 use Rattle.findings.specs.declared.finding.wave.TheConstants.{WAVES_A_BLOCK}
 use Rattle.findings.proofs.finding.wave.first_kinds.Given as goal
 

@@ -1,6 +1,7 @@
 -- What is received and what is left of the rank are together what they were, and nothing else was taken.
 use Rattle.std.proofs.Common.{◌≡◌, ◌++◌, length}
-use Rattle.gather.specs.Collectors.{received_from, left_from, ReceivesFrom}
+use Rattle.gather.specs.Collectors.{received_from, left_from}
+use Rattle.gather.specs.inner.Collectors.{ReceivesFrom}
 use Rattle.gather.proofs.collector.Collector.drain.Given as goal
 
 abbrev pub invariant-loop : goal.invariant-loop

@@ -7,7 +7,7 @@ use Rattle.moves.specs.Runs.{IsTheEnd}
 use Rattle.moves.specs.Needs.{can_move}
 use Rattle.moves.specs.Stands.{stands_of}
 use Rattle.moves.specs.Arrivals.{IsKeptOn}
-use Rattle.moves.specs.Waiting.{IsSettled, touches_of}
+use Rattle.moves.specs.inner.Waiting.{IsSettled, touches_of}
 use Rattle.moves.proofs.AnalyserLemmas.{end_stands, accepted_none, accepted_kept, refused_kept}
 use Rattle.moves.proofs.SettleLemmas.{settled_end, touches_within}
 use Rattle.moves.proofs.analyser.Analyser.offer.Goals as goal

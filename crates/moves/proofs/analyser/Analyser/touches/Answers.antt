@@ -1,6 +1,6 @@
 use Rattle.std.proofs.Common.{◌≡◌, ◌≤◌, subst, rules}
 use Rattle.moves.specs.Analysed.{Analysed, most_touches, ranks_waiting}
-use Rattle.moves.specs.Waiting.{touches_of}
+use Rattle.moves.specs.inner.Waiting.{touches_of}
 use Rattle.moves.proofs.SettleLemmas.{touches_within, waiting_linked}
 use Rattle.moves.proofs.analyser.Analyser.touches.Goals as goal
 

@@ -1,5 +1,5 @@
 use Rattle.std.proofs.Common.{◌+◌, ℕ, set, refl, ap, arith}
-use Rattle.moves.specs.Waiting.{met_of}
+use Rattle.moves.specs.inner.Waiting.{met_of}
 use Rattle.moves.proofs.WaveLemmas.{comm_is, wave_few, ReachesWanting, passes_on, passes_wave}
 use Rattle.moves.proofs.progress.Progress.reach_wave.Goals as goal
 

@@ -1,5 +1,6 @@
 use Rattle.std.proofs.Common.{◌≡◌, ◌∙◌, sym, ap}
-use Rattle.mpicall.specs.Lines.{split_fields, split_some}
+use Rattle.mpicall.specs.Lines.{split_fields}
+use Rattle.mpicall.specs.inner.Lines.{split_some}
 use Rattle.mpicall.proofs.FrontLemmas.{front_then, front_last}
 use Rattle.mpicall.proofs.fields.Fields.next_canonical.Goals as goal
 

@@ -1,6 +1,7 @@
 -- The word is the first field.
 use Rattle.std.proofs.Common.{◌≡◌, ◌∙◌, sym, ap, arith}
-use Rattle.mpicall.specs.Lines.{split_fields, split_some}
+use Rattle.mpicall.specs.Lines.{split_fields}
+use Rattle.mpicall.specs.inner.Lines.{split_some}
 use Rattle.mpicall.proofs.FieldLemmas.{word_first}
 use Rattle.mpicall.proofs.fields.Fields.take_word.Goals as goal
 

@@ -1,5 +1,5 @@
 use Rattle.std.proofs.Common.{ℕ, List, ◌++◌, ap, ◌∙◌}
-use Rattle.mpicall.specs.Draft.{line_with}
+use Rattle.mpicall.specs.inner.Draft.{line_with}
 use Rattle.mpicall.specs.Spelling.{arguments_of}
 use Rattle.mpicall.specs.Word.{text_of}
 use Rattle.mpicall.specs.declared.word.Word.{Word}

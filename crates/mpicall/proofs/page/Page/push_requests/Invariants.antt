@@ -1,7 +1,7 @@
 -- The line so far, with the requests from the index on after it, is the whole one.
 use Rattle.std.proofs.Common.{◌≡◌, ◌≤◌, ◌+◌, ◌*◌, drop, map, length}
 use Rattle.mpicall.specs.Argument.{request_argument}
-use Rattle.mpicall.specs.Draft.{line_with}
+use Rattle.mpicall.specs.inner.Draft.{line_with}
 use Rattle.mpicall.proofs.page.Page.push_requests.Given as goal
 
 abbrev pub invariant-loop-req : goal.invariant-loop-req

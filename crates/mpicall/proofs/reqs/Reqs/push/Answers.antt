@@ -1,7 +1,7 @@
 -- The cells after the numbers stay 0.
 use Rattle.std.proofs.Common.{arith, ◌<◌, ap, length, ◌∙◌}
 use Rattle.std.proofs.lemmas.List.{length-set}
-use Rattle.mpicall.specs.Cells.{same_len}
+use Rattle.mpicall.specs.inner.Cells.{same_len}
 use Rattle.mpicall.proofs.CellLemmas.{zeros_behind}
 use Rattle.mpicall.proofs.reqs.Reqs.push.Goals as goal
 

@@ -2,7 +2,7 @@ use Rattle.std.proofs.Common.{◌≡◌, eqb, arith}
 use Rattle.std.specs.List.{position, slice_get}
 use Rattle.std.proofs.lemmas.Grind.{common_steps}
 use Rattle.std.proofs.lemmas.Option.{gets}
-use Rattle.mpigroup.specs.Places.{told_place}
+use Rattle.mpigroup.specs.inner.Places.{told_place}
 use Rattle.mpigroup.proofs.group.Group.rank_of.Goals as goal
 
 pub returns : goal.returns

@@ -1,7 +1,7 @@
 use Rattle.std.proofs.Common.{◌≡◌, ◌≤◌, ◌==◌, ◌&&◌, None, take, ℕ, if◌then◌else◌}
 use Rattle.indexmap.specs.IndexMap.{spare}
 use Rattle.callnotes.specs.Requests.{is_among}
-use Rattle.pairing.specs.Starts.{place_in}
+use Rattle.pairing.specs.inner.Starts.{place_in}
 use Rattle.pairing.proofs.active.Active.complete.Given as goal
 
 -- the requests so far are taken out

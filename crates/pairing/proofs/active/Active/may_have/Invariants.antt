@@ -1,5 +1,5 @@
 use Rattle.std.proofs.Common.{◌≡◌, ◌%◌, ◌<◌, ℕ, None}
-use Rattle.pairing.specs.Starts.{cell_in, place_at}
+use Rattle.pairing.specs.inner.Starts.{cell_in, place_at}
 use Rattle.pairing.proofs.active.Active.may_have.Given as goal
 
 -- the cells so far have no request of their own

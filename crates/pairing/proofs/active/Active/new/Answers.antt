@@ -1,7 +1,7 @@
 -- Nothing is active where no call was made.
 use Rattle.std.proofs.Common.{◌*◌, arith, rules}
 use Rattle.std.proofs.lemmas.Grind.{common_steps}
-use Rattle.pairing.specs.Starts.{cell_no}
+use Rattle.pairing.specs.inner.Starts.{cell_no}
 use Rattle.pairing.proofs.ActiveLemmas.{no_cell}
 use Rattle.callnotes.proofs.PlacesLemmas.{no_calls}
 use Rattle.pairing.proofs.active.Active.new.Goals as goal

@@ -1,6 +1,6 @@
 use Rattle.std.proofs.Common.{◌≡◌, take, length, arith}
 use Rattle.std.proofs.lemmas.List.{take_all}
-use Rattle.pairing.specs.Starts.{place_in}
+use Rattle.pairing.specs.inner.Starts.{place_in}
 use Rattle.pairing.proofs.FrontLemmas.{front_stops, front_whole}
 use Rattle.pairing.proofs.active.Active.write_starts.Goals as goal
 

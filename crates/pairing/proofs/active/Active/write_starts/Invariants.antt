@@ -1,5 +1,5 @@
 use Rattle.std.proofs.Common.{◌≡◌, Some, map, take, drop}
-use Rattle.pairing.specs.Starts.{place_in}
+use Rattle.pairing.specs.inner.Starts.{place_in}
 use Rattle.pairing.proofs.active.Active.write_starts.Given as goal
 
 -- the requests so far are active, and what started them is written

@@ -1,7 +1,7 @@
 use Rattle.std.proofs.Common.{◌≡◌, ◌∙◌, ◌++◌, ◌∷◌, ℕ, Some, None, List, [], length, ap, sym, length-append, arith}
 use Rattle.indexmap.specs.IndexSet.{insert_key}
 use Rattle.pairing.specs.declared.held.Holding.{Holding}
-use Rattle.pairing.specs.Joined.{Joinings, list_number, list_of}
+use Rattle.pairing.specs.inner.Joined.{Joinings, list_number, list_of}
 use Rattle.pairing.proofs.JoinedLemmas.{same_fields, key_more, grown_places, grown_number}
 use Rattle.pairing.proofs.joined.Waves.add_list.Goals as goal
 

@@ -2,7 +2,7 @@ use Rattle.std.proofs.Common.{◌≡◌, true, take}
 use Rattle.std.specs.List.{list_all}
 use Rattle.std.specs.Option.{is_some}
 use Rattle.mpigroup.specs.Groups.{group_of}
-use Rattle.pairing.specs.Joined.{IsJoined}
+use Rattle.pairing.specs.inner.Joined.{IsJoined}
 use Rattle.callnotes.specs.Recordings.{Lists}
 use Rattle.callnotes.specs.Waves.{place_in_wave}
 use Rattle.pairing.proofs.joined.Waves.is_full.Given as goal

@@ -2,7 +2,7 @@ use Rattle.std.proofs.Common.{◌≡◌, ◌∙◌, ℕ, Option, List, [], lengt
 use Rattle.std.specs.Option.{option_map_or}
 use Rattle.callnotes.specs.Places.{places}
 use Rattle.callnotes.specs.Recordings.{calls_of}
-use Rattle.pairing.specs.Joined.{Joinings}
+use Rattle.pairing.specs.inner.Joined.{Joinings}
 use Rattle.callnotes.specs.Seats.{list_in}
 use Rattle.callnotes.specs.Waves.{does_join}
 use Rattle.callnotes.proofs.PlacesLemmas.{places_most}

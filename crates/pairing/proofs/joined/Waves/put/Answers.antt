@@ -1,5 +1,5 @@
 use Rattle.std.proofs.Common.{◌≡◌, Some, ℕ, Option, subst, sym}
-use Rattle.pairing.specs.Joined.{Joinings, list_number, IsListFor, IsJoined}
+use Rattle.pairing.specs.inner.Joined.{Joinings, list_number, IsListFor, IsJoined}
 use Rattle.pairing.proofs.JoinedLemmas.{put_in, put_none, its_wave, no_wave}
 use Rattle.pairing.proofs.joined.Waves.put.Goals as goal
 

@@ -4,7 +4,7 @@ use Rattle.std.specs.Option.{is_some}
 use borrow.Author.Count.{below_more}
 use Rattle.callnotes.specs.declared.envelope.Envelope.{Envelope}
 use Rattle.callnotes.specs.Envelopes.{same_envelope}
-use Rattle.pairing.specs.Matched.{Matching, pending_at}
+use Rattle.pairing.specs.inner.Matched.{Matching, pending_at}
 use Rattle.pairing.proofs.MatchedLemmas.{no_first, none_pending, pending_there}
 use Rattle.pairing.proofs.matches.Matches.has_pending.Goals as goal
 

@@ -1,5 +1,5 @@
 use Rattle.std.proofs.Common.{◌≡◌, ℕ, ◌<◌, []}
-use Rattle.pairing.specs.Matched.{pending_at}
+use Rattle.pairing.specs.inner.Matched.{pending_at}
 use Rattle.pairing.proofs.matches.Matches.has_pending.Given as goal
 
 -- none is pending of the envelopes so far

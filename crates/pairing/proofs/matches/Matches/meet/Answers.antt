@@ -1,9 +1,10 @@
 use Rattle.std.proofs.Common.{◌≡◌, ◌∙◌, ℕ, List, ap, sym}
 use Rattle.std.specs.List.{slice_get}
-use Rattle.arenalist.specs.Arena.{Arena, contents, first_value, linked}
+use Rattle.arenalist.specs.Arena.{Arena, first_value, linked}
+use Rattle.arenalist.specs.inner.Arena.{contents}
 use Rattle.arenalist.specs.Numbers.{list_at}
 use Rattle.callnotes.specs.Envelopes.{other_half}
-use Rattle.pairing.specs.Matched.{Matching, list_no, pending_at, met}
+use Rattle.pairing.specs.inner.Matched.{Matching, list_no, pending_at, met}
 use Rattle.pairing.proofs.MatchedLemmas.{met_popped, met_pushed, first_pending}
 use Rattle.pairing.proofs.matches.Matches.meet.Goals as goal
 

@@ -2,8 +2,9 @@
 use Rattle.std.proofs.Common.{ℕ, ap, sym, subst, ◌∙◌, List, [], replicate}
 use Rattle.mpigroup.specs.Groups.{ranks_of}
 use Rattle.callnotes.specs.Recordings.{Lists}
-use Rattle.callnotes.specs.Notes.{Noted, recording_of}
-use Rattle.pairing.specs.Seated.{IsProbing}
+use Rattle.callnotes.specs.Notes.{Noted}
+use Rattle.callnotes.specs.inner.Notes.{recording_of}
+use Rattle.pairing.specs.inner.Seated.{IsProbing}
 use Rattle.pairing.proofs.KeptLemmas.{nothing_kept, recording_of-none}
 use Rattle.pairing.proofs.pairs.Pairs.new.Goals as goal
 

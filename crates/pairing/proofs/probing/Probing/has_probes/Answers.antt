@@ -1,4 +1,4 @@
-use Rattle.pairing.specs.Seated.{seat_in}
+use Rattle.pairing.specs.inner.Seated.{seat_in}
 use Rattle.pairing.proofs.probing.Probing.has_probes.Goals as goal
 
 pub returns-clause-none : goal.returns-clause-none

@@ -1,6 +1,6 @@
 use Rattle.std.proofs.Common.{None}
 use Rattle.std.proofs.lemmas.Option.{none-some}
-use Rattle.pairing.specs.Seated.{seat_in}
+use Rattle.pairing.specs.inner.Seated.{seat_in}
 use Rattle.pairing.proofs.ProbingLemmas.{reseated}
 use Rattle.pairing.proofs.probing.Probing.new.Goals as goal
 

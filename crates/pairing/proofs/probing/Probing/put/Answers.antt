@@ -1,8 +1,8 @@
 use Rattle.std.proofs.Common.{◌≡◌, Some, None, length, ◌∙◌}
 use Rattle.callnotes.specs.Recordings.{calls_of, appended}
 use Rattle.pairing.specs.Probed.{probed_envelope}
-use Rattle.pairing.specs.Probing.{seat_for, seated}
-use Rattle.pairing.specs.Seated.{seat_in}
+use Rattle.pairing.specs.inner.Probing.{seat_for, seated}
+use Rattle.pairing.specs.inner.Seated.{seat_in}
 use Rattle.pairing.proofs.ProbingLemmas.{sits_more, receives_more, reseated, unseated}
 use Rattle.pairing.proofs.probing.Probing.put.Goals as goal
 

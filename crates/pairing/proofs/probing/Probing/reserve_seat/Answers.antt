@@ -1,4 +1,4 @@
-use Rattle.pairing.specs.Seated.{seat_in}
+use Rattle.pairing.specs.inner.Seated.{seat_in}
 use Rattle.pairing.proofs.ProbingLemmas.{reseated}
 use Rattle.pairing.proofs.probing.Probing.reserve_seat.Goals as goal
 

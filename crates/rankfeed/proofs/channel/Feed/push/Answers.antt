@@ -1,7 +1,8 @@
 use Rattle.std.proofs.Common.{◌≡◌, true, ap, sym, ◌∙◌, arith}
 use Rattle.rankfeed.specs.declared.item.Item.TheVariants.{Entry}
 use Rattle.crossbeam_channel.specs.Claims.{view}
-use Rattle.rankfeed.specs.Items.{may_follow, last_item, item_ends_list, mark_in}
+use Rattle.rankfeed.specs.Items.{last_item, item_ends_list, mark_in}
+use Rattle.rankfeed.specs.inner.Items.{may_follow}
 use Rattle.rankfeed.proofs.ItemLemmas.{entry_may_follow}
 use Rattle.rankfeed.proofs.RelayLemmas.{puts, finds_full, has_put}
 use Rattle.rankfeed.proofs.channel.Feed.push.Goals as goal

@@ -1,5 +1,5 @@
 use Rattle.std.proofs.Common.{◌≡◌, ◌++◌, string_bytes, take}
-use Rattle.reports.specs.ArrayTexts.{elements_text}
+use Rattle.reports.specs.inner.ArrayTexts.{elements_text}
 use Rattle.reports.specs.JsonReport.{rank_data}
 use Rattle.reports.proofs.json.rank.push_ranks.Given as goal
 

@@ -3,7 +3,7 @@ use Rattle.std.proofs.Common.{◌≡◌, List, ℕ, ◌∷◌, [], ◌++◌, cod
 use Rattle.std.specs.Fmt.{decimal}
 use Rattle.mpicall.specs.Spelling.{space, line_feed}
 use Rattle.moves.specs.Stands.{stands_of}
-use Rattle.reports.specs.Printing.{with_fields}
+use Rattle.reports.specs.inner.Printing.{with_fields}
 use Rattle.reports.specs.TextReport.{need_fields, present_fields}
 use Rattle.reports.proofs.SpelledLemmas.{line_put, fields-append}
 use Rattle.reports.proofs.report.text.push_unmet.Goals as goal

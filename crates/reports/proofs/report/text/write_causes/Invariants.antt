@@ -2,7 +2,7 @@
 use Rattle.std.proofs.Common.{flat_map, take}
 use Rattle.waitgraph.specs.Causes.{view_of}
 use Rattle.reports.specs.TextReport.{cause_line}
-use Rattle.reports.specs.Printing.{Prints}
+use Rattle.reports.specs.inner.Printing.{Prints}
 use Rattle.reports.proofs.report.text.write_causes.Given as goal
 
 abbrev pub invariant-loop-cause : goal.invariant-loop-cause

@@ -1,7 +1,7 @@
 -- The texts of the elements so far are printed.
 use Rattle.std.proofs.Common.{flat_map, take}
 use Rattle.reports.specs.TextReport.{finding_line}
-use Rattle.reports.specs.Printing.{Prints}
+use Rattle.reports.specs.inner.Printing.{Prints}
 use Rattle.reports.proofs.report.text.write_findings.Given as goal
 
 abbrev pub invariant-loop-finding : goal.invariant-loop-finding

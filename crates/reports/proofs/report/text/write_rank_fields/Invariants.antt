@@ -2,7 +2,7 @@
 use Rattle.std.proofs.Common.{ℕ, ◌∷◌, flat_map, take}
 use Rattle.std.specs.Fmt.{decimal}
 use Rattle.mpicall.specs.Spelling.{space}
-use Rattle.reports.specs.Printing.{Prints}
+use Rattle.reports.specs.inner.Printing.{Prints}
 use Rattle.reports.proofs.report.text.write_rank_fields.Given as goal
 
 abbrev pub invariant-loop-rank : goal.invariant-loop-rank

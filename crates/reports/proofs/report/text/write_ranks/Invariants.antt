@@ -1,7 +1,7 @@
 -- The texts of the elements so far are printed.
 use Rattle.std.proofs.Common.{flat_map, take}
 use Rattle.reports.specs.TextReport.{rank_lines}
-use Rattle.reports.specs.Printing.{Prints}
+use Rattle.reports.specs.inner.Printing.{Prints}
 use Rattle.reports.proofs.report.text.write_ranks.Given as goal
 
 abbrev pub invariant-loop-rank : goal.invariant-loop-rank

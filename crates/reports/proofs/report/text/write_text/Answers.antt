@@ -11,7 +11,7 @@ use Rattle.waitgraph.specs.Stuck.{stuck_of}
 use Rattle.waitgraph.specs.Verdicts.{verdict_by}
 use Rattle.waitgraph.specs.declared.cause.Cause.{Cause}
 use Rattle.findings.specs.declared.finding.Finding.{Finding}
-use Rattle.reports.specs.Printing.{IsPrinted, PrintsAll}
+use Rattle.reports.specs.inner.Printing.{IsPrinted, PrintsAll}
 use Rattle.reports.specs.TextReport.{cause_line, finding_line, rank_lines, text_report, verdict_line}
 use Rattle.reports.proofs.report.text.write_text.Goals as goal
 

@@ -5,7 +5,8 @@ use Rattle.mpicall.specs.declared.call.Call.{Call}
 use Rattle.mpigroup.specs.Groups.{Groups}
 use Rattle.callnotes.specs.declared.envelope.Half.{Half}
 use Rattle.callnotes.specs.Beside.{wave_in}
-use Rattle.callnotes.specs.Notes.{Noted, notes_of, calls_in, recording_of, kept_at}
+use Rattle.callnotes.specs.Notes.{Noted, notes_of, calls_in}
+use Rattle.callnotes.specs.inner.Notes.{recording_of, kept_at}
 use Rattle.pairing.specs.Partners.{partner_of}
 use Rattle.callnotes.specs.Places.{places}
 use Rattle.callnotes.specs.Requests.{waits_for, started_in}

@@ -5,7 +5,7 @@ use Rattle.mpicall.specs.declared.call.Call.{Call}
 use Rattle.mpigroup.specs.Groups.{Groups}
 use Rattle.callnotes.specs.Recordings.{Lists}
 use Rattle.callnotes.specs.Envelopes.{probed_message}
-use Rattle.pairing.specs.Probing.{AreSeated, HasRoomToSit}
+use Rattle.pairing.specs.inner.Probing.{AreSeated, HasRoomToSit}
 use Rattle.pairing.specs.declared.probing.Spot.{Spot}
 use Rattle.pairing.specs.declared.probing.Probing.{Probing}
 use Rattle.pairing.specs.contracts.probing.SpotPartialEq.TheImpl as spot_eq

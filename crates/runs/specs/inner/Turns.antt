@@ -7,7 +7,8 @@ use Rattle.callnotes.specs.Recordings.{is_ended}
 use Rattle.rankfeed.specs.Items.{calls_among, end_the_list, end_mark_of}
 use Rattle.mpicall.specs.declared.fault.Ending.TheVariants.{Sealed}
 use Rattle.rankfeed.specs.declared.item.Item.{Item}
-use Rattle.gather.specs.Collected.{Kept, IsKeptIn, LeavesOthers}
+use Rattle.gather.specs.Collected.{Kept, IsKeptIn}
+use Rattle.gather.specs.inner.Collected.{LeavesOthers}
 use Rattle.gather.specs.Fed.{IsFed}
 use Rattle.gather.specs.Reads.{IsReading}
 use Rattle.runs.specs.declared.turn.Turn.{Turn}

@@ -20,11 +20,12 @@ use Rattle.moves.specs.declared.look.Look.{Look}
 use Rattle.moves.specs.declared.look.Look.TheVariants.{Over, Moves, Partner, Wave}
 use Rattle.moves.specs.declared.need.Need.{Need}
 use Rattle.moves.specs.declared.progress.Progress.{Progress}
-use Rattle.moves.specs.Links.{linked_ranks, AreListed}
+use Rattle.moves.specs.inner.Links.{linked_ranks, AreListed}
 use Rattle.moves.specs.Needs.{half_needs, probe_needs, sends_freely, operation_needs_at, request_needs, needs_of_call, is_met, may_pass, can_move}
 use Rattle.moves.specs.Runs.{State, IsReached, total}
 use Rattle.moves.specs.Stands.{call_count}
-use Rattle.arenalist.specs.Numbers.{in_all, list_at, sum_to}
+use Rattle.arenalist.specs.Numbers.{list_at, sum_to}
+use Rattle.arenalist.specs.inner.Numbers.{in_all}
 use Rattle.arenalist.specs.Arena.{counted}
 
 -- what the messages of the call at a place need: the partners of its halves, and the send that it probes for

@@ -5,7 +5,8 @@ use Rattle.clap.specs.Walk.{Text}
 use Rattle.command.specs.Ends.{EndsInFault, IsTried}
 use Rattle.command.specs.Faults.{status_of_fault}
 use Rattle.command.specs.FaultTexts.{line_of_fault}
-use Rattle.command.specs.Outputs.{Written, Nothing, Becomes, Writes, FailsToWrite, LeavesAtFault, Tries}
+use Rattle.command.specs.Outputs.{Written, Nothing, Becomes, Writes, FailsToWrite, Tries}
+use Rattle.command.specs.inner.Outputs.{LeavesAtFault}
 use Rattle.command.specs.declared.fault.Fault.{Fault}
 use Rattle.command.specs.declared.fault.Fault.TheVariants.{Memory, Write}
 use Rattle.command.specs.declared.program.Complaint.{Complaint}

@@ -4,8 +4,9 @@ use Rattle.mpicall.specs.declared.call.Call.{Call}
 use Rattle.mpigroup.specs.Groups.{Groups, ranks_of}
 use Rattle.pairing.specs.declared.tables.Tables.{Tables}
 use Rattle.pairing.specs.declared.tables.Room.{Room}
-use Rattle.callnotes.specs.Notes.{Noted, notes_of, with_note, calls_in, recording_of}
-use Rattle.pairing.specs.Kept.{IsNoted, AreNoted, ArePartnered}
+use Rattle.callnotes.specs.Notes.{Noted, notes_of, with_note, calls_in}
+use Rattle.callnotes.specs.inner.Notes.{recording_of}
+use Rattle.pairing.specs.inner.Kept.{IsNoted, AreNoted, ArePartnered}
 use Rattle.callnotes.specs.Beside.{partner_in, wave_in}
 use Rattle.callnotes.specs.declared.beside.Beside.{Beside}
 use Rattle.callnotes.specs.declared.envelope.Half.{Half}
@@ -13,10 +14,10 @@ use Rattle.callnotes.specs.Recordings.{Lists}
 use Rattle.callnotes.specs.Places.{places}
 use Rattle.callnotes.specs.Waves.{joins, does_join}
 use Rattle.pairing.specs.Faults.{IsLawful}
-use Rattle.pairing.specs.Matched.{IsMatched, HasRoomFor}
-use Rattle.pairing.specs.Joined.{IsJoined, HasRoomToJoin}
-use Rattle.pairing.specs.Holdings.{IsHolding, HasRoomToHold}
-use Rattle.pairing.specs.Starts.{IsActive, HasRoomToStart}
+use Rattle.pairing.specs.inner.Matched.{IsMatched, HasRoomFor}
+use Rattle.pairing.specs.inner.Joined.{IsJoined, HasRoomToJoin}
+use Rattle.pairing.specs.inner.Holdings.{IsHolding, HasRoomToHold}
+use Rattle.pairing.specs.inner.Starts.{IsActive, HasRoomToStart}
 
 -- the tables of waves, communicators and requests have what the recording gives them
 pub record AreOthers (recording : Lists) (tables : Tables) : Type 0 where

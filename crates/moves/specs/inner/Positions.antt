@@ -6,7 +6,7 @@ use Rattle.moves.specs.declared.look.Look.{Look}
 use Rattle.moves.specs.declared.world.World.{World}
 use Rattle.moves.specs.declared.world.Positions.{Positions}
 use Rattle.moves.specs.Runs.{StandsNoLater}
-use Rattle.moves.specs.Waiting.{AreWaves, IsNoException, IsNobody, HoldsBetweenLooks, IsInHand, IsSettled, IsReaching, HasArrived, TellsOperation, TellsRequest, TellsCompleted, TellsCall, TellsRank, touches_of, to_do}
+use Rattle.moves.specs.inner.Waiting.{AreWaves, IsNoException, IsNobody, HoldsBetweenLooks, IsInHand, IsSettled, IsReaching, HasArrived, TellsOperation, TellsRequest, TellsCompleted, TellsCall, TellsRank, touches_of, to_do}
 
 -- the call stands there, by its rank and its place
 abbrev pub IsCallAt : World → ℕ × ℕ → Call → Type 0

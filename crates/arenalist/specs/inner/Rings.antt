@@ -1,6 +1,7 @@
 -- Rings of cells by their links. A ring begins and ends at a cell of its own, its head.
 use Rattle.std.specs.Prelude.{◌≡◌, ℕ, zero, suc, ◌<◌, ◌≤◌, List, [], ◌∷◌, length, get_or, set, map, drop, ◌==◌, if◌then◌else◌}
-use Rattle.arenalist.specs.Numbers.{count, in_all, list_at}
+use Rattle.arenalist.specs.Numbers.{list_at}
+use Rattle.arenalist.specs.inner.Numbers.{count, in_all}
 
 -- from `a` over the cells to `z`, by the links there and back
 abbrev pub Chain : List ℕ → List ℕ → ℕ → List ℕ → ℕ → Type 0

@@ -1,7 +1,8 @@
 -- The links of an arena's cells.
 use Rattle.std.specs.Prelude.{◌≡◌, ℕ, ◌<◌, ◌^◌, List, [], ◌∷◌, length, get_or, set, Option, Some, None}
-use Rattle.arenalist.specs.Numbers.{count, list_at}
-use Rattle.arenalist.specs.Rings.{AreLinked, rings_of, lists_of}
+use Rattle.arenalist.specs.Numbers.{list_at}
+use Rattle.arenalist.specs.inner.Numbers.{count}
+use Rattle.arenalist.specs.inner.Rings.{AreLinked, rings_of, lists_of}
 
 -- each list's own cell, the cells in each list, and how many cells there are
 pub record Linked : Type 0 where

@@ -1,0 +1,11 @@
+-- What nobody has to believe: these definitions are cited by proofs and private contracts alone.
+pub mod Argument
+pub mod Cells
+pub mod Draft
+pub mod Front
+pub mod Laid
+pub mod Line
+pub mod Lines
+pub mod Reading
+pub mod Stage
+pub mod Window
