@@ -8,5 +8,5 @@ use Rattle.command.specs.Outputs.{FailsToWrite}
 module _ {O : Type 0} (written : O → Option (List ℕ)) (failures : O → ℕ) where
   -- only a write that failed leaves the output other than it was
   abbrev pub LeavesAtFault : O → O → Fault → Type 0
-  LeavesAtFault old new Write = (text : List ℕ) × FailsToWrite old new text
+  LeavesAtFault old new Write = (text : List ℕ) × FailsToWrite written failures old new text
   LeavesAtFault old new fault = new ≡ old
