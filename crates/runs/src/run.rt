@@ -1,12 +1,13 @@
 //! The report of a run over the sources of its ranks, which are read at once.
 
-ghost use Rattle.std.specs.Prelude.{◌≡◌, ◌<◌, ◌≤◌, ℕ, [], List, length, map, vec_len, vec_capacity, IfOk, IfErr, OnOk};
+ghost use Rattle.std.specs.Prelude.{◌≡◌, ◌<◌, ◌≤◌, ℕ, None, [], List, length, map, vec_len, vec_capacity, IfOk, IfErr, OnOk};
 ghost use Rattle.mpicall.specs.Trace.{Trace as TraceValue};
 ghost use Rattle.mpigroup.specs.Groups.{ranks_of};
+ghost use Rattle.gather.specs.Answers.{refusal_of};
 ghost use Rattle.waitgraph.specs.Verdicts.{verdict_of};
 ghost use Rattle.std.specs.Io.KnownBytes.{Appends};
 ghost use Rattle.reports.specs.Reports.{report_of};
-ghost use Rattle.runs.specs.Told.{AreFresh, Tells, IsVerdictOver, RefusesOver};
+ghost use Rattle.runs.specs.Told.{AreFresh, Tells, IsVerdictOver, RefusesOver, TheTraceToComeIsRead};
 ghost use Rattle.runs.specs.inner.Ranks.{LeavesRunReport};
 ghost use Rattle.runs.specs.Written.{LeavesOutput, WritesReport};
 ghost use Rattle.runs.specs.Runs.{RefusesFeeds, StopsWhereAllowed};
@@ -230,6 +231,8 @@ where
     requires fresh { AreFresh sources.items }
 
     // The answer is that of the traces which the sources' bytes hold, where the inputs know them.
+    ensures accepted { OnOk result ((traces : List TraceValue) →
+        Tells I.left sources.items traces → refusal_of head traces ≡ None) }
     ensures verdict { IfOk result (λ verdict. (traces : List TraceValue) →
         Tells I.left sources.items traces → IsVerdictOver reading head traces verdict) }
     ensures refused { IfErr result (λ fault. (traces : List TraceValue) →
@@ -273,6 +276,8 @@ where
     requires one_a_rank { length sources.items ≡ ranks_of head }
     requires fresh { AreFresh sources.items }
 
+    ensures accepted { OnOk result ((traces : List TraceValue) →
+        Tells I.left sources.items traces → refusal_of head traces ≡ None) }
     ensures verdict { IfOk result (λ verdict. (traces : List TraceValue) →
         Tells I.left sources.items traces → IsVerdictOver reading head traces verdict) }
     ensures refused { IfErr result (λ fault. (traces : List TraceValue) →
@@ -291,3 +296,8 @@ where
         alloc, head, reading, sources, capacity, gate, format, out, rt, by,
     )
 }
+
+/// The trace that is to come of a source, by spellings and first faults, is the one that reading its lines gives.
+pub fn the_trace_to_come_is_read<I: Input>()
+    ensures { TheTraceToComeIsRead I.left }
+{}

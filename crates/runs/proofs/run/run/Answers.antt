@@ -1,6 +1,9 @@
 -- The same clauses.
 use Rattle.runs.proofs.run.run.Goals as goal
 
+pub returns-clause-accepted : goal.returns-clause-accepted
+returns-clause-accepted g c = c.run_by.ensures.accepted
+
 pub returns-clause-verdict : goal.returns-clause-verdict
 returns-clause-verdict g c = c.run_by.ensures.verdict
 

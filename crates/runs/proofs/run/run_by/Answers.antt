@@ -1,8 +1,13 @@
 -- The answer of the report is that of the run, and a session without an outcome that of its close.
 use Rattle.std.proofs.lemmas.Result.{IfErr-weaker}
 use Rattle.runs.proofs.HeldLemmas.{accepts_all}
-use Rattle.runs.proofs.RunLemmas.{close_output, close_refuses, report_feeds, report_refuses, report_stops, run_output, run_verdict, run_written}
+use Rattle.runs.proofs.RunLemmas.{close_output, close_refuses, report_feeds, report_refuses, report_stops, run_accepted, run_output, run_verdict, run_written}
 use Rattle.runs.proofs.run.run_by.Goals as goal
+
+pub returns-in-Ok-clause-accepted : goal.returns-in-Ok-clause-accepted
+returns-in-Ok-clause-accepted g c =
+    run_accepted g.I.Input.left c.args.head c.args.sources.items c.in-Ok.outcome.recording c.report.result c.requires.one_a_rank
+    (accepts_all g.I.Input.left (g.G.Gate.may_stop c.args.gate.now) c.args.sources.items c.args.reading c.args.head c.in-Ok.outcome c.requires.one_a_rank c.in-Ok.ensures.ok)
 
 pub returns-in-Ok-clause-verdict : goal.returns-in-Ok-clause-verdict
 returns-in-Ok-clause-verdict g c =
