@@ -12,8 +12,8 @@ use std::alloc::Global;
 use std::sync::Wait;
 use std::thread::Threads;
 
-/// Checks two ranks that send to each other before either receives. Unless that ends with a fault, as where memory is
-/// wanted, it ends with `Hang` and leaves the report, and nothing on the output of errors.
+/// Checks two ranks that send to each other before either receives. Unless that ends with a fault, as where memory runs
+/// out, it ends with `Hang` and leaves the report, and nothing on the output of errors.
 pub fn two_that_send_first<R: Threads + Wait + Sync>(
     alloc: Global,
     rt: &R,

@@ -53,7 +53,7 @@ fn show<'a, O: Output>(text: &str, status: Status, out: &mut O) -> Result<Status
     }
 }
 
-/// Tells a fault of the texts on standard output; each other one is a complaint.
+/// Writes a fault of the texts on standard output; each other one is a complaint.
 fn refuse<'a, O: Output>(
     alloc: Global,
     fault: Fault<'a>,
@@ -150,7 +150,7 @@ pub(crate) fn write_error<E: Output>(text: &str, err: &mut E)
     let _ = write_all(err, text.as_bytes());
 }
 
-/// Tells a fault by its line on standard error, and gives the exit status.
+/// Writes the line of a fault to standard error, and gives the exit status.
 fn tell<E: Output>(fault: Fault<'_>, line: &str, err: &mut E) -> Status
     requires { line.now ≡ line_of_fault fault }
     ensures status { result ≡ status_of_fault fault.entry }
@@ -174,7 +174,7 @@ fn tell_fault<E: Output>(alloc: Global, fault: Fault<'_>, err: &mut E) -> Status
     }
 }
 
-/// Tells a complaint on standard error, and gives the exit status.
+/// Writes a complaint to standard error, and gives the exit status.
 fn complain<E: Output>(alloc: Global, complaint: Complaint<'_>, err: &mut E) -> Status
     ensures { Complains E.written E.failures err.old err.new complaint.entry result }
 {

@@ -161,7 +161,7 @@ fn eager_argument<'a>(alloc: Global) -> Arg<'a>
         .long("eager")
         .value_name("N")
         .value_parser(ValueParser::unsigned(0, u64::from(GREATEST_BYTES)))
-        .help("Takes standard sends that tell at most N bytes as buffered, 0 to 2147483647")
+        .help("Takes standard sends of at most N recorded bytes as buffered, 0 to 2147483647")
 }
 
 /// What clap knows of one trace.
