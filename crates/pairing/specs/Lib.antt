@@ -6,4 +6,7 @@ pub mod Work
 pub mod Matched
 pub mod Codes
 pub mod Probed
-pub mod inner
+pub mod Probing
+pub mod Seated
+pub mod Seen
+pub mod Tables
