@@ -1,0 +1,5 @@
+pub mod WindowLemmas
+pub mod FeedLemmas
+pub mod TextLemmas
+pub mod LineLemmas
+mod Rows
