@@ -4,7 +4,8 @@
 # What the program and its launcher wrote comes before the report; how often a test found nothing differs from
 # run to run, and so do the names of folders.
 report_in() {
-    sed -n '/^Run 1 of \|^verdict \|^no verdict/,$p' "$1" | sed "/^Only counted/,/^\$/d; s:$work:WORK:g" |
+    sed -n '/^Run 1 of \|^verdict \|^no verdict\|^not judged\|^refused /,$p' "$1" |
+        sed "/^Only counted/,/^\$/d; s:$work:WORK:g" |
         sed -E 's/\([0-9,]+ times, found nothing\)/(N times, found nothing)/'
 }
 
@@ -14,7 +15,7 @@ check_journals() {
     for folder in "$work/run/journal" "$work/run/journal"/run-*; do
         [[ -e $folder/journal0 ]] || continue
         recordings=$((recordings + 1))
-        "$here/check-journals" "$folder" || fails "$name: these journals are none"
+        "$here/../bench/check-journals" "$folder" || fails "$name: these journals are none"
     done
 }
 

@@ -1,0 +1,1 @@
+"""What the scripts of tools/ share. Unproved companions of mpiwait, like all of tools/."""
