@@ -3,6 +3,7 @@
 -- (section 3.2.1) and a half that receives one (section 3.2.4); MPI_Sendrecv has both (section 3.10). The
 -- modes and the nonblocking forms send and receive alike (section 3.7: either form meets either). A call
 -- whose peer is MPI_PROC_NULL has no message (section 3.11).
+use Rattle.mpicall.specs.Names.{Comm}
 use Rattle.std.specs.Prelude.{ℕ, ◌==◌, Bool, false, ◌&&◌, Option, Some, None, option_map, option_and_then}
 use Rattle.std.specs.Option.{option_map_or}
 use Rattle.mpicall.specs.Does.{does_of}
@@ -24,7 +25,7 @@ other_half SendHalf = RecvHalf
 other_half RecvHalf = SendHalf
 
 -- a message over a communicator, by what a call says of its other end; none where that is MPI_PROC_NULL
-abbrev pub message : ℕ → Side → Option Message
+abbrev pub message : Comm → Side → Option Message
 message comm side = by_peer comm side.peer side.tag
   where
     by_peer : ℕ → Peer → ℕ → Option Message

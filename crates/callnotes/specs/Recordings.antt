@@ -1,5 +1,6 @@
 -- Recordings. A recording gives each rank of the world its trace: the list of its recorded calls. A call's
 -- place is its index in its rank's list, from 0.
+use Rattle.mpicall.specs.Names.{Rank}
 use Rattle.std.specs.Prelude.{◌≡◌, ℕ, ◌<◌, ◌-◌, Bool, true, false, List, [], ◌∷◌, ◌++◌, length, slice_get, slice_set}
 use Rattle.std.specs.List.{list_any}
 use Rattle.std.specs.Option.{option_map_or}
@@ -12,11 +13,11 @@ abbrev pub Lists : Type 0
 Lists = List (List Call)
 
 -- the calls of a rank
-abbrev pub calls_of : Lists → ℕ → List Call
+abbrev pub calls_of : Lists → Rank → List Call
 calls_of recording rank = or_empty recording rank
 
 -- the recording with one more call at the end of the rank's list
-abbrev pub appended : Lists → ℕ → Call → Lists
+abbrev pub appended : Lists → Rank → Call → Lists
 appended recording rank call = slice_set recording rank (calls_of recording rank ++ call ∷ [])
 
 -- some call of the list ends it
@@ -44,4 +45,4 @@ IsClosed recording = (rank : ℕ) → rank < length recording → IsClosedList (
 pub record GoesOn (recording longer : Lists) : Type 0 where
   pub same_ranks : length recording ≡ length longer
   pub more : ℕ → List Call
-  pub goes_on : (rank : ℕ) → calls_of longer rank ≡ calls_of recording rank ++ more rank
+  pub goes_on : (rank : Rank) → calls_of longer rank ≡ calls_of recording rank ++ more rank

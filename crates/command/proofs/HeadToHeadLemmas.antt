@@ -33,6 +33,7 @@ use Rattle.reports.specs.TextReport.{text_report}
 use Rattle.reports.specs.declared.report.Format.{Format}
 use Rattle.reports.specs.declared.report.Format.TheVariants as format
 use Rattle.gather.specs.Answers.{fault_of_rank, recording_of_traces, refusal_of}
+use Rattle.command.proofs.TraceLemmas.{hold_read}
 use Rattle.command.specs.Asked.{Answers, CheckRun, LintTrace, Task, program, task_in}
 use Rattle.command.specs.Ends.{Ends, EndsBy, EndsInReport}
 use Rattle.command.specs.Faults.{status_of_fault}
@@ -174,7 +175,7 @@ module _ (told : Text → Option Text) (is_head : told (codes "head") ≡ Some h
       says.differ (says.files_are ∙ as_many ∙ sym two ∙ sym says.ranks_are)
   no_fault_told path files (Refused refusal) is are says other_status =
       let its = says.0 in
-      let own = (its.of_traces (first ∷ second ∷ []) (texts_told files are)).its_own says.1 in
+      let own = (its.of_traces (first ∷ second ∷ []) (texts_told files are) (map trace_of (first ∷ second ∷ [])) (hold_read (first ∷ second ∷ []))).its_own says.1 in
       let none : refusal_of its.groups (map trace_of (first ∷ second ∷ [])) ≡ None =
       ap (λ (g : Groups). refusal_of g (map trace_of (first ∷ second ∷ []))) (groups_read path its.groups is its.counted.is_head)
       ∙ ap (refusal_of groups) of_texts ∙ none_refused in
@@ -191,7 +192,7 @@ module _ (told : Text → Option Text) (is_head : told (codes "head") ≡ Some h
         let report_is = ends.is_report in
         let run = report_is.of_texts head (first ∷ second ∷ []) (head_told path is) (texts_told files are) in
         let its : report_is.groups ≡ groups = its_groups _ run.is_head in
-        let calls : report_is.recording ≡ recording = run.is_recording ∙ ap recording_of_traces of_texts in
+        let calls : report_is.recording ≡ recording = run.is_recording (map trace_of (first ∷ second ∷ [])) (hold_read (first ∷ second ∷ [])) ∙ ap recording_of_traces of_texts in
         let verdict : ends.verdict ≡ Hang =
         report_is.verdict_is ∙ ap (λ (r : Reading). verdict_of r report_is.groups report_is.recording) reads
         ∙ ap (λ (g : Groups). verdict_of Strict g report_is.recording) its ∙ ap (verdict_of Strict groups) calls ∙ hangs in

@@ -1,8 +1,10 @@
 -- What a lint tells of a source is told of the text that its input gives.
-use Rattle.std.proofs.Common.{◌≡◌, ℕ, Bool, true, false, cond, Option, Some, None, Result, Ok, Err, IfSome, List, option_map, subst, sym, refl}
-use Rattle.mpicall.specs.Trace.{Trace, trace_of}
+use Rattle.std.proofs.Common.{◌≡◌, ℕ, Bool, true, false, cond, Option, Some, None, Result, Ok, Err, IfSome, List, option_map, subst, sym, ap, ◌∙◌, refl}
+use Rattle.mpicall.specs.Lines.{lines_of}
+use Rattle.mpicall.specs.Trace.{Trace, IsTraceOf, trace_of}
 use Rattle.mpicall.specs.Lint.{TellsTrace}
 use Rattle.mpicall.specs.declared.lint.LintFault.{LintFault}
+use Rattle.command.proofs.TraceLemmas.{trace_read}
 use Rattle.command.specs.Faults.{of_lint}
 use Rattle.command.specs.Lints.{IsCountOf, IsTraceFault, IsFaultOfTrace}
 use Rattle.command.specs.declared.fault.Fault.{Fault}
@@ -10,9 +12,9 @@ use Rattle.command.specs.declared.fault.Fault.TheVariants.{LintRefused, LintFail
 use Rattle.runs.specs.Told.{is_from_outside}
 use Rattle.gather.specs.declared.fault.RankFault.TheVariants.{OfSource}
 
-told_is : (told : Option (List ℕ)) (known : Option Trace) (answer : Result ℕ LintFault) → known ≡ option_map trace_of told → TellsTrace known answer → IfSome told (λ text. TellsTrace (Some (trace_of text)) answer)
+told_is : (told : Option (List ℕ)) (known : Option Trace) (answer : Result ℕ LintFault) → known ≡ option_map trace_of told → TellsTrace known answer → IfSome told (λ text. (trace : Trace) → IsTraceOf (lines_of text) trace → TellsTrace (Some trace) answer)
 told_is None known answer is tells = tt
-told_is (Some text) known answer is tells = subst (λ k. TellsTrace k answer) is tells
+told_is (Some text) known answer is tells = λ trace holds. subst (λ k. TellsTrace k answer) (is ∙ ap Some (sym (trace_read text trace holds))) tells
 
 pub count_is : (told left : Option (List ℕ)) (known : Option Trace) (count : ℕ) → left ≡ told → known ≡ option_map trace_of left → TellsTrace known (Ok count) → IsCountOf told count
 count_is told left known count same is tells = told_is told known (Ok count) (subst (λ l. known ≡ option_map trace_of l) same is) tells

@@ -17,7 +17,10 @@ use Rattle.gather.specs.declared.fault.Refusal.{Refusal}
 use Rattle.gather.specs.declared.fault.RunFault.{RunFault}
 use Rattle.gather.specs.declared.fault.RunFault.TheVariants as run
 use Rattle.command.specs.Faults.{of_run}
-use Rattle.command.specs.Texts.{IsCounted, IsFaultOfCheck, IsHeadOf, IsRefusalOfRun, IsReportOf}
+use Rattle.mpicall.specs.Source.{coming}
+use Rattle.runs.proofs.ToldLemmas.{told_of_read}
+use Rattle.command.proofs.TraceLemmas.{traces_read}
+use Rattle.command.specs.Texts.{AreTracesOf, IsCounted, IsFaultOfCheck, IsHeadOf, IsRefusalOfRun, IsReportOf}
 use Rattle.command.specs.inner.Texts.{IsFaultOfFront, IsFaultOfHead}
 use Rattle.command.specs.declared.fault.Fault.{Fault}
 use Rattle.command.specs.declared.fault.Fault.TheVariants.{Head, Refused, Failed, Memory}
@@ -35,9 +38,10 @@ of_some [] = refl
 of_some (text ∷ texts) = ap (λ traces. Some (trace_of text) ∷ traces) (of_some texts)
 
 -- sources that tell the traces of the files' texts
-pub tells_texts : {F : Type 0} (sources : List (Option Trace)) (told : F → Option Text) (files : List F) (texts : List Text) →
-    sources ≡ map (λ file. option_map trace_of (told file)) files → map told files ≡ map Some texts → sources ≡ map Some (map trace_of texts)
-tells_texts sources told files texts of_files are = of_files ∙ of_told told files ∙ ap (map (option_map trace_of)) are ∙ of_some texts
+pub tells_texts : {F I : Type 0} (left : I → Option Text) (sources : List (Source I)) (told : F → Option Text) (files : List F) (texts : List Text) (traces : List Trace) →
+    map (coming left) sources ≡ map (λ file. option_map trace_of (told file)) files → map told files ≡ map Some texts → AreTracesOf texts traces → Tells left sources traces
+tells_texts left sources told files texts traces of_files are hold =
+    told_of_read left sources traces (of_files ∙ of_told told files ∙ ap (map (option_map trace_of)) are ∙ of_some texts ∙ ap (map Some) (sym (traces_read texts traces hold)))
 
 -- the head of a told text
 pub head_of_told : (told : Option Text) (text : Text) (groups : Groups) → IsHeadOf told groups → told ≡ Some text → read_head text ≡ Ok groups
@@ -46,15 +50,15 @@ head_of_told (Some other) text groups of_told is = subst (λ (known : Option Tex
 
 -- the report over sources that tell the traces of the files' texts is that of the texts
 pub report_says : {I : Type 0} (left : I → Option Text) (sources : List (Source I)) (reading : Reading) (groups : Groups) (format : Format) (verdict : Verdict) (report : Text) (head : Option Text) (files : List (Option Text)) →
-    IsHeadOf head groups → ((texts : List Text) → files ≡ map Some texts → Tells left sources (map trace_of texts)) → IsReportOver left sources reading groups format verdict report → IsReportOf reading format head files verdict report
+    IsHeadOf head groups → ((texts : List Text) (traces : List Trace) → files ≡ map Some texts → AreTracesOf texts traces → Tells left sources traces) → IsReportOver left sources reading groups format verdict report → IsReportOf reading format head files verdict report
 report_says left sources reading groups format verdict report head files of_head tells over = record {
   groups = groups;
   recording = over.recording;
-  one_a_rank = over.accepted.one_a_rank;
-  closed = over.accepted.closed;
+  one_a_rank = over.one_a_rank;
+  closed = over.closed;
   of_texts = λ text texts head_is files_are. record {
     is_head = head_of_told head text groups of_head head_is;
-    is_recording = over.of_traces (map trace_of texts) (tells texts files_are);
+    is_recording = λ traces hold. over.of_traces traces (tells texts traces files_are hold);
   };
   report_is = over.report_is;
   verdict_is = over.verdict_is;
@@ -81,7 +85,7 @@ module _ (told : Text → Option Text) (head : Text) (files : List (Bor Text)) w
 
   -- the fault of a run over the files' sources
   pub run_fault_says : {I : Type 0} (left : I → Option Text) (may_stop : ℕ → ℕ → Type 0) (sources : List (Source I)) (groups : Groups) (fault : RunFault) →
-      length sources ≡ length files → IsCounted told head files groups → RefusesFeeds left may_stop sources groups fault → StopsWhereAllowed may_stop fault → ((rank line : ℕ) → may_stop rank line → ⊥) → ((texts : List Text) → map (λ file. told file.now) files ≡ map Some texts → RefusesOver groups (map trace_of texts) fault) → IsFaultOfCheck told head files (of_run fault)
+      length sources ≡ length files → IsCounted told head files groups → RefusesFeeds left may_stop sources groups fault → StopsWhereAllowed may_stop fault → ((rank line : ℕ) → may_stop rank line → ⊥) → ((texts : List Text) → map (λ file. told file.now) files ≡ map Some texts → (traces : List Trace) → AreTracesOf texts traces → RefusesOver groups traces fault) → IsFaultOfCheck told head files (of_run fault)
   run_fault_says left may_stop sources groups run.Memory count counted fed stops never refuses = tt
   run_fault_says left may_stop sources groups (run.Unproved rank) count counted fed stops never refuses = (subst (λ n. rank < n) (sym counted.one_a_rank) fed, (groups, counted))
   run_fault_says left may_stop sources groups run.Write count counted fed stops never refuses = tt

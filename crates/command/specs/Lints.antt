@@ -1,6 +1,7 @@
 -- What a lint answers, by the text of its file where that is known.
 use Rattle.std.specs.Prelude.{◌≡◌, ℕ, true, false, Option, Some, Ok, Err, IfSome, List, ⊤}
-use Rattle.mpicall.specs.Trace.{trace_of}
+use Rattle.mpicall.specs.Lines.{lines_of}
+use Rattle.mpicall.specs.Trace.{Trace, IsTraceOf}
 use Rattle.mpicall.specs.Lint.{TellsTrace}
 use Rattle.mpicall.specs.declared.lint.LintFault.{LintFault}
 use Rattle.gather.specs.declared.fault.RankFault.TheVariants.{OfSource}
@@ -11,11 +12,11 @@ use Rattle.command.specs.declared.fault.Fault.TheVariants.{Open, LintRefused, Li
 
 -- the text is a trace without a fault, and has so many calls
 abbrev pub IsCountOf : Option (List ℕ) → ℕ → Type 0
-IsCountOf told count = IfSome told (λ text. TellsTrace (Some (trace_of text)) (Ok count))
+IsCountOf told count = IfSome told (λ text. (trace : Trace) → IsTraceOf (lines_of text) trace → TellsTrace (Some trace) (Ok count))
 
 -- the fault is that of the text's trace, at its place, or that of a read that failed
 abbrev pub IsTraceFault : Option (List ℕ) → LintFault → Type 0
-IsTraceFault told fault = IfSome told (λ text. TellsTrace (Some (trace_of text)) (Err fault))
+IsTraceFault told fault = IfSome told (λ text. (trace : Trace) → IsTraceOf (lines_of text) trace → TellsTrace (Some trace) (Err fault))
 
 -- the file couldn't be opened, or its trace has a fault
 abbrev pub IsFaultOfTrace : (List ℕ → Option (List ℕ)) → List ℕ → Fault → Type 0

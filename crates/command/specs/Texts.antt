@@ -1,7 +1,9 @@
 -- What a check says of the texts of its files.
 use Rattle.std.specs.Prelude.{◌≡◌, ◌≢◌, ◌⊎◌, ◌<◌, ℕ, true, false, Option, Some, None, Ok, Err, IfSome, List, length, map, Contains, ⊤}
 use Rattle.std.specs.Borrow.{Bor}
-use Rattle.mpicall.specs.Trace.{trace_of}
+use Rattle.std.specs.List.{AllZip}
+use Rattle.mpicall.specs.Lines.{lines_of}
+use Rattle.mpicall.specs.Trace.{Trace, IsTraceOf}
 use Rattle.mpicall.specs.declared.fault.SourceFault.TheVariants.{GateStopped}
 use Rattle.mpigroup.specs.Groups.{Groups, ranks_of}
 use Rattle.mpigroup.specs.HeadText.{read_head}
@@ -26,17 +28,21 @@ IsHeadOf told groups = IfSome told (λ text. read_head text ≡ Ok groups)
 abbrev pub IsUnopened : (List ℕ → Option (List ℕ)) → List ℕ → Type 0
 IsUnopened told path = told path ≡ None
 
+-- the texts hold these traces
+abbrev pub AreTracesOf : List (List ℕ) → List Trace → Type 0
+AreTracesOf texts traces = AllZip (λ text trace. IsTraceOf (lines_of text) trace) texts traces
+
 -- the text of the head gives groups, and the verdict is that of the traces which the other texts hold, by the
--- reading
+-- reading. Each text holds just one trace: `each_text_has_one_trace` of `mpicall` says so
 pub record IsVerdictOfTexts (reading : Reading) (head : List ℕ) (texts : List (List ℕ)) (verdict : Verdict) : Type 0 where
   pub groups : Groups
   pub is_head : read_head head ≡ Ok groups
-  pub of_traces : IsVerdictOver reading groups (map trace_of texts) verdict
+  pub of_traces : (traces : List Trace) → AreTracesOf texts traces → IsVerdictOver reading groups traces verdict
 
 -- the text of the head gives the groups, and the recording is that of the traces which the other texts hold
 pub record IsRunOfTexts (head : List ℕ) (texts : List (List ℕ)) (groups : Groups) (recording : Lists) : Type 0 where
   pub is_head : read_head head ≡ Ok groups
-  pub is_recording : recording ≡ recording_of_traces (map trace_of texts)
+  pub is_recording : (traces : List Trace) → AreTracesOf texts traces → recording ≡ recording_of_traces traces
 
 -- the report of a run, and the verdict that it says: by the reading they are those of groups and a closed recording
 -- of their ranks, and where the texts of the head and the files are known, these are of the texts
@@ -69,7 +75,8 @@ pub record IsRefusalOfRun (told : List ℕ → Option (List ℕ)) (head : List �
   pub counted : IsCounted told head files groups
   pub is_rank : refusal.rank < length files
   pub unstopped : refusal.fault ≢ OfSource GateStopped
-  pub of_traces : (texts : List (List ℕ)) → map (λ file. told file.now) files ≡ map Some texts → IsRefusalOver groups (map trace_of texts) refusal
+  pub of_traces : (texts : List (List ℕ)) → map (λ file. told file.now) files ≡ map Some texts →
+      (traces : List Trace) → AreTracesOf texts traces → IsRefusalOver groups traces refusal
 
 -- Which fault a check reports: of the head, before its ranks are counted; of their number, before a file of
 -- theirs is opened; of opening these, before one is read; of the run.

@@ -1,5 +1,6 @@
 -- The arguments of a call, each of which is one field of its line: how it is spelled, its range, and what
 -- a field says that is read as an argument of some form.
+use Rattle.mpicall.specs.Names.{Comm, Request, Tag}
 use Rattle.std.specs.Prelude.{ℕ, ◌-◌, ℤ, pos, negsuc, Bool, true, nat_le, Option, Some, None, is_some, option_map, if◌then◌else◌, List, [], ◌∷◌, codes}
 use Rattle.std.specs.Fmt.{decimal, signed_decimal}
 use Rattle.std.specs.Str.{bytes_eq}
@@ -17,13 +18,13 @@ pub data Argument : Type 0 where
   Key : ℤ → Argument
   New : Option ℕ → Argument
 
-abbrev pub comm_argument : ℕ → Argument
+abbrev pub comm_argument : Comm → Argument
 comm_argument comm = Number GREATEST_COMM comm
 
-abbrev pub tag_argument : ℕ → Argument
+abbrev pub tag_argument : Tag → Argument
 tag_argument tag = Number GREATEST_TAG tag
 
-abbrev pub request_argument : ℕ → Argument
+abbrev pub request_argument : Request → Argument
 request_argument req = Number GREATEST_REQUEST req
 
 abbrev pub bytes_argument : ℕ → Argument

@@ -1,6 +1,7 @@
 -- How the fields of a line are read, and the record that a line without a fault spells. Nobody has to
 -- believe this: `read_line` promises that `record_of_line` gives a record exactly where the line is its
 -- spelling, and else the line's first fault.
+use Rattle.mpicall.specs.Names.{Place}
 use Rattle.std.specs.Prelude.{ℕ, ℤ, pos, Option, Some, None, Result, Ok, Err, option_map, List, [], ◌∷◌, length, map, get_or, slice_get, drop}
 use Rattle.mpicall.specs.Argument.{Argument, Number, PeerOf, Colour, Key, New, Form, request_argument, index_argument, read_argument}
 use Rattle.mpicall.specs.Number.{value_of}
@@ -73,11 +74,11 @@ new_in (New new) = new
 new_in _ = None
 
 -- one of some arguments
-abbrev pub at : List Argument → ℕ → Argument
+abbrev pub at : List Argument → Place → Argument
 at arguments place = get_or arguments place (Number 0 0)
 
 -- the number of one of some arguments, where there is one
-abbrev pub number_at : List Argument → ℕ → Option ℕ
+abbrev pub number_at : List Argument → Place → Option ℕ
 number_at arguments place = option_map numeral_in (slice_get arguments place)
 
 abbrev pub kind_named : Collective → Argument → Kind

@@ -3,6 +3,7 @@
 -- communicator that exists and that the rank holds (section 7.2.4), and a rank of its group as peer or root
 -- (sections 3.2.3, 3.2.4 and 6.2); a request completed once (section 3.7.3). The most calls of a rank, the
 -- numbers of requests and those of new communicators are this project's own.
+use Rattle.mpicall.specs.Names.{Comm}
 use Rattle.std.specs.Prelude.{◌≡◌, ℕ, ◌==◌, Bool, true, false, not, ◌&&◌, nat_lt, is_some, Option, Some, None, List, [], ◌∷◌, length, take, slice_get, ◌<◌, if◌then◌else◌}
 use Rattle.std.specs.List.{list_all}
 use Rattle.std.specs.Option.{option_map_or}
@@ -23,15 +24,15 @@ use Rattle.pairing.specs.declared.fault.CallFault.{CallFault}
 use Rattle.pairing.specs.declared.fault.CallFault.TheVariants.{CallAfterFinalize, TooManyCalls, UnknownCommunicator, CommunicatorNotHeld, PeerOutOfGroup, RequestInUse, RequestRepeated, RequestNotActive, WrongNewCommunicator}
 
 -- the communicator exists
-abbrev pub is_comm : Groups → ℕ → Bool
+abbrev pub is_comm : Groups → Comm → Bool
 is_comm groups comm = is_some (size_of groups comm)
 
 -- the number is a rank of the communicator's group
-abbrev pub is_group_rank : Groups → ℕ → ℕ → Bool
+abbrev pub is_group_rank : Groups → Comm → ℕ → Bool
 is_group_rank groups comm g = option_map_or (nat_lt g) (size_of groups comm) false
 
 -- the peer is null, or a rank of the communicator's group
-abbrev pub is_peer : Groups → ℕ → Peer → Bool
+abbrev pub is_peer : Groups → Comm → Peer → Bool
 is_peer groups comm Null = true
 is_peer groups comm (Rank g) = is_group_rank groups comm g
 

@@ -30,19 +30,19 @@ use Rattle.gather.specs.Answers.{PlacedFault, fault_of_rank, fault_onward, fault
 use Rattle.gather.specs.Closes.{Closes}
 use Rattle.gather.specs.inner.Closes.{IsOutcomeOver}
 use Rattle.gather.specs.Fed.{marked, end_behind, mark_of, Begins, EndsAs, StopsAs, IsFed, line_behind}
-use Rattle.runs.specs.Ranks.{told_by, AcceptsAll, AcceptsRank}
-use Rattle.runs.specs.inner.Ranks.{HasNoFault, IsLowestRefusal, IsRefusalOf}
+use Rattle.runs.specs.inner.Ranks.{told_by, AcceptsAll, AcceptsRank, HasNoFault, IsLowestRefusal, IsRefusalOf}
 use Rattle.gather.specs.Receipts.{trace_of_items, AreReceiptsOf, missing_from, first_missing, traces_held}
 use Rattle.gather.specs.Collected.{Kept, nothing_kept}
 use Rattle.gather.specs.Collectors.{rings, kept}
-use Rattle.runs.specs.Runs.{AreFedBy, IsRefusalOfFeeds, RefusesFeeds, StopsWhereAllowed}
-use Rattle.runs.specs.inner.Runs.{receipt_of, receipt_in, IsOutcomeOfFeeds, IsSameSession, of_close}
+use Rattle.runs.proofs.ToldLemmas.{read_is_to_come, to_come_is_read, told_if_whole, whole_if_told}
+use Rattle.runs.specs.Runs.{end_by, AreRead, IsReadAs, IsReadOrNotStarted, IsRefusalOfFeeds, RefusesFeeds, StopsWhereAllowed}
+use Rattle.runs.specs.inner.Runs.{receipt_of, receipt_in, AreFedBy, IsOutcomeOfFeeds, IsSameSession, of_close}
 use Rattle.gather.specs.declared.outcome.CloseFault.{CloseFault}
 use Rattle.gather.specs.declared.outcome.CloseFault.TheVariants.{Memory, Unproved, Refused}
 use Rattle.gather.specs.declared.collector.Collector.{Collector}
 use Rattle.gather.specs.Takers.{rank_fed, IsFreshFeed}
 use Rattle.runs.specs.Threads.{IsFedOrNotStarted, AreFedFrom}
-use Rattle.runs.specs.Told.{is_from_outside}
+use Rattle.runs.specs.Told.{is_from_outside, IsToCome}
 use Rattle.gather.specs.declared.fault.RankFault.{RankFault}
 use Rattle.gather.specs.declared.fault.RankFault.TheVariants.{OfCall, OfSource}
 use Rattle.gather.specs.declared.fault.Refusal.{Refusal}
@@ -124,6 +124,59 @@ held_trace calls end items is =
 fault_held : (groups : Groups) (rank : ℕ) (calls : List Call) (end : Ending) (items : List Item) → items ≡ marked calls end → fault_of_rank groups rank (trace_of_items items) ≡ held_fault groups rank calls end
 unfolding fault_of_rank
 fault_held groups rank calls end items is = ap (fault_of_rank groups rank) (held_trace calls end items is)
+
+-- What is read of a trace, as a trace and as items.
+
+mark_by : (ended : Bool) → end_behind ended ≡ end_by Sealed ended
+mark_by true = refl
+mark_by false = refl
+
+mark_is : (records : List Call) (end : Ending) → mark_of records end ≡ end_by end (is_ended records)
+mark_is records (Torn fault) = refl
+mark_is records Sealed = ap end_behind (same_ended records) ∙ mark_by (is_ended records)
+
+read_as : (told : Trace) (calls : List Call) (end : Ending) → EndsAs told calls end → IsReadAs told calls end
+read_as told calls Sealed ends = (ends.0, ends.1 ∙ mark_is told.records told.end)
+read_as told calls (Torn (Line fault)) ends = (ends.0, ends.1 ∙ mark_is told.records told.end)
+read_as told calls (Torn TextAfterFinalize) ends = (ends.0, ends.1 ∙ mark_is told.records told.end)
+read_as told calls (Torn NoFinalize) ends = (ends.0, ends.1 ∙ mark_is told.records told.end)
+read_as told calls (Torn ThreadNotStarted) ends = (ends.0, ends.1 ∙ mark_is told.records told.end)
+read_as told calls (Torn ReadFailed) ends = ends
+read_as told calls (Torn GateStopped) ends = ends
+
+ends_as : (told : Trace) (calls : List Call) (end : Ending) → IsReadAs told calls end → EndsAs told calls end
+ends_as told calls Sealed read = (read.0, read.1 ∙ sym (mark_is told.records told.end))
+ends_as told calls (Torn (Line fault)) read = (read.0, read.1 ∙ sym (mark_is told.records told.end))
+ends_as told calls (Torn TextAfterFinalize) read = (read.0, read.1 ∙ sym (mark_is told.records told.end))
+ends_as told calls (Torn NoFinalize) read = (read.0, read.1 ∙ sym (mark_is told.records told.end))
+ends_as told calls (Torn ThreadNotStarted) read = (read.0, read.1 ∙ sym (mark_is told.records told.end))
+ends_as told calls (Torn ReadFailed) read = read
+ends_as told calls (Torn GateStopped) read = read
+
+fed_of_read : {I : Type 0} (left : I → Option (List ℕ)) (source : Source I) (may_stop : ℕ → Type 0) (trace : Trace) → IsReadOrNotStarted (IsToCome left source) may_stop trace → IsFedOrNotStarted (coming left source) may_stop (marked trace.records trace.end)
+fed_of_read left source may_stop trace (inl read) = inl (record {
+  calls = trace.records;
+  end = trace.end;
+  are = refl;
+  whole = told_if_whole (coming left source) (λ (t : Trace). EndsAs t trace.records trace.end)
+      (λ told is. ends_as told trace.records trace.end (read.whole told (read_is_to_come left source told is)));
+  stopped = read.stopped;
+})
+fed_of_read left source may_stop trace (inr none) = inr (ap (λ (t : Trace). marked t.records t.end) none)
+
+read_of_fed : {I : Type 0} (left : I → Option (List ℕ)) (source : Source I) (may_stop : ℕ → Type 0) (items : List Item) → IsFedOrNotStarted (coming left source) may_stop items → IsReadOrNotStarted (IsToCome left source) may_stop (trace_of_items items)
+read_of_fed left source may_stop items (inl fed) =
+    let is : trace_of_items items ≡ trace_by fed.calls fed.end = held_trace fed.calls fed.end items fed.are in
+    subst (λ (t : Trace). IsReadOrNotStarted (IsToCome left source) may_stop t) (sym is) (inl (record {
+      whole = λ told known. read_as told fed.calls fed.end
+          (whole_if_told (coming left source) (λ (t : Trace). EndsAs t fed.calls fed.end) told fed.whole (to_come_is_read left source told known));
+      stopped = fed.stopped;
+    }))
+read_of_fed left source may_stop items (inr none) = inr (held_trace [] (Torn ThreadNotStarted) items none)
+
+read_fault : (groups : Groups) (rank : ℕ) (trace : Trace) → fault_of_rank groups rank (trace_of_items (marked trace.records trace.end)) ≡ fault_of_rank groups rank trace
+unfolding fault_of_rank
+read_fault groups rank trace = fault_held groups rank trace.records trace.end (marked trace.records trace.end) refl
 
 -- a fault over the items that doesn't come from outside is that of the trace, and so is none
 agrees : (groups : Groups) (rank : ℕ) (trace : Trace) (may_stop : ℕ → Type 0) (items : List Item) → IsFedOrNotStarted (Some trace) may_stop items → outside_at (fault_of_rank groups rank (trace_of_items items)) ≡ false → fault_of_rank groups rank (trace_of_items items) ≡ fault_of_rank groups rank trace
@@ -246,6 +299,32 @@ module _ {I : Type 0} (left : I → Option (List ℕ)) (may_stop : ℕ → ℕ �
       let e : first + 1 + k ≡ first + suc k = omega arith in
       subst (λ (n : ℕ). IsFedOrNotStarted (coming left source) (may_stop n) own) e (fed_at (first + 1) ss xs k source own fed.1 at there)
 
+  pub all_read : (first : ℕ) (sources : List (Source I)) (items : List (List Item)) → AreFedBy left may_stop first sources items → AreRead left may_stop first sources (map trace_of_items items)
+  all_read first [] [] fed = tt
+  all_read first (s ∷ ss) (x ∷ xs) fed = (read_of_fed left s (may_stop first) x fed.0, all_read (first + 1) ss xs fed.1)
+  all_read first sources items fed = absurd fed
+
+  one_trace_a_source : (first : ℕ) (sources : List (Source I)) (traces : List Trace) → AreRead left may_stop first sources traces → length traces ≡ length sources
+  one_trace_a_source first [] [] read = refl
+  one_trace_a_source first [] (t ∷ ts) read = absurd read
+  one_trace_a_source first (s ∷ ss) [] read = absurd read
+  one_trace_a_source first (s ∷ ss) (t ∷ ts) read = ap suc (one_trace_a_source (first + 1) ss ts read.1)
+
+  read_at : (first : ℕ) (sources : List (Source I)) (traces : List Trace) (k : ℕ) (source : Source I) (trace : Trace) → AreRead left may_stop first sources traces → slice_get sources k ≡ Some source → slice_get traces k ≡ Some trace → IsFedOrNotStarted (coming left source) (may_stop (first + k)) (marked trace.records trace.end)
+  read_at first [] [] k source trace read at there = cc
+  read_at first [] (t ∷ ts) k source trace read at there = absurd read
+  read_at first (s ∷ ss) [] k source trace read at there = absurd read
+  read_at first (s ∷ ss) (t ∷ ts) zero source trace read at there =
+      let same : s ≡ source = cc in
+      let its : t ≡ trace = cc in
+      let e : first ≡ first + 0 = omega arith in
+      subst (λ (n : ℕ). IsFedOrNotStarted (coming left source) (may_stop n) (marked trace.records trace.end)) e
+      (subst (λ (one : Source I). IsFedOrNotStarted (coming left one) (may_stop first) (marked trace.records trace.end)) same
+      (subst (λ (one : Trace). IsFedOrNotStarted (coming left s) (may_stop first) (marked one.records one.end)) its (fed_of_read left s (may_stop first) t read.0)))
+  read_at first (s ∷ ss) (t ∷ ts) (suc k) source trace read at there =
+      let e : first + 1 + k ≡ first + suc k = omega arith in
+      subst (λ (n : ℕ). IsFedOrNotStarted (coming left source) (may_stop n) (marked trace.records trace.end)) e (read_at (first + 1) ss ts k source trace read.1 at there)
+
 -- where there is no refusal, no rank has a fault
 no_faults : (groups : Groups) (first : ℕ) (traces : List Trace) (k : ℕ) (trace : Trace) → refusal_from groups first traces ≡ None → slice_get traces k ≡ Some trace → fault_of_rank groups (first + k) trace ≡ None
 no_faults groups first [] k trace none at = cc
@@ -336,37 +415,36 @@ accepts_all left may_stop sources reading groups outcome one is =
 
 pub lowest_refusal : {I : Type 0} (left : I → Option (List ℕ)) (may_stop : ℕ → ℕ → Type 0) (sources : List (Source I)) (groups : Groups) (refusal : Refusal) → length sources ≡ ranks_of groups → IsRefusalOfFeeds left may_stop sources groups refusal → IsLowestRefusal groups (told_by left sources) refusal
 lowest_refusal left may_stop sources groups refusal one is =
-    let at = refusal_place groups 0 (map trace_of_items is.items) refusal is.over in
-    let own = unmapped_at trace_of_items is.items at.place at.trace at.there in
+    let at = refusal_place groups 0 is.traces refusal is.over in
     let rank : at.place ≡ refusal.rank = omega (arith, at.rank) in
-    let count = one_list_a_source left may_stop 0 sources is.items is.fed in
-    let inside : at.place < length sources = omega (arith, count, slice_get_within is.items at.place own.0 own.1) in
-    let source = found_at sources at.place inside in
-    let fault : fault_of_rank groups refusal.rank (trace_of_items own.0) ≡ Some (refusal.call, refusal.fault) = ap (fault_of_rank groups refusal.rank) own.2 ∙ at.fault in record {
+    let count = one_trace_a_source left may_stop 0 sources is.traces is.read in
+    let inside : at.place < length sources = omega (arith, count, slice_get_within is.traces at.place at.trace at.there) in
+    let source = found_at sources at.place inside in record {
       is_rank = omega (arith, one, inside, rank);
       lowest = λ k below. let here = found_at sources k (omega (arith, below, inside, rank)) in
-          let items = found_at is.items k (omega (arith, below, inside, rank, count)) in
+          let there = found_at is.traces k (omega (arith, below, inside, rank, count)) in
           let e : 0 + k ≡ k = omega arith in
-          let none : fault_of_rank groups k (trace_of_items items.0) ≡ None =
-          subst (λ (n : ℕ). fault_of_rank groups n (trace_of_items items.0) ≡ None) e (at.lower k (trace_of_items items.0) (omega (arith, below, rank)) (mapped_at trace_of_items is.items k items.0 items.1)) in
+          let none : fault_of_rank groups k there.0 ≡ None =
+          subst (λ (n : ℕ). fault_of_rank groups n there.0 ≡ None) e (at.lower k there.0 (omega (arith, below, rank)) there.1) in
           subst (λ (told : Option Trace). HasNoFault groups k told) (told_here left sources k here.0 here.1)
-          (no_fault_told groups k (coming left here.0) (may_stop (0 + k)) items.0 (fed_at left may_stop 0 sources is.items k here.0 items.0 is.fed here.1 items.1) none);
+          (no_fault_told groups k (coming left here.0) (may_stop (0 + k)) (marked there.0.records there.0.end) (read_at left may_stop 0 sources is.traces k here.0 there.0 is.read here.1 there.1) (read_fault groups k there.0 ∙ none));
       its_own = subst (λ (n : ℕ). IfSome (told_by left sources n) (λ trace. IsRefusalOf groups refusal.rank trace refusal)) rank
           (subst (λ (told : Option Trace). IfSome told (λ trace. IsRefusalOf groups refusal.rank trace refusal)) (told_here left sources at.place source.0 source.1)
-          (own_told groups (coming left source.0) (may_stop (0 + at.place)) own.0 refusal (fed_at left may_stop 0 sources is.items at.place source.0 own.0 is.fed source.1 own.1) fault));
+          (own_told groups (coming left source.0) (may_stop (0 + at.place)) (marked at.trace.records at.trace.end) refusal
+          (read_at left may_stop 0 sources is.traces at.place source.0 at.trace is.read source.1 at.there) (read_fault groups refusal.rank at.trace ∙ at.fault)));
     }
 
 -- where the gate stopped a rank, it might do so there
 stops_there : {I : Type 0} (left : I → Option (List ℕ)) (may_stop : ℕ → ℕ → Type 0) (sources : List (Source I)) (groups : Groups) (refusal : Refusal) → IsRefusalOfFeeds left may_stop sources groups refusal → refusal.fault ≡ OfSource GateStopped → may_stop refusal.rank (line_behind refusal.call)
 stops_there left may_stop sources groups refusal is stopped =
-    let at = refusal_place groups 0 (map trace_of_items is.items) refusal is.over in
-    let own = unmapped_at trace_of_items is.items at.place at.trace at.there in
-    let count = one_list_a_source left may_stop 0 sources is.items is.fed in
-    let source = found_at sources at.place (omega (arith, count, slice_get_within is.items at.place own.0 own.1)) in
-    let fault : fault_of_rank groups refusal.rank (trace_of_items own.0) ≡ Some (refusal.call, OfSource GateStopped) =
-    ap (fault_of_rank groups refusal.rank) own.2 ∙ at.fault ∙ ap (λ (f : RankFault). Some (refusal.call, f)) stopped in
+    let at = refusal_place groups 0 is.traces refusal is.over in
+    let count = one_trace_a_source left may_stop 0 sources is.traces is.read in
+    let source = found_at sources at.place (omega (arith, count, slice_get_within is.traces at.place at.trace at.there)) in
+    let fault : fault_of_rank groups refusal.rank (trace_of_items (marked at.trace.records at.trace.end)) ≡ Some (refusal.call, OfSource GateStopped) =
+    read_fault groups refusal.rank at.trace ∙ at.fault ∙ ap (λ (f : RankFault). Some (refusal.call, f)) stopped in
     subst (λ (n : ℕ). may_stop n (line_behind refusal.call)) (sym at.rank)
-    (stopped_there groups refusal.rank (coming left source.0) (may_stop (0 + at.place)) own.0 refusal.call (fed_at left may_stop 0 sources is.items at.place source.0 own.0 is.fed source.1 own.1) fault)
+    (stopped_there groups refusal.rank (coming left source.0) (may_stop (0 + at.place)) (marked at.trace.records at.trace.end) refusal.call
+    (read_at left may_stop 0 sources is.traces at.place source.0 at.trace is.read source.1 at.there) fault)
 
 -- What the joined threads hand to the close.
 
@@ -454,8 +532,8 @@ module _ {I : Type 0} (left : I → Option (List ℕ)) (may_stop : ℕ → ℕ �
   refusal_of_feeds : (refusal : Refusal) → AreFedFrom left may_stop sources feeds fed → map rank_fed feeds ≡ range_with_len 0 (ranks_of groups) → kept collector ≡ nothing_kept reading groups → IsSameSession collector now → receipts ≡ map receipt_of fed → (first_missing receipts ≡ None) × (refusal_of (kept now).groups (traces_held receipts) ≡ Some refusal) → IsRefusalOfFeeds left may_stop sources groups refusal
   refusal_of_feeds refusal are ranks first same is answer =
       let head : (kept now).groups ≡ groups = same.groups ∙ ap (λ (k : Kept). k.groups) first in record {
-        items = items_held receipts;
-        fed = all_fed are ranks is answer.0;
+        traces = map trace_of_items (items_held receipts);
+        read = all_read left may_stop 0 sources (items_held receipts) (all_fed are ranks is answer.0);
         over = ap (refusal_of groups) (sym (held_traces receipts)) ∙ ap (λ (gs : Groups). refusal_of gs (traces_held receipts)) (sym head) ∙ answer.1;
       }
 

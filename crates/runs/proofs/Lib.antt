@@ -1,3 +1,4 @@
+pub mod ToldLemmas
 pub mod HeldLemmas
 pub mod AlongLemmas
 pub mod ThreadLemmas

@@ -19,9 +19,9 @@ use Rattle.waitgraph.proofs.VerdictLemmas.{hang_tells_of_a_held_rank, hang_tells
 use Rattle.moves.proofs.StandLemmas.{no_run_brings_a_stuck_rank_to_its_end, every_maximal_run_ends_at_the_stands}
 use Rattle.gather.specs.Answers.{fault_of_rank, refusal_or, refusal_from, recording_of_traces, SomeRankCannotEnd}
 use Rattle.runs.specs.Told.{Tells, IsVerdictOver, RefusesOver}
-use Rattle.runs.specs.Ranks.{told_by, AcceptsAll, AcceptsRank}
-use Rattle.runs.specs.inner.Ranks.{LeavesRunReport, RefusesRun, IsRefusalOf}
+use Rattle.runs.specs.inner.Ranks.{told_by, AcceptsAll, AcceptsRank, LeavesRunReport, RefusesRun, IsRefusalOf}
 use Rattle.runs.proofs.HeldLemmas.{found_at, lowest_refusal}
+use Rattle.runs.proofs.ToldLemmas.{read_of_told, to_come_is_read}
 use Rattle.runs.specs.Runs.{RefusesFeeds, StopsWhereAllowed}
 use Rattle.runs.specs.inner.Runs.{of_close}
 use Rattle.gather.specs.declared.outcome.CloseFault.{CloseFault}
@@ -107,14 +107,14 @@ accepted_at groups rank (Some t) trace calls a e = let same : t ≡ trace = cc i
 
 each_accepted : {I : Type 0} (left : I → Option (List ℕ)) (groups : Groups) (sources : List (Source I)) (lists : Lists) (traces : List Trace) → length sources ≡ ranks_of groups → AcceptsAll groups (told_by left sources) lists → Tells left sources traces → (k : ℕ) (trace : Trace) → slice_get traces k ≡ Some trace → (calls_of lists k ≡ trace.records) × (fault_of_rank groups k trace ≡ None)
 each_accepted left groups sources lists traces one all tells k trace at =
-    let count : length sources ≡ length traces = same_length (coming left) sources traces tells in
+    let count : length sources ≡ length traces = same_length (coming left) sources traces (read_of_told left sources traces tells) in
     let ranks = all.one_a_rank in
-    accepted_at groups k _ trace _ (all.accepted k (omega (arith, slice_get_within traces k trace at))) (told_at (coming left) sources traces k tells ∙ at)
+    accepted_at groups k _ trace _ (all.accepted k (omega (arith, slice_get_within traces k trace at))) (told_at (coming left) sources traces k (read_of_told left sources traces tells) ∙ at)
 
 -- the recording is that of the traces
 lists_are : {I : Type 0} (left : I → Option (List ℕ)) (groups : Groups) (sources : List (Source I)) (lists : Lists) (traces : List Trace) → length sources ≡ ranks_of groups → AcceptsAll groups (told_by left sources) lists → Tells left sources traces → lists ≡ recording_of_traces traces
 lists_are left groups sources lists traces one all tells =
-    let count : length sources ≡ length traces = same_length (coming left) sources traces tells in
+    let count : length sources ≡ length traces = same_length (coming left) sources traces (read_of_told left sources traces tells) in
     let ranks = all.one_a_rank in
     same_lists lists traces (omega arith) (λ k trace at. (each_accepted left groups sources lists traces one all tells k trace at).0)
 
@@ -139,7 +139,11 @@ verdict_over left reading groups sources lists verdict traces one all value tell
 pub report_over : {I : Type 0} (left : I → Option (List ℕ)) (reading : Reading) (groups : Groups) (sources : List (Source I)) (lists : Lists) (format : Format) (verdict : Verdict) → length sources ≡ ranks_of groups → AcceptsAll groups (told_by left sources) lists → verdict ≡ verdict_of reading groups lists → IsReportOver left sources reading groups format verdict (report_of format reading groups lists)
 report_over left reading groups sources lists format verdict one all value = record {
   recording = lists;
-  accepted = all;
+  one_a_rank = all.one_a_rank;
+  closed = all.closed;
+  accepted = λ rank source trace at is. accepted_at groups rank (told_by left sources rank) trace (calls_of lists rank)
+      (let within = slice_get_within sources rank source at in all.accepted rank (omega (arith, within, one, all.one_a_rank)))
+      (ap (option_and_then (coming left)) at ∙ to_come_is_read left source trace is);
   of_traces = λ traces tells. lists_are left groups sources lists traces one all tells;
   report_is = refl;
   verdict_is = value;
@@ -155,17 +159,17 @@ refusal_told groups refusal (Some t) trace h e = let same : t ≡ trace = cc in 
 
 pub refused_over : {I : Type 0} (left : I → Option (List ℕ)) (groups : Groups) (sources : List (Source I)) (fault : RunFault) (traces : List Trace) → length sources ≡ ranks_of groups → RefusesRun groups (told_by left sources) fault → Tells left sources traces → RefusesOver groups traces fault
 refused_over left groups sources (Refused refusal) traces one refuses tells =
-    let count : length sources ≡ length traces = same_length (coming left) sources traces tells in
+    let count : length sources ≡ length traces = same_length (coming left) sources traces (read_of_told left sources traces tells) in
     let within : refusal.rank < length traces = omega (arith, refuses.is_rank) in
     let there = found_at traces refusal.rank within in
     let lower : (k : ℕ) (trace : Trace) → k < refusal.rank → slice_get traces k ≡ Some trace → fault_of_rank groups k trace ≡ None =
-    λ k trace below at. no_fault_at groups k _ trace (refuses.lowest k below) (told_at (coming left) sources traces k tells ∙ at) in
+    λ k trace below at. no_fault_at groups k _ trace (refuses.lowest k below) (told_at (coming left) sources traces k (read_of_told left sources traces tells) ∙ at) in
     record {
       is_rank = within;
       lowest = lower;
       its_own = λ own. told_from groups 0 traces refusal.rank there.0 refusal (omega arith) there.1
           (λ k trace below at. let e : k ≡ 0 + k = omega arith in subst (λ (n : ℕ). fault_of_rank groups n trace ≡ None) e (lower k trace below at))
-          (refusal_told groups refusal _ there.0 refuses.its_own (told_at (coming left) sources traces refusal.rank tells ∙ there.1) own);
+          (refusal_told groups refusal _ there.0 refuses.its_own (told_at (coming left) sources traces refusal.rank (read_of_told left sources traces tells) ∙ there.1) own);
     }
 refused_over left groups sources fault traces one refuses tells = tt
 

@@ -16,8 +16,9 @@ use Rattle.gather.specs.inner.Closes.{IsOutcomeOver}
 use Rattle.gather.specs.Collected.{records_before, Kept, fault_at, refusal_in, refusal_kept}
 use Rattle.gather.specs.Fed.{IsFed}
 use Rattle.gather.specs.Receipts.{trace_of_items}
-use Rattle.runs.specs.Runs.{AreFedBy, IsRefusalOfFeeds, RefusesFeeds}
-use Rattle.runs.specs.inner.Runs.{IsOutcomeOfFeeds, of_close}
+use Rattle.runs.specs.Runs.{IsRefusalOfFeeds, RefusesFeeds}
+use Rattle.runs.specs.inner.Runs.{AreFedBy, IsOutcomeOfFeeds, of_close}
+use Rattle.runs.proofs.HeldLemmas.{all_read}
 use Rattle.runs.specs.inner.Turns.{IsReadOf, AreReadOf}
 use Rattle.gather.specs.declared.fault.Refusal.{Refusal}
 use Rattle.gather.specs.declared.outcome.CloseFault.{CloseFault}
@@ -111,8 +112,8 @@ module _ {I : Type 0} (left : I → Option (List ℕ)) (may_stop : ℕ → ℕ �
     refusal_read : (refusal : Refusal) → AreReadOf left may_stop sources kept → kept.reading ≡ reading → kept.groups ≡ groups → kept.wanted ≡ false → refusal_kept kept ≡ Some refusal → IsRefusalOfFeeds left may_stop sources groups refusal
     refusal_read refusal read alike same calm is =
         let all = read_whole read calm in record {
-          items = all.items;
-          fed = all.fed;
+          traces = map trace_of_items all.items;
+          read = all_read left may_stop 0 sources all.items all.fed;
           over = ap (λ (gs : Groups). refusal_of gs (map trace_of_items all.items)) (sym same) ∙ sym all.refusal ∙ is;
         }
 

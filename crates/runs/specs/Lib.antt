@@ -1,5 +1,4 @@
 pub mod Told
-pub mod Ranks
 pub mod Written
 pub mod Threads
 pub mod Along

@@ -1,32 +1,57 @@
 -- What a run answers, by what is read of its ranks' sources: put on their feeds by threads, or entered by turns.
-use Rattle.std.specs.Prelude.{◌≡◌, ℕ, ◌+◌, ◌<◌, ⊤, Option, Some, List, [], ◌∷◌, map}
-use Rattle.mpicall.specs.Source.{coming}
+use Rattle.mpicall.specs.Names.{Rank}
+use Rattle.std.specs.Prelude.{◌≡◌, ◌⊎◌, ℕ, ◌+◌, ◌<◌, ⊤, Bool, false, Option, Some, List, [], ◌∷◌}
+use Rattle.mpicall.specs.Trace.{Trace, ends_here}
+use Rattle.mpicall.specs.declared.call.Call.{Call}
 use Rattle.mpicall.specs.declared.source.Source.{Source}
-use Rattle.mpicall.specs.declared.fault.SourceFault.TheVariants.{GateStopped}
+use Rattle.mpicall.specs.declared.fault.Ending.{Ending}
+use Rattle.mpicall.specs.declared.fault.Ending.TheVariants.{Sealed, Torn}
+use Rattle.mpicall.specs.declared.fault.SourceFault.TheVariants.{GateStopped, NoFinalize, ReadFailed, ThreadNotStarted}
 use Rattle.mpigroup.specs.Groups.{Groups, ranks_of}
-use Rattle.rankfeed.specs.declared.item.Item.{Item}
 use Rattle.gather.specs.Answers.{refusal_of}
-use Rattle.gather.specs.Fed.{line_behind}
-use Rattle.gather.specs.Receipts.{trace_of_items}
-use Rattle.runs.specs.Threads.{IsFedOrNotStarted}
+use Rattle.callnotes.specs.Recordings.{is_ended}
+use Rattle.gather.specs.Fed.{line_behind, Begins, StopsAs}
+use Rattle.runs.specs.Told.{IsToCome}
 use Rattle.gather.specs.declared.fault.RankFault.TheVariants.{OfSource}
 use Rattle.gather.specs.declared.fault.Refusal.{Refusal}
 use Rattle.gather.specs.declared.fault.RunFault.{RunFault}
 use Rattle.gather.specs.declared.fault.RunFault.TheVariants.{Memory, Unproved, Refused, Write}
 
--- each rank's items, from `rank` on, are those of the source at its place, or the mark of a thread that didn't
--- start alone
-abbrev pub AreFedBy : {I : Type 0} → (I → Option (List ℕ)) → (ℕ → ℕ → Type 0) → ℕ → List (Source I) → List (List Item) → Type 0
-AreFedBy left may_stop rank [] [] = ⊤
-AreFedBy left may_stop rank (source ∷ sources) (items ∷ rest) =
-    IsFedOrNotStarted (coming left source) (may_stop rank) items × AreFedBy left may_stop (rank + 1) sources rest
-AreFedBy left may_stop rank sources items = ⊥
+-- the end of what is read of a trace with this end, by whether its last record ends the list: what is left of a
+-- source that gave its end record before has no end of its own
+abbrev pub end_by : Ending → Bool → Ending
+end_by Sealed false = Torn NoFinalize
+end_by end ended = end
 
--- the refusal is that of the lowest rank that has a fault over such items
+-- these calls and this end are all of the trace, or a prefix of its records where the gate or a failed read stopped
+-- them
+abbrev pub IsReadAs : Trace → List Call → Ending → Type 0
+IsReadAs told calls (Torn GateStopped) = Begins calls told.records
+IsReadAs told calls (Torn ReadFailed) = Begins calls told.records
+IsReadAs told calls end = (told.records ≡ calls) × (end ≡ end_by told.end (is_ended told.records))
+
+-- what was read of a source, by its trace where that is known, and by the lines at which the gate may stop the
+-- reading
+pub record IsRead (IsTold : Trace → Type 0) (may_stop : ℕ → Type 0) (trace : Trace) : Type 0 where
+  pub whole : (told : Trace) → IsTold told → IsReadAs told trace.records trace.end
+  pub stopped : StopsAs may_stop trace.records trace.end
+
+-- or nothing, of a thread that didn't start
+abbrev pub IsReadOrNotStarted : (Trace → Type 0) → (ℕ → Type 0) → Trace → Type 0
+IsReadOrNotStarted IsTold may_stop trace = IsRead IsTold may_stop trace ⊎ (trace ≡ ends_here (Torn ThreadNotStarted))
+
+-- each rank's trace, from `rank` on, was read of the source at its place
+abbrev pub AreRead : {I : Type 0} → (I → Option (List ℕ)) → (ℕ → ℕ → Type 0) → Rank → List (Source I) → List Trace → Type 0
+AreRead left may_stop rank [] [] = ⊤
+AreRead left may_stop rank (source ∷ sources) (trace ∷ traces) =
+    IsReadOrNotStarted (IsToCome left source) (may_stop rank) trace × AreRead left may_stop (rank + 1) sources traces
+AreRead left may_stop rank sources traces = ⊥
+
+-- the refusal is that of the lowest rank that has a fault over what was read of the sources
 pub record IsRefusalOfFeeds {I : Type 0} (left : I → Option (List ℕ)) (may_stop : ℕ → ℕ → Type 0) (sources : List (Source I)) (groups : Groups) (refusal : Refusal) : Type 0 where
-  pub items : List (List Item)
-  pub fed : AreFedBy left may_stop 0 sources items
-  pub over : refusal_of groups (map trace_of_items items) ≡ Some refusal
+  pub traces : List Trace
+  pub read : AreRead left may_stop 0 sources traces
+  pub over : refusal_of groups traces ≡ Some refusal
 
 abbrev pub RefusesFeeds : {I : Type 0} → (I → Option (List ℕ)) → (ℕ → ℕ → Type 0) → List (Source I) → Groups → RunFault → Type 0
 RefusesFeeds left may_stop sources groups Memory = ⊤

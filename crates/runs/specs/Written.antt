@@ -1,28 +1,31 @@
 -- What a run leaves on its output: the report of a recording that its sources have.
+use Rattle.mpicall.specs.Names.{Rank}
 use Rattle.moves.specs.declared.reading.Reading.{Reading}
-use Rattle.std.specs.Prelude.{◌≡◌, ℕ, Option, List}
+use Rattle.std.specs.Prelude.{◌≡◌, ℕ, Option, Some, None, List, length, slice_get}
 use Rattle.std.specs.Io.KnownBytes.{Appends}
 use Rattle.mpicall.specs.declared.source.Source.{Source}
 use Rattle.mpicall.specs.Trace.{Trace}
 use Rattle.mpicall.specs.Device.{one_more, AppendsBeginning}
-use Rattle.mpigroup.specs.Groups.{Groups}
-use Rattle.callnotes.specs.Recordings.{Lists}
+use Rattle.mpigroup.specs.Groups.{Groups, ranks_of}
+use Rattle.callnotes.specs.Recordings.{Lists, calls_of, IsClosed}
 use Rattle.waitgraph.specs.Verdicts.{verdict_of}
 use Rattle.waitgraph.specs.declared.verdict.Verdict.{Verdict}
 use Rattle.reports.specs.Reports.{report_of}
 use Rattle.reports.specs.declared.report.Format.{Format}
-use Rattle.gather.specs.Answers.{recording_of_traces}
-use Rattle.runs.specs.Told.{Tells}
-use Rattle.runs.specs.Ranks.{told_by, AcceptsAll}
+use Rattle.gather.specs.Answers.{fault_of_rank, recording_of_traces}
+use Rattle.runs.specs.Told.{IsToCome, Tells}
 use Rattle.gather.specs.declared.fault.RunFault.{RunFault}
 use Rattle.gather.specs.declared.fault.RunFault.TheVariants.{Write}
 
 -- the report of a run, and the verdict that it says: they are those of a recording, which is closed and has the
--- calls of each rank whose source has a known trace; where all of them have, it is the recording of their
--- traces
+-- calls of each rank whose source has a known trace, in which there is no fault; where all of them have, it is the
+-- recording of their traces
 pub record IsReportOver {I : Type 0} (left : I → Option (List ℕ)) (sources : List (Source I)) (reading : Reading) (groups : Groups) (format : Format) (verdict : Verdict) (report : List ℕ) : Type 0 where
   pub recording : Lists
-  pub accepted : AcceptsAll groups (told_by left sources) recording
+  pub one_a_rank : length recording ≡ ranks_of groups
+  pub closed : IsClosed recording
+  pub accepted : (rank : Rank) (source : Source I) (trace : Trace) → slice_get sources rank ≡ Some source → IsToCome left source trace →
+      (calls_of recording rank ≡ trace.records) × (fault_of_rank groups rank trace ≡ None)
   pub of_traces : (traces : List Trace) → Tells left sources traces → recording ≡ recording_of_traces traces
   pub report_is : report ≡ report_of format reading groups recording
   pub verdict_is : verdict ≡ verdict_of reading groups recording

@@ -6,7 +6,7 @@ ghost use Rattle.mpigroup.specs.Groups.{ranks_of};
 ghost use Rattle.waitgraph.specs.Verdicts.{verdict_of};
 ghost use Rattle.std.specs.Io.KnownBytes.{Appends};
 ghost use Rattle.reports.specs.Reports.{report_of};
-ghost use Rattle.runs.specs.Told.{AreFresh, Tells, IsVerdictOver, RefusesOver};
+ghost use Rattle.runs.specs.Told.{AreFresh, Tells, IsVerdictOver, RefusesOver, TheTraceToComeIsRead};
 ghost use Rattle.runs.specs.inner.Ranks.{LeavesRunReport};
 ghost use Rattle.runs.specs.Written.{LeavesOutput, WritesReport};
 ghost use Rattle.runs.specs.Runs.{RefusesFeeds, StopsWhereAllowed};
@@ -291,3 +291,8 @@ where
         alloc, head, reading, sources, capacity, gate, format, out, rt, by,
     )
 }
+
+/// The trace that is to come of a source, by spellings and first faults, is the one that reading its lines gives.
+pub fn the_trace_to_come_is_read<I: Input>()
+    ensures { TheTraceToComeIsRead I.left }
+{}

@@ -1,12 +1,14 @@
 -- What proofs and private contracts cite, in addition to the definitions of `specs/Runs.antt`.
 use Rattle.moves.specs.declared.reading.Reading.{Reading}
-use Rattle.std.specs.Prelude.{◌≡◌, ℕ, Option, Some, None, Result, Ok, Err, List, map}
+use Rattle.std.specs.Prelude.{◌≡◌, ℕ, ◌+◌, ⊤, Option, Some, None, Result, Ok, Err, List, [], ◌∷◌, map}
+use Rattle.mpicall.specs.Source.{coming}
 use Rattle.mpicall.specs.declared.source.Source.{Source}
 use Rattle.mpigroup.specs.Groups.{Groups}
 use Rattle.rankfeed.specs.declared.item.Item.{Item}
 use Rattle.rankfeed.specs.declared.ring.Receipt.{Receipt}
 use Rattle.gather.specs.inner.Closes.{IsOutcomeOver}
 use Rattle.gather.specs.Collectors.{rings, kept}
+use Rattle.runs.specs.Threads.{IsFedOrNotStarted}
 use Rattle.gather.specs.Receipts.{trace_of_items}
 use Rattle.gather.specs.declared.collector.Collector.{Collector}
 use Rattle.gather.specs.declared.fault.RunFault.{RunFault}
@@ -15,7 +17,6 @@ use Rattle.gather.specs.declared.outcome.CloseFault.{CloseFault}
 use Rattle.gather.specs.declared.outcome.CloseFault.TheVariants as close
 use Rattle.moves.specs.Analysed.{Analysed}
 use Rattle.runs.specs.declared.threads.Fed.{Fed}
-use Rattle.runs.specs.Runs.{AreFedBy}
 
 -- a later time of the same session: its feeds, its reading and its head are as they were
 pub record IsSameSession (old new : Collector) : Type 0 where
@@ -36,6 +37,14 @@ abbrev pub of_close : CloseFault → RunFault
 of_close close.Memory = Memory
 of_close (close.Unproved rank) = Unproved rank
 of_close (close.Refused refusal) = Refused refusal
+
+-- each rank's items, from `rank` on, are those of the source at its place, or the mark of a thread that didn't
+-- start alone
+abbrev pub AreFedBy : {I : Type 0} → (I → Option (List ℕ)) → (ℕ → ℕ → Type 0) → ℕ → List (Source I) → List (List Item) → Type 0
+AreFedBy left may_stop rank [] [] = ⊤
+AreFedBy left may_stop rank (source ∷ sources) (items ∷ rest) =
+    IsFedOrNotStarted (coming left source) (may_stop rank) items × AreFedBy left may_stop (rank + 1) sources rest
+AreFedBy left may_stop rank sources items = ⊥
 
 -- the outcome is that of items such as are read of these sources, one list a rank
 pub record IsOutcomeOfFeeds {I : Type 0} (left : I → Option (List ℕ)) (may_stop : ℕ → ℕ → Type 0) (sources : List (Source I)) (reading : Reading) (groups : Groups) (outcome : Analysed) : Type 0 where
