@@ -1,4 +1,5 @@
 -- The JSON report: one object in compact form and a line feed. Keys are in the order of their bytes.
+use Rattle.mpicall.specs.Names.{Rank}
 use Rattle.moves.specs.declared.reading.Reading.{Reading}
 use Rattle.std.specs.Prelude.{ℕ, List, [], ◌∷◌, ◌++◌, codes, map, slice_index}
 use Rattle.std.specs.List.{join_with_byte}
@@ -41,7 +42,7 @@ need_data (At rank place) = pair (numeral rank) (numeral place)
 need_data (Lacking rank) = pair (numeral rank) null
 
 -- `{"at":I,"call":LINE,"needs":[..],"rank":R}`: where a rank stands, its call there, and what it needs
-abbrev pub rank_data : Reading → Groups → Lists → ℕ → Data
+abbrev pub rank_data : Reading → Groups → Lists → Rank → Data
 rank_data reading groups recording rank =
     object (member (codes "at") (numeral (slice_index (stands_of reading groups recording) rank))
     (member (codes "call") (spaced (present_fields reading groups recording rank))

@@ -1,5 +1,6 @@
 -- The text report: a line with the verdict, and then a line for each unmet need of a stuck rank, for each
 -- cycle, for each missing call and for each finding. Numbers are decimal.
+use Rattle.mpicall.specs.Names.{Rank}
 use Rattle.moves.specs.declared.reading.Reading.{Reading}
 use Rattle.std.specs.Prelude.{ℕ, List, [], ◌∷◌, ◌++◌, codes, flat_map, map, slice_index}
 use Rattle.std.specs.Option.{option_map_or}
@@ -35,7 +36,7 @@ abbrev pub verdict_line : Verdict → List ℕ
 verdict_line verdict = line (codes "verdict" ∷ verdict_text verdict ∷ [])
 
 -- the fields of the call at which a rank stands; its list isn't at its end there
-abbrev pub present_fields : Reading → Groups → Lists → ℕ → List (List ℕ)
+abbrev pub present_fields : Reading → Groups → Lists → Rank → List (List ℕ)
 present_fields reading groups recording rank =
     option_map_or fields_of (call_at recording rank (slice_index (stands_of reading groups recording) rank)) []
 
@@ -45,13 +46,13 @@ need_fields (At rank place) = codes "rank" ∷ decimal rank ∷ codes "call" ∷
 need_fields (Lacking rank) = codes "rank" ∷ decimal rank ∷ codes "none" ∷ []
 
 -- `rank R at I LINE waits ..`: where the rank stands, its call there as its trace has it, and what it needs
-abbrev pub unmet_line : Reading → Groups → Lists → ℕ → Need → List ℕ
+abbrev pub unmet_line : Reading → Groups → Lists → Rank → Need → List ℕ
 unmet_line reading groups recording rank need =
     line (codes "rank" ∷ decimal rank ∷ codes "at" ∷ decimal (slice_index (stands_of reading groups recording) rank)
     ∷ present_fields reading groups recording rank ++ codes "waits" ∷ need_fields need)
 
 -- a line for each unmet need of a rank
-abbrev pub rank_lines : Reading → Groups → Lists → ℕ → List ℕ
+abbrev pub rank_lines : Reading → Groups → Lists → Rank → List ℕ
 rank_lines reading groups recording rank = flat_map (unmet_line reading groups recording rank) (unmet_of reading groups recording rank)
 
 -- `cycle` and its ranks, or `missing`, the rank that waits and the rank that lacks the call

@@ -1,4 +1,5 @@
 -- Ranks that may yet move on if lists go on that were left open, and ranks that are held whatever comes.
+use Rattle.mpicall.specs.Names.{Rank, Place}
 use Rattle.std.specs.Prelude.{◌≡◌, ℕ, ◌⊎◌, Bool, true, false, not, ◌&&◌, ◌||◌, find, slice_index_or, Option, Some, None, option_map, unwrap_or, if◌then◌else◌, List, length, slice_get}
 use Rattle.std.specs.List.{list_all}
 use Rattle.moves.specs.declared.need.Need.{Need}
@@ -15,7 +16,7 @@ abbrev pub set_of : List Bool → Set
 set_of marks rank = slice_index_or marks rank false
 
 -- where a rank stands; at its Finalize where there is no such rank
-abbrev pub standing_of : List Standing → ℕ → Standing
+abbrev pub standing_of : List Standing → Rank → Standing
 standing_of standings rank = unwrap_or (slice_get standings rank) AtFinalize
 
 -- The need may be met by further calls of a rank of the set. A call that a rank lacks may yet come where its list
@@ -60,7 +61,7 @@ abbrev pub onward_by : Set → Set → List Need → Option Onward
 onward_by opened held needs = option_map (onward opened) (find (goes_on opened held) needs)
 
 -- from a held rank; from another the walk doesn't go on
-abbrev pub onward_from : Set → Set → Waits → ℕ → Option Onward
+abbrev pub onward_from : Set → Set → Waits → Rank → Option Onward
 onward_from opened held waits rank = if held rank then onward_by opened held (needs_in waits rank) else None
 
 abbrev pub onward_of : Set → List Standing → Waits → ℕ → Option Onward
@@ -69,8 +70,10 @@ onward_of opened standings waits = onward_from opened (are_held opened standings
 -- What holds of the needs of a closed recording: whose call is needed at a place is stuck, and whose list was left
 -- open is stuck or stands at its open.
 pub record FitTogether (opened : Set) (standings : List Standing) (waits : Waits) : Type 0 where
-  pub for_stuck : (rank index peer place : ℕ) → slice_get (needs_in waits rank) index ≡ Some (At peer place) → standing_of standings peer ≡ Stuck
-  pub left_open : (rank : ℕ) → opened rank ≡ true → (standing_of standings rank ≡ Stuck) ⊎ (standing_of standings rank ≡ AtOpen)
+  pub for_stuck : (rank : Rank) (index : ℕ) (peer : Rank) (place : Place) →
+      slice_get (needs_in waits rank) index ≡ Some (At peer place) → standing_of standings peer ≡ Stuck
+  pub left_open : (rank : Rank) → opened rank ≡ true → (standing_of standings rank ≡ Stuck)
+      ⊎ (standing_of standings rank ≡ AtOpen)
 
 -- what a held rank's walk does
 abbrev pub GoesOnOrEnds : Set → Set → Option Onward → Type 0
