@@ -56,6 +56,12 @@ rules_added old (argument ∷ arguments) new adds local =
 pub no_global_added : (old : Command) (argument : Arg) (new : Command) → AddsArg old argument new → (out-Command old).has_globals ≡ false → argument.global ≡ false → (out-Command new).has_globals ≡ false
 no_global_added old argument new adds none local = adds.globals ∙ or_from _ _ none local
 
+-- nor has one to which such arguments are added in turn
+pub no_globals_added : (old : Command) (arguments : List Arg) (new : Command) → AddsInTurn AddsArg old arguments new → All (λ argument. argument.global ≡ false) arguments → (out-Command old).has_globals ≡ false → (out-Command new).has_globals ≡ false
+no_globals_added old [] new adds local none = ap (λ (command : Command). (out-Command command).has_globals) (sym adds) ∙ none
+no_globals_added old (argument ∷ arguments) new adds local none =
+    no_globals_added adds.0 arguments new adds.2 (All-tail IsLocal argument arguments local) (no_global_added old argument adds.0 adds.1 none (All-head IsLocal argument arguments local))
+
 pub program_is_simple : is_simple program ≡ true
 unfolding program
 program_is_simple = refl
@@ -63,12 +69,6 @@ program_is_simple = refl
 pub program_is_free : is_simple_and_free program ≡ true
 unfolding program
 program_is_free = refl
-
--- and none that is global, if it had none
-pub no_globals_added : (old : Command) (arguments : List Arg) (new : Command) → AddsInTurn AddsArg old arguments new → All (λ argument. argument.global ≡ false) arguments → (out-Command old).has_globals ≡ false → (out-Command new).has_globals ≡ false
-no_globals_added old [] new adds local none = ap (λ (command : Command). (out-Command command).has_globals) (sym adds) ∙ none
-no_globals_added old (argument ∷ arguments) new adds local none =
-    no_globals_added adds.0 arguments new adds.2 (All-tail IsLocal argument arguments local) (no_global_added old argument adds.0 adds.1 none (All-head IsLocal argument arguments local))
 
 pub answers_named : (words : List Text) (found : Option (Text × List Row)) (asked : Words) → found ≡ subcommand_of program words → fault_of program words ≡ [] → Names (option_and_then (λ rows. task_of rows.0 rows.1) found) asked → Answers words asked
 unfolding task_in

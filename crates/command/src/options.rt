@@ -1,4 +1,5 @@
-//! The options of a check: what clap is asked to read of each, and their values.
+//! The options of a check: what clap is asked to read of each, and their values. Each option has one function; a
+//! command has a list of them, and a record of their values.
 
 ghost use Rattle.std.specs.Prelude.{◌≡◌, false, All, IfOk, map, option_map};
 ghost use Rattle.clap.specs.Matches.{found_of};
