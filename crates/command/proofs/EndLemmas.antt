@@ -25,7 +25,7 @@ tells_line ended fault out err wants left tried = absurd wants
 
 -- where memory is wanted for a fault's line, that may be told of the same words
 memory_may_be : (told : Text → Option Text) (asked : Words) (fault : Fault) → IsFaultOf told asked fault → fault ≢ Write → IsFaultOf told asked Memory
-memory_may_be told (Check head files reading format capacity) fault is_fault other = tt
+memory_may_be told (Check head files options) fault is_fault other = tt
 memory_may_be told (Lint file) fault is_fault other = tt
 memory_may_be told (Said text is_error) fault is_fault other = absurd (other is_fault.0)
 memory_may_be told NoMemory fault is_fault other = refl

@@ -9,8 +9,7 @@ use Rattle.command.specs.Outputs.{Written, Nothing, Whole, Broken, Becomes, lint
 use Rattle.command.specs.Lints.{IsCountOf, IsFaultOfLint}
 use Rattle.command.specs.Statuses.{status_of_verdict}
 use Rattle.command.specs.Texts.{IsFaultOfCheck, IsReportOf, IsVerdictOfTexts}
-use Rattle.reports.specs.declared.report.Format.{Format}
-use Rattle.moves.specs.declared.reading.Reading.{Reading}
+use Rattle.command.specs.declared.options.Options.{Options}
 use Rattle.command.specs.declared.fault.Fault.{Fault as FaultOf}
 use Rattle.command.specs.declared.fault.Fault.TheVariants.{Memory, Write}
 use Rattle.command.specs.declared.status.Status.{Status}
@@ -18,18 +17,18 @@ use Rattle.command.specs.declared.status.Status.TheVariants.{Free, Refused, Usag
 use Rattle.command.specs.declared.words.Words.{Words}
 use Rattle.command.specs.declared.words.Words.TheVariants.{Check, Lint, Said, NoMemory}
 
--- the verdict is that of the texts of the files by the reading, where all of these are known
-abbrev pub IsVerdictWhereTold : Reading → Option Text → List (Option Text) → Verdict → Type 0
-IsVerdictWhereTold reading head files verdict =
-    (text : Text) (texts : List Text) → head ≡ Some text → files ≡ map Some texts → IsVerdictOfTexts reading text texts verdict
+-- the verdict is that of the texts of the files by the options' reading, where all of these are known
+abbrev pub IsVerdictWhereTold : Options → Option Text → List (Option Text) → Verdict → Type 0
+IsVerdictWhereTold options head files verdict =
+    (text : Text) (texts : List Text) → head ≡ Some text → files ≡ map Some texts → IsVerdictOfTexts options.reading text texts verdict
 
 -- a run was checked: its report is on standard output alone, in its format; report and verdict are those of
 -- the files' texts, and the status is that of the verdict
-pub record EndsInReport (reading : Reading) (format : Format) (head : Option Text) (files : List (Option Text)) (status : Status) (out err : Written) : Type 0 where
+pub record EndsInReport (options : Options) (head : Option Text) (files : List (Option Text)) (status : Status) (out err : Written) : Type 0 where
   pub verdict : Verdict
   pub report : Text
-  pub is_report : IsReportOf reading format head files verdict report
-  pub is_verdict : IsVerdictWhereTold reading head files verdict
+  pub is_report : IsReportOf options head files verdict report
+  pub is_verdict : IsVerdictWhereTold options head files verdict
   pub status_is : status ≡ status_of_verdict verdict
   pub output : out ≡ Whole report
   pub errors : err ≡ Nothing
@@ -71,7 +70,7 @@ EndsInFault fault status out err = (status ≡ status_of_fault fault) × TellsLi
 
 -- what the words ask for was done, and reported
 abbrev pub IsDone : (Text → Option Text) → Words → Status → Written → Written → Type 0
-IsDone told (Check head files reading format capacity) = EndsInReport reading format (told head.now) (map (λ file. told file.now) files.items)
+IsDone told (Check head files options) = EndsInReport options (told head.now) (map (λ file. told file.now) files.items)
 IsDone told (Lint file) = EndsInCount (told file.now)
 IsDone told (Said text false) = EndsInText (string_bytes text)
 IsDone told (Said text true) = EndsInUsage (string_bytes text)
@@ -79,7 +78,7 @@ IsDone told NoMemory = λ status out err. ⊥
 
 -- the faults with which that may end
 abbrev pub IsFaultOf : (Text → Option Text) → Words → FaultOf → Type 0
-IsFaultOf told (Check head files reading format capacity) fault = IsFaultOfCheck told head.now files.items fault
+IsFaultOf told (Check head files options) fault = IsFaultOfCheck told head.now files.items fault
 IsFaultOf told (Lint file) fault = IsFaultOfLint told file.now fault
 IsFaultOf told (Said text is_error) fault = (fault ≡ Write) × (is_error ≡ false)
 IsFaultOf told NoMemory fault = fault ≡ Memory

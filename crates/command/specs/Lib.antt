@@ -1,6 +1,7 @@
 pub mod Numbers
 pub mod Capacities
 pub mod Limits
+pub mod Options
 pub mod Asked
 pub mod Statuses
 pub mod Faults

@@ -10,16 +10,13 @@ ghost use Rattle.command.specs.Outputs.{Tries};
 ghost use Rattle.command.specs.Statuses.{status_of_verdict};
 ghost use Rattle.command.specs.Texts.{IsFaultOfCheck};
 
-use crate::capacity::Capacity;
-use crate::check::check;
+use crate::check::{Run, check};
 use crate::fault::Fault;
 use crate::lint::lint_file;
 use crate::opener::Opener;
 use crate::status::Status;
 use crate::words::{Words, parse};
-use moves::reading::Reading;
 use mpicall::device::{Output, write_all};
-use reports::report::Format;
 use std::alloc::Global;
 use std::sync::Wait;
 use std::thread::Threads;
@@ -73,21 +70,15 @@ fn refuse<'a, O: Output>(
 /// Checks a run.
 fn answer_check<'a, P: Opener, O: Output, R: Threads + Wait + Sync>(
     alloc: Global,
-    head: &'a str,
-    files: &[&'a str],
-    reading: Reading,
-    format: Format,
-    capacity: Capacity,
+    run: Run<'a, '_>,
     opener: &P,
     rt: &R,
     out: &mut O,
 ) -> Result<Status, Complaint<'a>>
     ensures { let told = P.told opener.now in
-        IsAnswered O.written O.failures (EndsInReport reading format (told head.now) (map (λ file. told file.now) files.now)) (IsFaultOfCheck told head.now files.now) out.old out.new result }
+        IsAnswered O.written O.failures (EndsInReport run.entry.options (told run.entry.head.now) (map (λ file. told file.now) run.entry.files.now)) (IsFaultOfCheck told run.entry.head.now run.entry.files.now) out.old out.new result }
 {
-    match check(
-        alloc, head, files, reading, format, capacity, opener, rt, out,
-    ) {
+    match check(alloc, run, opener, rt, out) {
         Ok(verdict) => Ok(status_of(verdict)),
         Err(fault) => refuse(alloc, fault, out),
     }
@@ -124,12 +115,15 @@ fn answer<'a, P: Opener, O: Output, R: Threads + Wait + Sync>(
         Words::Check {
             head,
             files,
-            reading,
-            format,
-            capacity,
-        } => answer_check(
-            alloc, head, &files, reading, format, capacity, opener, rt, out,
-        ),
+            options,
+        } => {
+            let run = Run {
+                head,
+                files: &files,
+                options,
+            };
+            answer_check(alloc, run, opener, rt, out)
+        }
         Words::Lint { file } => answer_lint(alloc, file, opener, rt, out),
         Words::Said {
             text,

@@ -7,30 +7,23 @@ ghost use Rattle.clap.specs.Values.{kind_of};
 ghost use Rattle.clap.specs.Walk.{rows_of, rule_of};
 ghost use Rattle.clap.specs.declared.builder.command.Command.TheViews.{out-Command as fields_of};
 ghost use Rattle.clap.specs.declared.error.kind.ErrorKind.TheVariants.{OutOfMemory};
-ghost use Rattle.command.specs.Asked.{Answers, LintTrace, capacity_of, capacity_rule, check, check_of, eager_rule, format_of, head_rule, is_text, json_rule, lint, lint_of, program, run_of, task_of, trace_rule, traces_rule};
+ghost use Rattle.command.specs.Asked.{Answers, LintTrace, check, check_of, head_rule, is_text, lint, lint_of, program, run_of, task_of, trace_rule, traces_rule};
 ghost use Rattle.command.specs.inner.Asked.{Names, Says, SaysError};
 
-use crate::capacity::{Capacity, LEAST, MOST};
-use crate::limit::read_reading;
-use clap::builder::ValueParser;
+use crate::found::{text_of, texts_of};
+use crate::options::{Options, option_arguments, options_of};
 use clap::error::ErrorKind;
-use clap::{Arg, ArgAction, ArgMatches, Command, Error};
-use moves::reading::Reading;
-use mpicall::limits::GREATEST_BYTES;
-use reports::report::Format;
+use clap::{Arg, ArgMatches, Command, Error};
 use std::alloc::{AllocError, Global};
 
 /// What the words ask for.
 #[derive(Debug, Drop)]
 pub enum Words<'a> {
-    /// To check a run, by the path of its head and those of its traces, at least one, in rank order, and by a
-    /// reading, to report it in a format, and to let so many records of a rank wait to be judged.
+    /// To check a run, by the path of its head and those of its traces, at least one, in rank order.
     Check {
         head: &'a str,
         files: Vec<&'a str>,
-        reading: Reading,
-        format: Format,
-        capacity: Capacity,
+        options: Options,
     },
     /// To read one trace alone, by its path.
     Lint {
@@ -128,42 +121,6 @@ fn traces_argument<'a>(alloc: Global) -> Arg<'a>
         .long_help(TRACES_HELP)
 }
 
-/// What clap knows of the flag for JSON.
-fn json_argument<'a>(alloc: Global) -> Arg<'a>
-    ensures rule { rule_of result ≡ json_rule }
-    ensures local { result.global ≡ false }
-{
-    Arg::new(alloc, "json")
-        .long("json")
-        .action(ArgAction::SetTrue)
-        .help("Writes the report as one JSON value")
-}
-
-/// What clap knows of the number of records that may wait.
-fn capacity_argument<'a>(alloc: Global) -> Arg<'a>
-    ensures rule { rule_of result ≡ capacity_rule }
-    ensures local { result.global ≡ false }
-{
-    Arg::new(alloc, "capacity")
-        .long("capacity")
-        .value_name("N")
-        .default_value("64")
-        .value_parser(ValueParser::unsigned(u64::from(LEAST), u64::from(MOST)))
-        .help("How many records of a rank may be read ahead of the checking, 1 to 1024")
-}
-
-/// What clap knows of the eager limit.
-fn eager_argument<'a>(alloc: Global) -> Arg<'a>
-    ensures rule { rule_of result ≡ eager_rule }
-    ensures local { result.global ≡ false }
-{
-    Arg::new(alloc, "eager")
-        .long("eager")
-        .value_name("N")
-        .value_parser(ValueParser::unsigned(0, u64::from(GREATEST_BYTES)))
-        .help("Takes standard sends of at most N recorded bytes as buffered, 0 to 2147483647")
-}
-
 /// What clap knows of one trace.
 fn trace_argument<'a>(alloc: Global) -> Arg<'a>
     ensures rule { rule_of result ≡ trace_rule }
@@ -179,6 +136,7 @@ fn check_command<'a>(alloc: Global) -> Result<Command<'a>, AllocError>
     ensures app { IfOk result (λ command. app_of command ≡ check) }
     ensures local { IfOk result (λ command. (fields_of command).has_globals ≡ false) }
 {
+    let options = option_arguments(alloc)?;
     Command::new(alloc, "check")
         .about(CHECK_ABOUT)
         .long_about(CHECK_LONG_ABOUT)
@@ -187,9 +145,7 @@ fn check_command<'a>(alloc: Global) -> Result<Command<'a>, AllocError>
         .version(VERSION)
         .arg(head_argument(alloc))?
         .arg(traces_argument(alloc))?
-        .arg(json_argument(alloc))?
-        .arg(capacity_argument(alloc))?
-        .arg(eager_argument(alloc))
+        .args(options)
 }
 
 /// What clap knows of `lint`.
@@ -263,11 +219,9 @@ fn run_named<'a>(
     alloc: Global,
     head: Option<&'a str>,
     files: Option<&[&'a str]>,
-    reading: Option<Reading>,
-    format: Format,
-    capacity: Option<Capacity>,
+    options: Option<Options>,
 ) -> Words<'a>
-    ensures { Names (run_of (option_map (λ path. path.now) head.entry) (option_map (λ paths. map (λ path. path.now) paths.now) files.entry) reading format capacity) result }
+    ensures { Names (run_of (option_map (λ path. path.now) head.entry) (option_map (λ paths. map (λ path. path.now) paths.now) files.entry) options) result }
 {
     let Some(head) = head else {
         return say(alloc, USAGE, true);
@@ -278,39 +232,17 @@ fn run_named<'a>(
     if files.is_empty() {
         return say(alloc, USAGE, true);
     }
-    let Some(reading) = reading else {
-        return say(alloc, USAGE, true);
-    };
-    let Some(capacity) = capacity else {
+    let Some(options) = options else {
         return say(alloc, USAGE, true);
     };
     match Vec::from_slice(alloc, files) {
         Ok(files) => Words::Check {
             head,
             files,
-            reading,
-            format,
-            capacity,
+            options,
         },
         Err(_) => Words::NoMemory,
     }
-}
-
-/// The format that a flag asks for.
-fn format_of(flag: Option<&str>) -> Format
-    ensures { result ≡ format_of (option_map (λ value. value.now) flag.entry) }
-{
-    match flag {
-        Some(value) if value == "true" => Format::Json,
-        _ => Format::Text,
-    }
-}
-
-/// The number of records that an option names.
-fn capacity_of(number: Option<&str>) -> Option<Capacity>
-    ensures { result ≡ capacity_of (option_map (λ text. text.now) number.entry) }
-{
-    Capacity::read(number?)
 }
 
 /// The run that the words after `check` name.
@@ -319,11 +251,9 @@ fn check_of<'a>(alloc: Global, matches: &ArgMatches<'a>) -> Words<'a>
 {
     run_named(
         alloc,
-        matches.get_str("HEAD"),
-        matches.get_strs("FILE"),
-        read_reading(matches.get_str("eager")),
-        format_of(matches.get_str("json")),
-        capacity_of(matches.get_str("capacity")),
+        text_of(matches, "HEAD"),
+        texts_of(matches, "FILE"),
+        options_of(matches),
     )
 }
 
@@ -342,7 +272,7 @@ fn trace_named<'a>(alloc: Global, file: Option<&'a str>) -> Words<'a>
 fn lint_of<'a>(alloc: Global, matches: &ArgMatches<'a>) -> Words<'a>
     ensures { Names (lint_of (rows_of (found_of matches.now))) result }
 {
-    trace_named(alloc, matches.get_str("FILE"))
+    trace_named(alloc, text_of(matches, "FILE"))
 }
 
 /// The task of a command and of the words after it.

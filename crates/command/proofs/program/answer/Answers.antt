@@ -14,7 +14,7 @@ returns-in-Check g c =
     let written = g.O.Output.written in
     let failures = g.O.Output.failures in
     subst (λ (words : Words). IsAnswered written failures (IsDone told words) (IsFaultOf told words) c.args.out.now c.answer_check.new.out c.answer_check.result) (sym c.in-Check.is)
-    (subst (λ (files : List (Bor (List ℕ))). IsAnswered written failures (EndsInReport c.in-Check.reading c.in-Check.format (told c.in-Check.head.now) (map (λ (file : Bor (List ℕ)). told file.now) files)) (IsFaultOfCheck told c.in-Check.head.now files) c.args.out.now c.answer_check.new.out c.answer_check.result)
+    (subst (λ (files : List (Bor (List ℕ))). IsAnswered written failures (EndsInReport c.in-Check.options (told c.in-Check.head.now) (map (λ (file : Bor (List ℕ)). told file.now) files)) (IsFaultOfCheck told c.in-Check.head.now files) c.args.out.now c.answer_check.new.out c.answer_check.result)
     c.deref.ensures.value c.answer_check.ensures)
 
 pub returns-in-Lint : goal.returns-in-Lint
