@@ -2,6 +2,7 @@
 
 use journals::fault::JournalFault;
 use journals::journal::{Header, Journal, JournalError, read_journal};
+use journals::limits::MOST_RANKS;
 use journals::text::TextInput;
 use mpicall::device::Input;
 use std::alloc::{AllocError, AllocFailed, Global};
@@ -79,6 +80,14 @@ fn first_header(journals: &[Option<Journal>]) -> Option<&Header> {
     }
 }
 
+/// How many ranks the run has, by the header of its first journal.
+fn ranks_of(journals: &[Option<Journal>]) -> u16 {
+    match first_header(journals) {
+        Some(header) => header.ranks().min(MOST_RANKS) as u16,
+        None => 1,
+    }
+}
+
 /// The journals of all ranks, in their order; rank 0's says how many there are.
 pub fn read_journals<J: Journals>(
     alloc: Global,
@@ -87,11 +96,7 @@ pub fn read_journals<J: Journals>(
 ) -> Result<Vec<Option<Journal>>, ReadFault> {
     let mut all = Vec::new(alloc);
     all.push(read_of(alloc, journals, 0, None, wait)?)?;
-    let ranks = match first_header(all.as_slice()) {
-        Some(header) => header.ranks(),
-        None => 1,
-    };
-    for rank in 1..ranks as u16 {
+    for rank in 1..ranks_of(all.as_slice()) {
         let journal = read_of(alloc, journals, rank, first_header(all.as_slice()), wait)?;
         all.push(journal)?;
     }

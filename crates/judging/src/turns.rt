@@ -1,7 +1,13 @@
 //! The entries of all ranks, taken by turns, and their records handed to what judges them.
 
+ghost use Rattle.std.specs.Prelude.{◌<◌, length, IfErr};
+ghost use Rattle.judging.specs.inner.Unwritten.{IsUnwritten, KeepsRanks};
+
+use crate::judge::JudgeFault;
 use closing::recording::Recording;
-use gather::ledger::Ledger;
+use gather::fault::{RankFault, Refusal};
+use moves::analyser::{Analyser, OfferFault};
+use mpicall::record::Record;
 use std::alloc::{AllocError, Global};
 
 /// How many entries of a rank are taken before those of the next.
@@ -55,37 +61,75 @@ pub(crate) struct Lists {
     pub table: LineTable,
 }
 
+/// Offers a record of a rank.
+fn offer(analyser: &mut Analyser, rank: u16, record: &Record) -> Result<(), JudgeFault>
+    requires { rank < length analyser.old.recording }
+    ensures kept { KeepsRanks analyser.old analyser.new }
+    ensures fault { IfErr result IsUnwritten }
+{
+    match analyser.offer(rank, record) {
+        Ok(()) => Ok(()),
+        Err(OfferFault::Refused(fault)) => Err(JudgeFault::Refused(Refusal {
+            rank,
+            call: analyser.accepted(rank).unwrap_or(0),
+            fault: RankFault::OfCall(fault),
+        })),
+        Err(OfferFault::Memory) => Err(JudgeFault::Memory),
+    }
+}
+
+/// Offers some records of a rank.
+fn offer_all(analyser: &mut Analyser, rank: u16, records: &[Record]) -> Result<(), JudgeFault>
+    requires { rank < length analyser.old.recording }
+    ensures kept { KeepsRanks analyser.old analyser.new }
+    ensures fault { IfErr result IsUnwritten }
+{
+    for record in records {
+        offer(analyser, rank, record)?;
+    }
+    Ok(())
+}
+
 impl Lists {
     /// Hands the records of a rank's last entry on.
-    fn hand_on(&mut self, rank: u16, ledger: &mut Ledger) -> Result<(), AllocError> {
+    fn hand_on(&mut self, rank: u16, analyser: &mut Analyser) -> Result<(), JudgeFault>
+        requires { rank < length analyser.old.recording }
+        ensures kept { KeepsRanks analyser.old analyser.new }
+        ensures fault { IfErr result IsUnwritten }
+    {
         let records = self.recording.records(rank);
         self.table
             .note(rank, self.recording.line(rank), records.len())?;
-        for record in records {
-            ledger.enter(rank, record);
-        }
+        offer_all(analyser, rank, records)?;
         self.recording.forget_records(rank);
         Ok(())
     }
 
     /// Takes some entries of a rank.
-    fn take_a_turn(&mut self, rank: u16, ledger: &mut Ledger) -> Result<(), AllocError> {
+    fn take_a_turn(&mut self, rank: u16, analyser: &mut Analyser) -> Result<(), JudgeFault>
+        requires { rank < length analyser.old.recording }
+        ensures kept { KeepsRanks analyser.old analyser.new }
+        ensures fault { IfErr result IsUnwritten }
+    {
         for _ in 0..ENTRIES_A_TURN {
-            self.hand_on(rank, ledger)?;
+            self.hand_on(rank, analyser)?;
             if self.recording.is_over(rank) {
                 return Ok(());
             }
             self.recording.step(rank)?;
         }
-        self.hand_on(rank, ledger)
+        self.hand_on(rank, analyser)
     }
 
     /// Takes a turn of each rank; says whether all lists have ended.
-    fn take_a_round(&mut self, ledger: &mut Ledger) -> Result<bool, AllocError> {
+    fn take_a_round(&mut self, analyser: &mut Analyser) -> Result<bool, JudgeFault>
+        ensures kept { KeepsRanks analyser.old analyser.new }
+        ensures fault { IfErr result IsUnwritten }
+    {
         let mut are_over = true;
-        for rank in 0..self.recording.ranks() {
+        for rank in 0..analyser.head().ranks() {
             if !self.recording.is_over(rank) || !self.recording.records(rank).is_empty() {
-                self.take_a_turn(rank, ledger)?;
+                self.take_a_turn(rank, analyser)?;
                 are_over = are_over && self.recording.is_over(rank);
             }
         }
@@ -93,9 +137,12 @@ impl Lists {
     }
 
     /// Takes the entries of all ranks. An entry has a line, and a journal fewer than there are turns.
-    pub(crate) fn take_all(&mut self, ledger: &mut Ledger) -> Result<(), AllocError> {
+    pub(crate) fn take_all(&mut self, analyser: &mut Analyser) -> Result<(), JudgeFault>
+        ensures kept { KeepsRanks analyser.old analyser.new }
+        ensures fault { IfErr result IsUnwritten }
+    {
         for _ in 0..u32::MAX {
-            if self.take_a_round(ledger)? {
+            if self.take_a_round(analyser)? {
                 return Ok(());
             }
         }

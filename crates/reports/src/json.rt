@@ -6,6 +6,7 @@ ghost use Rattle.serde_json.specs.Written.{compact_text};
 ghost use Rattle.waitgraph.specs.Causes.{view_of};
 ghost use Rattle.waitgraph.specs.Graphs.{IsGraphOf};
 ghost use Rattle.reports.specs.JsonReport.{each, cause_data, json_report};
+ghost use Rattle.reports.specs.Judged.{judged_json};
 ghost use Rattle.reports.specs.TextReport.{verdict_text};
 
 use crate::json::cause::causes_value;
@@ -75,7 +76,11 @@ pub(crate) fn judged_json_text(
     analyser: &Analyser,
     graph: &Graph,
     judged: &Judged<'_>,
-) -> Result<String, AllocError> {
+) -> Result<String, AllocError>
+    requires { IsGraphOf analyser.now.reading analyser.now.groups analyser.now.recording graph.now }
+    ensures { IfOk result (λ text. string_bytes text
+        ≡ judged_json analyser.now.reading analyser.now.groups analyser.now.recording judged.now.findings.now judged.now.left.now judged.now.lines.now) }
+{
     let mut text = String::new(alloc);
     push_key(alloc, &mut text, "{", "causes", ":")?;
     push_causes(alloc, &mut text, graph.causes())?;

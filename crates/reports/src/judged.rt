@@ -1,5 +1,11 @@
 //! The report of the recording of journals: as that of any recording, with some of its findings, and what the
-//! journals say besides.
+//! journals say in addition.
+
+ghost use Rattle.std.specs.Prelude.{◌≡◌, ◌≤◌, All, length, IfErr, OnOk};
+ghost use Rattle.std.specs.Io.KnownBytes.{Appends};
+ghost use Rattle.waitgraph.specs.Graphs.{IsGraphOf};
+ghost use Rattle.reports.specs.Judged.{judged_json, judged_of};
+ghost use Rattle.reports.specs.Reports.{LeavesReport};
 
 use crate::json::judged_json_text;
 use crate::report::text::write_judged_text;
@@ -18,7 +24,7 @@ pub struct LeftAt {
     pub why: &'static str,
 }
 
-/// The line of a rank's journal for which the call at a place of its list stands.
+/// The line of a rank's journal of which the call at a place of its list comes.
 #[derive(Clone, Copy)]
 pub struct LineAt {
     pub rank: u16,
@@ -26,7 +32,10 @@ pub struct LineAt {
     pub line: u32,
 }
 
-/// What the report says besides who waits for whom, and why.
+/// The most bytes of the words for why a list ended.
+pub const MOST_WORDS: usize = 64;
+
+/// What the report says in addition to who waits for whom, and why.
 #[derive(Clone, Copy)]
 pub struct Judged<'a> {
     pub findings: &'a [Finding],
@@ -34,13 +43,21 @@ pub struct Judged<'a> {
     pub lines: &'a [LineAt],
 }
 
+/// Writes the JSON report.
 fn write_judged_json<O: Output>(
     alloc: Global,
     analyser: &Analyser,
     graph: &Graph,
     judged: &Judged<'_>,
     out: &mut O,
-) -> Result<(), ReportFault> {
+) -> Result<(), ReportFault>
+    requires { IsGraphOf analyser.now.reading analyser.now.groups analyser.now.recording graph.now }
+    ensures written { OnOk result (Appends (O.written out.old) (O.written out.new)
+        (judged_json analyser.now.reading analyser.now.groups analyser.now.recording judged.now.findings.now judged.now.left.now judged.now.lines.now)) }
+    ensures no_write_failed { OnOk result (O.failures out.new ≡ O.failures out.old) }
+    ensures fault { IfErr result (LeavesReport O.written O.failures out.old out.new Format.Json
+        (judged_json analyser.now.reading analyser.now.groups analyser.now.recording judged.now.findings.now judged.now.left.now judged.now.lines.now)) }
+{
     let Ok(text) = judged_json_text(alloc, analyser, graph, judged) else {
         return Err(ReportFault::Memory);
     };
@@ -50,7 +67,9 @@ fn write_judged_json<O: Output>(
     }
 }
 
-/// Writes the report of the recording of journals from its analyser and its wait graph.
+/// Writes the report of the recording of journals from its analyser and its wait graph. The text report takes no
+/// memory; the JSON report is made whole before any of it is written.
+#[tactic(auto, unfolding(crate::specs::Judged::judged_of))]
 pub fn write_judged<O: Output>(
     alloc: Global,
     analyser: &Analyser,
@@ -58,7 +77,13 @@ pub fn write_judged<O: Output>(
     judged: &Judged<'_>,
     format: Format,
     out: &mut O,
-) -> Result<(), ReportFault> {
+) -> Result<(), ReportFault>
+    requires graph { IsGraphOf analyser.now.reading analyser.now.groups analyser.now.recording graph.now }
+    requires short { All (λ one. length one.why.now ≤ MOST_WORDS) judged.now.left.now }
+    ensures written { OnOk result (Appends (O.written out.old) (O.written out.new) (judged_of format analyser.now.reading analyser.now.groups analyser.now.recording judged.now)) }
+    ensures no_write_failed { OnOk result (O.failures out.new ≡ O.failures out.old) }
+    ensures fault { IfErr result (LeavesReport O.written O.failures out.old out.new format (judged_of format analyser.now.reading analyser.now.groups analyser.now.recording judged.now)) }
+{
     match format {
         Format::Text => match write_judged_text(analyser, graph, judged, out) {
             Ok(()) => Ok(()),

@@ -27,7 +27,7 @@ use Rattle.closing.specs.declared.choice.Calls.{Calls}
 use Rattle.closing.specs.declared.choice.Calls.TheVariants as calls
 use Rattle.closing.specs.declared.why.Why.{Why}
 use Rattle.closing.specs.declared.why.Why.TheVariants.{NeverCameBack, NeverReported, Failed, NoNumber, TooLong, CannotBe, Stopped, Aborted, Full, NoJournal}
-use Rattle.judging.specs.Spots.{spots_of, is_among}
+use Rattle.judging.specs.inner.Spots.{spots_of, is_among}
 
 abbrev pub lists_of : Recording → Lists
 lists_of it = map calls_of it.lists
