@@ -1,10 +1,9 @@
 -- How the answers over a check's sources follow for the texts of its files.
-use Rattle.moves.specs.declared.reading.Reading.{Reading}
+use Rattle.command.specs.declared.options.Options.{Options}
 use Rattle.std.proofs.Common.{◌≡◌, ◌<◌, ℕ, length, Option, Some, None, List, [], ◌∷◌, map, option_map, ap, ◌∙◌, sym, refl, subst, arith, Result, Ok, Err, IfSome, take, Bool, true, false, if◌then◌else◌, Bor}
 use Rattle.mpicall.specs.Trace.{Trace, trace_of}
 use Rattle.mpicall.specs.declared.source.Source.{Source}
 use Rattle.waitgraph.specs.declared.verdict.Verdict.{Verdict}
-use Rattle.reports.specs.declared.report.Format.{Format}
 use Rattle.mpigroup.proofs.FrontLemmas.{read_head-front}
 use Rattle.mpigroup.specs.Groups.{Groups}
 use Rattle.mpigroup.specs.HeadText.{read_head}
@@ -49,9 +48,9 @@ head_of_told None text groups of_told is = cc
 head_of_told (Some other) text groups of_told is = subst (λ (known : Option Text). IsHeadOf known groups) is of_told
 
 -- the report over sources that tell the traces of the files' texts is that of the texts
-pub report_says : {I : Type 0} (left : I → Option Text) (sources : List (Source I)) (reading : Reading) (groups : Groups) (format : Format) (verdict : Verdict) (report : Text) (head : Option Text) (files : List (Option Text)) →
-    IsHeadOf head groups → ((texts : List Text) (traces : List Trace) → files ≡ map Some texts → AreTracesOf texts traces → Tells left sources traces) → IsReportOver left sources reading groups format verdict report → IsReportOf reading format head files verdict report
-report_says left sources reading groups format verdict report head files of_head tells over = record {
+pub report_says : {I : Type 0} (left : I → Option Text) (sources : List (Source I)) (options : Options) (groups : Groups) (verdict : Verdict) (report : Text) (head : Option Text) (files : List (Option Text)) →
+    IsHeadOf head groups → ((texts : List Text) (traces : List Trace) → files ≡ map Some texts → AreTracesOf texts traces → Tells left sources traces) → IsReportOver left sources options.reading groups options.format verdict report → IsReportOf options head files verdict report
+report_says left sources options groups verdict report head files of_head tells over = record {
   groups = groups;
   recording = over.recording;
   one_a_rank = over.one_a_rank;

@@ -1,15 +1,16 @@
 //! Why the program has no answer.
 
 ghost use Rattle.std.specs.Prelude.{◌≡◌, Some};
-ghost use Rattle.command.specs.FaultTexts.{text_of_fault};
+ghost use Rattle.command.specs.FaultTexts.{journal_words, text_of_fault};
 ghost use Rattle.gather.specs.declared.fault.RankFault.TheVariants.{OfSource};
 ghost use Rattle.runs.specs.Told.{is_from_outside};
 ghost use Rattle.command.specs.Faults.{of_head, of_lint, of_run, status_of_fault};
+ghost use Rattle.command.specs.Journals.{IsFaultOfJournals};
 ghost use Rattle.command.specs.declared.fault.Fault.TheVariants.{Memory};
 
 use crate::status::Status;
 use gather::fault::{RankFault, Refusal, RunFault};
-use journals::fault::JournalFault;
+use journals::fault::{JournalFault, JournalFaultKind};
 use judging::read::ReadFault;
 use mpicall::fault::SourceFault;
 use mpicall::lint::LintFault;
@@ -36,7 +37,28 @@ pub enum Fault<'a> {
     LintFailed(LintFault),
     Memory,
     Unproved(u16),
+    /// Of standard output.
     Write,
+    /// Of a file of a recording.
+    WriteFile,
+}
+
+/// What is said of a fault of a journal, in addition to its code.
+fn journal_words(kind: JournalFaultKind) -> &'static str
+    ensures { result.now ≡ journal_words kind }
+{
+    match kind {
+        JournalFaultKind::Header => "header",
+        JournalFaultKind::UnknownWord => "unknown word",
+        JournalFaultKind::FieldCount => "number of fields",
+        JournalFaultKind::FieldForm => "field out of form or range",
+        JournalFaultKind::AfterEnd => "line behind the end",
+        JournalFaultKind::TooLong => "line too long",
+        JournalFaultKind::OutOfPlace => "told line out of place",
+        JournalFaultKind::Request => "request",
+        JournalFaultKind::Comm => "communicator",
+        JournalFaultKind::Group => "group",
+    }
 }
 
 impl fmt::Display for Fault<'_> {
@@ -48,7 +70,11 @@ impl fmt::Display for Fault<'_> {
             Fault::OpenJournal { folder, rank } => {
                 write!(f, "fault open {folder}/journal{rank}")
             }
-            Fault::RefusedJournal { rank, fault } => write!(f, "refused rank {rank} {fault}"),
+            Fault::RefusedJournal { rank, fault } => {
+                let JournalFault { line, kind } = fault;
+                let (code, words) = (kind.code(), journal_words(kind));
+                write!(f, "refused rank {rank} line {line} {code} {words}")
+            }
             Fault::FailedJournal { rank, line } => {
                 write!(f, "fault rank {rank} line {line} E2 read failed")
             }
@@ -64,7 +90,7 @@ impl fmt::Display for Fault<'_> {
             Fault::LintFailed(fault) => write!(f, "fault lint {fault}"),
             Fault::Memory => write!(f, "fault memory"),
             Fault::Unproved(rank) => write!(f, "fault seal {rank}"),
-            Fault::Write => write!(f, "fault write"),
+            Fault::Write | Fault::WriteFile => write!(f, "fault write"),
         }
     }
 }
@@ -73,7 +99,9 @@ impl Error for Fault<'_> {}
 
 impl<'a> Fault<'a> {
     /// The fault of the journals in a folder.
-    pub(crate) fn of_journals(folder: &'a str, fault: ReadFault) -> Fault<'a> {
+    pub(crate) fn of_journals(folder: &'a str, fault: ReadFault) -> Fault<'a>
+        ensures { IsFaultOfJournals folder.now result }
+    {
         match fault {
             ReadFault::Open(rank) => Fault::OpenJournal { folder, rank },
             ReadFault::Refused { rank, fault } => Fault::RefusedJournal { rank, fault },
@@ -103,7 +131,8 @@ impl Fault<'_> {
             | Fault::LintFailed(_)
             | Fault::Memory
             | Fault::Unproved(_)
-            | Fault::Write => Status::Fault,
+            | Fault::Write
+            | Fault::WriteFile => Status::Fault,
         }
     }
 }

@@ -1,5 +1,7 @@
 //! The journals of a run in a folder, and the files of their recording.
 
+ghost use Rattle.std.specs.Prelude.{◌≡◌};
+
 use crate::opener::{Maker, Opener};
 use judging::close::Folder;
 use judging::read::Journals;
@@ -7,20 +9,30 @@ use std::alloc::{AllocError, Global};
 
 /// The journals in a folder: of each rank the file `journal` with its number.
 #[derive(Drop)]
-pub(crate) struct JournalFolder<'a, P> {
+pub(crate) struct JournalFolder<'p, 'a, P> {
     pub alloc: Global,
-    pub opener: &'a P,
+    opener: &'p P,
     pub path: &'a str,
 }
 
-impl<P> JournalFolder<'_, P> {
+impl<'p, 'a, P> JournalFolder<'p, 'a, P> {
+    pub(crate) fn new(alloc: Global, opener: &'p P, path: &'a str) -> JournalFolder<'p, 'a, P>
+        ensures { result.path ≡ path.entry }
+    {
+        JournalFolder {
+            alloc,
+            opener,
+            path,
+        }
+    }
+
     fn path_of(&self, rank: u16) -> Result<String, AllocError> {
         let path = self.path;
         format!(in self.alloc; "{path}/journal{rank}")
     }
 }
 
-impl<P: Opener> Journals for JournalFolder<'_, P> {
+impl<P: Opener> Journals for JournalFolder<'_, '_, P> {
     type In = P::In;
 
     fn is_there(&self, rank: u16) -> Result<bool, AllocError> {
@@ -36,13 +48,21 @@ impl<P: Opener> Journals for JournalFolder<'_, P> {
 
 /// The folder of a recording: `head`, and of each rank `r` with its number.
 #[derive(Drop)]
-pub(crate) struct RecordingFolder<'a, P> {
-    pub alloc: Global,
-    pub maker: &'a P,
+pub(crate) struct RecordingFolder<'p, 'a, P> {
+    alloc: Global,
+    maker: &'p P,
     pub path: &'a str,
 }
 
-impl<P: Maker> Folder for RecordingFolder<'_, P> {
+impl<'p, 'a, P> RecordingFolder<'p, 'a, P> {
+    pub(crate) fn new(alloc: Global, maker: &'p P, path: &'a str) -> RecordingFolder<'p, 'a, P>
+        ensures { result.path ≡ path.entry }
+    {
+        RecordingFolder { alloc, maker, path }
+    }
+}
+
+impl<P: Maker> Folder for RecordingFolder<'_, '_, P> {
     type Out = P::Out;
 
     fn make(&self) -> bool {

@@ -1,17 +1,18 @@
 //! The whole program, over any files and outputs.
 
-ghost use Rattle.std.specs.Prelude.{◌≡◌, map};
+ghost use Rattle.std.specs.Prelude.{◌≡◌, ◌≢◌, map};
 ghost use Rattle.command.specs.inner.Answer.{Complains, IsAnswered, Refuses, Shows, TellsFaultLine};
-ghost use Rattle.command.specs.Ends.{Ends, EndsInCount, EndsInReport, IsDone, IsFaultOf};
+ghost use Rattle.command.specs.Ends.{Ends, EndsInCount, EndsInFiles, EndsInJudged, EndsInReport, IsDone, IsFaultOf};
 ghost use Rattle.command.specs.FaultTexts.{line_of_fault};
 ghost use Rattle.command.specs.Faults.{status_of_fault};
+ghost use Rattle.command.specs.Journals.{IsFaultOfClose, IsFaultOfJudge};
+ghost use Rattle.command.specs.inner.Journals.{IsWriteAs};
 ghost use Rattle.command.specs.Lints.{IsFaultOfLint};
 ghost use Rattle.command.specs.Outputs.{Tries};
 ghost use Rattle.command.specs.Statuses.{status_of_verdict};
 ghost use Rattle.command.specs.Texts.{IsFaultOfCheck};
 
-use crate::capacity::Capacity;
-use crate::check::check;
+use crate::check::{Run, check};
 use crate::fault::Fault;
 use crate::journals::{JournalFolder, RecordingFolder};
 use crate::lint::lint_file;
@@ -21,9 +22,7 @@ use crate::words::{Words, parse};
 use closing::choice::Choice;
 use judging::close::{CloseFault, close};
 use judging::judge::{JudgeFault, Manner, judge};
-use moves::reading::Reading;
 use mpicall::device::{Output, write_all};
-use reports::report::Format;
 use std::alloc::Global;
 use std::sync::Wait;
 use std::thread::Threads;
@@ -77,21 +76,15 @@ fn refuse<'a, O: Output>(
 /// Checks a run.
 fn answer_check<'a, P: Opener, O: Output, R: Threads + Wait + Sync>(
     alloc: Global,
-    head: &'a str,
-    files: &[&'a str],
-    reading: Reading,
-    format: Format,
-    capacity: Capacity,
+    run: Run<'a, '_>,
     opener: &P,
     rt: &R,
     out: &mut O,
 ) -> Result<Status, Complaint<'a>>
     ensures { let told = P.told opener.now in
-        IsAnswered O.written O.failures (EndsInReport reading format (told head.now) (map (λ file. told file.now) files.now)) (IsFaultOfCheck told head.now files.now) out.old out.new result }
+        IsAnswered O.written O.failures (EndsInReport run.entry.options (told run.entry.head.now) (map (λ file. told file.now) run.entry.files.now)) (IsFaultOfCheck told run.entry.head.now run.entry.files.now) out.old out.new result }
 {
-    match check(
-        alloc, head, files, reading, format, capacity, opener, rt, out,
-    ) {
+    match check(alloc, run, opener, rt, out) {
         Ok(verdict) => Ok(status_of(verdict)),
         Err(fault) => refuse(alloc, fault, out),
     }
@@ -115,10 +108,16 @@ fn answer_lint<'a, P: Opener, O: Output>(
 }
 
 /// Why journals in a folder weren't judged.
-fn fault_of_judge<'a>(folder: &'a str, fault: JudgeFault) -> Fault<'a> {
+#[tactic(auto, using(crate::proofs::JournalLemmas::no_write, crate::proofs::JournalLemmas::of_judge))]
+fn fault_of_judge<'a>(folder: &'a str, fault: JudgeFault) -> Fault<'a>
+    ensures may { IsFaultOfJudge folder.now result }
+    ensures write { IsWriteAs fault result }
+{
     match fault {
         JudgeFault::Read(fault) => Fault::of_journals(folder, fault),
+        JudgeFault::Head(fault) => Fault::Head(fault),
         JudgeFault::Refused(refusal) => Fault::Refused(refusal),
+        JudgeFault::Unended => Fault::Unproved(0),
         JudgeFault::Memory => Fault::Memory,
         JudgeFault::Write => Fault::Write,
     }
@@ -126,57 +125,52 @@ fn fault_of_judge<'a>(folder: &'a str, fault: JudgeFault) -> Fault<'a> {
 
 /// Judges the journals in a folder.
 fn answer_judge<'a, P: Opener, O: Output>(
-    alloc: Global,
-    folder: &'a str,
+    journals: &JournalFolder<'_, 'a, P>,
     manner: Manner,
-    opener: &P,
     wait: &impl Wait,
     out: &mut O,
-) -> Result<Status, Complaint<'a>> {
-    let journals = JournalFolder {
-        alloc,
-        opener,
-        path: folder,
-    };
-    match judge(alloc, &journals, manner, wait, out) {
+) -> Result<Status, Complaint<'a>>
+    ensures { IsAnswered O.written O.failures (EndsInJudged manner) (IsFaultOfJudge journals.now.path.now) out.old out.new result }
+{
+    match judge(journals.alloc, journals, manner, wait, out) {
         Ok(verdict) => Ok(status_of(verdict)),
-        Err(fault) => refuse(alloc, fault_of_judge(folder, fault), out),
+        Err(fault) => {
+            let fault = fault_of_judge(journals.path, fault);
+            refuse(journals.alloc, fault, out)
+        }
     }
 }
 
 /// Why the recording of journals in a folder wasn't written.
-fn fault_of_close<'a>(folder: &'a str, path: &'a str, fault: CloseFault) -> Fault<'a> {
+#[tactic(auto, using(crate::proofs::JournalLemmas::no_write, crate::proofs::JournalLemmas::of_close))]
+fn fault_of_close<'a>(folder: &'a str, path: &'a str, fault: CloseFault) -> Fault<'a>
+    ensures may { IsFaultOfClose folder.now path.now result }
+    ensures unwritten { result ≢ Fault.Write }
+{
     match fault {
         CloseFault::Read(fault) => Fault::of_journals(folder, fault),
         CloseFault::Make => Fault::Make(path),
-        CloseFault::Write => Fault::Write,
+        CloseFault::Write => Fault::WriteFile,
         CloseFault::Memory => Fault::Memory,
     }
 }
 
 /// Writes the recording of the journals in a folder into another one.
 fn answer_close<'a, P: Opener + Maker, O: Output>(
-    alloc: Global,
-    folder: &'a str,
-    path: &'a str,
+    journals: &JournalFolder<'_, 'a, P>,
+    made: &RecordingFolder<'_, 'a, P>,
     choice: Choice,
-    opener: &P,
     wait: &impl Wait,
     out: &mut O,
-) -> Result<Status, Complaint<'a>> {
-    let journals = JournalFolder {
-        alloc,
-        opener,
-        path: folder,
-    };
-    let made = RecordingFolder {
-        alloc,
-        maker: opener,
-        path,
-    };
-    match close(alloc, &journals, choice, &made, wait) {
+) -> Result<Status, Complaint<'a>>
+    ensures { IsAnswered O.written O.failures EndsInFiles (IsFaultOfClose journals.now.path.now made.now.path.now) out.old out.new result }
+{
+    match close(journals.alloc, journals, choice, made, wait) {
         Ok(()) => Ok(Status::Free),
-        Err(fault) => refuse(alloc, fault_of_close(folder, path, fault), out),
+        Err(fault) => {
+            let fault = fault_of_close(journals.path, made.path, fault);
+            refuse(journals.alloc, fault, out)
+        }
     }
 }
 
@@ -194,19 +188,29 @@ fn answer<'a, P: Opener + Maker, O: Output, R: Threads + Wait + Sync>(
         Words::Check {
             head,
             files,
-            reading,
-            format,
-            capacity,
-        } => answer_check(
-            alloc, head, &files, reading, format, capacity, opener, rt, out,
-        ),
+            options,
+        } => {
+            let run = Run {
+                head,
+                files: &files,
+                options,
+            };
+            answer_check(alloc, run, opener, rt, out)
+        }
         Words::Lint { file } => answer_lint(alloc, file, opener, rt, out),
-        Words::Judge { folder, manner } => answer_judge(alloc, folder, manner, opener, rt, out),
+        Words::Judge { folder, manner } => {
+            let journals = JournalFolder::new(alloc, opener, folder);
+            answer_judge(&journals, manner, rt, out)
+        }
         Words::Close {
             folder,
             out: path,
             choice,
-        } => answer_close(alloc, folder, path, choice, opener, rt, out),
+        } => {
+            let journals = JournalFolder::new(alloc, opener, folder);
+            let made = RecordingFolder::new(alloc, opener, path);
+            answer_close(&journals, &made, choice, rt, out)
+        }
         Words::Said {
             text,
             is_error: false,
