@@ -7,6 +7,7 @@ ghost use Rattle.waitgraph.specs.Graphs.{IsGraphOf};
 ghost use Rattle.reports.specs.declared.judged.TheConstants.{MOST_WORDS};
 ghost use Rattle.judging.specs.Judging.{IsJudgedReport, LeavesAt};
 ghost use Rattle.judging.specs.inner.Unwritten.{IsUnwritten};
+ghost use Rattle.judging.specs.declared.judge.JudgeFault.TheVariants.{Memory};
 
 use crate::findings::reported_findings;
 use crate::head::head_text;
@@ -46,7 +47,7 @@ pub enum JudgeFault {
 }
 
 impl From<AllocError> for JudgeFault {
-    ghost from_gives = { λ _ fault. IsUnwritten fault };
+    ghost from_gives = { λ _ fault. fault ≡ Memory };
 
     fn from(_fault: AllocError) -> JudgeFault {
         JudgeFault::Memory
@@ -54,21 +55,10 @@ impl From<AllocError> for JudgeFault {
 }
 
 impl<T: Drop> From<AllocFailed<T>> for JudgeFault {
-    ghost from_gives = { λ _ fault. IsUnwritten fault };
+    ghost from_gives = { λ _ fault. fault ≡ Memory };
 
     fn from(_fault: AllocFailed<T>) -> JudgeFault {
         JudgeFault::Memory
-    }
-}
-
-impl From<ReadFault> for JudgeFault {
-    ghost from_gives = { λ _ fault. IsUnwritten fault };
-
-    fn from(fault: ReadFault) -> JudgeFault {
-        match fault {
-            ReadFault::Memory => JudgeFault::Memory,
-            fault => JudgeFault::Read(fault),
-        }
     }
 }
 
@@ -92,6 +82,16 @@ fn head_of(alloc: Global, recording: &Recording) -> Result<Head, JudgeFault>
     }
 }
 
+/// Why the journals of a run aren't judged, which weren't read.
+fn of_reading(fault: ReadFault) -> JudgeFault
+    ensures { IsUnwritten result }
+{
+    match fault {
+        ReadFault::Memory => JudgeFault::Memory,
+        fault => JudgeFault::Read(fault),
+    }
+}
+
 /// The recording of the journals of a run, of which no list is made yet.
 fn lists_of<J: Journals>(
     alloc: Global,
@@ -101,7 +101,10 @@ fn lists_of<J: Journals>(
 ) -> Result<Lists, JudgeFault>
     ensures { IfErr result IsUnwritten }
 {
-    let journals = read_journals(alloc, journals, wait)?;
+    let journals = match read_journals(alloc, journals, wait) {
+        Ok(journals) => journals,
+        Err(fault) => return Err(of_reading(fault)),
+    };
     let recording = Recording::of(alloc, journals, manner.choice)?;
     let table = LineTable::new(alloc, recording.ranks(), manner.format == Format::Json)?;
     Ok(Lists { recording, table })
