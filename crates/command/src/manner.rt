@@ -25,7 +25,7 @@ fn tests_argument<'a>(alloc: Global) -> Arg<'a>
         .value_name("HOW")
         .default_value("wait")
         .help(
-            "Takes a test that completed a send as a wait (wait), or has the rank wait at its end (pass)",
+            "Takes a test that completed a send as a wait (wait), or as a wait at the rank's end (pass)",
         )
 }
 
@@ -39,7 +39,7 @@ fn calls_argument<'a>(alloc: Global) -> Arg<'a>
         .value_name("HOW")
         .default_value("strict")
         .help(
-            "Judges whether the run can hang (strict), or where its ranks are since it went so far (went)",
+            "Judges whether the run can hang (strict), or what held its ranks when it was cut off (went)",
         )
 }
 

@@ -1,6 +1,6 @@
 //! The entries of all ranks, taken by turns, and their records handed to what judges them.
 
-ghost use Rattle.std.specs.Prelude.{◌<◌, length, IfErr};
+ghost use Rattle.std.specs.Prelude.{◌≡◌, ◌<◌, length, IfErr};
 ghost use Rattle.judging.specs.inner.Unwritten.{IsUnwritten, KeepsRanks};
 
 use crate::judge::JudgeFault;
@@ -61,7 +61,15 @@ pub(crate) struct Lists {
     pub table: LineTable,
 }
 
+/// How many ranks an analyser has.
+fn ranks_of(analyser: &Analyser) -> u16
+    ensures { result ≡ length analyser.now.recording }
+{
+    analyser.head().ranks()
+}
+
 /// Offers a record of a rank.
+#[tactic(auto, using(crate::proofs::TurnLemmas::turn_steps))]
 fn offer(analyser: &mut Analyser, rank: u16, record: &Record) -> Result<(), JudgeFault>
     requires { rank < length analyser.old.recording }
     ensures kept { KeepsRanks analyser.old analyser.new }
@@ -79,6 +87,7 @@ fn offer(analyser: &mut Analyser, rank: u16, record: &Record) -> Result<(), Judg
 }
 
 /// Offers some records of a rank.
+#[tactic(auto, using(crate::proofs::TurnLemmas::turn_steps))]
 fn offer_all(analyser: &mut Analyser, rank: u16, records: &[Record]) -> Result<(), JudgeFault>
     requires { rank < length analyser.old.recording }
     ensures kept { KeepsRanks analyser.old analyser.new }
@@ -92,6 +101,7 @@ fn offer_all(analyser: &mut Analyser, rank: u16, records: &[Record]) -> Result<(
 
 impl Lists {
     /// Hands the records of a rank's last entry on.
+    #[tactic(auto, using(crate::proofs::TurnLemmas::turn_steps))]
     fn hand_on(&mut self, rank: u16, analyser: &mut Analyser) -> Result<(), JudgeFault>
         requires { rank < length analyser.old.recording }
         ensures kept { KeepsRanks analyser.old analyser.new }
@@ -106,6 +116,7 @@ impl Lists {
     }
 
     /// Takes some entries of a rank.
+    #[tactic(auto, using(crate::proofs::TurnLemmas::turn_steps))]
     fn take_a_turn(&mut self, rank: u16, analyser: &mut Analyser) -> Result<(), JudgeFault>
         requires { rank < length analyser.old.recording }
         ensures kept { KeepsRanks analyser.old analyser.new }
@@ -121,22 +132,36 @@ impl Lists {
         self.hand_on(rank, analyser)
     }
 
+    /// Takes a turn of a rank, unless its list has ended; says whether it has then.
+    #[tactic(auto, using(crate::proofs::TurnLemmas::turn_steps))]
+    fn take_next(&mut self, rank: u16, analyser: &mut Analyser) -> Result<bool, JudgeFault>
+        requires { rank < length analyser.old.recording }
+        ensures kept { KeepsRanks analyser.old analyser.new }
+        ensures fault { IfErr result IsUnwritten }
+    {
+        if self.recording.is_over(rank) && self.recording.records(rank).is_empty() {
+            return Ok(true);
+        }
+        self.take_a_turn(rank, analyser)?;
+        Ok(self.recording.is_over(rank))
+    }
+
     /// Takes a turn of each rank; says whether all lists have ended.
+    #[tactic(auto, using(crate::proofs::TurnLemmas::turn_steps))]
     fn take_a_round(&mut self, analyser: &mut Analyser) -> Result<bool, JudgeFault>
         ensures kept { KeepsRanks analyser.old analyser.new }
         ensures fault { IfErr result IsUnwritten }
     {
         let mut are_over = true;
-        for rank in 0..analyser.head().ranks() {
-            if !self.recording.is_over(rank) || !self.recording.records(rank).is_empty() {
-                self.take_a_turn(rank, analyser)?;
-                are_over = are_over && self.recording.is_over(rank);
-            }
+        for rank in 0..ranks_of(analyser) {
+            let is_over = self.take_next(rank, analyser)?;
+            are_over = are_over && is_over;
         }
         Ok(are_over)
     }
 
     /// Takes the entries of all ranks. An entry has a line, and a journal fewer than there are turns.
+    #[tactic(auto, using(crate::proofs::TurnLemmas::turn_steps))]
     pub(crate) fn take_all(&mut self, analyser: &mut Analyser) -> Result<(), JudgeFault>
         ensures kept { KeepsRanks analyser.old analyser.new }
         ensures fault { IfErr result IsUnwritten }
