@@ -15,13 +15,16 @@ use Rattle.clap.specs.declared.error.Error.{Error}
 use Rattle.clap.specs.declared.error.kind.ErrorKind.TheVariants.{OutOfMemory}
 use Rattle.command.specs.declared.options.Options.{Options}
 use Rattle.command.specs.declared.words.Words.{Words}
-use Rattle.command.specs.declared.words.Words.TheVariants.{Check, Lint, Said, NoMemory}
-use Rattle.command.specs.Asked.{Answers, CheckRun, Task, program, run_of, task_in, task_of, with_rules}
+use Rattle.command.specs.declared.words.Words.TheVariants.{Check, Lint, Judge, Close, Said, NoMemory}
+use Rattle.closing.specs.declared.choice.Choice.{Choice}
+use Rattle.command.specs.Asked.{Answers, CheckRun, Task, closing_of, judging_of, program, run_of, task_in, task_of, with_rules}
 use Rattle.command.specs.inner.Asked.{Names, Says, SaysError}
 
 pub said_where_none : (task : Option Task) (text : Text) (said : Words) → task ≡ None → Says text true said → Names task said
 said_where_none task text (Check head files options) none says = absurd says
 said_where_none task text (Lint file) none says = absurd says
+said_where_none task text (Judge folder manner) none says = absurd says
+said_where_none task text (Close folder out choice) none says = absurd says
 said_where_none task text (Said told is_told) none says = (none, says.1)
 said_where_none task text NoMemory none says = tt
 
@@ -40,7 +43,20 @@ run_of_no_options (Some head) None = refl
 run_of_no_options (Some head) (Some []) = refl
 run_of_no_options (Some head) (Some (file ∷ files)) = refl
 
-pub ruleset asked_steps = (said_where_none, run_of_some, run_of_none, run_of_no_options)
+pub judging_of_none : (folder : Option Text) → judging_of folder None ≡ None
+judging_of_none None = refl
+judging_of_none (Some folder) = refl
+
+pub closing_of_no_out : (folder : Option Text) (choice : Option Choice) → closing_of folder None choice ≡ None
+closing_of_no_out None choice = refl
+closing_of_no_out (Some folder) choice = refl
+
+pub closing_of_no_choice : (folder out : Option Text) → closing_of folder out None ≡ None
+closing_of_no_choice None out = refl
+closing_of_no_choice (Some folder) None = refl
+closing_of_no_choice (Some folder) (Some out) = refl
+
+pub ruleset asked_steps = (said_where_none, run_of_some, run_of_none, run_of_no_options, judging_of_none, closing_of_no_out, closing_of_no_choice)
 
 -- an argument that isn't global
 abbrev IsLocal : Arg → Type 0
@@ -74,6 +90,8 @@ pub answers_named : (words : List Text) (found : Option (Text × List Row)) (ask
 unfolding task_in
 answers_named words found (Check head files options) is taken names = (taken, sym (ap (option_and_then (λ (rows : Text × List Row). task_of rows.0 rows.1)) is) ∙ names)
 answers_named words found (Lint file) is taken names = (taken, sym (ap (option_and_then (λ (rows : Text × List Row). task_of rows.0 rows.1)) is) ∙ names)
+answers_named words found (Judge folder manner) is taken names = (taken, sym (ap (option_and_then (λ (rows : Text × List Row). task_of rows.0 rows.1)) is) ∙ names)
+answers_named words found (Close folder out choice) is taken names = (taken, sym (ap (option_and_then (λ (rows : Text × List Row). task_of rows.0 rows.1)) is) ∙ names)
 answers_named words found (Said text false) is taken names = let e : false ≡ true = names.1 in cc
 answers_named words found (Said text true) is taken names = inr (taken, sym (ap (option_and_then (λ (rows : Text × List Row). task_of rows.0 rows.1)) is) ∙ names.0)
 answers_named words found NoMemory is taken names = tt
@@ -81,6 +99,8 @@ answers_named words found NoMemory is taken names = tt
 pub answers_error : (words : List Text) (error : Error) (asked : Words) → HasKind (fault_of program words) error → SaysError (kind_of error) asked → (kind_of error ≡ OutOfMemory → asked ≡ NoMemory) → Answers words asked
 answers_error words error (Check head files options) has says memory = absurd says
 answers_error words error (Lint file) has says memory = absurd says
+answers_error words error (Judge folder manner) has says memory = absurd says
+answers_error words error (Close folder out choice) has says memory = absurd says
 answers_error words error (Said text false) has says memory = elim has [
   | inl out ↦ let e : Said text false ≡ NoMemory = memory out in cc
   | inr among ↦ (kind_of error, among, says)

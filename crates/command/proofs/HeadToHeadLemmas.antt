@@ -33,7 +33,7 @@ use Rattle.reports.specs.TextReport.{text_report}
 use Rattle.reports.specs.declared.report.Format.TheVariants as format
 use Rattle.gather.specs.Answers.{fault_of_rank, recording_of_traces, refusal_of}
 use Rattle.command.proofs.TraceLemmas.{hold_read}
-use Rattle.command.specs.Asked.{Answers, CheckRun, LintTrace, Task, program, task_in}
+use Rattle.command.specs.Asked.{Answers, CheckRun, CloseJournals, JudgeJournals, LintTrace, Task, program, task_in}
 use Rattle.command.specs.Ends.{Ends, EndsBy, EndsInReport}
 use Rattle.command.specs.Faults.{status_of_fault}
 use Rattle.command.specs.HeadToHead.{report}
@@ -41,11 +41,11 @@ use Rattle.command.specs.Outputs.{Written, Becomes, Writes}
 use Rattle.command.specs.Statuses.{status_of_verdict}
 use Rattle.command.specs.Texts.{IsFaultOfCheck, IsHeadOf}
 use Rattle.command.specs.declared.fault.Fault.{Fault}
-use Rattle.command.specs.declared.fault.Fault.TheVariants.{Head, FileCount, Refused, LintRefused}
+use Rattle.command.specs.declared.fault.Fault.TheVariants.{RefusedJournal, Head, FileCount, Refused, LintRefused}
 use Rattle.command.specs.declared.status.Status.{Status}
 use Rattle.command.specs.declared.status.Status.TheVariants as status
 use Rattle.command.specs.declared.words.Words.{Words}
-use Rattle.command.specs.declared.words.Words.TheVariants.{Check, Lint, Said, NoMemory}
+use Rattle.command.specs.declared.words.Words.TheVariants.{Check, Lint, Judge, Close, Said, NoMemory}
 
 abbrev pub words : List Text
 words = codes "check" ∷ codes "head" ∷ codes "r0" ∷ codes "r1" ∷ []
@@ -179,6 +179,7 @@ module _ (told : Text → Option Text) (is_head : told (codes "head") ≡ Some h
       ∙ ap (refusal_of groups) of_texts ∙ none_refused in
       let e : None ≡ Some refusal = sym none ∙ own in cc
   no_fault_told path files (LintRefused fault) is are says other_status = says
+  no_fault_told path files (RefusedJournal rank fault) is are says other_status = says
   no_fault_told path files fault is are says other_status = other_status refl
 
   module _ {O E : Type 0} (written : O → Option Text) (failures : O → ℕ) (written_errors : E → Option Text) (failed_errors : E → ℕ) (old new : O) (old_errors new_errors : E) (ended : Status) where
@@ -212,6 +213,12 @@ module _ (told : Text → Option Text) (is_head : told (codes "head") ≡ Some h
         absurd (no_fault_told path.now files.items fault (ap head_in e) (ap files_in e) is_fault (λ same. other (ends.0 ∙ same)))
     of_asked (Lint file) out err answers by output errors other =
         let e : Some (LintTrace file.now) ≡ Some task = sym answers.1 ∙ asks in
+        let no : false ≡ true = ap is_check e in cc
+    of_asked (Judge folder manner) out err answers by output errors other =
+        let e : Some (JudgeJournals folder.now manner) ≡ Some task = sym answers.1 ∙ asks in
+        let no : false ≡ true = ap is_check e in cc
+    of_asked (Close folder target choice) out err answers by output errors other =
+        let e : Some (CloseJournals folder.now target.now choice) ≡ Some task = sym answers.1 ∙ asks in
         let no : false ≡ true = ap is_check e in cc
     of_asked (Said text false) out err answers by output errors other = absurd (no_kind answers.0 answers.1)
     of_asked (Said text true) out err (inl found) by output errors other = absurd (no_kind found.0 found.1)

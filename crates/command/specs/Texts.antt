@@ -18,7 +18,7 @@ use Rattle.gather.specs.declared.fault.RankFault.TheVariants.{OfSource}
 use Rattle.gather.specs.declared.fault.Refusal.{Refusal}
 use Rattle.runs.specs.Told.{IsRefusalOver, IsVerdictOver, is_from_outside}
 use Rattle.command.specs.declared.fault.Fault.{Fault}
-use Rattle.command.specs.declared.fault.Fault.TheVariants.{Open, ReadHead, Head, FileCount, Refused, Failed, LintRefused, LintFailed, Memory, Unproved, Write}
+use Rattle.command.specs.declared.fault.Fault.TheVariants.{Open, ReadHead, Head, FileCount, Refused, Failed, Memory, Unproved, Write}
 
 -- the head is the one that the text gives, where it is known
 abbrev pub IsHeadOf : Option (List ℕ) → Groups → Type 0
@@ -89,8 +89,7 @@ IsFaultOfCheck told head files (Head fault) = IfSome (told head) (λ text. read_
 IsFaultOfCheck told head files (FileCount ranks count) = IsWrongCount told head ranks count files
 IsFaultOfCheck told head files (Refused refusal) = IsRefusalOfRun told head files refusal × (is_from_outside refusal.fault ≡ false)
 IsFaultOfCheck told head files (Failed refusal) = IsRefusalOfRun told head files refusal × (is_from_outside refusal.fault ≡ true)
-IsFaultOfCheck told head files (LintRefused fault) = ⊥
-IsFaultOfCheck told head files (LintFailed fault) = ⊥
 IsFaultOfCheck told head files Memory = ⊤
 IsFaultOfCheck told head files (Unproved rank) = (rank < length files) × ((groups : Groups) × IsCounted told head files groups)
 IsFaultOfCheck told head files Write = ⊤
+IsFaultOfCheck told head files fault = ⊥

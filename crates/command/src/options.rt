@@ -28,7 +28,7 @@ pub struct Options {
 }
 
 /// The flag for JSON.
-fn json_argument<'a>(alloc: Global) -> Arg<'a>
+pub(crate) fn json_argument<'a>(alloc: Global) -> Arg<'a>
     ensures rule { rule_of result ≡ json_rule }
     ensures local { result.global ≡ false }
 {
@@ -52,7 +52,7 @@ fn capacity_argument<'a>(alloc: Global) -> Arg<'a>
 }
 
 /// The eager limit.
-fn eager_argument<'a>(alloc: Global) -> Arg<'a>
+pub(crate) fn eager_argument<'a>(alloc: Global) -> Arg<'a>
     ensures rule { rule_of result ≡ eager_rule }
     ensures local { result.global ≡ false }
 {
@@ -82,7 +82,7 @@ pub(crate) fn takes_value(word: &str) -> bool {
 }
 
 /// The format that a flag asks for.
-fn format_of(flag: Option<&str>) -> Format
+pub(crate) fn format_of(flag: Option<&str>) -> Format
     ensures { result ≡ format_of (option_map (λ value. value.now) flag.entry) }
 {
     match flag {

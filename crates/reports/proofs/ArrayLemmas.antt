@@ -66,7 +66,7 @@ items_values later (value ∷ values) =
     ∙ sym (append_assoc (comma_if later) (compact_text value ++ values_text true values) (93 ∷ []))
 
 -- a member whose value is an array, with what comes after it
-array_member : (key : List ℕ) (values : List Data) (rest : Members) (behind : List ℕ) → members_text true (member key (array (items_of values)) rest) ++ behind ≡ 44 ∷ (compact_text (string key) ++ 58 ∷ 91 ∷ (values_text false values ++ 93 ∷ (members_text true rest ++ behind)))
+pub array_member : (key : List ℕ) (values : List Data) (rest : Members) (behind : List ℕ) → members_text true (member key (array (items_of values)) rest) ++ behind ≡ 44 ∷ (compact_text (string key) ++ 58 ∷ 91 ∷ (values_text false values ++ 93 ∷ (members_text true rest ++ behind)))
 array_member key values rest behind =
     let items = items_text false (items_of values) in
     ap (λ (text : List ℕ). 44 ∷ text)
@@ -76,14 +76,14 @@ array_member key values rest behind =
     ∙ ap (λ (text : List ℕ). text ++ (members_text true rest ++ behind)) (items_values false values)
     ∙ append_assoc (values_text false values) (93 ∷ []) (members_text true rest ++ behind)))
 
-verdict_member : (verdict : List ℕ) → members_text true (member (codes "verdict") (string verdict) no_members) ++ line_feed ∷ [] ≡ 44 ∷ (compact_text (string (codes "verdict")) ++ 58 ∷ (compact_text (string verdict) ++ codes "}\n"))
+pub verdict_member : (verdict : List ℕ) → members_text true (member (codes "verdict") (string verdict) no_members) ++ line_feed ∷ [] ≡ 44 ∷ (compact_text (string (codes "verdict")) ++ 58 ∷ (compact_text (string verdict) ++ codes "}\n"))
 verdict_member verdict =
     ap (λ (text : List ℕ). 44 ∷ text)
     (append_assoc (compact_text (string (codes "verdict"))) (58 ∷ (compact_text (string verdict) ++ 125 ∷ [])) (line_feed ∷ [])
     ∙ ap (λ (text : List ℕ). compact_text (string (codes "verdict")) ++ 58 ∷ text) (append_assoc (compact_text (string verdict)) (125 ∷ []) (line_feed ∷ [])))
 
 -- what follows a key, put after it
-behind_key : (before key behind rest : List ℕ) → before ++ (compact_text (string key) ++ (behind ++ rest)) ≡ key_text before key behind ++ rest
+pub behind_key : (before key behind rest : List ℕ) → before ++ (compact_text (string key) ++ (behind ++ rest)) ≡ key_text before key behind ++ rest
 behind_key before key behind rest =
     ap (λ (text : List ℕ). before ++ text) (sym (append_assoc (compact_text (string key)) behind rest))
     ∙ sym (append_assoc before (compact_text (string key) ++ behind) rest)

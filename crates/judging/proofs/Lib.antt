@@ -1,0 +1,2 @@
+pub mod UnwrittenLemmas
+pub mod TurnLemmas
