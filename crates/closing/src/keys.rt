@@ -1,5 +1,6 @@
 //! How communicators came to be: two are the same exactly if their keys are equal.
 
+use crate::places::checked_place;
 use indexmap::IndexSet;
 use journals::field::Field;
 use std::alloc::{AllocError, Global};
@@ -28,9 +29,6 @@ pub(crate) enum Key {
     Apart { group: u32, count: u32 },
 }
 
-/// The most groups, and the most keys; more are out of memory.
-const MOST: usize = 0xffff_ffff;
-
 /// The place of the world's key.
 pub(crate) const WORLD: u32 = 0;
 
@@ -45,14 +43,6 @@ pub(crate) struct Keys {
     groups_of: Vec<u32>,
     /// The group that is looked up.
     members: Vec<u32>,
-}
-
-/// A place, where there may be as many.
-fn checked_place(place: usize) -> Result<u32, AllocError> {
-    if place >= MOST {
-        return Err(AllocError);
-    }
-    Ok(place as u32)
 }
 
 /// Adds the numbers of some fields at the end of a list.

@@ -2,8 +2,9 @@
 
 ghost use Rattle.std.specs.Prelude.{◌≡◌};
 ghost use Rattle.journals.specs.declared.word.Word.TheVariants.{Report};
-ghost use Rattle.closing.specs.Entries.{comes_always, says_back};
+ghost use Rattle.closing.specs.inner.Entries.{comes_always, says_back};
 
+use crate::places::count_of;
 use journals::lines::Lines;
 use journals::word::{CallWord, ReportWord, Word};
 
@@ -38,9 +39,12 @@ pub(crate) fn reports_from(lines: &Lines, start: u32) -> Reports {
         has_failed: false,
         end: start,
     };
-    while let Some(Word::Report(word)) = lines.word(reports.end) {
-        reports.note(word, reports.end);
-        reports.end = reports.end.saturating_add(1);
+    for line in start..u32::MAX {
+        let Some(Word::Report(word)) = lines.word(line) else {
+            return reports;
+        };
+        reports.note(word, line);
+        reports.end = line + 1;
     }
     reports
 }
@@ -71,15 +75,13 @@ fn comes_always(word: CallWord) -> bool
 
 /// The last call line, and whether its call came back: the rank is outside it, or a report says so.
 pub(crate) fn last_call(lines: &Lines, is_outside: bool) -> Option<LastCall> {
-    let mut line = lines.count();
     let mut came_back = is_outside;
-    while line > 0 {
-        line -= 1;
-        match lines.word(line as u32) {
+    for line in (0..count_of(lines)).rev() {
+        match lines.word(line) {
             Some(Word::Report(word)) => came_back = came_back || says_back(word),
             Some(Word::Call(word)) => {
                 return Some(LastCall {
-                    line: line as u32,
+                    line,
                     came_back: came_back || comes_always(word),
                 });
             }

@@ -209,10 +209,8 @@ impl List {
 
     /// Puts the waits for all requests whose numbers were taken, at most as many in each as a line may name.
     fn waits_for_taken(&mut self) -> Result<(), Stop> {
-        let mut start = 0;
-        while start < self.numbers.len() {
-            self.waits_from(start)?;
-            start += MOST_REQUESTS;
+        for turn in 0..self.numbers.len() / MOST_REQUESTS + 1 {
+            self.waits_from(turn.saturating_mul(MOST_REQUESTS))?;
         }
         Ok(())
     }

@@ -2,7 +2,7 @@
 //! makes.
 
 use crate::keys::{Key, Keys, WORLD, Wave};
-use crate::places::place_in;
+use crate::places::{checked_place, checked_rank, place_in};
 use crate::survey::Survey;
 use journals::journal::Journal;
 use mpicall::call::Call;
@@ -72,18 +72,17 @@ impl Preface {
     }
 
     /// Gives the members of a group the communicator with a number, in a line that is free for them.
-    fn seat(&mut self, line: usize, comm: u16, group: &[u32]) {
+    fn seat(&mut self, line: usize, comm: u16, group: &[u32]) -> Result<(), AllocError> {
         for place in 0..group.len() {
             let at = line
                 .saturating_mul(self.ranks)
                 .saturating_add(group[place] as usize);
+            let place = checked_rank(place)?;
             if let Some(seat) = self.seats.get_mut(at) {
-                *seat = Some(Seat {
-                    comm,
-                    place: place as u16,
-                });
+                *seat = Some(Seat { comm, place });
             }
         }
+        Ok(())
     }
 
     /// Gives the communicator with a number its place in the first line that is free for its members.
@@ -92,7 +91,7 @@ impl Preface {
         if line == self.sizes.len() {
             self.push_line()?;
         }
-        self.seat(line, comm, group);
+        self.seat(line, comm, group)?;
         if let (Some(size), Some(colour)) = (
             self.sizes.get_mut(line),
             self.colours.get_mut(usize::from(comm)),
@@ -221,10 +220,10 @@ fn numbering_of(alloc: Global, survey: &Survey) -> Result<Numbering, AllocError>
 fn named_of(alloc: Global, keys: &Keys, numbers: &[Option<u16>]) -> Result<Vec<Named>, AllocError> {
     let mut named = Vec::with_capacity(alloc, numbers.len())?;
     for place in 0..numbers.len() {
-        let key = place as u32;
+        let key = checked_place(place)?;
         named.push(Named {
             key,
-            size: keys.group(key).len() as u32,
+            size: checked_place(keys.group(key).len())?,
             number: numbers[place],
         })?;
     }
@@ -253,7 +252,7 @@ fn preface_of(
     for number in 1..numbered.len() {
         let key = numbered[number];
         if !matches!(keys.key(key), Key::Made { .. }) {
-            preface.put(number as u16, keys.group(key))?;
+            preface.put(checked_rank(number)?, keys.group(key))?;
         }
     }
     Ok(preface)
@@ -324,13 +323,15 @@ impl Communicators {
 
     /// The place of a rank in the group of a key, as the key of a split.
     pub(crate) fn place_of(&self, key: u32, rank: u16) -> i32 {
-        place_in(self.keys.group(key), u32::from(rank)) as i32
+        i32::try_from(place_in(self.keys.group(key), u32::from(rank))).unwrap_or(i32::MAX)
     }
 
     /// The place of the first member of a key's group in the group of its parent, as the colour of a split.
     pub(crate) fn place_of_first(&self, parent: u32, key: u32) -> u32 {
         match self.keys.group(key).first() {
-            Some(first) => place_in(self.keys.group(parent), *first) as u32,
+            Some(first) => {
+                u32::try_from(place_in(self.keys.group(parent), *first)).unwrap_or(u32::MAX)
+            }
             None => 0,
         }
     }

@@ -1,6 +1,7 @@
 //! What a journal reports of its requests, anywhere.
 
 use crate::message::{Message, message_in};
+use crate::places::count_of;
 use journals::field::Field;
 use journals::lines::Lines;
 use journals::word::{ReportWord, Word};
@@ -59,17 +60,17 @@ impl Outcomes {
     /// What these lines report.
     pub(crate) fn of(alloc: Global, lines: &Lines) -> Result<Outcomes, AllocError> {
         let mut outcomes = Outcomes::of_none(alloc, lines.count());
-        for line in 0..lines.count() {
-            if let Some(Word::Report(word)) = lines.word(line as u32) {
-                outcomes.take(word, lines.fields(line as u32), line as u32)?;
+        for line in 0..count_of(lines) {
+            if let Some(Word::Report(word)) = lines.word(line) {
+                outcomes.take(word, lines.fields(line), line)?;
             }
         }
         Ok(outcomes)
     }
 
     /// Has a place for a request that isn't far.
-    fn make_room(&mut self, request: usize) -> Result<(), AllocError> {
-        while self.near.len() <= request {
+    fn make_room(&mut self, request: u32) -> Result<(), AllocError> {
+        for _ in self.near.len()..request as usize + 1 {
             self.near.push(Outcome::Unknown)?;
         }
         Ok(())
@@ -82,7 +83,7 @@ impl Outcomes {
             self.far.insert(request, outcome)?;
             return Ok(());
         }
-        self.make_room(place)?;
+        self.make_room(request)?;
         if let Some(it) = self.near.get_mut(place) {
             *it = outcome;
         }

@@ -3,6 +3,7 @@
 
 use crate::choice::Choice;
 use crate::numbers::Communicators;
+use crate::places::{checked_rank, count_of};
 use crate::walk::{Left, Walk};
 use journals::field::Field;
 use journals::journal::Journal;
@@ -15,6 +16,7 @@ use std::alloc::{AllocError, Global};
 #[derive(Drop)]
 pub struct Recording {
     alloc: Global,
+    ranks: u16,
     journals: Vec<Option<Journal>>,
     run: Communicators,
     walks: Vec<Walk>,
@@ -29,7 +31,8 @@ fn walks_of(
 ) -> Result<Vec<Walk>, AllocError> {
     let mut walks = Vec::with_capacity(alloc, journals.len())?;
     for rank in 0..journals.len() {
-        walks.push(Walk::new(alloc, rank as u16, choice, run, journals[rank].as_ref())?)?;
+        let journal = journals[rank].as_ref();
+        walks.push(Walk::new(alloc, checked_rank(rank)?, choice, run, journal)?)?;
     }
     Ok(walks)
 }
@@ -45,8 +48,8 @@ fn freed_by(lines: &Lines, line: u32) -> Option<u32> {
 /// The places of the records that start the requests which these lines free.
 fn freed_in(alloc: Global, lines: &Lines, walk: &Walk) -> Result<Vec<u32>, AllocError> {
     let mut places = Vec::new(alloc);
-    for line in 0..lines.count() {
-        if let Some(request) = freed_by(lines, line as u32) {
+    for line in 0..count_of(lines) {
+        if let Some(request) = freed_by(lines, line) {
             if let Some(place) = walk.start_of(request) {
                 places.push(place)?;
             }
@@ -66,6 +69,7 @@ impl Recording {
         let walks = walks_of(alloc, journals.as_slice(), choice, &mut run)?;
         Ok(Recording {
             alloc,
+            ranks: checked_rank(journals.len())?,
             journals,
             run,
             walks,
@@ -73,7 +77,7 @@ impl Recording {
     }
 
     pub fn ranks(&self) -> u16 {
-        self.walks.len() as u16
+        self.ranks
     }
 
     /// The communicators that have a number.

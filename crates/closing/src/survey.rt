@@ -4,6 +4,7 @@ use crate::called::read_call;
 use crate::held::Held;
 use crate::keys::{Key, Keys, Wave};
 use crate::last::{LastCall, last_call};
+use crate::places::{checked_place, count_of};
 use journals::field::Field;
 use journals::journal::Journal;
 use journals::lines::Lines;
@@ -52,7 +53,7 @@ impl Survey {
 
     /// Has a place for each key.
     fn make_room(&mut self) -> Result<(), AllocError> {
-        while self.named.len() < self.keys.count() {
+        for _ in self.named.len()..self.keys.count() {
             self.named.push(false)?;
         }
         Ok(())
@@ -96,9 +97,9 @@ impl Survey {
     }
 
     fn take_lines(&mut self, held: &mut Held, lines: &Lines) -> Result<(), AllocError> {
-        for line in 0..lines.count() {
-            let fields = lines.fields(line as u32);
-            match lines.word(line as u32) {
+        for line in 0..count_of(lines) {
+            let fields = lines.fields(line);
+            match lines.word(line) {
                 Some(Word::Call(word)) => self.take_call(held, word, fields)?,
                 Some(Word::Report(word)) => self.take_report(held, word, fields)?,
                 None => {}
@@ -140,21 +141,22 @@ impl Survey {
 
     /// Finds what the last calls made, as others report it: keys stand in the order of the lowest ranks that
     /// report them.
-    fn find_inferred(&mut self) {
-        for place in 0..self.keys.count() {
-            if let Key::Made { wave, .. } = self.keys.key(place as u32) {
-                self.tell_members(place as u32, wave);
+    fn find_inferred(&mut self) -> Result<(), AllocError> {
+        for key in 0..checked_place(self.keys.count())? {
+            if let Key::Made { wave, .. } = self.keys.key(key) {
+                self.tell_members(key, wave);
             }
         }
+        Ok(())
     }
 
     /// The communicators by the journals of all ranks.
     pub(crate) fn of(alloc: Global, journals: &[Option<Journal>]) -> Result<Survey, AllocError> {
-        let mut survey = Survey::new(alloc, journals.len() as u32)?;
+        let mut survey = Survey::new(alloc, checked_place(journals.len())?)?;
         for rank in 0..journals.len() {
-            survey.take_journal(rank as u32, journals[rank].as_ref())?;
+            survey.take_journal(checked_place(rank)?, journals[rank].as_ref())?;
         }
-        survey.find_inferred();
+        survey.find_inferred()?;
         Ok(survey)
     }
 }

@@ -3,7 +3,7 @@
 -- says nothing here.
 use Rattle.std.specs.Prelude.{ℕ, ◌-◌, Bool, true, false, ◌&&◌, not, ◌==◌, Option, Some, None, option_and_then, if◌then◌else◌, List, [], ◌∷◌, codes}
 use Rattle.std.specs.Str.{bytes_eq}
-use Rattle.mpicall.specs.Lines.{split_fields, is_blank, is_empty}
+use Rattle.mpicall.specs.Lines.{split_fields, is_blank}
 use Rattle.mpicall.specs.Number.{number_up_to}
 use Rattle.journals.specs.Fields.{at_least_one}
 use Rattle.journals.specs.declared.limits.TheConstants.{MOST_RANKS}
@@ -21,6 +21,11 @@ is_number wanted (Some number) = number == wanted
 
 abbrev pub state_of : List ℕ → Option Bool
 state_of field = if bytes_eq field (codes "o") then Some true else (if bytes_eq field (codes "i") then Some false else None)
+
+-- no fields are left
+abbrev pub is_empty : List (List ℕ) → Bool
+is_empty [] = true
+is_empty (_ ∷ _) = false
 
 -- the fields have at least one byte between them, a space among it
 abbrev pub has_bytes : List (List ℕ) → Bool

@@ -3,7 +3,7 @@ use Rattle.std.specs.Prelude.{ℕ, ◌-◌, Option, Some, None, Result, Ok, Err,
 use Rattle.std.specs.List.{range_with_len}
 use Rattle.journals.specs.Header.{Heading}
 use Rattle.journals.specs.Journal.{Journal, Fault, journal_of}
-use Rattle.closing.specs.Entries.{Run}
+use Rattle.closing.specs.inner.Entries.{Run}
 
 pub record RankFault : Type 0 where
   pub rank : ℕ

@@ -3,7 +3,7 @@ use Rattle.std.specs.Prelude.{ℕ, List, [], ◌∷◌, ◌++◌, length, map, d
 use Rattle.std.specs.List.{flat_map, join_with_byte}
 use Rattle.std.specs.Fmt.{decimal}
 use Rattle.mpicall.specs.Spelling.{space, line_feed, spelling}
-use Rattle.closing.specs.Recording.{Recording, Listed, calls_of}
+use Rattle.closing.specs.inner.Recording.{Recording, Listed, calls_of}
 
 abbrev pub line_with : List ℕ → List ℕ → List ℕ
 line_with word numbers = join_with_byte space (word ∷ map decimal numbers) ++ line_feed ∷ []
