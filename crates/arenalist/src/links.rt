@@ -124,7 +124,6 @@ pub(crate) struct Links {
     owners: Vec<Option<u32>>,
 }
 
-// By hand: a derived drop is proved again at each exit of a function that owns one.
 impl Drop for Links {
     fn drop(self) {
         let Links {
@@ -179,7 +178,6 @@ impl Links {
         requires { number < length self.now.lists }
         ensures { result ≡ number }
     {
-        // For the proof: the lists are few, so the number has 32 bits.
         let _heads = &self.heads;
         number as u32
     }

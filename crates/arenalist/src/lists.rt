@@ -55,7 +55,6 @@ pub struct Lists<T> {
     work: u64,
 }
 
-// By hand: a derived drop is proved again at each exit of a function that owns one.
 impl<T: Drop> Drop for Lists<T> {
     fn drop(self) {
         let Lists {
@@ -227,7 +226,6 @@ impl<T> Lists<T> {
     pub fn nodes_stand_once(&self)
         ensures { (n : ℕ) → times self.now.lists n ≤ 1 }
     {
-        // For the proof: what the type of the lists says is known once a field is read.
         let _links = &self.links;
     }
 

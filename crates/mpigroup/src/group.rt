@@ -19,7 +19,6 @@ pub(crate) struct Group {
     pub(crate) places: Vec<u16>,
 }
 
-// By hand: a derived drop is proved again at each exit of a function that owns one.
 impl Drop for Group {
     fn drop(self) {
         let Group {

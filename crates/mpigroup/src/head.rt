@@ -28,7 +28,6 @@ pub struct Head {
     further: Vec<Group>,
 }
 
-// By hand: a derived drop is proved again at each exit of a function that owns one.
 impl Drop for Head {
     fn drop(self) {
         let Head {
@@ -54,7 +53,6 @@ impl Model for Head {
 pub fn front_decides(text: &[u8])
     ensures { read_head (take DECIDING_BYTES text.now) ≡ read_head text.now }
 {
-    // For the proof: what the type of the text says is known once it is named.
     let _text = text;
 }
 
@@ -114,7 +112,6 @@ impl Head {
         ensures world { group_of self.now 0 ≡ range_with_len 0 (ranks_of self.now) }
         ensures each { (comm : ℕ) → comm < length self.now → IsGroup (ranks_of self.now) (group_of self.now comm) }
     {
-        // For the proof: what the type of the head says is known once a field is read.
         let _further = &self.further;
     }
 
