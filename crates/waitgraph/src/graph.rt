@@ -1,6 +1,6 @@
 //! Who waits for whom where the ranks stand, and why.
 
-ghost use Rattle.std.specs.Prelude.{◌≡◌, ◌<◌, ℕ, length, map, IfOk, OnOk};
+ghost use Rattle.std.specs.Prelude.{◌≡◌, ◌<◌, ℕ, length, map, IfOk};
 ghost use Rattle.std.specs.List.{filter, range_with_len};
 ghost use Rattle.callnotes.specs.Recordings.{IsClosed};
 ghost use Rattle.waitgraph.specs.Stuck.{is_stuck_at, stuck_at, stuck_of, unmet_of};
@@ -22,7 +22,7 @@ use crate::walk::causes_in;
 use findings::finding::{Finding, findings};
 use moves::analyser::Analyser;
 use moves::need::{Need, stand_of};
-use moves::reading::Reading;
+use moves::world::World;
 use pairing::pairs::Pairs;
 use std::alloc::{AllocError, Global};
 use std::marker::Model;
@@ -39,6 +39,7 @@ pub struct Graph {
     findings: Vec<Finding>,
 }
 
+// By hand: a derived drop is proved again at each exit of a function that owns one.
 impl Drop for Graph {
     fn drop(self) {
         let Graph {
@@ -80,17 +81,12 @@ fn stuck_at(alloc: Global, pairs: &Pairs, stands: &[u32]) -> Result<Vec<u16>, Al
         .collect(alloc)
 }
 
-fn waits_at(
-    alloc: Global,
-    reading: Reading,
-    pairs: &Pairs,
-    stands: &[u32],
-) -> Result<Waits, AllocError>
-    ensures { IfOk result (λ waits. waits ≡ waits_at reading pairs.now.groups pairs.now.recording stands.now) }
+fn waits_at(alloc: Global, world: &World, stands: &[u32]) -> Result<Waits, AllocError>
+    ensures { IfOk result (λ waits. waits ≡ waits_at world.now.reading world.now.pairs.groups world.now.pairs.recording stands.now) }
 {
     let mut waits = Waits::new(alloc);
-    for rank in 0..pairs.head().ranks() {
-        waits.push(&unmet_at(alloc, reading, pairs, stands, rank)?)?;
+    for rank in 0..world.pairs.head().ranks() {
+        waits.push(&unmet_at(alloc, world, stands, rank)?)?;
     }
     Ok(waits)
 }
@@ -127,21 +123,17 @@ fn who_is_held(
     })
 }
 
-fn graph_at(
-    alloc: Global,
-    reading: Reading,
-    pairs: &Pairs,
-    stands: &[u32],
-) -> Result<Graph, AllocError>
-    ensures stuck { IfOk result (λ graph. graph.stuck ≡ stuck_at pairs.now.recording stands.now) }
-    ensures held { IfOk result (λ graph. graph.held ≡ held_at reading pairs.now.groups pairs.now.recording stands.now) }
-    ensures left_open { IfOk result (λ graph. graph.left_open ≡ is_some_left_open pairs.now.recording) }
-    ensures waits { IfOk result (λ graph. graph.waits ≡ waits_at reading pairs.now.groups pairs.now.recording stands.now) }
-    ensures causes { IfOk result (λ graph. graph.causes ≡ causes_in (walks_at reading pairs.now.groups pairs.now.recording stands.now)) }
-    ensures findings { IfOk result (λ graph. graph.findings ≡ findings_of pairs.now.groups pairs.now.recording) }
+fn graph_at(alloc: Global, world: &World, stands: &[u32]) -> Result<Graph, AllocError>
+    ensures stuck { IfOk result (λ graph. graph.stuck ≡ stuck_at world.now.pairs.recording stands.now) }
+    ensures held { IfOk result (λ graph. graph.held ≡ held_at world.now.reading world.now.pairs.groups world.now.pairs.recording stands.now) }
+    ensures left_open { IfOk result (λ graph. graph.left_open ≡ is_some_left_open world.now.pairs.recording) }
+    ensures waits { IfOk result (λ graph. graph.waits ≡ waits_at world.now.reading world.now.pairs.groups world.now.pairs.recording stands.now) }
+    ensures causes { IfOk result (λ graph. graph.causes ≡ causes_in (walks_at world.now.reading world.now.pairs.groups world.now.pairs.recording stands.now)) }
+    ensures findings { IfOk result (λ graph. graph.findings ≡ findings_of world.now.pairs.groups world.now.pairs.recording) }
 {
+    let pairs = &world.pairs;
     let stuck = stuck_at(alloc, pairs, stands)?;
-    let waits = waits_at(alloc, reading, pairs, stands)?;
+    let waits = waits_at(alloc, world, stands)?;
     let standings = standings_at(alloc, pairs, stands)?;
     let Found {
         held,
@@ -175,12 +167,7 @@ impl Graph {
         ensures findings { IfOk result (λ graph. graph.findings ≡ findings_of analyser.now.groups analyser.now.recording) }
     {
         analyser.stands_are_the_end();
-        let graph = graph_at(
-            alloc,
-            analyser.reading(),
-            analyser.pairs(),
-            analyser.stands(),
-        )?;
+        let graph = graph_at(alloc, analyser.world(), analyser.stands())?;
         Ok(graph)
     }
 

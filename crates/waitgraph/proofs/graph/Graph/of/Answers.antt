@@ -19,9 +19,9 @@ returns-clause-unmet c rank =
     let recording = c.args.analyser.now.recording in
     ap (λ (waits : List (List Need)). needs_in waits rank)
     (c.in_ok-graph.ensures.waits
-    ∙ ap (λ (r : Reading). waits_at r c.pairs.result.now.groups c.pairs.result.now.recording c.stands.result.now) c.reading.ensures
-    ∙ ap (λ (g : Groups). waits_at reading g c.pairs.result.now.recording c.stands.result.now) c.pairs.ensures.groups
-    ∙ ap (λ (r : Lists). waits_at reading groups r c.stands.result.now) c.pairs.ensures.recording
+    ∙ ap (λ (r : Reading). waits_at r c.world.result.now.pairs.groups c.world.result.now.pairs.recording c.stands.result.now) c.world.ensures.reading
+    ∙ ap (λ (g : Groups). waits_at reading g c.world.result.now.pairs.recording c.stands.result.now) c.world.ensures.groups
+    ∙ ap (λ (r : Lists). waits_at reading groups r c.stands.result.now) c.world.ensures.recording
     ∙ ap (λ (s : List ℕ). waits_at reading groups recording s) (c.stands.ensures ∙ c.stands_are_the_end.ensures.stands))
     ∙ waits_are reading groups recording (stands_of reading groups recording) rank
 
@@ -31,9 +31,9 @@ returns-clause-held c =
     let groups = c.args.analyser.now.groups in
     let recording = c.args.analyser.now.recording in
     c.in_ok-graph.ensures.held
-    ∙ ap (λ (r : Reading). held_at r c.pairs.result.now.groups c.pairs.result.now.recording c.stands.result.now) c.reading.ensures
-    ∙ ap (λ (g : Groups). held_at reading g c.pairs.result.now.recording c.stands.result.now) c.pairs.ensures.groups
-    ∙ ap (λ (r : Lists). held_at reading groups r c.stands.result.now) c.pairs.ensures.recording
+    ∙ ap (λ (r : Reading). held_at r c.world.result.now.pairs.groups c.world.result.now.pairs.recording c.stands.result.now) c.world.ensures.reading
+    ∙ ap (λ (g : Groups). held_at reading g c.world.result.now.pairs.recording c.stands.result.now) c.world.ensures.groups
+    ∙ ap (λ (r : Lists). held_at reading groups r c.stands.result.now) c.world.ensures.recording
     ∙ ap (λ (s : List ℕ). held_at reading groups recording s) (c.stands.ensures ∙ c.stands_are_the_end.ensures.stands)
 
 pub returns-clause-stays : goal.returns-clause-stays
@@ -42,7 +42,7 @@ returns-clause-stays c later stands index rank there =
     (ap (λ (ranks : List ℕ). slice_get ranks index) (sym (returns-clause-held c)) ∙ there)
 
 pub returns-clause-left_open : goal.returns-clause-left_open
-returns-clause-left_open c = c.in_ok-graph.ensures.left_open ∙ ap is_some_left_open c.pairs.ensures.recording
+returns-clause-left_open c = c.in_ok-graph.ensures.left_open ∙ ap is_some_left_open c.world.ensures.recording
 
 pub returns-clause-causes : goal.returns-clause-causes
 returns-clause-causes c =
@@ -50,7 +50,7 @@ returns-clause-causes c =
     let groups = c.args.analyser.now.groups in
     let recording = c.args.analyser.now.recording in
     c.in_ok-graph.ensures.causes
-    ∙ ap (λ (r : Reading). causes_in (walks_at r c.pairs.result.now.groups c.pairs.result.now.recording c.stands.result.now)) c.reading.ensures
-    ∙ ap (λ (g : Groups). causes_in (walks_at reading g c.pairs.result.now.recording c.stands.result.now)) c.pairs.ensures.groups
-    ∙ ap (λ (r : Lists). causes_in (walks_at reading groups r c.stands.result.now)) c.pairs.ensures.recording
+    ∙ ap (λ (r : Reading). causes_in (walks_at r c.world.result.now.pairs.groups c.world.result.now.pairs.recording c.stands.result.now)) c.world.ensures.reading
+    ∙ ap (λ (g : Groups). causes_in (walks_at reading g c.world.result.now.pairs.recording c.stands.result.now)) c.world.ensures.groups
+    ∙ ap (λ (r : Lists). causes_in (walks_at reading groups r c.stands.result.now)) c.world.ensures.recording
     ∙ ap (λ (s : List ℕ). causes_in (walks_at reading groups recording s)) (c.stands.ensures ∙ c.stands_are_the_end.ensures.stands)
