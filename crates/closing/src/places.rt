@@ -44,6 +44,7 @@ pub(crate) fn index_of(numbers: &[u32], wanted: u32) -> Option<usize>
 }
 
 /// The place of a rank in a group; how many members that has, where it is none.
+#[tactic(auto, using(crate::proofs::PlaceLemmas::place_of_none))]
 pub(crate) fn place_in(group: &[u32], rank: u32) -> usize
     ensures { result ≡ position_or_len (λ member. member == rank) group.now }
 {
