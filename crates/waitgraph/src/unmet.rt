@@ -9,7 +9,8 @@ ghost use Rattle.callnotes.specs.Recordings.{calls_of};
 ghost use Rattle.callnotes.specs.Requests.{completes};
 ghost use Rattle.pairing.specs.Pairs.{completed_of};
 ghost use Rattle.moves.specs.Needs.{world_of, half_needs, probe_needs, member_need, wave_needs, operation_needs, operation_needs_at, request_needs, needs_of_call, needs_of};
-ghost use Rattle.waitgraph.specs.Stuck.{comes_before, needs_in_order, is_unmet, unmet_at, UnmetNeedsAreToldInOrder, StuckRanksWaitForStuckRanks};
+ghost use Rattle.waitgraph.specs.Stuck.{comes_before, needs_in_order, unmet_at, UnmetNeedsAreToldInOrder, StuckRanksWaitForStuckRanks};
+ghost use Rattle.waitgraph.specs.inner.Stuck.{is_unmet};
 
 use callnotes::call_ref::CallRef;
 use callnotes::envelope::{Half, Message};
