@@ -26,7 +26,10 @@ use Rattle.command.specs.declared.options.Options.{Options}
 use Rattle.moves.specs.declared.reading.Reading.TheVariants.{Strict}
 use Rattle.findings.specs.Findings.{kind_found, kinds_of, root_found, roots_of, unreceived_at, unreceived_of, lost_at, lost_requests, group_at, wrong_groups_of, findings_of}
 use Rattle.waitgraph.specs.Stuck.{unmet_at}
-use Rattle.waitgraph.specs.Verdicts.{verdict_of}
+use Rattle.waitgraph.specs.inner.Causes.{causes_of}
+use Rattle.waitgraph.specs.inner.Verdicts.{verdict_of}
+use Rattle.waitgraph.proofs.CauseLemmas.{causes_found}
+use Rattle.waitgraph.proofs.VerdictLemmas.{verdict_found}
 use Rattle.waitgraph.specs.declared.verdict.Verdict.TheVariants.{Hang}
 use Rattle.reports.specs.Reports.{report_of}
 use Rattle.reports.specs.TextReport.{text_report}
@@ -112,7 +115,11 @@ hangs : verdict_of Strict groups recording ≡ Hang
 unfolding unmet_at
 hangs = refl
 
-reported : report_of format.Text Strict groups recording ≡ report
+-- the report by the verdict and the causes that the search finds
+abbrev found_report : Format → Reading → Groups → Lists → Text
+found_report in_format reading groups recording = report_of in_format reading groups recording (verdict_of reading groups recording) (causes_of reading groups recording)
+
+reported : found_report format.Text Strict groups recording ≡ report
 unfolding digits report_of text_report unmet_at findings_of kinds_of kind_found roots_of root_found unreceived_of unreceived_at lost_requests lost_at wrong_groups_of group_at
 reported = refl
 
@@ -192,12 +199,20 @@ module _ (told : Text → Option Text) (is_head : told (codes "head") ≡ Some h
         let run = report_is.of_texts head (first ∷ second ∷ []) (head_told path is) (texts_told files are) in
         let as_read : report_is.groups ≡ groups = its_groups _ run.is_head in
         let calls : report_is.recording ≡ recording = run.is_recording (map trace_of (first ∷ second ∷ [])) (hold_read (first ∷ second ∷ [])) ∙ ap recording_of_traces of_texts in
+        let is = report_is.is_report in
+        let found : ends.verdict ≡ verdict_of its.reading report_is.groups report_is.recording =
+        verdict_found its.reading report_is.groups report_is.recording ends.verdict report_is.closed is.is_verdict in
+        let causes : is.causes ≡ causes_of its.reading report_is.groups report_is.recording =
+        causes_found its.reading report_is.groups report_is.recording is.causes report_is.closed is.are_causes in
         let verdict : ends.verdict ≡ Hang =
-        report_is.verdict_is ∙ ap (λ (o : Options). verdict_of o.reading report_is.groups report_is.recording) asked
+        found ∙ ap (λ (o : Options). verdict_of o.reading report_is.groups report_is.recording) asked
         ∙ ap (λ (g : Groups). verdict_of Strict g report_is.recording) as_read ∙ ap (verdict_of Strict groups) calls ∙ hangs in
         let text : ends.report ≡ report =
-        report_is.report_is ∙ ap (λ (o : Options). report_of o.format o.reading report_is.groups report_is.recording) asked
-        ∙ ap (λ (g : Groups). report_of format.Text Strict g report_is.recording) as_read ∙ ap (report_of format.Text Strict groups) calls ∙ reported in
+        is.is_text
+        ∙ ap (λ (v : Verdict). report_of its.format its.reading report_is.groups report_is.recording v is.causes) found
+        ∙ ap (report_of its.format its.reading report_is.groups report_is.recording (verdict_of its.reading report_is.groups report_is.recording)) causes
+        ∙ ap (λ (o : Options). found_report o.format o.reading report_is.groups report_is.recording) asked
+        ∙ ap (λ (g : Groups). found_report format.Text Strict g report_is.recording) as_read ∙ ap (found_report format.Text Strict groups) calls ∙ reported in
         record {
           status_is = ends.status_is ∙ ap status_of_verdict verdict;
           output = subst (Writes written failures old new) text (subst (Becomes written failures old new) ends.output output);

@@ -59,8 +59,7 @@ report_says left sources options groups verdict report head files of_head tells 
     is_head = head_of_told head text groups of_head head_is;
     is_recording = λ traces hold. over.of_traces traces (tells texts traces files_are hold);
   };
-  report_is = over.report_is;
-  verdict_is = over.verdict_is;
+  is_report = over.is_report;
 }
 
 -- the text of a head says what its front says

@@ -8,10 +8,9 @@ use Rattle.mpicall.specs.declared.fault.SourceFault.TheVariants.{GateStopped}
 use Rattle.mpigroup.specs.Groups.{Groups, ranks_of}
 use Rattle.mpigroup.specs.HeadText.{read_head}
 use Rattle.waitgraph.specs.declared.verdict.Verdict.{Verdict}
-use Rattle.waitgraph.specs.Verdicts.{verdict_of}
 use Rattle.moves.specs.declared.reading.Reading.{Reading}
 use Rattle.callnotes.specs.Recordings.{Lists, IsClosed}
-use Rattle.reports.specs.Reports.{report_of}
+use Rattle.reports.specs.Reports.{IsReport}
 use Rattle.command.specs.declared.options.Options.{Options}
 use Rattle.gather.specs.Answers.{recording_of_traces, refusal_of}
 use Rattle.gather.specs.declared.fault.RankFault.TheVariants.{OfSource}
@@ -53,8 +52,7 @@ pub record IsReportOf (options : Options) (head : Option (List ℕ)) (files : Li
   pub one_a_rank : length recording ≡ ranks_of groups
   pub closed : IsClosed recording
   pub of_texts : (text : List ℕ) (texts : List (List ℕ)) → head ≡ Some text → files ≡ map Some texts → IsRunOfTexts text texts groups recording
-  pub report_is : report ≡ report_of options.format options.reading groups recording
-  pub verdict_is : verdict ≡ verdict_of options.reading groups recording
+  pub is_report : IsReport options.format options.reading groups recording verdict report
 
 -- the head was read and gives groups, and the number of the files is another than that of their ranks
 pub record IsWrongCount (told : List ℕ → Option (List ℕ)) (head : List ℕ) (ranks count : ℕ) (files : List (Bor (List ℕ))) : Type 0 where

@@ -10,12 +10,11 @@ use Rattle.mpicall.specs.Spelling.{space, line_feed, fields_of}
 use Rattle.mpigroup.specs.Groups.{Groups}
 use Rattle.callnotes.specs.Recordings.{Lists}
 use Rattle.moves.specs.Stands.{stands_of}
-use Rattle.waitgraph.specs.Verdicts.{verdict_of}
 use Rattle.moves.specs.declared.need.Need.{Need}
 use Rattle.moves.specs.declared.need.Need.TheVariants.{At, Lacking}
 use Rattle.waitgraph.specs.declared.verdict.Verdict.{Verdict}
 use Rattle.waitgraph.specs.declared.verdict.Verdict.TheVariants.{Free, Hang, Unfinished}
-use Rattle.waitgraph.specs.Causes.{CauseView, CycleOf, MissingOf, causes_of}
+use Rattle.waitgraph.specs.Causes.{CauseView, CycleOf, MissingOf}
 use Rattle.findings.specs.Findings.{findings_of}
 use Rattle.reports.specs.FindingTexts.{finding_fields}
 use Rattle.findings.specs.Places.{call_at}
@@ -64,10 +63,10 @@ cause_line (MissingOf rank peer) = line (codes "missing" ∷ decimal rank ∷ de
 abbrev pub finding_line : Finding → List ℕ
 finding_line finding = line (codes "finding" ∷ finding_fields finding)
 
--- the whole report
-unfoldable pub text_report : Reading → Groups → Lists → List ℕ
-text_report reading groups recording =
-    verdict_line (verdict_of reading groups recording)
+-- the whole report, by its verdict and its causes
+unfoldable pub text_report : Reading → Groups → Lists → Verdict → List CauseView → List ℕ
+text_report reading groups recording verdict causes =
+    verdict_line verdict
     ++ flat_map (rank_lines reading groups recording) (stuck_of reading groups recording)
-    ++ flat_map cause_line (causes_of reading groups recording)
+    ++ flat_map cause_line causes
     ++ flat_map finding_line (findings_of groups recording)

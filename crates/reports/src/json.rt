@@ -5,6 +5,7 @@ ghost use Rattle.serde_json.specs.Data.{string};
 ghost use Rattle.serde_json.specs.Written.{compact_text};
 ghost use Rattle.waitgraph.specs.Causes.{view_of};
 ghost use Rattle.waitgraph.specs.Graphs.{IsGraphOf};
+ghost use Rattle.waitgraph.specs.Verdicts.{verdict_by};
 ghost use Rattle.reports.specs.JsonReport.{each, cause_data, json_report};
 ghost use Rattle.reports.specs.Judged.{judged_json};
 ghost use Rattle.reports.specs.TextReport.{verdict_text};
@@ -55,7 +56,7 @@ pub(crate) fn json_text(
     graph: &Graph,
 ) -> Result<String, AllocError>
     requires { IsGraphOf analyser.now.reading analyser.now.groups analyser.now.recording graph.now }
-    ensures { IfOk result (λ text. string_bytes text ≡ json_report analyser.now.reading analyser.now.groups analyser.now.recording) }
+    ensures { IfOk result (λ text. string_bytes text ≡ json_report analyser.now.reading analyser.now.groups analyser.now.recording (verdict_by graph.now.held graph.now.left_open) graph.now.causes) }
 {
     let mut text = String::new(alloc);
     push_key(alloc, &mut text, "{", "causes", ":")?;

@@ -3,12 +3,16 @@
 ghost use Rattle.std.specs.Prelude.{◌≡◌, ◌<◌, ℕ, length, map, IfOk};
 ghost use Rattle.std.specs.List.{filter, range_with_len};
 ghost use Rattle.callnotes.specs.Recordings.{IsClosed};
-ghost use Rattle.waitgraph.specs.Stuck.{is_stuck_at, stuck_at, stuck_of, unmet_of};
-ghost use Rattle.waitgraph.specs.Causes.{view_of, walks_in, walks_at, causes_in, causes_of};
-ghost use Rattle.waitgraph.specs.Held.{held_at, held_of, is_some_left_open, opened_of};
-ghost use Rattle.waitgraph.specs.Loose.{are_held};
+ghost use Rattle.waitgraph.specs.Stuck.{stuck_of, unmet_of};
+ghost use Rattle.waitgraph.specs.inner.Stuck.{is_stuck_at, stuck_at};
+ghost use Rattle.waitgraph.specs.Causes.{view_of, AreCauses};
+ghost use Rattle.waitgraph.specs.inner.Causes.{walks_in, walks_at, causes_in};
+ghost use Rattle.waitgraph.specs.inner.Held.{held_at, opened_of};
+ghost use Rattle.waitgraph.specs.Held.{ListsHeld, is_some_left_open};
+ghost use Rattle.waitgraph.specs.inner.Loose.{are_held};
 ghost use Rattle.waitgraph.specs.Stays.{StayPut};
-ghost use Rattle.waitgraph.specs.Waits.{waits_at, needs_in};
+ghost use Rattle.waitgraph.specs.inner.Waits.{waits_at};
+ghost use Rattle.waitgraph.specs.Waits.{needs_in};
 ghost use Rattle.findings.specs.Findings.{findings_of};
 ghost use Rattle.waitgraph.specs.Verdicts.{verdict_by};
 
@@ -159,11 +163,11 @@ impl Graph {
     pub fn of(alloc: Global, analyser: &Analyser) -> Result<Graph, AllocError>
         requires { IsClosed analyser.now.recording }
         ensures stuck { IfOk result (λ graph. graph.stuck ≡ stuck_of analyser.now.reading analyser.now.groups analyser.now.recording) }
-        ensures held { IfOk result (λ graph. graph.held ≡ held_of analyser.now.reading analyser.now.groups analyser.now.recording) }
+        ensures held { IfOk result (λ graph. ListsHeld analyser.now.reading analyser.now.groups analyser.now.recording graph.held) }
         ensures stays { IfOk result (λ graph. StayPut analyser.now.reading analyser.now.groups analyser.now.recording graph.held) }
         ensures left_open { IfOk result (λ graph. graph.left_open ≡ is_some_left_open analyser.now.recording) }
         ensures unmet { IfOk result (λ graph. (rank : ℕ) → needs_in graph.waits rank ≡ unmet_of analyser.now.reading analyser.now.groups analyser.now.recording rank) }
-        ensures causes { IfOk result (λ graph. graph.causes ≡ causes_of analyser.now.reading analyser.now.groups analyser.now.recording) }
+        ensures causes { IfOk result (λ graph. AreCauses analyser.now.reading analyser.now.groups analyser.now.recording graph.causes) }
         ensures findings { IfOk result (λ graph. graph.findings ≡ findings_of analyser.now.groups analyser.now.recording) }
     {
         analyser.stands_are_the_end();

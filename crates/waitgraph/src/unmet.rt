@@ -11,7 +11,8 @@ ghost use Rattle.pairing.specs.Pairs.{completed_of};
 ghost use Rattle.pairing.specs.Seen.{call_seen};
 ghost use Rattle.moves.specs.Worlds.{IsSeenAt};
 ghost use Rattle.moves.specs.Needs.{member_need, wave_needs, operation_needs, operation_needs_at, request_needs, needs_of};
-ghost use Rattle.waitgraph.specs.Stuck.{comes_before, needs_in_order, is_unmet, unmet_at, UnmetNeedsAreToldInOrder, StuckRanksWaitForStuckRanks};
+ghost use Rattle.waitgraph.specs.Stuck.{comes_before, needs_in_order, unmet_at, UnmetNeedsAreToldInOrder, StuckRanksWaitForStuckRanks};
+ghost use Rattle.waitgraph.specs.inner.Stuck.{is_unmet};
 
 use moves::need::{At, Need, Part, is_met, member_need, members, need_for, stand_of};
 use moves::world::World;

@@ -7,6 +7,7 @@ ghost use Rattle.std.specs.Fmt.{decimal};
 ghost use Rattle.mpicall.specs.Spelling.{space, fields_of};
 ghost use Rattle.waitgraph.specs.Causes.{CycleOf, MissingOf, view_of};
 ghost use Rattle.waitgraph.specs.Graphs.{IsGraphOf};
+ghost use Rattle.waitgraph.specs.Verdicts.{verdict_by};
 ghost use Rattle.reports.specs.inner.Printing.{with_fields, PrintsAll, Prints};
 ghost use Rattle.findings.specs.Places.{call_at};
 ghost use Rattle.reports.specs.Judged.{judged_text, left_line};
@@ -270,7 +271,7 @@ pub(crate) fn write_text<O: Output>(
     out: &mut O,
 ) -> Result<(), DeviceFault>
     requires { IsGraphOf analyser.now.reading analyser.now.groups analyser.now.recording graph.now }
-    ensures { PrintsAll (O.written out.old) (O.failures out.old) (O.written out.new) (O.failures out.new) (text_report analyser.now.reading analyser.now.groups analyser.now.recording) result }
+    ensures { PrintsAll (O.written out.old) (O.failures out.old) (O.written out.new) (O.failures out.new) (text_report analyser.now.reading analyser.now.groups analyser.now.recording (verdict_by graph.now.held graph.now.left_open) graph.now.causes) result }
 {
     let mut printer = Printer::new();
     push_verdict(&mut printer.page, graph.verdict());

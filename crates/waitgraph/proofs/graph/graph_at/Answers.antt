@@ -1,10 +1,11 @@
 use Rattle.std.proofs.Common.{ℕ, List, length, ap, ◌∙◌}
 use Rattle.std.specs.List.{filter, range_with_len}
 use Rattle.std.proofs.lemmas.List.FromFn.{length-map-range_with_len}
-use Rattle.waitgraph.specs.Causes.{walks_in, causes_in}
-use Rattle.waitgraph.specs.Held.{opened_of, standing_at, standings_at, is_held_in}
-use Rattle.waitgraph.specs.Loose.{are_held}
-use Rattle.waitgraph.specs.Waits.{Waits, waits_at}
+use Rattle.waitgraph.specs.inner.Causes.{walks_in, causes_in}
+use Rattle.waitgraph.specs.inner.Held.{opened_of, standing_at, standings_at, is_held_in}
+use Rattle.waitgraph.specs.inner.Loose.{are_held}
+use Rattle.waitgraph.specs.Waits.{Waits}
+use Rattle.waitgraph.specs.inner.Waits.{waits_at}
 use Rattle.waitgraph.specs.declared.standing.Standing.{Standing}
 use Rattle.waitgraph.proofs.graph.graph_at.Goals as goal
 

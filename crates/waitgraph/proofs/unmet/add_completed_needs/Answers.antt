@@ -8,7 +8,7 @@ use Rattle.pairing.specs.Seen.{call_seen}
 use Rattle.moves.specs.declared.need.Need.{Need}
 use Rattle.moves.specs.Needs.{request_needs, operation_needs_at}
 use Rattle.moves.proofs.WaitLemmas.{start_is}
-use Rattle.waitgraph.specs.Stuck.{is_unmet}
+use Rattle.waitgraph.specs.inner.Stuck.{is_unmet}
 use Rattle.waitgraph.proofs.AddingLemmas.{add_one_list}
 use Rattle.waitgraph.proofs.unmet.add_completed_needs.Goals as goal
 

@@ -3,7 +3,7 @@ use Rattle.std.specs.List.{filter}
 use Rattle.callnotes.specs.Requests.{completes}
 use Rattle.pairing.specs.Seen.{call_seen}
 use Rattle.moves.specs.Needs.{request_needs}
-use Rattle.waitgraph.specs.Stuck.{is_unmet}
+use Rattle.waitgraph.specs.inner.Stuck.{is_unmet}
 use Rattle.waitgraph.proofs.unmet.add_completed_needs.Given as goal
 
 -- what each request so far still needs

@@ -2,7 +2,8 @@ use Rattle.std.proofs.Common.{ℕ, List, ◌++◌, ap, ◌∙◌}
 use Rattle.std.specs.List.{filter}
 use Rattle.moves.specs.declared.need.Need.{Need}
 use Rattle.moves.specs.Needs.{needs_of}
-use Rattle.waitgraph.specs.Stuck.{needs_in_order, is_unmet, unmet_at}
+use Rattle.waitgraph.specs.Stuck.{needs_in_order, unmet_at}
+use Rattle.waitgraph.specs.inner.Stuck.{is_unmet}
 use Rattle.waitgraph.proofs.unmet.unmet_at.Goals as goal
 
 pub returns : goal.returns
