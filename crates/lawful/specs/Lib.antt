@@ -1,2 +1,0 @@
-pub mod Closed
-pub mod Laws
