@@ -66,7 +66,5 @@ finding_line finding = line (codes "finding" ∷ finding_fields finding)
 -- the whole report, by its verdict and its causes
 unfoldable pub text_report : Reading → Groups → Lists → Verdict → List CauseView → List ℕ
 text_report reading groups recording verdict causes =
-    verdict_line verdict
-    ++ flat_map (rank_lines reading groups recording) (stuck_of reading groups recording)
-    ++ flat_map cause_line causes
-    ++ flat_map finding_line (findings_of groups recording)
+    verdict_line verdict ++ flat_map (rank_lines reading groups recording) (stuck_of reading groups recording)
+    ++ flat_map cause_line causes ++ flat_map finding_line (findings_of groups recording)
