@@ -99,11 +99,11 @@ fn a_text_ends_before_a_zero_byte_and_at_its_last_line_feed(rt: HostRuntime) -> 
         ("barrier 0\n", 1),
         ("", 0),
     ];
-    for (behind, count) in texts {
-        let text = format!(in alloc; "{header}{behind}")?;
+    for (rest, count) in texts {
+        let text = format!(in alloc; "{header}{rest}")?;
         assert!(rt;
             lines_of(alloc, text.as_bytes(), &rt) == Ok(count),
-            "{count} of {behind:?}"
+            "{count} of {rest:?}"
         );
     }
     Ok(())
@@ -185,7 +185,8 @@ fn is_whole_or_refused(answer: &Result<Journal, JournalError>) -> bool {
     }
 }
 
-/// With each allocation refused in its turn: the answer is that or the journal, and the next time the journal.
+/// With each allocation refused in its turn: the answer is that or the journal, and the next time the
+/// journal.
 #[test]
 fn refused_memory_changes_no_answer_but_this(rt: HostRuntime) {
     let once = read(rt.alloc(), MemoryInput::new(JOURNAL.as_bytes()), &rt);

@@ -8,11 +8,11 @@ use Rattle.journals.specs.Lines.{Line}
 use Rattle.journals.specs.Entries.{numbers_by, is_of_request, is_new_request, is_new_message, is_request, is_message, is_comm, is_new_comm, last_entry}
 use Rattle.journals.specs.Known.{is_among, are_distinct, knows_request, knows_message, is_completed, knows_comm, has_report}
 use Rattle.journals.specs.Faults.{Owner, is_after_end, is_out_of_place, has_wrong_request, has_wrong_comm, has_right_group, fault_of_line, first_of, is_free, is_left, may_follow, may_have, may_be_of, names_unfit, names_last, may_choose}
-use Rattle.journals.specs.Numbered.{numbered, numbers_with}
+use Rattle.journals.specs.inner.Numbered.{numbered, numbers_with}
 use Rattle.journals.specs.Taking.{fields_at}
-use Rattle.journals.specs.Last.{last_may_have}
-use Rattle.journals.specs.Notes.{may_use, may_call, by_call, may_report, by_report, is_now, request_note, message_note, called_note, reported_note}
-use Rattle.journals.specs.Knows.{IsLast, NoteIs, NoteBelow, IsBelow, by_note, is_last, is_earlier, called_last, is_known, wrong_comm, Comms, CommIs, may_follow_last, may_be_by, is_unfit, names_unfit_by}
+use Rattle.journals.specs.inner.Last.{last_may_have}
+use Rattle.journals.specs.inner.Notes.{may_use, may_call, by_call, may_report, by_report, is_now, request_note, message_note, called_note, reported_note}
+use Rattle.journals.specs.inner.Knows.{IsLast, NoteIs, NoteBelow, IsBelow, by_note, is_last, is_earlier, called_last, is_known, wrong_comm, Comms, CommIs, may_follow_last, may_be_by, is_unfit, names_unfit_by}
 use Rattle.journals.specs.declared.field.Field.{Field}
 use Rattle.journals.specs.declared.form.Form.{Form}
 use Rattle.journals.specs.declared.form.Form.TheVariants.{NewRequest, NewMessage, Request, Message, Comm, NewComm, Member, Peer, Source, Tag, SourceTag, Root, Colour, Key, Bytes}

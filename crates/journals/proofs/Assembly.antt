@@ -7,13 +7,13 @@ use Rattle.journals.specs.Lines.{Line}
 use Rattle.journals.specs.Entries.{last_entry, is_of_request, is_request, is_comm, is_new_comm, numbers_by}
 use Rattle.journals.specs.Known.{is_among, are_distinct, parent_of}
 use Rattle.journals.specs.Faults.{Owner, is_out_of_place, has_right_group, fault_of_line, first_of, ends_journal, may_follow}
-use Rattle.journals.specs.Numbered.{numbered, numbers_with}
+use Rattle.journals.specs.inner.Numbered.{numbered, numbers_with}
 use Rattle.journals.specs.Taking.{fields_at}
-use Rattle.journals.specs.Last.{new_last, with_report}
-use Rattle.journals.specs.Marks.{ranks_in}
-use Rattle.journals.specs.Naturals.{AreNatural}
-use Rattle.journals.specs.Notes.{Notes, IsFault, note_at, noted, may_use, may_call, by_call, may_report, by_report}
-use Rattle.journals.specs.Knows.{Comms, Answers, IsRead, IsNext, IsLast, NoteIs, CommIs, Knows, owner_of, is_known, wrong_comm, is_right_call, may_follow_last, names_unfit_by, is_unfit, chosen_by, noted_last, is_right_report, brings, brought_in, comms_with}
+use Rattle.journals.specs.inner.Last.{new_last, with_report}
+use Rattle.journals.specs.inner.Marks.{ranks_in}
+use Rattle.journals.specs.inner.Naturals.{AreNatural}
+use Rattle.journals.specs.inner.Notes.{Notes, IsFault, note_at, noted, may_use, may_call, by_call, may_report, by_report}
+use Rattle.journals.specs.inner.Knows.{Comms, Answers, IsRead, IsNext, IsLast, NoteIs, CommIs, Knows, owner_of, is_known, wrong_comm, is_right_call, may_follow_last, names_unfit_by, is_unfit, chosen_by, noted_last, is_right_report, brings, brought_in, comms_with}
 use Rattle.journals.specs.declared.field.Field.{Field}
 use Rattle.journals.specs.declared.form.Form.{Form}
 use Rattle.journals.specs.declared.form.Form.TheVariants.{Request}

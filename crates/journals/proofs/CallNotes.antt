@@ -8,11 +8,11 @@ use Rattle.journals.specs.Lines.{Line, fields_of}
 use Rattle.journals.specs.Entries.{numbers_by, number_if, is_of_request, is_new_request, is_new_message, is_request, is_message}
 use Rattle.journals.specs.Known.{is_among, are_distinct, is_cancel, duplicated_in, receive_in, is_wildcard, chosen_of, completed_by}
 use Rattle.journals.specs.Faults.{completed_last}
-use Rattle.journals.specs.Naturals.{naturals, AreNatural}
-use Rattle.journals.specs.Numbered.{numbered, numbers_with}
-use Rattle.journals.specs.Last.{completes_all, new_last}
-use Rattle.journals.specs.Notes.{request_note, message_note, called_note, completed_at, is_callable, may_call, by_call}
-use Rattle.journals.specs.Knows.{IsRead, NoteIs, NoteBelow, IsBelow, by_note, is_last, is_earlier, called_last}
+use Rattle.journals.specs.inner.Naturals.{naturals, AreNatural}
+use Rattle.journals.specs.inner.Numbered.{numbered, numbers_with}
+use Rattle.journals.specs.inner.Last.{completes_all, new_last}
+use Rattle.journals.specs.inner.Notes.{request_note, message_note, called_note, completed_at, is_callable, may_call, by_call}
+use Rattle.journals.specs.inner.Knows.{IsRead, NoteIs, NoteBelow, IsBelow, by_note, is_last, is_earlier, called_last}
 use Rattle.journals.specs.declared.field.Field.{Field}
 use Rattle.journals.specs.declared.field.Field.TheVariants.{Natural, Signed, Null, Any, Undefined}
 use Rattle.journals.specs.declared.form.Form.{Form}

@@ -8,8 +8,8 @@ use Rattle.journals.specs.Words.{row_of, more_forms, forms_of}
 use Rattle.journals.specs.Lines.{Line}
 use Rattle.journals.specs.Entries.{numbers_by, number_if, is_new_comm, group_in}
 use Rattle.journals.specs.Known.{is_among, reported_group}
-use Rattle.journals.specs.Naturals.{naturals}
-use Rattle.journals.specs.Knows.{CommIs, IsBelow, group_fields, group_at, brings, brought_in}
+use Rattle.journals.specs.inner.Naturals.{naturals}
+use Rattle.journals.specs.inner.Knows.{CommIs, IsBelow, group_fields, group_at, brings, brought_in}
 use Rattle.journals.specs.declared.field.Field.{Field}
 use Rattle.journals.specs.declared.field.Field.TheVariants.{Natural, Signed, Null, Any, Undefined}
 use Rattle.journals.specs.declared.form.Form.{Form}

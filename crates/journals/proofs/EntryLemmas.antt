@@ -8,7 +8,7 @@ use Rattle.journals.specs.Lines.{Line}
 use Rattle.journals.specs.Entries.{Entry, Listing, put_line, listing_of, entries_of, last_of, last_entry}
 use Rattle.journals.specs.Known.{is_among, completed_by, is_completed, parent_of, duplicated_in, reported_group, group_if}
 use Rattle.journals.specs.Faults.{completed_last}
-use Rattle.journals.specs.Knows.{all_but_last, completed_earlier}
+use Rattle.journals.specs.inner.Knows.{all_but_last, completed_earlier}
 use Rattle.journals.specs.declared.field.Field.{Field}
 use Rattle.journals.specs.declared.word.Word.{Word}
 use Rattle.journals.specs.declared.word.Word.TheVariants.{Call, Report}

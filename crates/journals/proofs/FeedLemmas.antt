@@ -1,11 +1,11 @@
--- Where the first line feed of held bytes stands, by a search behind those that were searched.
+-- The place of the first line feed of held bytes, by a search after those that were searched.
 use Rattle.std.proofs.Common.{◌≡◌, ℕ, ◌+◌, ◌-◌, ◌≤◌, ◌<◌, true, List, length, get_or, take, drop, sym, ap, ◌∙◌, arith, Some, None, inl, inr}
 use Rattle.std.proofs.lemmas.Bool.Decides.{nat_tests}
 use Rattle.std.proofs.lemmas.Bool.{cases_lt}
 use Rattle.std.proofs.lemmas.List.{take_all, length-drop, get_or-drop}
 use Rattle.memchr.specs.Find.{IsFirstByte, is_byte}
 use Rattle.mpicall.specs.Spelling.{line_feed}
-use Rattle.journals.specs.Window.{NoFeedBelow, FirstFeed}
+use Rattle.journals.specs.inner.LineWindow.{NoFeedBelow, FirstFeed}
 
 rest_is : (bytes : List ℕ) (from : ℕ) → from ≤ length bytes → take (length bytes - from) (drop from bytes) ≡ drop from bytes
 rest_is bytes from within = take_all (length bytes - from) (drop from bytes) (omega (arith, length-drop from bytes))
@@ -16,7 +16,7 @@ is_feed byte h = grind (arith, nat_tests)
 feed_is : (byte : ℕ) → byte ≡ line_feed → is_byte line_feed byte ≡ true
 feed_is byte h = grind (arith, nat_tests)
 
--- no feed below `from`, and none of the `count` bytes behind it
+-- no feed below `from`, and none of the `count` bytes after it
 none_further : (bytes : List ℕ) (from count : ℕ) → NoFeedBelow bytes from → ((j : ℕ) → j < count → is_byte line_feed (get_or (drop from bytes) j 0) ≡ true → ⊥) → NoFeedBelow bytes (from + count)
 none_further bytes from count before none k below is =
     elim (cases_lt k from) [

@@ -7,8 +7,8 @@ use Rattle.mpicall.specs.Number.{number_up_to, is_canonical, value_of}
 use Rattle.journals.specs.Fields.{field_of}
 use Rattle.journals.specs.Lines.{fields_of}
 use Rattle.journals.specs.Entries.{number_if, is_member, group_in}
-use Rattle.journals.specs.Naturals.{naturals, IsMember, AreMembers, AreNatural}
-use Rattle.journals.specs.Knows.{IsRead, rest_of, group_fields, brings}
+use Rattle.journals.specs.inner.Naturals.{naturals, IsMember, AreMembers, AreNatural}
+use Rattle.journals.specs.inner.Knows.{IsRead, rest_of, group_fields, brings}
 use Rattle.journals.specs.declared.field.Field.{Field}
 use Rattle.journals.specs.declared.field.Field.TheVariants.{Natural, Signed, Null, Any, Undefined}
 use Rattle.journals.specs.declared.form.Form.{Form}

@@ -5,8 +5,8 @@ use Rattle.std.proofs.lemmas.Bool.{eq-eqb, ne_eqb, cases_eq, cases_lt, true≢fa
 use Rattle.std.proofs.lemmas.List.{get_or_past}
 use Rattle.std.specs.Str.{bytes_eq}
 use Rattle.journals.specs.Known.{is_among, are_distinct}
-use Rattle.journals.specs.Naturals.{naturals, each_once, AreNatural, AreMembers}
-use Rattle.journals.specs.Marks.{is_in_parent, is_in_both}
+use Rattle.journals.specs.inner.Naturals.{naturals, each_once, AreNatural, AreMembers}
+use Rattle.journals.specs.inner.Marks.{is_in_parent, is_in_both}
 use Rattle.journals.specs.declared.field.Field.{Field}
 use Rattle.journals.specs.declared.field.Field.TheVariants.{Natural, Signed, Null, Any, Undefined}
 use Rattle.journals.specs.declared.group.Mark.{Mark}

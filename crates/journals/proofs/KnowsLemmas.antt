@@ -5,11 +5,11 @@ use Rattle.journals.specs.Lines.{Line}
 use Rattle.journals.specs.Entries.{is_of_request}
 use Rattle.journals.specs.Known.{are_distinct, has_report, is_report}
 use Rattle.journals.specs.Faults.{is_after_end, ends_journal}
-use Rattle.journals.specs.Numbered.{numbered, numbers_with}
+use Rattle.journals.specs.inner.Numbered.{numbered, numbers_with}
 use Rattle.journals.specs.Taking.{fields_at, fields_in_line}
-use Rattle.journals.specs.Last.{new_last, with_report}
-use Rattle.journals.specs.Notes.{may_use, may_call, by_call, may_report, by_report}
-use Rattle.journals.specs.Knows.{IsRead, IsLast, LastIs}
+use Rattle.journals.specs.inner.Last.{new_last, with_report}
+use Rattle.journals.specs.inner.Notes.{may_use, may_call, by_call, may_report, by_report}
+use Rattle.journals.specs.inner.Knows.{IsRead, IsLast, LastIs}
 use Rattle.journals.specs.declared.field.Field.{Field}
 use Rattle.journals.specs.declared.form.Form.{Form}
 use Rattle.journals.specs.declared.last.LastCall.{LastCall}

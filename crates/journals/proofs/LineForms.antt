@@ -6,7 +6,7 @@ use Rattle.journals.specs.Fields.{field_of, positive_of}
 use Rattle.journals.specs.Lines.{fields_of, put_field}
 use Rattle.journals.specs.Entries.{number_if, numbers_by, is_new_request}
 use Rattle.journals.specs.Known.{is_among, receive_in, is_wildcard, duplicated_in}
-use Rattle.journals.specs.Naturals.{naturals, IsNatural, AreNatural}
+use Rattle.journals.specs.inner.Naturals.{naturals, IsNatural, AreNatural}
 use Rattle.journals.specs.declared.field.Field.{Field}
 use Rattle.journals.specs.declared.field.Field.TheVariants.{Natural, Signed, Null, Any, Undefined}
 use Rattle.journals.specs.declared.form.Form.{Form}
@@ -64,7 +64,7 @@ receive_new call.Irecv (Natural request ∷ comm ∷ source ∷ tag ∷ []) numb
       | inl here ↦ rw here refl
       | inr apart ↦ absurd (false≢true (rw apart at is))
     ]
-receive_new call.Isendrecv (sent ∷ Natural request ∷ comm ∷ dest ∷ tag ∷ source ∷ other ∷ behind) number is =
+receive_new call.Isendrecv (sent ∷ Natural request ∷ comm ∷ dest ∷ tag ∷ source ∷ other ∷ rest) number is =
     elim (cases_Bool (request == number)) [
       | inl here ↦ among_cons number (number_if is_new_request (NewRequest, sent)) _ (rw here refl)
       | inr apart ↦ absurd (false≢true (rw apart at is))

@@ -10,13 +10,13 @@ fields_short : (line : List ℕ) → length line < 32768 → length (split_field
 fields_short line short =
     omega (arith, length-slice_split (λ (byte : ℕ). byte == space) line, count_by-le-length (λ (byte : ℕ). byte == space) line)
 
--- neither have the fields behind its first one
-pub behind_short : (line : List ℕ) (r : Option (Bor (List ℕ))) (old new : List (List ℕ)) → length line < 32768 → old ≡ split_fields line → MatchOption r ((old ≡ []) × (new ≡ [])) (λ field. old ≡ field.now ∷ new) → length new ≤ 32768
-behind_short line None old new short is m = rw m.1 (omega arith)
-behind_short line (Some field) old new short is m =
+-- neither have the fields after its first one
+pub after_word_short : (line : List ℕ) (r : Option (Bor (List ℕ))) (old new : List (List ℕ)) → length line < 32768 → old ≡ split_fields line → MatchOption r ((old ≡ []) × (new ≡ [])) (λ field. old ≡ field.now ∷ new) → length new ≤ 32768
+after_word_short line None old new short is m = rw m.1 (omega arith)
+after_word_short line (Some field) old new short is m =
     omega (arith, ap length m, ap length is, fields_short line short)
 
--- they are those behind its word
-pub behind_is : (line : List ℕ) (r : Option (Bor (List ℕ))) (old new : List (List ℕ)) → old ≡ split_fields line → MatchOption r ((old ≡ []) × (new ≡ [])) (λ field. old ≡ field.now ∷ new) → new ≡ drop 1 (split_fields line)
-behind_is line None old new is m = m.1 ∙ ap (drop 1) (sym m.0 ∙ is)
-behind_is line (Some field) old new is m = ap (drop 1) (sym m ∙ is)
+-- they are those after its word
+pub after_word_is : (line : List ℕ) (r : Option (Bor (List ℕ))) (old new : List (List ℕ)) → old ≡ split_fields line → MatchOption r ((old ≡ []) × (new ≡ [])) (λ field. old ≡ field.now ∷ new) → new ≡ drop 1 (split_fields line)
+after_word_is line None old new is m = m.1 ∙ ap (drop 1) (sym m.0 ∙ is)
+after_word_is line (Some field) old new is m = ap (drop 1) (sym m ∙ is)

@@ -5,8 +5,8 @@ use Rattle.std.proofs.lemmas.Bool.{cases_Bool, eqb-true}
 use Rattle.std.proofs.lemmas.List.{get_or_default}
 use Rattle.journals.specs.Words.{forms_of}
 use Rattle.journals.specs.Entries.{is_of_request}
-use Rattle.journals.specs.Numbered.{numbered_in, number_of, formed, numbered_from}
-use Rattle.journals.specs.Notes.{may_use, noted}
+use Rattle.journals.specs.inner.Numbered.{numbered_in, number_of, formed, numbered_from}
+use Rattle.journals.specs.inner.Notes.{may_use, noted}
 use Rattle.journals.specs.declared.field.Field.{Field}
 use Rattle.journals.specs.declared.field.Field.TheVariants.{Natural, Signed, Null, Any, Undefined}
 use Rattle.journals.specs.declared.form.Form.{Form}

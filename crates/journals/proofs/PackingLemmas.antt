@@ -1,10 +1,11 @@
--- The lines that are held, as their fields grow and a line is put behind them.
+-- The lines that are held, as their fields grow and a line is put after them.
 use Rattle.std.proofs.Common.{◌≡◌, ℕ, zero, suc, ◌+◌, ◌-◌, ◌≤◌, List, [], ◌∷◌, ◌++◌, length, take, drop, sym, ap, ◌∙◌, refl, arith, length-append, Some, None, Result, Ok, Err, slice_get}
 use Rattle.std.proofs.lemmas.List.{take-append-le, drop-append-le, drop_at, take_all, length-drop, length-map, map_push}
 use Rattle.std.proofs.lemmas.Option.{slice_get-map}
 use Rattle.journals.specs.Lines.{Line}
-use Rattle.journals.specs.Packing.{fields_in, line_in, lines_in, HasFields}
-use Rattle.journals.specs.Taking.{Grows, ReadsLine, Takes, TakesLine, word_at, fields_at}
+use Rattle.journals.specs.inner.Packing.{fields_in, line_in, lines_in, HasFields}
+use Rattle.journals.specs.Taking.{word_at, fields_at}
+use Rattle.journals.specs.inner.Taking.{Grows, ReadsLine, Takes, TakesLine}
 use Rattle.journals.specs.declared.fault.JournalFaultKind.{JournalFaultKind}
 use Rattle.journals.specs.declared.field.Field.{Field}
 use Rattle.journals.specs.declared.line.LineFault.{LineFault}
@@ -62,7 +63,7 @@ last_fields old more new packed is start count =
     let first : fields_in new packed ≡ take packed.count more = rw (start, is) (ap (take packed.count) (drop_at old more (length old) refl)) in
     first ∙ take_all packed.count more (omega arith)
 
--- a line that was read stands behind the others
+-- a line that was read comes after the others
 pub line_taken : (said : Result Line JournalFaultKind) (old new : List Field) (lines all : List PackedLine) (packed : PackedLine) (taken : Taken) (word : Word) → ReadsLine said old new (Ok word) → HasFields old lines → all ≡ lines ++ packed ∷ [] → packed.start ≡ length old → packed.count ≡ length new - length old → packed.word ≡ word → taken.line ≡ length lines → taken.word ≡ word → Takes said (lines_in old lines) (lines_in new all) taken
 line_taken said old new lines all packed taken word reads has is start count own place answer =
     let fields = last_fields old reads.0 new packed reads.2 start count in

@@ -4,9 +4,10 @@ use Rattle.std.specs.Io.KnownBytes.{Consumes, Keeps, prepend_known}
 use Rattle.std.proofs.KnownBytes.{Consumes-trans, Consumes-nil}
 use Rattle.std.proofs.lemmas.List.{drop_all, length-take, get_or-take, take-append-drop}
 use Rattle.journals.specs.Text.{whole_lines}
-use Rattle.journals.specs.Window.{FirstFeed}
-use Rattle.journals.specs.Reader.{CutsLine}
-use Rattle.journals.specs.Reading.{Passes, IsCut, CutsAt, FailsFrom}
+use Rattle.journals.specs.inner.LineWindow.{FirstFeed}
+use Rattle.journals.specs.inner.Reader.{CutsLine}
+use Rattle.journals.specs.Reading.{IsCut, FailsFrom}
+use Rattle.journals.specs.inner.Reading.{Passes, CutsAt}
 use Rattle.journals.specs.declared.journal.JournalError.{JournalError}
 use Rattle.journals.specs.declared.journal.JournalError.TheVariants as error
 use Rattle.journals.proofs.WholeLemmas.{first_whole}
@@ -78,7 +79,7 @@ line_passes old held left count some within feed keeps = record {
     kept (Some text) None is = absurd is
     kept (Some text) (Some rest) is = sym is ∙ ap (λ (bytes : List ℕ). bytes ++ rest) (sym (take-append-drop count held)) ∙ append_assoc (take count held) (drop count held) rest
 
--- ---- What is told of a read that failed ----
+-- ---- What is reported of a read that failed ----
 
 known_all : (left : Option (List ℕ)) → prepend_known [] left ≡ left
 known_all None = refl

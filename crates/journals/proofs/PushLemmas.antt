@@ -7,7 +7,7 @@ use Rattle.mpicall.specs.Lines.{split_fields}
 use Rattle.journals.specs.Words.{forms_of, word_of, is_call}
 use Rattle.journals.specs.Fields.{field_of}
 use Rattle.journals.specs.Lines.{fields_of, put_field, last_field, begins_with_at, has_site, without_site, is_site, site_fits, line_if, line_with, line_by_word, line_of}
-use Rattle.journals.specs.Taking.{fields_behind, is_stopped, line_behind_word, Grows, PutsFields, ReadsLine, PutsSoFar}
+use Rattle.journals.specs.inner.Taking.{fields_after_word, is_stopped, line_after_word, Grows, PutsFields, ReadsLine, PutsSoFar}
 use Rattle.journals.specs.declared.fault.JournalFaultKind.TheVariants.{UnknownWord, FieldCount, FieldForm}
 use Rattle.journals.specs.declared.field.Field.{Field}
 use Rattle.journals.specs.declared.form.Form.{Form}
@@ -28,13 +28,13 @@ pub none_pushed : (all : Option (List Field)) (old : List Field) → PutsSoFar a
 none_pushed None old = ([], sym (append-nil old), refl)
 none_pushed (Some fields) old = ([], sym (append-nil old), refl)
 
-put_behind : (pushed : List Field) (field : Field) (rest : Option (List Field)) → option_map (λ fields. pushed ++ fields) (put_field (Some field) rest) ≡ option_map (λ fields. (pushed ++ field ∷ []) ++ fields) rest
-put_behind pushed field None = refl
-put_behind pushed field (Some fields) = ap Some (sym (append_assoc pushed (field ∷ []) fields))
+put_at_end : (pushed : List Field) (field : Field) (rest : Option (List Field)) → option_map (λ fields. pushed ++ fields) (put_field (Some field) rest) ≡ option_map (λ fields. (pushed ++ field ∷ []) ++ fields) rest
+put_at_end pushed field None = refl
+put_at_end pushed field (Some fields) = ap Some (sym (append_assoc pushed (field ∷ []) fields))
 
 pub one_pushed : (all rest : Option (List Field)) (field : Field) (old mid new : List Field) → PutsSoFar all (put_field (Some field) rest) old mid → new ≡ mid ++ field ∷ [] → PutsSoFar all rest old new
 one_pushed all rest field old mid new so is =
-    (so.0 ++ field ∷ [], is ∙ ap (λ (fields : List Field). fields ++ field ∷ []) so.1 ∙ append_assoc old so.0 (field ∷ []), so.2 ∙ put_behind so.0 field rest)
+    (so.0 ++ field ∷ [], is ∙ ap (λ (fields : List Field). fields ++ field ∷ []) so.1 ∙ append_assoc old so.0 (field ∷ []), so.2 ∙ put_at_end so.0 field rest)
 
 -- the fields from a place on, where the field there has its form
 fields_here : (ranks : ℕ) (forms : List Form) (place : ℕ) (form : Form) (text : List ℕ) (texts left : List (List ℕ)) (field : Option Field) → slice_get forms place ≡ Some form → texts ≡ text ∷ left → field ≡ field_of ranks form text → fields_of ranks (drop place forms) texts ≡ put_field field (fields_of ranks (drop (place + 1) forms) left)
@@ -88,7 +88,7 @@ same_fields ranks forms false fields is = refl
 
 -- ---- The fields after a word ----
 
-pub wrong_count : (ranks : ℕ) (word : Word) (fields : List (List ℕ)) (count : ℕ) (old : List Field) → count ≡ length (without_site word fields) → (length (forms_of word count) == count) ≡ false → ReadsLine (line_behind_word ranks word fields) old old (Err (Journal FieldCount))
+pub wrong_count : (ranks : ℕ) (word : Word) (fields : List (List ℕ)) (count : ℕ) (old : List Field) → count ≡ length (without_site word fields) → (length (forms_of word count) == count) ≡ false → ReadsLine (line_after_word ranks word fields) old old (Err (Journal FieldCount))
 wrong_count ranks word fields count old is wrong =
     let other = rw is at wrong in
     (rw other refl, stays old)
@@ -108,22 +108,22 @@ if_no_field word site said fits_form is = rw (fits_form, is) refl
 if_no_site : (word : Word) (site : Bool) (said : Option (List Field)) → site ≡ false → line_if word site said ≡ Err FieldForm
 if_no_site word site said wrong = rw wrong refl
 
-said_line : (ranks : ℕ) (word : Word) (fields : List (List ℕ)) (count : ℕ) → count ≡ length (without_site word fields) → length (forms_of word count) ≡ count → line_behind_word ranks word fields ≡ line_if word (site_fits word fields) (fields_of ranks (forms_of word count) fields)
+said_line : (ranks : ℕ) (word : Word) (fields : List (List ℕ)) (count : ℕ) → count ≡ length (without_site word fields) → length (forms_of word count) ≡ count → line_after_word ranks word fields ≡ line_if word (site_fits word fields) (fields_of ranks (forms_of word count) fields)
 said_line ranks word fields count is fits =
     let same : length (forms_of word (length (without_site word fields))) ≡ length (without_site word fields) = rw is at fits in
     let front = same_fields ranks (forms_of word (length (without_site word fields))) (has_site word fields) fields same in
     right_count ranks word (site_fits word fields) (without_site word fields) same
     ∙ ap (line_if word (site_fits word fields)) (front ∙ ap (λ n. fields_of ranks (forms_of word n) fields) (sym is))
 
-pub wrong_site : (ranks : ℕ) (word : Word) (fields : List (List ℕ)) (count : ℕ) (old : List Field) → count ≡ length (without_site word fields) → length (forms_of word count) ≡ count → site_fits word fields ≡ false → ReadsLine (line_behind_word ranks word fields) old old (Err (Journal FieldForm))
+pub wrong_site : (ranks : ℕ) (word : Word) (fields : List (List ℕ)) (count : ℕ) (old : List Field) → count ≡ length (without_site word fields) → length (forms_of word count) ≡ count → site_fits word fields ≡ false → ReadsLine (line_after_word ranks word fields) old old (Err (Journal FieldForm))
 wrong_site ranks word fields count old is fits wrong =
     (said_line ranks word fields count is fits ∙ if_no_site word (site_fits word fields) _ wrong, stays old)
 
-right_fields : (ranks : ℕ) (word : Word) (fields : List (List ℕ)) (count : ℕ) (old new : List Field) → count ≡ length (without_site word fields) → length (forms_of word count) ≡ count → site_fits word fields ≡ true → PutsFields (fields_of ranks (forms_of word count) fields) old new (Ok tt) → ReadsLine (line_behind_word ranks word fields) old new (Ok word)
+right_fields : (ranks : ℕ) (word : Word) (fields : List (List ℕ)) (count : ℕ) (old new : List Field) → count ≡ length (without_site word fields) → length (forms_of word count) ≡ count → site_fits word fields ≡ true → PutsFields (fields_of ranks (forms_of word count) fields) old new (Ok tt) → ReadsLine (line_after_word ranks word fields) old new (Ok word)
 right_fields ranks word fields count old new is fits fits_form puts =
     (puts.0, said_line ranks word fields count is fits ∙ if_right word (site_fits word fields) _ puts.0 fits_form puts.1, puts.2)
 
-wrong_fields : (ranks : ℕ) (word : Word) (fields : List (List ℕ)) (count : ℕ) (old new : List Field) (fault : LineFault) → count ≡ length (without_site word fields) → length (forms_of word count) ≡ count → site_fits word fields ≡ true → PutsFields (fields_of ranks (forms_of word count) fields) old new (Err fault) → ReadsLine (line_behind_word ranks word fields) old new (Err fault)
+wrong_fields : (ranks : ℕ) (word : Word) (fields : List (List ℕ)) (count : ℕ) (old new : List Field) (fault : LineFault) → count ≡ length (without_site word fields) → length (forms_of word count) ≡ count → site_fits word fields ≡ true → PutsFields (fields_of ranks (forms_of word count) fields) old new (Err fault) → ReadsLine (line_after_word ranks word fields) old new (Err fault)
 wrong_fields ranks word fields count old new (Journal kind) is fits fits_form puts =
     (said_line ranks word fields count is fits ∙ if_no_field word (site_fits word fields) _ fits_form puts.0 ∙ ap Err (sym puts.1), puts.2)
 wrong_fields ranks word fields count old new Memory is fits fits_form puts = puts
@@ -168,13 +168,13 @@ tested_right word fields has last all count takes fits t =
       site = site_is word fields has fits has_it site_it ∙ t.fits_it;
     }
 
-pub behind_read : (ranks : ℕ) (word : Word) (fields : List (List ℕ)) (has : Bool) (last : Option (List ℕ)) (all count : ℕ) (takes fits : Bool) (old new : List Field) → Tested word fields has last all count takes fits → PutsFields (fields_of ranks (forms_of word count) fields) old new (Ok tt) → ReadsLine (line_behind_word ranks word fields) old new (Ok word)
-behind_read ranks word fields has last all count takes fits old new t puts =
+pub after_word_read : (ranks : ℕ) (word : Word) (fields : List (List ℕ)) (has : Bool) (last : Option (List ℕ)) (all count : ℕ) (takes fits : Bool) (old new : List Field) → Tested word fields has last all count takes fits → PutsFields (fields_of ranks (forms_of word count) fields) old new (Ok tt) → ReadsLine (line_after_word ranks word fields) old new (Ok word)
+after_word_read ranks word fields has last all count takes fits old new t puts =
     let r = tested_right word fields has last all count takes fits t in
     right_fields ranks word fields count old new r.count_is r.fits r.site puts
 
-pub behind_wrong : (ranks : ℕ) (word : Word) (fields : List (List ℕ)) (has : Bool) (last : Option (List ℕ)) (all count : ℕ) (takes fits : Bool) (old new : List Field) (fault : LineFault) → Tested word fields has last all count takes fits → PutsFields (fields_of ranks (forms_of word count) fields) old new (Err fault) → ReadsLine (line_behind_word ranks word fields) old new (Err fault)
-behind_wrong ranks word fields has last all count takes fits old new fault t puts =
+pub after_word_wrong : (ranks : ℕ) (word : Word) (fields : List (List ℕ)) (has : Bool) (last : Option (List ℕ)) (all count : ℕ) (takes fits : Bool) (old new : List Field) (fault : LineFault) → Tested word fields has last all count takes fits → PutsFields (fields_of ranks (forms_of word count) fields) old new (Err fault) → ReadsLine (line_after_word ranks word fields) old new (Err fault)
+after_word_wrong ranks word fields has last all count takes fits old new fault t puts =
     let r = tested_right word fields has last all count takes fits t in
     wrong_fields ranks word fields count old new fault r.count_is r.fits r.site puts
 
@@ -197,10 +197,10 @@ unfolding line_of
 stopped_line ranks line text rest word old is found stopped =
     ([], rw (is, found) (by_stopped ranks word rest stopped), sym (append-nil old))
 
-by_other : (ranks : ℕ) (word : Word) (fields : List (List ℕ)) → is_stopped word ≡ false → line_by_word ranks (Some word) fields ≡ line_behind_word ranks word fields
+by_other : (ranks : ℕ) (word : Word) (fields : List (List ℕ)) → is_stopped word ≡ false → line_by_word ranks (Some word) fields ≡ line_after_word ranks word fields
 by_other ranks (Call call.Stopped) fields is = cc
 by_other ranks word fields is = refl
 
-pub other_line : (ranks : ℕ) (line text : List ℕ) (rest : List (List ℕ)) (word : Word) → split_fields line ≡ text ∷ rest → word_of text ≡ Some word → is_stopped word ≡ false → line_of ranks line ≡ line_behind_word ranks word (fields_behind line)
+pub other_line : (ranks : ℕ) (line text : List ℕ) (rest : List (List ℕ)) (word : Word) → split_fields line ≡ text ∷ rest → word_of text ≡ Some word → is_stopped word ≡ false → line_of ranks line ≡ line_after_word ranks word (fields_after_word line)
 unfolding line_of
 other_line ranks line text rest word is found other = rw (is, found) (by_other ranks word rest other)

@@ -5,8 +5,9 @@ use Rattle.std.proofs.lemmas.List.{take_at}
 use Rattle.journals.specs.Words.{forms_of, word_of}
 use Rattle.journals.specs.Lines.{Line, fields_of, put_field, line_if, line_with, line_by_word, line_of_fields, line_of, site_fits, without_site}
 use Rattle.journals.specs.Fields.{field_of}
-use Rattle.journals.specs.Taking.{fields_at, Takes}
-use Rattle.journals.specs.Knows.{IsRead, IsNext}
+use Rattle.journals.specs.Taking.{fields_at}
+use Rattle.journals.specs.inner.Taking.{Takes}
+use Rattle.journals.specs.inner.Knows.{IsRead, IsNext}
 use Rattle.journals.specs.declared.field.Field.{Field}
 use Rattle.journals.specs.declared.form.Form.{Form}
 use Rattle.journals.specs.declared.lines.Taken.{Taken}

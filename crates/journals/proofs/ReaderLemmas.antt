@@ -6,9 +6,9 @@ use Rattle.std.proofs.lemmas.Bool.Decides.{nat_tests}
 use Rattle.std.proofs.lemmas.List.{length-take, nil_from_length}
 use Rattle.mpicall.specs.Spelling.{line_feed}
 use Rattle.journals.specs.Text.{whole_lines, is_too_long}
-use Rattle.journals.specs.Window.{Fills, NoFeedBelow, FirstFeed, EndsLine}
-use Rattle.journals.specs.Reader.{IsLine, coming, ComesNext, NoneComes, LongComes, CutsLine, PassesOver}
-use Rattle.journals.proofs.WholeLemmas.{first_whole, none_whole, none_in_both, feed_behind}
+use Rattle.journals.specs.inner.LineWindow.{Fills, NoFeedBelow, FirstFeed, EndsLine}
+use Rattle.journals.specs.inner.Reader.{IsLine, coming, ComesNext, NoneComes, LongComes, CutsLine, PassesOver}
+use Rattle.journals.proofs.WholeLemmas.{first_whole, none_whole, none_in_both, feed_after}
 
 -- ---- A line that is held ----
 
@@ -122,7 +122,7 @@ passes_long (Some text) None left held place p keeps found = absurd p.text
 passes_long (Some text) (Some xs) None held place p keeps found = absurd keeps
 passes_long (Some text) (Some xs) (Some ys) held place p keeps found =
     let both = p.came ++ held in
-    let at_feed = feed_behind p.came held place p.none found in
+    let at_feed = feed_after p.came held place p.none found in
     let whole = text_is text p.came xs held ys p.text keeps in
     (take (length p.came + place) both, whole_lines (drop (suc (length p.came + place)) both ++ ys), ap whole_lines whole ∙ first_whole both ys (length p.came + place) at_feed, too_long (take (length p.came + place) both) (omega (arith, length-take (length p.came + place) both, at_feed.within, p.long)))
 

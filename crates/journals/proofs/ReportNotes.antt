@@ -9,12 +9,12 @@ use Rattle.journals.specs.Lines.{Line}
 use Rattle.journals.specs.Entries.{Entry, call_of, numbers_by, number_if, is_of_request, is_new_request, is_new_message, is_request, last_entry}
 use Rattle.journals.specs.Known.{is_among, are_distinct, is_outcome, is_report, has_report, report_of, requests_in, chosen_of, completes, completed_by}
 use Rattle.journals.specs.Faults.{completed_last, may_choose}
-use Rattle.journals.specs.Naturals.{naturals}
-use Rattle.journals.specs.Numbered.{numbered, numbers_with}
+use Rattle.journals.specs.inner.Naturals.{naturals}
+use Rattle.journals.specs.inner.Numbered.{numbered, numbers_with}
 use Rattle.journals.specs.Taking.{fields_at}
-use Rattle.journals.specs.Last.{with_report}
-use Rattle.journals.specs.Notes.{reported_note, by_report, may_report, or_before, is_now, without, undone_note, undone_at}
-use Rattle.journals.specs.Knows.{IsRead, LastIs, NoteIs, NoteBelow, IsBelow, by_note, is_last, is_earlier, called_last, chosen_by, may_be_by, noted_last, may_follow_last, IsLast, is_unfit}
+use Rattle.journals.specs.inner.Last.{with_report}
+use Rattle.journals.specs.inner.Notes.{reported_note, by_report, may_report, or_before, is_now, without, undone_note, undone_at}
+use Rattle.journals.specs.inner.Knows.{IsRead, LastIs, NoteIs, NoteBelow, IsBelow, by_note, is_last, is_earlier, called_last, chosen_by, may_be_by, noted_last, may_follow_last, IsLast, is_unfit}
 use Rattle.journals.specs.declared.field.Field.{Field}
 use Rattle.journals.specs.declared.field.Field.TheVariants.{Natural, Signed, Null, Any, Undefined}
 use Rattle.journals.specs.declared.form.Form.{Form}
@@ -207,7 +207,7 @@ noted_not None lines word number held not_failed = refl
 noted_not (Some last) lines report.Failed number held not_failed = cc
 noted_not (Some last) lines _ number held not_failed = refl
 
--- what the last call completed once a report stands that isn't of its failing
+-- what the last call completed after a report that isn't of its failing
 completed_more : (ranks : ℕ) (lines : List Line) (last : Option LastCall) (word : ReportWord) (fields : List Field) (number : ℕ) → IsLast ranks lines last → is_report report.Failed (Report word) ≡ false → may_follow_last last lines word (length fields) ≡ true → (is_among number (numbers_by is_request (report_line word fields)) ≡ true → word ≡ report.Chose → called_last (last_entry lines) number ≡ true) → completed_last (option_map (add_report (report_line word fields)) (last_entry lines)) number ≡ (completed_last (last_entry lines) number || (is_some (chosen_by last word) && is_among number (numbers_by is_request (report_line word fields))))
 completed_more ranks lines None word fields number is not_failed follows within = rw is refl
 completed_more ranks lines (Some last) word fields number is not_failed follows within =

@@ -8,11 +8,11 @@ use Rattle.journals.specs.Lines.{Line}
 use Rattle.journals.specs.Entries.{Entry, numbers_by, number_if, is_comm, is_request, last_entry}
 use Rattle.journals.specs.Known.{is_among, are_distinct, group_of, parent_of}
 use Rattle.journals.specs.Faults.{Owner, has_right_group, is_group, is_made_by, is_made_in, makes_comm, may_bring_comm, brought_or_not, first_number, parent_in, may_follow}
-use Rattle.journals.specs.Naturals.{naturals}
+use Rattle.journals.specs.inner.Naturals.{naturals}
 use Rattle.journals.specs.Taking.{fields_at}
-use Rattle.journals.specs.Marks.{ranks_in}
-use Rattle.journals.specs.Notes.{note_at}
-use Rattle.journals.specs.Knows.{IsRead, IsLast, CommIs, owner_of, group_fields, group_at, is_right_group, held_group, group_by, is_right_call, first_natural, second_natural, is_made_last, is_made_by_last, duplicated_by, is_right_report}
+use Rattle.journals.specs.inner.Marks.{ranks_in}
+use Rattle.journals.specs.inner.Notes.{note_at}
+use Rattle.journals.specs.inner.Knows.{IsRead, IsLast, CommIs, owner_of, group_fields, group_at, is_right_group, held_group, group_by, is_right_call, first_natural, second_natural, is_made_last, is_made_by_last, duplicated_by, is_right_report}
 use Rattle.journals.specs.declared.field.Field.{Field}
 use Rattle.journals.specs.declared.field.Field.TheVariants.{Natural, Signed, Null, Any, Undefined}
 use Rattle.journals.specs.declared.form.Form.TheVariants.{NewComm, Member, Colour, Key}

@@ -16,21 +16,21 @@ ends zero h = refl
 ends (suc n) h = grind (arith, nat_tests)
 
 -- bytes of which none is zero are of the text
-none_zero : (bytes behind : List ℕ) → ((j : ℕ) → j < length bytes → is_byte 0 (get_or bytes j 0) ≡ true → ⊥) → take_while is_in_text (bytes ++ behind) ≡ bytes ++ take_while is_in_text behind
-none_zero [] behind h = refl
-none_zero (byte ∷ bytes) behind h =
+none_zero : (bytes rest : List ℕ) → ((j : ℕ) → j < length bytes → is_byte 0 (get_or bytes j 0) ≡ true → ⊥) → take_while is_in_text (bytes ++ rest) ≡ bytes ++ take_while is_in_text rest
+none_zero [] rest h = refl
+none_zero (byte ∷ bytes) rest h =
     let first : is_in_text byte ≡ true = passes byte (h 0 (omega arith)) in
-    take_while-cons is_in_text byte (bytes ++ behind) ∙ rw first (ap (λ (xs : List ℕ). byte ∷ xs) (none_zero bytes behind (λ j below. h (suc j) (omega arith))))
+    take_while-cons is_in_text byte (bytes ++ rest) ∙ rw first (ap (λ (xs : List ℕ). byte ∷ xs) (none_zero bytes rest (λ j below. h (suc j) (omega arith))))
 
 -- a text ends before the first zero byte
-first_zero : (bytes behind : List ℕ) (at : ℕ) → at < length bytes → is_byte 0 (get_or bytes at 0) ≡ true → ((j : ℕ) → j < at → is_byte 0 (get_or bytes j 0) ≡ true → ⊥) → take_while is_in_text (bytes ++ behind) ≡ take at bytes
-first_zero [] behind at within here before = absurd (omega arith)
-first_zero (byte ∷ bytes) behind zero within here before =
+first_zero : (bytes rest : List ℕ) (at : ℕ) → at < length bytes → is_byte 0 (get_or bytes at 0) ≡ true → ((j : ℕ) → j < at → is_byte 0 (get_or bytes j 0) ≡ true → ⊥) → take_while is_in_text (bytes ++ rest) ≡ take at bytes
+first_zero [] rest at within here before = absurd (omega arith)
+first_zero (byte ∷ bytes) rest zero within here before =
     let first : is_in_text byte ≡ false = ends byte here in
-    take_while-cons is_in_text byte (bytes ++ behind) ∙ rw first refl
-first_zero (byte ∷ bytes) behind (suc n) within here before =
+    take_while-cons is_in_text byte (bytes ++ rest) ∙ rw first refl
+first_zero (byte ∷ bytes) rest (suc n) within here before =
     let first : is_in_text byte ≡ true = passes byte (before 0 (omega arith)) in
-    take_while-cons is_in_text byte (bytes ++ behind) ∙ rw first (ap (λ (xs : List ℕ). byte ∷ xs) (first_zero bytes behind n (omega arith) here (λ j below. before (suc j) (omega arith))))
+    take_while-cons is_in_text byte (bytes ++ rest) ∙ rw first (ap (λ (xs : List ℕ). byte ∷ xs) (first_zero bytes rest n (omega arith) here (λ j below. before (suc j) (omega arith))))
 
 -- what a read gave that has no zero byte, it gave of the text
 pub given_of_text : (old new : Option (List ℕ)) (given : List ℕ) → Consumes old new given → ((j : ℕ) → j < length given → is_byte 0 (get_or given j 0) ≡ true → ⊥) → Consumes (option_map text_of old) (option_map text_of new) given

@@ -1,11 +1,11 @@
--- How the numbers of a line's requests and messages are used, where none stands twice.
+-- How the numbers of a line's requests and messages are used, if none is there twice.
 use Rattle.std.proofs.Common.{◌≡◌, ℕ, Bool, true, false, ◌&&◌, not, ◌==◌, if◌then◌else◌, List, [], ◌∷◌, Option, Some, None, sym, ap, ◌∙◌, refl, inl, inr}
 use Rattle.std.specs.List.{list_all, filter_map, cons_option}
 use Rattle.std.proofs.lemmas.Bool.{cases_Bool, and_parts, or_parts, false≢true, eqb-true, eq-eqb, not-true, false_from_ne_true}
 use Rattle.journals.specs.Entries.{number_if, numbers_by, is_of_request, is_new_request, is_new_message, is_request, is_message}
 use Rattle.journals.specs.Known.{is_among, are_distinct}
-use Rattle.journals.specs.Numbered.{numbered_in, formed, numbered, numbers_with}
-use Rattle.journals.specs.Notes.{may_use, noted}
+use Rattle.journals.specs.inner.Numbered.{numbered_in, formed, numbered, numbers_with}
+use Rattle.journals.specs.inner.Notes.{may_use, noted}
 use Rattle.journals.specs.declared.field.Field.{Field}
 use Rattle.journals.specs.declared.field.Field.TheVariants.{Natural, Signed, Null, Any, Undefined}
 use Rattle.journals.specs.declared.form.Form.{Form}

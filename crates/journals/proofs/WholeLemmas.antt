@@ -8,7 +8,7 @@ use Rattle.mpicall.specs.Lines.{lines_of, has_line_feed, body_of}
 use Rattle.mpicall.proofs.TraceLemmas.{line_at_feed, line_without_feed}
 use Rattle.mpicall.proofs.GivesLemmas.{last_is_feed}
 use Rattle.journals.specs.Text.{whole_lines}
-use Rattle.journals.specs.Window.{NoFeedBelow, FirstFeed}
+use Rattle.journals.specs.inner.LineWindow.{NoFeedBelow, FirstFeed}
 
 -- ---- The first whole line ----
 
@@ -66,9 +66,9 @@ before_both [] ys place none f k below is = f.before k (omega arith) is
 before_both (x ∷ xs) ys place none f zero below is = none 0 (omega arith) is
 before_both (x ∷ xs) ys place none f (suc k) below is = before_both xs ys place (λ j h e. none (suc j) (omega arith) e) f k (omega arith) is
 
--- the first line feed behind bytes that have none
-pub feed_behind : (xs ys : List ℕ) (place : ℕ) → NoFeedBelow xs (length xs) → FirstFeed ys place → FirstFeed (xs ++ ys) (length xs + place)
-feed_behind xs ys place none f =
+-- the first line feed after bytes that have none
+pub feed_after : (xs ys : List ℕ) (place : ℕ) → NoFeedBelow xs (length xs) → FirstFeed ys place → FirstFeed (xs ++ ys) (length xs + place)
+feed_after xs ys place none f =
     let at : length xs + place - length xs ≡ place = omega arith in
     let here : get_or (xs ++ ys) (length xs + place) 0 ≡ get_or ys (length xs + place - length xs) 0 = get_or-append_right xs ys (length xs) (length xs + place) 0 refl (omega arith) in
     record {

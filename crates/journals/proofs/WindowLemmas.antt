@@ -1,4 +1,4 @@
--- What the buffer of a window holds after a read behind its end.
+-- What the buffer of a window holds after a read after its end.
 use Rattle.std.proofs.Common.{◌≡◌, ℕ, ◌+◌, ◌-◌, ◌≤◌, List, ◌++◌, length, take, drop, sym, ap, ◌∙◌, refl, arith, Option, Some, None, append_assoc}
 use Rattle.std.proofs.Math.Seq.{take-append-add}
 use Rattle.std.proofs.lemmas.List.{drop-take, drop-drop, take-take, drop-append-le, length-take, length-drop}
@@ -22,7 +22,7 @@ put_front end room count buffer into fits short =
     ∙ ap (λ n. take (n + count) (take end buffer ++ into)) (sym front)
     ∙ take-append-add (take end buffer) into count
 
--- a read behind the held bytes adds what it gave
+-- a read after the held bytes adds what it gave
 pub filled : (start end room count : ℕ) (buffer into : List ℕ) → start ≤ end → end ≤ length buffer → count ≤ length into → take (end + count - start) (drop start (put_mid end room buffer into)) ≡ take (end - start) (drop start buffer) ++ take count into
 filled start end room count buffer into order fits short =
     between start (end + count) (put_mid end room buffer into) (omega arith)
@@ -37,7 +37,7 @@ unfilled start end room buffer into order fits =
     ∙ ap (drop start) (take-put_mid_below end room buffer into end (omega arith) fits)
     ∙ sym (between start end buffer order)
 
--- the bytes behind the first ones
+-- the bytes after the first ones
 pub dropped : (start end count : ℕ) (buffer : List ℕ) → start + count ≤ end → take (end - (start + count)) (drop (start + count) buffer) ≡ drop count (take (end - start) (drop start buffer))
 dropped start end count buffer h =
     between (start + count) end buffer h

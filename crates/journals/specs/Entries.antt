@@ -70,10 +70,11 @@ pub record Listing : Type 0 where
   pub entries : List Entry
 
 abbrev pub put_line : Word → List Field → Listing → Listing
-put_line (Call word) fields behind =
-    record { early = []; entries = record { word = word; fields = fields; reports = behind.early } ∷ behind.entries }
-put_line (Report word) fields behind =
-    record { early = record { word = Report word; fields = fields } ∷ behind.early; entries = behind.entries }
+put_line (Call word) fields rest =
+    record
+    { early = []; entries = record { word = word; fields = fields; reports = rest.early } ∷ rest.entries }
+put_line (Report word) fields rest =
+    record { early = record { word = Report word; fields = fields } ∷ rest.early; entries = rest.entries }
 
 abbrev pub listing_of : List Line → Listing
 listing_of [] = record { early = []; entries = [] }

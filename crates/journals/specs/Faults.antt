@@ -85,16 +85,16 @@ may_have report.Idup count entry = completes_requests entry.word
 may_have report.Failed count entry = may_fail entry.word && not (has_report report.Failed entry)
 may_have _ count entry = true
 
--- the report is of an earlier request or of no call line, and so may stand anywhere
-abbrev pub stands_anywhere : ReportWord → Bool
-stands_anywhere report.Done = true
-stands_anywhere report.Gone = true
-stands_anywhere report.Kept = true
-stands_anywhere report.Apart = true
-stands_anywhere _ = false
+-- the report is of an earlier request or of no call line, and so may be anywhere
+abbrev pub may_be_anywhere : ReportWord → Bool
+may_be_anywhere report.Done = true
+may_be_anywhere report.Gone = true
+may_be_anywhere report.Kept = true
+may_be_anywhere report.Apart = true
+may_be_anywhere _ = false
 
 abbrev pub may_follow : ReportWord → ℕ → Option Entry → Bool
-may_follow word count None = stands_anywhere word
+may_follow word count None = may_be_anywhere word
 may_follow word count (Some entry) = may_have word count entry
 
 -- the last call names the request; it completed the request
@@ -113,13 +113,15 @@ may_be_of report.Done before request = awaits_any before request && not (has_out
 may_be_of report.Gone before request = is_cancelled before request && not (has_outcome before request)
 may_be_of report.Kept before request = is_cancelled before request && not (has_outcome before request)
 may_be_of report.Idup before request =
-    is_some (parent_of before request) && completed_last (last_entry before) request && not (is_brought before request)
+    is_some (parent_of before request) && completed_last (last_entry before) request
+    && not (is_brought before request)
 may_be_of _ before request = true
 
 -- a known request that the line names can't have this report
 abbrev pub names_unfit : ReportWord → List Line → Line → Bool
 names_unfit word before line =
-    list_any (λ request. knows_request before request && not (may_be_of word before request)) (numbers_by is_request line)
+    list_any (λ request. knows_request before request && not (may_be_of word before request))
+    (numbers_by is_request line)
 
 abbrev pub is_out_of_place : List Line → Line → Word → Bool
 is_out_of_place before line (Call word) = false
@@ -141,8 +143,10 @@ abbrev pub has_wrong_request : List Line → Line → Bool
 has_wrong_request before line =
     not (list_all (is_free before) (numbers_by is_new_request line))
     || not (list_all (is_free before) (numbers_by is_new_message line))
-    || not (list_all (λ number. knows_request before number && is_left before line.word number) (numbers_by is_request line))
-    || not (list_all (λ number. knows_message before number && is_left before line.word number) (numbers_by is_message line))
+    || not (list_all (λ number. knows_request before number && is_left before line.word number)
+    (numbers_by is_request line))
+    || not (list_all (λ number. knows_message before number && is_left before line.word number)
+    (numbers_by is_message line))
     || not (are_distinct (numbers_by is_of_request line))
 
 -- ---- Communicators and groups ----
@@ -166,7 +170,8 @@ is_within group (Some parent) = list_all (λ rank. is_among rank parent) group
 abbrev pub is_group : Owner → List Line → Option ℕ → List ℕ → Bool
 is_group owner before None group = false
 is_group owner before (Some comm) group =
-    are_distinct group && is_among owner.rank group && is_within group (group_of owner.ranks owner.rank before comm)
+    are_distinct group && is_among owner.rank group
+    && is_within group (group_of owner.ranks owner.rank before comm)
 
 abbrev pub first_number : List ℕ → Option ℕ
 first_number [] = None
@@ -189,8 +194,10 @@ parent_in before (request ∷ requests) = parent_of before request
 
 abbrev pub has_right_group : Owner → List Line → Line → Word → Bool
 has_right_group owner before line (Call call.CommCreateGroup) = is_group owner before (Some 0) (group_in line)
-has_right_group owner before line (Report report.Comm) = is_made_by owner before (last_entry before) (group_in line)
-has_right_group owner before line (Report report.Idup) = is_group owner before (parent_in before (numbers_by is_request line)) (group_in line)
+has_right_group owner before line (Report report.Comm) =
+    is_made_by owner before (last_entry before) (group_in line)
+has_right_group owner before line (Report report.Idup) =
+    is_group owner before (parent_in before (numbers_by is_request line)) (group_in line)
 has_right_group owner before line (Report report.Apart) = is_group owner before (Some 0) (group_in line)
 has_right_group owner before line word = true
 
@@ -201,7 +208,7 @@ first_of [] = None
 first_of ((true, kind) ∷ others) = Some kind
 first_of ((false, kind) ∷ others) = first_of others
 
--- the first fault of a line behind these
+-- the first fault of a line, by the lines before it
 unfoldable pub fault_of_line : Owner → List Line → Line → Option JournalFaultKind
 fault_of_line owner before line =
     first_of ((is_after_end before, AfterEnd) ∷ (is_out_of_place before line line.word, OutOfPlace)

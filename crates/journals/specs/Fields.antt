@@ -22,7 +22,7 @@ positive_of text = option_and_then at_least_one (natural_of text)
 abbrev pub signed_field : List ℕ → Option Field
 signed_field text = option_map Signed (signed_of text)
 
--- the field of a name, where the text is that name; else another field
+-- the field of a name, if the text is that name; else another field
 abbrev pub or_named : List ℕ → Field → List ℕ → Option Field → Option Field
 or_named name field text other = if bytes_eq text name then Some field else other
 
@@ -32,7 +32,7 @@ peer_field text = or_named (codes "null") Null text (signed_field text)
 abbrev pub or_any : List ℕ → Option Field → Option Field
 or_any text other = or_named (codes "any") Any text other
 
--- the field of a form that a text spells, in a run of so many ranks; None where it isn't in that form or its range
+-- the field of a form that a text spells, in a run of so many ranks; None if it isn't in form or range
 abbrev pub field_of : ℕ → Form → List ℕ → Option Field
 field_of ranks NewRequest text = option_map Natural (positive_of text)
 field_of ranks NewMessage text = option_map Natural (positive_of text)

@@ -1,6 +1,6 @@
--- The first line of a journal: `journal 2`, the rank, the number of ranks, a field that the journals of one run share,
--- `i` while the rank is inside the call of its last call line and `o` once that came back, and at least one byte that
--- says nothing here.
+-- The first line of a journal: `journal 2`, the rank, the number of ranks, a field that the journals of one
+-- run share, `i` while the rank is inside the call of its last call line and `o` once that came back, and at
+-- least one byte that says nothing here.
 use Rattle.std.specs.Prelude.{ℕ, ◌-◌, Bool, true, false, ◌&&◌, not, ◌==◌, Option, Some, None, option_and_then, if◌then◌else◌, List, [], ◌∷◌, codes}
 use Rattle.std.specs.Str.{bytes_eq}
 use Rattle.mpicall.specs.Lines.{split_fields, is_blank}
@@ -20,7 +20,9 @@ is_number wanted None = false
 is_number wanted (Some number) = number == wanted
 
 abbrev pub state_of : List ℕ → Option Bool
-state_of field = if bytes_eq field (codes "o") then Some true else (if bytes_eq field (codes "i") then Some false else None)
+state_of field =
+    if bytes_eq field (codes "o") then Some true
+    else (if bytes_eq field (codes "i") then Some false else None)
 
 -- no fields are left
 abbrev pub is_empty : List (List ℕ) → Bool
@@ -33,12 +35,14 @@ has_bytes [] = false
 has_bytes (field ∷ fields) = not (is_blank field && is_empty fields)
 
 abbrev pub heading_if : Bool → Option ℕ → List ℕ → Option Bool → Option Heading
-heading_if true (Some ranks) run (Some outside) = Some (record { ranks = ranks; run = run; is_outside = outside })
+heading_if true (Some ranks) run (Some outside) =
+    Some (record { ranks = ranks; run = run; is_outside = outside })
 heading_if _ _ _ _ = None
 
 abbrev pub heading_in : ℕ → List (List ℕ) → Option Heading
 heading_in rank (word ∷ version ∷ own ∷ ranks ∷ run ∷ state ∷ library) =
-    heading_if (bytes_eq word (codes "journal") && bytes_eq version (codes "2") && is_number rank (number_up_to (MOST_RANKS - 1) own)
+    heading_if (bytes_eq word (codes "journal") && bytes_eq version (codes "2")
+    && is_number rank (number_up_to (MOST_RANKS - 1) own)
     && not (is_blank run) && has_bytes library)
     (option_and_then at_least_one (number_up_to MOST_RANKS ranks)) run (state_of state)
 heading_in rank _ = None

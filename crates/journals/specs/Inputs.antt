@@ -10,6 +10,6 @@ input_within text = text.input
 abbrev pub is_fresh : {I : Type 0} → TextInput I → Type 0
 is_fresh text = text.is_over ≡ false
 
--- what is left, where the input within tells its bytes
+-- what is left, if the bytes of the input within are known
 abbrev pub text_left : {I : Type 0} → (I → Option (List ℕ)) → TextInput I → Option (List ℕ)
 text_left left text = if text.is_over then Some [] else option_map text_of (left text.input)

@@ -16,7 +16,7 @@ use Rattle.journals.specs.declared.word.ReportWord.TheVariants as report
 abbrev pub is_among : ℕ → List ℕ → Bool
 is_among number numbers = list_any (λ other. other == number) numbers
 
--- no number stands twice
+-- no number is there twice
 abbrev pub are_distinct : List ℕ → Bool
 are_distinct [] = true
 are_distinct (number ∷ numbers) = not (is_among number numbers) && are_distinct numbers
@@ -65,8 +65,10 @@ chosen_of named reported = reported
 abbrev pub completes : CallWord → Entry → List ℕ
 completes call.Wait entry = numbers_by is_request (call_of entry)
 completes call.Test entry = numbers_by is_request (call_of entry)
-completes call.Waitany entry = chosen_of (numbers_by is_request (call_of entry)) (requests_in (report_of report.Chose entry))
-completes call.Waitsome entry = chosen_of (numbers_by is_request (call_of entry)) (requests_in (report_of report.Chose entry))
+completes call.Waitany entry =
+    chosen_of (numbers_by is_request (call_of entry)) (requests_in (report_of report.Chose entry))
+completes call.Waitsome entry =
+    chosen_of (numbers_by is_request (call_of entry)) (requests_in (report_of report.Chose entry))
 completes call.Mrecv entry = numbers_by is_message (call_of entry)
 completes call.Imrecv entry = numbers_by is_message (call_of entry)
 completes call.RequestFree entry = numbers_by is_request (call_of entry)
@@ -84,7 +86,7 @@ is_completed lines number = is_among number (flat_map completed_by (entries_of l
 abbrev pub receive_in : ℕ → Word → List Field → Option (Field × Field)
 receive_in number (Call call.Irecv) (Natural request ∷ comm ∷ source ∷ tag ∷ []) =
     if request == number then Some (source, tag) else None
-receive_in number (Call call.Isendrecv) (sent ∷ Natural received ∷ comm ∷ dest ∷ tag ∷ source ∷ other ∷ behind) =
+receive_in number (Call call.Isendrecv) (sent ∷ Natural received ∷ comm ∷ to ∷ tag ∷ source ∷ other ∷ rest) =
     if received == number then Some (source, other) else None
 receive_in number _ _ = None
 
@@ -92,7 +94,7 @@ abbrev pub is_any : Field → Bool
 is_any Any = true
 is_any _ = false
 
--- a wildcard stands as source or tag; a receive from nobody has none
+-- the source or the tag is a wildcard; a receive from nobody has none
 abbrev pub has_wildcard : Field × Field → Bool
 has_wildcard (Null, tag) = false
 has_wildcard (source, tag) = is_any source || is_any tag
@@ -111,36 +113,37 @@ is_cancel _ = false
 
 -- a cancel names the request
 abbrev pub is_cancelled : List Line → ℕ → Bool
-is_cancelled lines number = list_any (λ line. is_cancel line.word && is_among number (numbers_by is_request line)) lines
+is_cancelled lines number =
+    list_any (λ line. is_cancel line.word && is_among number (numbers_by is_request line)) lines
 
 abbrev pub is_outcome : Word → Bool
 is_outcome word = is_report report.Done word || is_report report.Gone word || is_report report.Kept word
 
 -- its message, or what came of its cancel, was reported
 abbrev pub has_outcome : List Line → ℕ → Bool
-has_outcome lines number = list_any (λ line. is_outcome line.word && is_among number (numbers_by is_request line)) lines
+has_outcome lines number =
+    list_any (λ line. is_outcome line.word && is_among number (numbers_by is_request line)) lines
 
 -- the communicator that its nonblocking duplicate made was reported
 abbrev pub is_brought : List Line → ℕ → Bool
-is_brought lines number = list_any (λ line. is_report report.Idup line.word && is_among number (numbers_by is_request line)) lines
+is_brought lines number =
+    list_any (λ line. is_report report.Idup line.word && is_among number (numbers_by is_request line)) lines
 
 -- the communicator that a line duplicates with this request
 abbrev pub duplicated_in : ℕ → Word → List Field → Option ℕ
-duplicated_in number (Call call.CommIdup) (Natural request ∷ Natural comm ∷ []) = if request == number then Some comm else None
+duplicated_in number (Call call.CommIdup) (Natural request ∷ Natural comm ∷ []) =
+    if request == number then Some comm else None
 duplicated_in number _ _ = None
-
-abbrev pub first_some : {A : Type 0} → List (Option A) → Option A
-first_some [] = None
-first_some (it ∷ others) = or_else it (first_some others)
 
 -- that of the nonblocking duplicate that started the request
 abbrev pub parent_of : List Line → ℕ → Option ℕ
 parent_of [] number = None
-parent_of (line ∷ lines) number = or_else (duplicated_in number line.word line.fields) (parent_of lines number)
+parent_of (line ∷ lines) number =
+    or_else (duplicated_in number line.word line.fields) (parent_of lines number)
 
 -- ---- Communicators ----
 
--- the group of this communicator, where a line reports it
+-- the group of this communicator, if the line reports it
 abbrev pub group_if : ℕ → Line → Option (List ℕ)
 group_if comm line = if is_among comm (numbers_by is_new_comm line) then Some (group_in line) else None
 
@@ -151,7 +154,8 @@ reported_group (line ∷ lines) comm = or_else (group_if comm line) (reported_gr
 -- the group of a communicator that the rank has: 0 is the world, 1 the rank alone, others were reported
 abbrev pub group_of : ℕ → ℕ → List Line → ℕ → Option (List ℕ)
 group_of ranks rank lines comm =
-    if comm == 0 then Some (range_with_len 0 ranks) else (if comm == 1 then Some (rank ∷ []) else reported_group lines comm)
+    if comm == 0 then Some (range_with_len 0 ranks)
+    else (if comm == 1 then Some (rank ∷ []) else reported_group lines comm)
 
 abbrev pub knows_comm : ℕ → ℕ → List Line → ℕ → Bool
 knows_comm ranks rank lines comm = is_some (group_of ranks rank lines comm)

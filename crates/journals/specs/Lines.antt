@@ -1,5 +1,5 @@
--- What a line says: its word and its fields, or why it says nothing. A call line may have its site last, `@` and a
--- number from 1 to 2147483647.
+-- What a line says: its word and its fields, or why it says nothing. A call line may have its site last, `@`
+-- and a number from 1 to 2147483647.
 use Rattle.std.specs.Prelude.{ℕ, ◌-◌, Bool, true, false, ◌&&◌, ◌==◌, Option, Some, None, is_some, if◌then◌else◌, Result, Ok, Err, List, [], ◌∷◌, length, take}
 use Rattle.mpicall.specs.Lines.{split_fields}
 use Rattle.journals.specs.Words.{word_of, forms_of, is_call}
@@ -16,7 +16,7 @@ pub record Line : Type 0 where
   pub word : Word
   pub fields : List Field
 
--- the bytes behind `@` of a site
+-- the byte before the number of a site
 abbrev pub at_sign : ℕ
 at_sign = 64
 
@@ -24,13 +24,13 @@ abbrev pub begins_with_at : Option (List ℕ) → Bool
 begins_with_at (Some (byte ∷ bytes)) = byte == at_sign
 begins_with_at _ = false
 
--- the last of some fields, behind one that came before
-abbrev pub last_behind : Option (List ℕ) → List (List ℕ) → Option (List ℕ)
-last_behind last [] = last
-last_behind last (field ∷ fields) = last_behind (Some field) fields
+-- the last of some fields, after one that came before
+abbrev pub last_from : Option (List ℕ) → List (List ℕ) → Option (List ℕ)
+last_from last [] = last
+last_from last (field ∷ fields) = last_from (Some field) fields
 
 abbrev pub last_field : List (List ℕ) → Option (List ℕ)
-last_field fields = last_behind None fields
+last_field fields = last_from None fields
 
 -- a call line's last field is its site
 abbrev pub has_site : Word → List (List ℕ) → Bool
@@ -44,7 +44,7 @@ abbrev pub is_site : Option (List ℕ) → Bool
 is_site (Some (byte ∷ bytes)) = is_some (positive_of bytes)
 is_site _ = false
 
--- the site, where there is one, is in its form and range
+-- the site, if there is one, is in its form and range
 abbrev pub site_fits : Word → List (List ℕ) → Bool
 site_fits word fields = if has_site word fields then is_site (last_field fields) else true
 
@@ -52,16 +52,17 @@ abbrev pub put_field : Option Field → Option (List Field) → Option (List Fie
 put_field (Some field) (Some fields) = Some (field ∷ fields)
 put_field _ _ = None
 
--- each field by its form; None where one isn't in its form and range
+-- each field by its form; None if one isn't in its form and range
 abbrev pub fields_of : ℕ → List Form → List (List ℕ) → Option (List Field)
-fields_of ranks (form ∷ forms) (text ∷ texts) = put_field (field_of ranks form text) (fields_of ranks forms texts)
+fields_of ranks (form ∷ forms) (text ∷ texts) =
+    put_field (field_of ranks form text) (fields_of ranks forms texts)
 fields_of ranks _ _ = Some []
 
 abbrev pub line_if : Word → Bool → Option (List Field) → Result Line JournalFaultKind
 line_if word true (Some fields) = Ok (record { word = word; fields = fields })
 line_if word _ _ = Err FieldForm
 
--- the line of a word and the fields behind it, without the site
+-- the line of a word and the fields after it, without the site
 abbrev pub line_with : ℕ → Word → Bool → List (List ℕ) → Result Line JournalFaultKind
 line_with ranks word site fields =
     if length (forms_of word (length fields)) == length fields
@@ -72,7 +73,8 @@ line_with ranks word site fields =
 abbrev pub line_by_word : ℕ → Option Word → List (List ℕ) → Result Line JournalFaultKind
 line_by_word ranks None fields = Err UnknownWord
 line_by_word ranks (Some (Call call.Stopped)) fields = Ok (record { word = Call call.Stopped; fields = [] })
-line_by_word ranks (Some word) fields = line_with ranks word (site_fits word fields) (without_site word fields)
+line_by_word ranks (Some word) fields =
+    line_with ranks word (site_fits word fields) (without_site word fields)
 
 abbrev pub line_of_fields : ℕ → List (List ℕ) → Result Line JournalFaultKind
 line_of_fields ranks [] = Err UnknownWord

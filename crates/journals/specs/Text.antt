@@ -1,5 +1,5 @@
--- The text of a journal: its bytes up to the first zero byte, or all of them. A last line without a line feed is left
--- out, however long: a recorder writes a line's first byte last, so such a line was never whole.
+-- The text of a journal: its bytes up to the first zero byte, or all of them. A last line without a line feed
+-- is left out, however long: a recorder writes a line's first byte last, so such a line was never whole.
 use Rattle.std.specs.Prelude.{ℕ, Bool, not, ◌==◌, nat_le, List, length, map, filter, take_while}
 use Rattle.mpicall.specs.Lines.{lines_of, has_line_feed, body_of}
 use Rattle.journals.specs.declared.limits.TheConstants.{MOST_LINE_BYTES}

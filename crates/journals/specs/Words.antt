@@ -1,5 +1,5 @@
--- The words of a journal's lines, each with its text and the forms of its fields: a table of the call lines, and one
--- of the reported lines.
+-- The words of a journal's lines, each with its text and the forms of its fields: a table of the call lines,
+-- and one of the reported lines.
 use Rattle.std.specs.Prelude.{ℕ, ◌-◌, ◌==◌, max, Bool, true, false, if◌then◌else◌, Option, Some, None, option_map, List, [], ◌∷◌, ◌++◌, length, map, replicate, codes}
 use Rattle.std.specs.Str.{bytes_eq}
 use Rattle.mpicall.specs.Word.{or_else}
@@ -128,7 +128,8 @@ call_words =
 
 abbrev pub report_words : List ReportWord
 report_words =
-    report.Got ∷ report.Chose ∷ report.Done ∷ report.Gone ∷ report.Kept ∷ report.Comm ∷ report.Idup ∷ report.NoComm
+    report.Got ∷ report.Chose ∷ report.Done ∷ report.Gone ∷ report.Kept ∷ report.Comm ∷ report.Idup
+    ∷ report.NoComm
     ∷ report.Apart ∷ report.Failed ∷ []
 
 -- the first word of a table that has a text
@@ -146,16 +147,17 @@ report_word_of text = word_in (map (λ word. ((report_row word).text, word)) rep
 unfoldable pub word_of : List ℕ → Option Word
 word_of text = or_else (option_map Call (call_word_of text)) (option_map Report (report_word_of text))
 
--- the forms of what may follow, where `count` fields follow those that the word always has
+-- the forms of what may follow, if `count` fields follow those that the word always has
 abbrev pub more_forms : More → ℕ → List Form
 more_forms more.Nothing count = []
 more_forms more.Bytes count = if count == 1 then Bytes ∷ [] else []
 more_forms (more.Several form) count = replicate (max 1 count) form
 more_forms more.Text count = []
 
--- the forms of the fields of a word, where there are `count` fields
+-- the forms of the fields of a word that has `count` of them
 abbrev pub forms_of : Word → ℕ → List Form
-forms_of word count = (row_of word).forms ++ more_forms (row_of word).more (count - length (row_of word).forms)
+forms_of word count =
+    (row_of word).forms ++ more_forms (row_of word).more (count - length (row_of word).forms)
 
 -- a word of a call line
 abbrev pub is_call : Word → Bool

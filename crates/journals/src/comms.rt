@@ -1,12 +1,15 @@
 //! What is known of communicators: for each that a line reported, that line.
+//!
+//! The line has its group, so nothing of a group is kept twice. The world and the rank alone are no lines and
+//! need no entry.
 
 ghost use Rattle.std.specs.Prelude.{◌≡◌, ◌<◌, ◌+◌, ◌&&◌, ◌||◌, not, option_map, length};
 ghost use Rattle.std.specs.Str.{bytes_eq};
 ghost use Rattle.journals.specs.Words.{forms_of};
 ghost use Rattle.journals.specs.Entries.{is_comm, is_new_comm};
-ghost use Rattle.journals.specs.Naturals.{naturals, AreNatural};
-ghost use Rattle.journals.specs.Numbered.{numbered, numbered_from};
-ghost use Rattle.journals.specs.Knows.{is_known, wrong_comm, group_fields, group_at, rest_of, first_natural, second_natural};
+ghost use Rattle.journals.specs.inner.Naturals.{naturals, AreNatural};
+ghost use Rattle.journals.specs.inner.Numbered.{numbered, numbered_from};
+ghost use Rattle.journals.specs.inner.Knows.{is_known, wrong_comm, group_fields, group_at, rest_of, first_natural, second_natural};
 
 use crate::field::Field;
 use crate::form::Form;
@@ -21,9 +24,10 @@ fn knows_comm(comms: &HashMap<u32, u32>, comm: u32) -> bool
     comm < 2 || comms.get(&comm).is_some()
 }
 
-/// Whether a communicator of this form is known where it may not be, or isn't where it has to.
+/// Whether a communicator of this form is known and must not be, or isn't and must be.
 fn is_wrong(comms: &HashMap<u32, u32>, form: Form, comm: u32) -> bool
-    ensures { result ≡ ((is_comm form && not (is_known comms.now comm)) || (is_new_comm form && is_known comms.now comm)) }
+    ensures { result ≡ ((is_comm form && not (is_known comms.now comm))
+        || (is_new_comm form && is_known comms.now comm)) }
 {
     match form {
         Form::Comm => !knows_comm(comms, comm),

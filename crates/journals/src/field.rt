@@ -1,4 +1,7 @@
 //! The fields of a line.
+//!
+//! A field is a number or one of three names. What a name or a number means follows from the form of the
+//! field, so a field doesn't keep it.
 
 ghost use Rattle.std.specs.Prelude.{◌≡◌, ◌≤◌, option_map, option_and_then, codes};
 ghost use Rattle.mpicall.specs.Number.{negative, signed_of, number_up_to};
@@ -112,7 +115,8 @@ fn colour_field(text: &[u8]) -> Option<Field>
     signed_field(text)
 }
 
-/// The field of a form that a text spells, in a run of so many ranks; None where it isn't in that form or its range.
+/// The field of a form that a text spells, in a run of so many ranks; None if it isn't in that form or its
+/// range.
 pub fn read_field(ranks: u32, form: Form, text: &[u8]) -> Option<Field>
     requires { 1 ≤ ranks }
     ensures { result ≡ field_of ranks form text.now }

@@ -1,8 +1,11 @@
 //! The forms of a line's fields.
+//!
+//! A word fixes the forms of its first fields and of what may follow them: nothing, bytes, any number of
+//! fields of one form, or a text that says nothing. So a line is read field by field, with no list of forms.
 
 ghost use Rattle.std.specs.Prelude.{◌≡◌, ◌<◌, ◌==◌, ℕ, length, slice_get};
 ghost use Rattle.journals.specs.Words.{call_row, report_row, row_of, forms_of};
-ghost use Rattle.journals.specs.Forms.{collective_forms};
+ghost use Rattle.journals.specs.inner.Forms.{collective_forms};
 
 use crate::word::{CallWord, ReportWord, Word};
 
@@ -45,7 +48,7 @@ pub enum Form {
 #[derive(Clone, Copy, PartialEq, Eq)]
 pub enum More {
     Nothing,
-    /// The bytes of a message, where they are known.
+    /// The bytes of a message, if they are known.
     Bytes,
     /// One field or more of this form.
     Several(Form),
@@ -89,7 +92,7 @@ const EXCHANGE: [Form; 5] = [
     Form::SourceTag,
 ];
 
-/// The same behind the requests of the send and of the receive.
+/// The same after the requests of the send and of the receive.
 const STARTED_EXCHANGE: [Form; 7] = [
     Form::NewRequest,
     Form::NewRequest,

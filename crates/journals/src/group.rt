@@ -1,10 +1,13 @@
-//! Whether the group of a communicator can be that of a new one's parent.
+//! Whether a group can be that of a communicator that is made of a parent.
+//!
+//! Each rank of the run has a mark, so a group is compared with its parent's in one pass over each. The marks
+//! are used again for each group, so that a line with a group takes no memory.
 
 ghost use Rattle.std.specs.Prelude.{◌≡◌, ◌<◌, ◌&&◌, ◌||◌, true, ℕ, if◌then◌else◌, IfOk, slice_set};
 ghost use Rattle.std.specs.List.{list_all};
 ghost use Rattle.journals.specs.Known.{is_among, are_distinct};
-ghost use Rattle.journals.specs.Naturals.{naturals, each_once, AreMembers};
-ghost use Rattle.journals.specs.Marks.{ranks_in, mark_at, is_in_parent, is_in_both, members_of};
+ghost use Rattle.journals.specs.inner.Naturals.{naturals, each_once, AreMembers};
+ghost use Rattle.journals.specs.inner.Marks.{ranks_in, mark_at, is_in_parent, is_in_both, members_of};
 ghost use Rattle.journals.specs.declared.group.Mark.TheVariants.{Outside, InParent};
 
 use crate::field::Field;
@@ -86,7 +89,8 @@ impl Marks {
     fn mark_parent(&mut self, parent: GroupOf<'_>)
         ensures ranks { ranks_in self.new ≡ ranks_in self.old }
         ensures marks { (rank : ℕ) → rank < ranks_in self.old → mark_at self.new rank
-            ≡ (if is_among rank (members_of (ranks_in self.old) parent.entry) then InParent else mark_at self.old rank) }
+            ≡ (if is_among rank (members_of (ranks_in self.old) parent.entry)
+            then InParent else mark_at self.old rank) }
     {
         match parent {
             GroupOf::World => self.set_all(Mark::InParent),
@@ -95,11 +99,13 @@ impl Marks {
         }
     }
 
-    /// Marks the members of a group that are in the parent's; says whether each is, and no rank stands twice.
+    /// Marks the members of a group that are in the parent's; says whether each is, and no rank is named
+    /// twice.
     fn mark_group(&mut self, mut group: &[Field]) -> bool
         requires { AreMembers (ranks_in self.old) group.now }
         ensures ranks { ranks_in self.new ≡ ranks_in self.old }
-        ensures value { result ≡ each_once (λ rank. is_in_parent (mark_at self.old rank)) (naturals group.entry.now) }
+        ensures value { result
+            ≡ each_once (λ rank. is_in_parent (mark_at self.old rank)) (naturals group.entry.now) }
         ensures marks { result ≡ true → (rank : ℕ) → is_in_both (mark_at self.new rank)
             ≡ (is_in_both (mark_at self.old rank) || is_among rank (naturals group.entry.now)) }
     {
@@ -121,7 +127,8 @@ impl Marks {
         requires { AreMembers (ranks_in self.old) group.now }
         ensures ranks { ranks_in self.new ≡ ranks_in self.old }
         ensures value { result ≡ (are_distinct (naturals group.now) && is_among rank (naturals group.now)
-            && list_all (λ member. is_among member (members_of (ranks_in self.old) parent.entry)) (naturals group.now)) }
+            && list_all (λ member. is_among member (members_of (ranks_in self.old) parent.entry))
+            (naturals group.now)) }
     {
         self.set_all(Mark::Outside);
         self.mark_parent(parent);

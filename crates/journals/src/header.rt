@@ -1,4 +1,7 @@
 //! The first line of a journal.
+//!
+//! It is read without memory; what is kept of it, the field that the journals of a run share, is copied once
+//! it is known to be right.
 
 ghost use Rattle.std.specs.Prelude.{◌≡◌, ◌≤◌, ◌-◌, None, Some, IfSome, MatchOption, option_and_then};
 ghost use Rattle.journals.specs.Headers.{heading};

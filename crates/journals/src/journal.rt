@@ -1,4 +1,7 @@
 //! A journal: its header and its lines, read from an input.
+//!
+//! Each line is put after the others first and then admitted, so that what is known of earlier lines can name
+//! them by their places. The first fault ends the reading; lines before it are given up with it.
 
 ghost use Rattle.std.specs.Prelude.{◌≡◌, ◌≤◌, ◌<◌, ◌&&◌, [], length, take, drop, ◌-◌, IfOk, IfSome, OnOk, ◌+◌, option_map};
 ghost use Rattle.std.specs.Option.{option_copied};
@@ -7,9 +10,10 @@ ghost use Rattle.journals.specs.declared.limits.TheConstants.{MOST_LINE_BYTES};
 ghost use Rattle.journals.specs.Header.{heading_of, is_of_run};
 ghost use Rattle.journals.specs.Headers.{heading};
 ghost use Rattle.journals.specs.Inputs.{text_left};
-ghost use Rattle.journals.specs.Knows.{Knows, owner_of};
-ghost use Rattle.journals.specs.Reader.{IsLine, coming};
-ghost use Rattle.journals.specs.Reading.{heading_in, FindsLine, CutsAt, PassesFound, PassesNext, CountsNext, FailsFrom, HeadsJournal, lines_to_come, TellsComing, TakesText, ReadsNext, TellsJournal, fault_as};
+ghost use Rattle.journals.specs.inner.Knows.{Knows, owner_of};
+ghost use Rattle.journals.specs.inner.Reader.{IsLine, coming};
+ghost use Rattle.journals.specs.Reading.{heading_in, FailsFrom, AnswersJournal};
+ghost use Rattle.journals.specs.inner.Reading.{FindsLine, CutsAt, PassesFound, PassesNext, CountsNext, HeadsJournal, lines_to_come, AnswersComing, TakesText, ReadsNext, fault_as};
 ghost use Rattle.journals.specs.declared.journal.JournalError.TheVariants as error;
 
 use crate::fault::{JournalFault, JournalFaultKind};
@@ -17,10 +21,10 @@ pub use crate::header::Header;
 use crate::header::{HeaderLine, read_header};
 use crate::known::Known;
 use crate::line::LineFault;
+use crate::line_window::Window;
 use crate::lines::Lines;
 use crate::reader::{NextLine, next_line};
 use crate::text::TextInput;
-use crate::window::Window;
 use mpicall::device::Input;
 use std::alloc::{AllocError, Global};
 use std::sync::Wait;
@@ -78,8 +82,8 @@ fn fault_at(line: u64, fault: LineFault) -> JournalError
     }
 }
 
-/// Looks for the whole line of a number, and answers how many of the held bytes it has, its line feed last; None at the
-/// end.
+/// Looks for the whole line of a number, and answers how many of the held bytes it has, its line feed last;
+/// None at the end.
 fn find_line<I: Input>(
     window: &mut Window,
     text: &mut TextInput<I>,
@@ -89,7 +93,8 @@ fn find_line<I: Input>(
     ensures held { IfOk result (λ found. IfSome found (IsLine window.new)) }
     ensures lines { FindsLine line (coming window.old (text_left I.left text.old)) window.new
         (text_left I.left text.new) result }
-    ensures cut { CutsAt line (prepend_known window.old (text_left I.left text.old)) (text_left I.left text.new) result }
+    ensures cut { CutsAt line (prepend_known window.old (text_left I.left text.old))
+        (text_left I.left text.new) result }
     ensures passes { PassesFound (prepend_known window.old (text_left I.left text.old)) window.new
         (text_left I.left text.new) result }
 {
@@ -120,7 +125,8 @@ fn header_of(
     first: Option<&Header>,
     line: &[u8],
 ) -> Result<Header, JournalError>
-    ensures { HeadsJournal (option_map heading_in (option_copied first.entry)) (heading_of rank line.now) result }
+    ensures { HeadsJournal (option_map heading_in (option_copied first.entry))
+        (heading_of rank line.now) result }
 {
     let Some(line) = read_header(rank, line) else {
         return Err(JournalError::Fault(NO_HEADER));
@@ -194,8 +200,10 @@ impl Reading {
         ensures number { OnOk result (self.new.number ≡ length self.new.lines + 2) }
         ensures next { CountsNext self.old.number self.new.number result }
         ensures lines { ReadsNext
-            (lines_to_come (owner_of self.old.known) self.old.lines (coming self.old.window (text_left I.left text.old)))
-            (lines_to_come (owner_of self.old.known) self.new.lines (coming self.new.window (text_left I.left text.new)))
+            (lines_to_come (owner_of self.old.known) self.old.lines
+            (coming self.old.window (text_left I.left text.old)))
+            (lines_to_come (owner_of self.old.known) self.new.lines
+            (coming self.new.window (text_left I.left text.new)))
             self.new.lines result }
         ensures cut { CutsAt self.old.number (prepend_known self.old.window (text_left I.left text.old))
             (text_left I.left text.new) result }
@@ -223,8 +231,9 @@ fn read_lines<I: Input>(
     requires knows { Knows reading.lines reading.known }
     requires number { reading.number ≡ length reading.lines + 2 }
     requires some { 1 ≤ reading.ranks }
-    ensures lines { TellsComing
-        (lines_to_come (owner_of reading.known) reading.lines (coming reading.window (text_left I.left text.old)))
+    ensures lines { AnswersComing
+        (lines_to_come (owner_of reading.known) reading.lines
+        (coming reading.window (text_left I.left text.old)))
         result }
     ensures cut { FailsFrom reading.number (prepend_known reading.window (text_left I.left text.old))
         (text_left I.left text.new) result }
@@ -242,8 +251,8 @@ fn read_lines<I: Input>(
     unreachable!()
 }
 
-/// Reads the journal of a rank to its end: what it says, or its first fault. `first` is the header of rank 0's journal,
-/// where this is another's. A text may have no end, so this may wait for good.
+/// Reads the journal of a rank to its end: what it says, or its first fault. `first` is the header of rank
+/// 0's journal, if this is another's. A text may have no end, so this may wait for good.
 pub fn read_journal<I: Input>(
     alloc: Global,
     rank: u32,
@@ -251,7 +260,8 @@ pub fn read_journal<I: Input>(
     text: &mut TextInput<I>,
     wait: &impl Wait,
 ) -> Result<Journal, JournalError>
-    ensures journal { TellsJournal rank (option_map heading_in (option_copied first.entry)) (text_left I.left text.old) result }
+    ensures journal { AnswersJournal rank (option_map heading_in (option_copied first.entry))
+        (text_left I.left text.old) result }
     ensures cut { FailsFrom 1 (text_left I.left text.old) (text_left I.left text.new) result }
 {
     let mut window = Window::new();

@@ -1,16 +1,20 @@
 //! What the lines of a journal so far say, as far as later lines can be wrong by it.
+//!
+//! A line is checked by look-ups, never by a search among earlier lines: each request and message has a note,
+//! each communicator its line, and the last call what was reported of it. The tests come in the order of
+//! faults. A line with a fault may leave notes, as nothing is read after it.
 
 ghost use Rattle.std.specs.Prelude.{◌≡◌, ◌≤◌, ◌&&◌, not, ℕ, false, [], IfOk, IfSome, OnOk, IfErr, option_map, length, take, nat_eq};
 ghost use Rattle.std.specs.HashMap.{get};
 ghost use Rattle.journals.specs.Words.{forms_of};
 ghost use Rattle.journals.specs.Faults.{ends_journal};
 ghost use Rattle.journals.specs.Taking.{fields_at};
-ghost use Rattle.journals.specs.Naturals.{naturals, AreMembers, AreNatural};
-ghost use Rattle.journals.specs.Numbered.{numbered, numbered_from};
-ghost use Rattle.journals.specs.Marks.{ranks_in, members_of};
-ghost use Rattle.journals.specs.Last.{with_report};
-ghost use Rattle.journals.specs.Notes.{note_at, IsFault, undone_at};
-ghost use Rattle.journals.specs.Knows.{IsNext, Knows, Answers, owner_of, held_group, group_by, is_right_group, is_right_call, world_of, may_follow_last, may_be_by, is_unfit, names_unfit_by, chosen_by, is_made_last, is_made_by_last, duplicated_by, is_right_report, is_last, group_fields, brings, brought_in, comms_with, noted_last};
+ghost use Rattle.journals.specs.inner.Naturals.{naturals, AreMembers, AreNatural};
+ghost use Rattle.journals.specs.inner.Numbered.{numbered, numbered_from};
+ghost use Rattle.journals.specs.inner.Marks.{ranks_in, members_of};
+ghost use Rattle.journals.specs.inner.Last.{with_report};
+ghost use Rattle.journals.specs.inner.Notes.{note_at, IsFault, undone_at};
+ghost use Rattle.journals.specs.inner.Knows.{IsNext, Knows, Answers, owner_of, held_group, group_by, is_right_group, is_right_call, world_of, may_follow_last, may_be_by, is_unfit, names_unfit_by, chosen_by, is_made_last, is_made_by_last, duplicated_by, is_right_report, is_last, group_fields, brings, brought_in, comms_with, noted_last};
 ghost use Rattle.journals.specs.Entries.{is_request};
 ghost use Rattle.journals.specs.declared.fault.JournalFaultKind.TheVariants.{OutOfPlace};
 ghost use Rattle.journals.specs.declared.word.Word.TheVariants.{Call, Report};
@@ -21,7 +25,7 @@ use crate::fault::JournalFaultKind;
 use crate::field::Field;
 use crate::form::Form;
 use crate::group::{GroupOf, Marks};
-use crate::last::{LastCall, stands_anywhere};
+use crate::last::{LastCall, may_be_anywhere};
 use crate::line::LineFault;
 use crate::lines::{Lines, Taken};
 use crate::note::Note;
@@ -156,8 +160,6 @@ impl Known {
         }
     }
 
-    // ---- Call lines ----
-
     fn admit_call(&mut self, lines: &Lines, line: u32, word: CallWord) -> Result<(), LineFault>
         requires next { IsNext (ranks_in self.old.marks) lines.now line
             (record { word = Call word; fields = fields_at lines.now line }) }
@@ -181,8 +183,6 @@ impl Known {
         self.is_over = ends_journal(word);
         Ok(())
     }
-
-    // ---- Reports ----
 
     fn admit_report(&mut self, lines: &Lines, line: u32, word: ReportWord) -> Result<(), LineFault>
         requires next { IsNext (ranks_in self.old.marks) lines.now line
@@ -224,7 +224,7 @@ impl Known {
     {
         match &self.last {
             Some(last) => last.may_have(lines.fields(last.line), word, count),
-            None => stands_anywhere(word),
+            None => may_be_anywhere(word),
         }
     }
 
@@ -245,7 +245,7 @@ impl Known {
         false
     }
 
-    /// Whether a report may stand here.
+    /// Whether a report may be here.
     fn is_in_place(&self, lines: &Lines, word: ReportWord, fields: &[Field]) -> bool
         requires { length (forms_of (Report word) (length fields.now)) ≡ length fields.now }
         ensures { result ≡ (may_follow_last self.now.last lines.now word (length fields.now)
@@ -257,7 +257,8 @@ impl Known {
 
     /// The group of a communicator that the rank has.
     fn group_of<'a>(&self, lines: &'a Lines, comm: u32) -> Option<GroupOf<'a>>
-        ensures { option_map (members_of (ranks_in self.now.marks)) result ≡ held_group self.now lines.now comm }
+        ensures { option_map (members_of (ranks_in self.now.marks)) result
+            ≡ held_group self.now lines.now comm }
     {
         match comm {
             0 => Some(GroupOf::World),
@@ -274,7 +275,8 @@ impl Known {
         requires { AreMembers (ranks_in self.old.marks) group.now }
         ensures ranks { ranks_in self.new.marks ≡ ranks_in self.old.marks }
         ensures same { self.new ≡ record self.old { marks = self.new.marks } }
-        ensures value { result ≡ is_right_group self.old.rank (group_by self.old lines.now parent) (naturals group.now) }
+        ensures value { result
+            ≡ is_right_group self.old.rank (group_by self.old lines.now parent) (naturals group.now) }
     {
         let Some(parent) = parent else {
             return false;

@@ -1,8 +1,11 @@
 //! The last call line, and what was reported of it.
+//!
+//! Most reports are of the call line before them, and each kind at most once of a call: four marks say which
+//! came.
 
 ghost use Rattle.std.specs.Prelude.{◌≡◌, ◌≤◌, length};
-ghost use Rattle.journals.specs.Faults.{takes_message, may_choose, completes_requests, makes_comm, is_undefined, may_bring_comm, may_fail, stands_anywhere};
-ghost use Rattle.journals.specs.Last.{new_last, last_may_have, with_report, completes_all};
+ghost use Rattle.journals.specs.Faults.{takes_message, may_choose, completes_requests, makes_comm, is_undefined, may_bring_comm, may_fail, may_be_anywhere};
+ghost use Rattle.journals.specs.inner.Last.{new_last, last_may_have, with_report, completes_all};
 
 use crate::field::Field;
 use crate::word::{CallWord, ReportWord};
@@ -127,7 +130,7 @@ impl LastCall {
     }
 }
 
-/// Whether a call completes all requests or messages that it names, where it doesn't fail.
+/// Whether a call completes all requests or messages that it names, if it doesn't fail.
 pub(crate) fn completes_all(word: CallWord, fields: &[Field]) -> bool
     ensures { result ≡ completes_all word fields.now }
 {
@@ -142,9 +145,9 @@ pub(crate) fn completes_all(word: CallWord, fields: &[Field]) -> bool
     }
 }
 
-/// Whether such a report may stand where no call line came before.
-pub(crate) fn stands_anywhere(word: ReportWord) -> bool
-    ensures { result ≡ stands_anywhere word }
+/// Whether such a report may be there before any call line.
+pub(crate) fn may_be_anywhere(word: ReportWord) -> bool
+    ensures { result ≡ may_be_anywhere word }
 {
     matches!(
         word,

@@ -1,4 +1,4 @@
-//! The limits of a journal, each standing here once; definitions cite these constants.
+//! The limits of a journal, each once; definitions cite these constants.
 
 /// The most bytes of a journal's line, its line feed counted.
 pub const MOST_LINE_BYTES: usize = 32_768;

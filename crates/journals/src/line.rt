@@ -1,10 +1,14 @@
 //! What a line says: its word and its fields.
+//!
+//! A line is cut at single spaces twice: first to count its fields and to find a site, which decide whether
+//! the word can have so many, and then to read each by its form, straight to the end of the list of all
+//! fields.
 
 ghost use Rattle.std.specs.Prelude.{◌≡◌, ◌≤◌, ◌<◌, ◌-◌, ◌&&◌, true, if◌then◌else◌, length};
 ghost use Rattle.std.specs.Option.{option_copied};
 ghost use Rattle.journals.specs.Words.{forms_of, is_call};
 ghost use Rattle.journals.specs.Lines.{begins_with_at, last_field, is_site, fields_of, line_of};
-ghost use Rattle.journals.specs.Taking.{fields_behind, is_stopped, line_behind_word, PutsFields, ReadsLine};
+ghost use Rattle.journals.specs.inner.Taking.{fields_after_word, is_stopped, line_after_word, PutsFields, ReadsLine};
 ghost use Rattle.journals.specs.declared.line.LineFault.TheVariants.{Memory};
 
 use crate::fault::JournalFaultKind;
@@ -85,7 +89,7 @@ fn is_site(field: Option<&[u8]>) -> bool
     }
 }
 
-/// Whether the site is in its form and range, where there is one.
+/// Whether the site is in its form and range, if there is one.
 fn site_fits(has_site: bool, last: Option<&[u8]>) -> bool
     ensures { result ≡ (if has_site then is_site (option_copied last.entry) else true) }
 {
@@ -104,9 +108,9 @@ fn count_without(count: usize, has_site: bool) -> usize
 }
 
 /// The fields after the first one of a line.
-fn behind_word(line: &[u8]) -> Fields<'_>
+fn after_word(line: &[u8]) -> Fields<'_>
     requires { length line.now < MOST_LINE_BYTES }
-    ensures value { result ≡ fields_behind line.now }
+    ensures value { result ≡ fields_after_word line.now }
     ensures short { length result ≤ MOST_LINE_BYTES }
 {
     let mut fields = Fields::of(line);
@@ -125,7 +129,8 @@ fn push_fields(
     requires some { 1 ≤ ranks }
     requires all { count ≤ length fields }
     requires fits { length (forms_of word count) ≡ count }
-    ensures { PutsFields (fields_of ranks (forms_of word count) fields.entry) into.old.items into.new.items result }
+    ensures { PutsFields (fields_of ranks (forms_of word count) fields.entry)
+        into.old.items into.new.items result }
 {
     for place in 0..count {
         let Some(form) = form_at(word, place) else {
@@ -143,7 +148,7 @@ fn push_fields(
 }
 
 /// Reads the fields after a word, and puts them at the end of a list; answers the word.
-fn push_behind(
+fn push_after_word(
     ranks: u32,
     word: Word,
     line: &[u8],
@@ -151,9 +156,10 @@ fn push_behind(
 ) -> Result<Word, LineFault>
     requires some { 1 ≤ ranks }
     requires short { length line.now < MOST_LINE_BYTES }
-    ensures { ReadsLine (line_behind_word ranks word (fields_behind line.now)) into.old.items into.new.items result }
+    ensures { ReadsLine (line_after_word ranks word (fields_after_word line.now))
+        into.old.items into.new.items result }
 {
-    let tail = tail_of(behind_word(line));
+    let tail = tail_of(after_word(line));
     let has_site = has_site(word, tail.last);
     let count = count_without(tail.count, has_site);
     if !takes_count(word, count) {
@@ -162,7 +168,7 @@ fn push_behind(
     if !site_fits(has_site, tail.last) {
         return Err(LineFault::Journal(JournalFaultKind::FieldForm));
     }
-    match push_fields(ranks, word, behind_word(line), count, into) {
+    match push_fields(ranks, word, after_word(line), count, into) {
         Ok(()) => Ok(word),
         Err(fault) => Err(fault),
     }
@@ -175,8 +181,8 @@ fn is_stopped(word: Word) -> bool
     matches!(word, Word::Call(CallWord::Stopped))
 }
 
-/// Reads a line, without its line feed, of a run of so many ranks: its word, and its fields, which are put at the end
-/// of a list.
+/// Reads a line, without its line feed, of a run of so many ranks: its word, and its fields, which are put at
+/// the end of a list.
 pub(crate) fn read_line(ranks: u32, line: &[u8], into: &mut Vec<Field>) -> Result<Word, LineFault>
     requires some { 1 ≤ ranks }
     requires short { length line.now < MOST_LINE_BYTES }
@@ -191,5 +197,5 @@ pub(crate) fn read_line(ranks: u32, line: &[u8], into: &mut Vec<Field>) -> Resul
     if is_stopped(word) {
         return Ok(word);
     }
-    push_behind(ranks, word, line, into)
+    push_after_word(ranks, word, line, into)
 }

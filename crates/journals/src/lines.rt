@@ -1,8 +1,12 @@
 //! The lines of a journal, packed.
+//!
+//! A line has 8 bytes, and its fields stay together in one list of all fields, 8 bytes each. A line with a
+//! fault may leave fields there that no line has.
 
 ghost use Rattle.std.specs.Prelude.{◌≡◌, ◌<◌, ◌≤◌, [], length};
 ghost use Rattle.journals.specs.Lines.{line_of};
-ghost use Rattle.journals.specs.Taking.{word_at, fields_at, TakesLine};
+ghost use Rattle.journals.specs.Taking.{word_at, fields_at};
+ghost use Rattle.journals.specs.inner.Taking.{TakesLine};
 
 use crate::field::Field;
 use crate::limits::MOST_LINE_BYTES;
@@ -39,7 +43,7 @@ pub struct Lines {
 impl Model for Lines {
     ghost use Rattle.std.specs.Prelude.{List};
     ghost use Rattle.journals.specs.Lines.{Line};
-    ghost use Rattle.journals.specs.Packing.{lines_in, HasFields};
+    ghost use Rattle.journals.specs.inner.Packing.{lines_in, HasFields};
 
     ghost Value = { List Line };
 
@@ -86,7 +90,8 @@ impl Lines {
         }
     }
 
-    /// Reads a line, without its line feed, of a run of so many ranks, and puts it after the others; answers its place.
+    /// Reads a line, without its line feed, of a run of so many ranks, and puts it after the others; answers
+    /// its place.
     pub(crate) fn read(&mut self, ranks: u32, line: &[u8]) -> Result<Taken, LineFault>
         requires some { 1 ≤ ranks }
         requires short { length line.now < MOST_LINE_BYTES }

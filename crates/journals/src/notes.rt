@@ -1,13 +1,16 @@
 //! What is known of each request and message, by its number.
+//!
+//! A call line and a report use their numbers one after another: each is checked by its note so far, and then
+//! noted. A number that is used twice in one line is found by that.
 
 ghost use Rattle.std.specs.Prelude.{◌≡◌, ◌<◌, ◌==◌, ◌+◌, true, false, ℕ, length, if◌then◌else◌, OnOk, IfErr};
 ghost use Rattle.std.specs.List.{cons_option};
 ghost use Rattle.journals.specs.Words.{forms_of};
 ghost use Rattle.journals.specs.Entries.{is_of_request};
-ghost use Rattle.journals.specs.Naturals.{naturals};
+ghost use Rattle.journals.specs.inner.Naturals.{naturals};
 ghost use Rattle.journals.specs.Known.{is_among};
-ghost use Rattle.journals.specs.Numbered.{number_of, numbered, numbered_from};
-ghost use Rattle.journals.specs.Notes.{note_at, may_use, noted, may_call, by_call, may_report, by_report, undone_at, IsFault};
+ghost use Rattle.journals.specs.inner.Numbered.{number_of, numbered, numbered_from};
+ghost use Rattle.journals.specs.inner.Notes.{note_at, may_use, noted, may_call, by_call, may_report, by_report, undone_at, IsFault};
 ghost use Rattle.journals.specs.declared.word.Word.TheVariants.{Call, Report};
 ghost use Rattle.journals.specs.declared.fault.JournalFaultKind.TheVariants.{Request};
 
@@ -56,11 +59,12 @@ fn number_of(form: Option<Form>, field: Field) -> Option<(Form, u32)>
     }
 }
 
-/// The number at a place of a line's fields, with its form; None where there is none.
+/// The number at a place of a line's fields, with its form; None if there is none.
 pub(crate) fn number_at(word: Word, fields: &[Field], place: usize) -> Option<(Form, u32)>
     requires fits { length (forms_of word (length fields.now)) ≡ length fields.now }
     requires within { place < length fields.now }
-    ensures { numbered_from word fields.now place ≡ cons_option result (numbered_from word fields.now (place + 1)) }
+    ensures { numbered_from word fields.now place
+        ≡ cons_option result (numbered_from word fields.now (place + 1)) }
 {
     number_of(form_at(word, place), fields[place])
 }
@@ -108,7 +112,8 @@ fn use_in_call(
     ensures ok { OnOk result (may_call call.entry.line form (note_at notes.old number) ≡ true) }
     ensures notes { OnOk result ((other : ℕ) → note_at notes.new other
         ≡ (if number == other
-        then by_call call.entry.word call.entry.fields.now call.entry.line number form (note_at notes.old number)
+        then by_call call.entry.word call.entry.fields.now call.entry.line number form
+        (note_at notes.old number)
         else note_at notes.old other)) }
     ensures fault { IfErr result (IsFault Request
         (may_call call.entry.line form (note_at notes.old number) ≡ false)) }
@@ -127,10 +132,12 @@ fn use_in_call(
 #[tactic(auto, using(crate::proofs::NoteSteps::none_numbered_left))]
 pub(crate) fn note_call(notes: &mut HashMap<u32, Note>, call: CallLine<'_>) -> Result<(), LineFault>
     requires { length (forms_of (Call call.word) (length call.fields.now)) ≡ length call.fields.now }
-    ensures ok { OnOk result (may_use (may_call call.entry.line) (by_call call.entry.word call.entry.fields.now call.entry.line)
+    ensures ok { OnOk result (may_use (may_call call.entry.line)
+        (by_call call.entry.word call.entry.fields.now call.entry.line)
         (note_at notes.old) (numbered (Call call.entry.word) call.entry.fields.now) ≡ true) }
     ensures notes { OnOk result ((other : ℕ) → note_at notes.new other
-        ≡ noted (by_call call.entry.word call.entry.fields.now call.entry.line) other (note_at notes.old other)
+        ≡ noted (by_call call.entry.word call.entry.fields.now call.entry.line) other
+        (note_at notes.old other)
         (numbered (Call call.entry.word) call.entry.fields.now)) }
     ensures fault { IfErr result (IsFault Request
         (may_use (may_call call.entry.line) (by_call call.entry.word call.entry.fields.now call.entry.line)
@@ -146,8 +153,6 @@ pub(crate) fn note_call(notes: &mut HashMap<u32, Note>, call: CallLine<'_>) -> R
     Ok(())
 }
 
-// ---- Reports ----
-
 /// Notes what a report says of one number; says whether it may.
 fn use_in_report(
     notes: &mut HashMap<u32, Note>,
@@ -159,7 +164,8 @@ fn use_in_report(
     ensures ok { OnOk result (may_report report.entry.line form (note_at notes.old number) ≡ true) }
     ensures notes { OnOk result ((other : ℕ) → note_at notes.new other
         ≡ (if number == other
-        then by_report report.entry.word report.entry.line report.entry.completed number form (note_at notes.old number)
+        then by_report report.entry.word report.entry.line report.entry.completed number form
+        (note_at notes.old number)
         else note_at notes.old other)) }
     ensures fault { IfErr result (IsFault Request
         (may_report report.entry.line form (note_at notes.old number) ≡ false)) }
@@ -189,10 +195,12 @@ pub(crate) fn note_report(
         (by_report report.entry.word report.entry.line report.entry.completed)
         (note_at notes.old) (numbered (Report report.entry.word) report.entry.fields.now) ≡ true) }
     ensures notes { OnOk result ((other : ℕ) → note_at notes.new other
-        ≡ noted (by_report report.entry.word report.entry.line report.entry.completed) other (note_at notes.old other)
+        ≡ noted (by_report report.entry.word report.entry.line report.entry.completed) other
+        (note_at notes.old other)
         (numbered (Report report.entry.word) report.entry.fields.now)) }
     ensures fault { IfErr result (IsFault Request
-        (may_use (may_report report.entry.line) (by_report report.entry.word report.entry.line report.entry.completed)
+        (may_use (may_report report.entry.line)
+        (by_report report.entry.word report.entry.line report.entry.completed)
         (note_at notes.old) (numbered (Report report.entry.word) report.entry.fields.now) ≡ false)) }
 {
     for place in 0..report.fields.len() {
@@ -204,8 +212,6 @@ pub(crate) fn note_report(
     }
     Ok(())
 }
-
-// ---- A call that failed ----
 
 /// Takes back what the call line completed of one number.
 fn undo(notes: &mut HashMap<u32, Note>, line: u32, number: u32) -> Result<(), LineFault>

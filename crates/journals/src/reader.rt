@@ -1,16 +1,19 @@
 //! The whole lines of a journal's text, one by one.
+//!
+//! A line longer than any may be is passed over without being held: whether it is a fault depends on whether
+//! its line feed comes at all, as a last line without one isn't read.
 
 ghost use Rattle.std.specs.Prelude.{◌≡◌, ◌≢◌, ◌-◌, ◌≤◌, ◌<◌, length, slice_index, IfOk, OnErr, MatchBool};
 ghost use Rattle.std.specs.Io.KnownBytes.{prepend_known};
 ghost use Rattle.mpicall.specs.Device.{CountsFailure};
 ghost use Rattle.mpicall.specs.Spelling.{line_feed};
 ghost use Rattle.journals.specs.Inputs.{input_within, text_left};
-ghost use Rattle.journals.specs.Window.{NoFeedBelow};
-ghost use Rattle.journals.specs.Reader.{IsHeld, KeepsText, coming, NoneComes, LongComes, Finds, CutsLine};
+ghost use Rattle.journals.specs.inner.LineWindow.{NoFeedBelow};
+ghost use Rattle.journals.specs.inner.Reader.{IsHeld, KeepsText, coming, NoneComes, LongComes, Finds, CutsLine};
 
 use crate::limits::MOST_LINE_BYTES;
+use crate::line_window::{Window, feed_at, line_end};
 use crate::text::TextInput;
-use crate::window::{Window, feed_at, line_end};
 use mpicall::device::{DeviceFault, Input};
 use std::sync::Wait;
 
@@ -65,7 +68,7 @@ fn skip_long<I: Input>(
     unreachable!()
 }
 
-/// Looks for the next whole line. A text may have no end, so this may wait for good where a line has none.
+/// Looks for the next whole line. A text may have no end, so this may wait for good in a line without end.
 pub(crate) fn next_line<I: Input>(
     window: &mut Window,
     text: &mut TextInput<I>,

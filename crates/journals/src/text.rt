@@ -1,4 +1,6 @@
 //! The text of a journal: the bytes of an input up to the first zero byte.
+//!
+//! A recorder may make its file longer than what it has written, so what is not written yet is zero.
 
 ghost use Rattle.std.specs.Prelude.{◌≡◌};
 ghost use Rattle.std.specs.Io.{ReadsAtMost};

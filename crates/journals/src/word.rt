@@ -1,4 +1,6 @@
 //! The words of a journal's lines.
+//!
+//! They are looked up in two tables, of call lines and of reports, in which words that come often are first.
 
 ghost use Rattle.std.specs.Prelude.{◌≡◌, map};
 ghost use Rattle.journals.specs.Words.{word_in, call_word_of, report_word_of, word_of};

@@ -2,12 +2,17 @@
 use Rattle.std.specs.Prelude.{ℕ, ◌-◌, Option, Some, None, Result, Ok, Err, List, [], ◌∷◌}
 use Rattle.std.specs.List.{range_with_len}
 use Rattle.journals.specs.Header.{Heading}
-use Rattle.journals.specs.Journal.{Journal, Fault, journal_of}
+use Rattle.journals.specs.Text.{text_of, whole_lines}
+use Rattle.journals.specs.Journal.{Journal, Fault, journal_of_lines}
 use Rattle.closing.specs.inner.Entries.{Run}
 
 pub record RankFault : Type 0 where
   pub rank : ℕ
   pub fault : Fault
+
+-- the journal of a rank whose file has these bytes
+unfoldable pub journal_of : ℕ → Option Heading → List ℕ → Result Journal Fault
+journal_of rank first bytes = journal_of_lines rank first (whole_lines (text_of bytes))
 
 abbrev pub journal_if : ℕ → Result Journal Fault → Result (Option Journal) RankFault
 journal_if rank (Ok journal) = Ok (Some journal)

@@ -1,7 +1,7 @@
 -- What is left of both groups is the same where the groups are.
 use Rattle.std.proofs.Common.{◌≡◌, length}
 use Rattle.std.specs.Str.{bytes_eq}
-use Rattle.journals.specs.Naturals.{naturals, AreNatural}
+use Rattle.journals.specs.inner.Naturals.{naturals, AreNatural}
 use Rattle.journals.proofs.comms.is_same_group.Given as goal
 
 abbrev pub invariant-loop-group : goal.invariant-loop-group

@@ -1,7 +1,7 @@
 -- No communicator is left to be wrong.
 use Rattle.std.proofs.Common.{◌≡◌, ◌∙◌, ap, sym, not, length, arith}
-use Rattle.journals.specs.Numbered.{numbered_from}
-use Rattle.journals.specs.Knows.{is_known, wrong_comm}
+use Rattle.journals.specs.inner.Numbered.{numbered_from}
+use Rattle.journals.specs.inner.Knows.{is_known, wrong_comm}
 use Rattle.journals.proofs.NoteSteps.{none_numbered_left}
 use Rattle.journals.proofs.comms.knows_comms.Goals as goal
 

@@ -1,7 +1,7 @@
 -- The communicators to come are wrong where those of the whole line are.
 use Rattle.std.proofs.Common.{◌≡◌}
-use Rattle.journals.specs.Numbered.{numbered, numbered_from}
-use Rattle.journals.specs.Knows.{is_known, wrong_comm}
+use Rattle.journals.specs.inner.Numbered.{numbered, numbered_from}
+use Rattle.journals.specs.inner.Knows.{is_known, wrong_comm}
 use Rattle.journals.proofs.comms.knows_comms.Given as goal
 
 abbrev pub invariant-loop-place : goal.invariant-loop-place

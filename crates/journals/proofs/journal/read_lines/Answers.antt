@@ -1,12 +1,12 @@
--- The lines to the text's end tell what all of them do.
+-- The lines to the text's end say what all of them do.
 use Rattle.std.proofs.Common.{◌≡◌, ℕ, ◌+◌, ◌≤◌, ◌∙◌, refl, sym, ap, subst, arith, Ok, Bool, List}
 use Rattle.journals.specs.Inputs.{text_left}
 use Rattle.journals.specs.Lines.{Line}
-use Rattle.journals.specs.Knows.{owner_of}
-use Rattle.journals.specs.Reader.{coming}
-use Rattle.journals.specs.Reading.{lines_to_come, GoesOn, TellsComing}
+use Rattle.journals.specs.inner.Knows.{owner_of}
+use Rattle.journals.specs.inner.Reader.{coming}
+use Rattle.journals.specs.inner.Reading.{lines_to_come, GoesOn, AnswersComing}
 use Rattle.journals.specs.Faults.{Owner}
-use Rattle.journals.proofs.JournalLemmas.{goes_same, goes_further, tells_back}
+use Rattle.journals.proofs.JournalLemmas.{goes_same, goes_further, answers_back}
 use Rattle.journals.proofs.PassLemmas.{passes_none, passes_both, cut_within}
 use Rattle.journals.proofs.journal.read_lines.Goals as goal
 
@@ -44,11 +44,11 @@ loop-preserved g c =
 pub returns-in-Ok-false-clause-lines : goal.returns-in-Ok-false-clause-lines
 returns-in-Ok-false-clause-lines g c =
     let read = rw c.in-Ok-false.field-0-test at c.in-Ok-false.ensures.lines in
-    let told : TellsComing (lines_to_come (owner_of c.loop.reading.known) c.loop.reading.lines (coming c.loop.reading.window (text_left g.I.Input.left c.loop.text))) (Ok c.read_next.new.self.lines) = read in
-    tells_back _ _ (Ok c.read_next.new.self.lines) c.loop.invariant.on told
+    let answered : AnswersComing (lines_to_come (owner_of c.loop.reading.known) c.loop.reading.lines (coming c.loop.reading.window (text_left g.I.Input.left c.loop.text))) (Ok c.read_next.new.self.lines) = read in
+    answers_back _ _ (Ok c.read_next.new.self.lines) c.loop.invariant.on answered
 
 pub returns-in-Err-clause-lines : goal.returns-in-Err-clause-lines
-returns-in-Err-clause-lines g c = tells_back _ _ _ c.loop.invariant.on c.in-Err.ensures.lines
+returns-in-Err-clause-lines g c = answers_back _ _ _ c.loop.invariant.on c.in-Err.ensures.lines
 
 pub returns-in-Err-clause-cut : goal.returns-in-Err-clause-cut
 returns-in-Err-clause-cut g c =

@@ -1,10 +1,10 @@
--- The lines still to come tell what all of them do.
+-- The lines still to come say what all of them do.
 use Rattle.std.proofs.Common.{◌≡◌, ℕ, ◌+◌, ◌≤◌, length}
 use Rattle.std.specs.Io.KnownBytes.{prepend_known}
 use Rattle.journals.specs.Inputs.{text_left}
-use Rattle.journals.specs.Knows.{Knows, owner_of}
-use Rattle.journals.specs.Reader.{coming}
-use Rattle.journals.specs.Reading.{lines_to_come, GoesOn, Passes}
+use Rattle.journals.specs.inner.Knows.{Knows, owner_of}
+use Rattle.journals.specs.inner.Reader.{coming}
+use Rattle.journals.specs.inner.Reading.{lines_to_come, GoesOn, Passes}
 use Rattle.journals.proofs.journal.read_lines.Given as goal
 
 abbrev pub invariant-loop : goal.invariant-loop

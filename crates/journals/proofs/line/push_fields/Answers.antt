@@ -1,4 +1,4 @@
--- Each field is read by its form, and put behind those before it.
+-- Each field is read by its form, and put after those before it.
 use Rattle.std.proofs.Common.{◌≡◌, ◌∙◌, sym, ap, arith, length, Some, slice_get}
 use Rattle.journals.specs.Words.{forms_of}
 use Rattle.journals.proofs.PushLemmas.{none_pushed, step_none, step_some, some_text, no_text}

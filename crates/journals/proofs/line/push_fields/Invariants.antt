@@ -2,7 +2,7 @@
 use Rattle.std.proofs.Common.{◌≡◌, ◌+◌, length, drop}
 use Rattle.journals.specs.Words.{forms_of}
 use Rattle.journals.specs.Lines.{fields_of}
-use Rattle.journals.specs.Taking.{PutsSoFar}
+use Rattle.journals.specs.inner.Taking.{PutsSoFar}
 use Rattle.journals.proofs.line.push_fields.Given as goal
 
 abbrev pub invariant-loop-place : goal.invariant-loop-place

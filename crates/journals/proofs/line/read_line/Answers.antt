@@ -21,4 +21,4 @@ returns-then-is_stopped c =
 pub returns : goal.returns
 returns c =
     let first : c.of.result ≡ c.in-Some.text.now ∷ c.next_field.new.self = c.in-Some.ensures in
-    rw (other_line c.args.ranks c.args.line.now c.in-Some.text.now c.next_field.new.self c.in-Some-word_of.word (sym c.of.ensures ∙ first) (sym c.word_of.ensures ∙ c.in-Some-word_of.is) (sym c.is_stopped.ensures ∙ c.if-is_stopped.false)) c.push_behind.ensures
+    rw (other_line c.args.ranks c.args.line.now c.in-Some.text.now c.next_field.new.self c.in-Some-word_of.word (sym c.of.ensures ∙ first) (sym c.word_of.ensures ∙ c.in-Some-word_of.is) (sym c.is_stopped.ensures ∙ c.if-is_stopped.false)) c.push_after_word.ensures

@@ -1,7 +1,7 @@
 -- No number is left to be noted.
 use Rattle.std.proofs.Common.{◌≡◌, ◌+◌, ◌∙◌, ap, sym, length, arith, []}
-use Rattle.journals.specs.Numbered.{numbered_from}
-use Rattle.journals.specs.Notes.{note_at, may_use, noted, may_call, by_call}
+use Rattle.journals.specs.inner.Numbered.{numbered_from}
+use Rattle.journals.specs.inner.Notes.{note_at, may_use, noted, may_call, by_call}
 use Rattle.journals.specs.declared.word.Word.TheVariants.{Call}
 use Rattle.journals.proofs.NoteSteps.{none_numbered_left, used, skipped}
 use Rattle.journals.proofs.notes.note_call.Goals as goal

@@ -1,7 +1,7 @@
 -- No number is left to be noted.
 use Rattle.std.proofs.Common.{◌≡◌, ◌∙◌, ap, sym, length, arith, []}
-use Rattle.journals.specs.Numbered.{numbered_from}
-use Rattle.journals.specs.Notes.{note_at, may_use, noted, may_report, by_report}
+use Rattle.journals.specs.inner.Numbered.{numbered_from}
+use Rattle.journals.specs.inner.Notes.{note_at, may_use, noted, may_report, by_report}
 use Rattle.journals.specs.declared.word.Word.TheVariants.{Report}
 use Rattle.journals.proofs.NoteSteps.{none_numbered_left}
 use Rattle.journals.proofs.notes.note_report.Goals as goal

@@ -1,7 +1,7 @@
 -- The numbers to come still do what all of them do.
 use Rattle.std.proofs.Common.{◌≡◌, ℕ}
-use Rattle.journals.specs.Numbered.{numbered, numbered_from}
-use Rattle.journals.specs.Notes.{note_at, may_use, noted, may_report, by_report}
+use Rattle.journals.specs.inner.Numbered.{numbered, numbered_from}
+use Rattle.journals.specs.inner.Notes.{note_at, may_use, noted, may_report, by_report}
 use Rattle.journals.specs.declared.word.Word.TheVariants.{Report}
 use Rattle.journals.proofs.notes.note_report.Given as goal
 

@@ -1,7 +1,7 @@
 -- The number at a place, and those after it.
 use Rattle.std.proofs.Common.{◌+◌, ◌∙◌, ap, sym, Option, ℕ}
 use Rattle.std.specs.List.{cons_option}
-use Rattle.journals.specs.Numbered.{numbered_from}
+use Rattle.journals.specs.inner.Numbered.{numbered_from}
 use Rattle.journals.specs.declared.form.Form.{Form}
 use Rattle.journals.proofs.NoteSteps.{number_there}
 use Rattle.journals.proofs.notes.number_at.Goals as goal

@@ -1,8 +1,8 @@
 -- The fields to come still take back what all of them do.
 use Rattle.std.proofs.Common.{◌≡◌, ℕ, if◌then◌else◌, length}
 use Rattle.journals.specs.Known.{is_among}
-use Rattle.journals.specs.Naturals.{naturals}
-use Rattle.journals.specs.Notes.{note_at, undone_at}
+use Rattle.journals.specs.inner.Naturals.{naturals}
+use Rattle.journals.specs.inner.Notes.{note_at, undone_at}
 use Rattle.journals.proofs.notes.undo_all.Given as goal
 
 abbrev pub invariant-loop-fields : goal.invariant-loop-fields

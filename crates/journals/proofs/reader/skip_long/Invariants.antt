@@ -2,7 +2,7 @@
 use Rattle.std.proofs.Common.{◌≡◌}
 use Rattle.std.specs.Io.KnownBytes.{prepend_known}
 use Rattle.journals.specs.Inputs.{input_within, text_left}
-use Rattle.journals.specs.Reader.{PassesOver}
+use Rattle.journals.specs.inner.Reader.{PassesOver}
 use Rattle.journals.proofs.reader.skip_long.Given as goal
 
 abbrev pub invariant-loop : goal.invariant-loop

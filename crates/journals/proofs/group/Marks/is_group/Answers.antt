@@ -2,8 +2,8 @@
 use Rattle.std.proofs.Common.{◌≡◌, ◌<◌, ◌∙◌, ap, sym, ◌&&◌, if◌then◌else◌, subst}
 use Rattle.std.specs.List.{list_all}
 use Rattle.journals.specs.Known.{is_among, are_distinct}
-use Rattle.journals.specs.Naturals.{naturals, AreMembers}
-use Rattle.journals.specs.Marks.{ranks_in, mark_at, members_of, is_in_both}
+use Rattle.journals.specs.inner.Naturals.{naturals, AreMembers}
+use Rattle.journals.specs.inner.Marks.{ranks_in, mark_at, members_of, is_in_both}
 use Rattle.journals.specs.declared.group.Mark.{Mark}
 use Rattle.journals.specs.declared.group.Mark.TheVariants.{InParent}
 use Rattle.journals.proofs.GroupLemmas.{group_wrong, group_right}

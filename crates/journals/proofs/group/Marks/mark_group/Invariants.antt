@@ -1,8 +1,8 @@
 -- The members to come still answer what all of them do.
 use Rattle.std.proofs.Common.{◌≡◌, ℕ, ◌||◌, length}
 use Rattle.journals.specs.Known.{is_among}
-use Rattle.journals.specs.Naturals.{naturals, each_once, AreMembers}
-use Rattle.journals.specs.Marks.{ranks_in, mark_at, is_in_parent, is_in_both}
+use Rattle.journals.specs.inner.Naturals.{naturals, each_once, AreMembers}
+use Rattle.journals.specs.inner.Marks.{ranks_in, mark_at, is_in_parent, is_in_both}
 use Rattle.journals.proofs.group.Marks.mark_group.Given as goal
 
 abbrev pub invariant-loop-group : goal.invariant-loop-group

@@ -1,8 +1,8 @@
 -- The marks that the members to come still make are those that all of them make.
 use Rattle.std.proofs.Common.{◌≡◌, ℕ, ◌<◌, if◌then◌else◌, length}
 use Rattle.journals.specs.Known.{is_among}
-use Rattle.journals.specs.Naturals.{naturals}
-use Rattle.journals.specs.Marks.{ranks_in, mark_at}
+use Rattle.journals.specs.inner.Naturals.{naturals}
+use Rattle.journals.specs.inner.Marks.{ranks_in, mark_at}
 use Rattle.journals.specs.declared.group.Mark.TheVariants.{InParent}
 use Rattle.journals.proofs.group.Marks.mark_members.Given as goal
 

@@ -1,7 +1,7 @@
 -- Each rank is in the world.
 use Rattle.std.proofs.Common.{◌≡◌, Bool, ◌∙◌, ap, sym, if◌then◌else◌, true}
 use Rattle.journals.specs.Known.{is_among}
-use Rattle.journals.specs.Marks.{ranks_in, mark_at, members_of}
+use Rattle.journals.specs.inner.Marks.{ranks_in, mark_at, members_of}
 use Rattle.journals.specs.declared.group.Mark.TheVariants.{InParent}
 use Rattle.journals.proofs.GroupLemmas.{in_world}
 use Rattle.journals.proofs.group.Marks.mark_parent.Goals as goal

@@ -1,6 +1,6 @@
 -- The ranks so far have the mark.
 use Rattle.std.proofs.Common.{◌≡◌, ℕ, ◌<◌}
-use Rattle.journals.specs.Marks.{ranks_in, mark_at}
+use Rattle.journals.specs.inner.Marks.{ranks_in, mark_at}
 use Rattle.journals.proofs.group.Marks.set_all.Given as goal
 
 abbrev pub invariant-loop-rank : goal.invariant-loop-rank

@@ -1,10 +1,10 @@
--- The next line, as far as the lines to come tell it.
+-- The next line, as far as the lines to come say it.
 use Rattle.std.proofs.Common.{◌-◌, sym, subst, take, drop, List, ℕ}
 use Rattle.journals.specs.Inputs.{text_left}
-use Rattle.journals.specs.Knows.{owner_of}
-use Rattle.journals.specs.Reader.{coming, ComesNext, NoneComes}
-use Rattle.journals.specs.Reading.{lines_to_come, GoesOn}
-use Rattle.journals.proofs.JournalLemmas.{tells_end, tells_found, next_taken, next_wrong}
+use Rattle.journals.specs.inner.Knows.{owner_of}
+use Rattle.journals.specs.inner.Reader.{coming, ComesNext, NoneComes}
+use Rattle.journals.specs.inner.Reading.{lines_to_come, GoesOn}
+use Rattle.journals.proofs.JournalLemmas.{answers_end, answers_found, next_taken, next_wrong}
 use Rattle.journals.proofs.journal.Reading.read_next.Goals as goal
 
 pub returns-in-Ok-clause-lines : goal.returns-in-Ok-clause-lines
@@ -24,8 +24,8 @@ pub returns-in-Ok-None-clause-lines : goal.returns-in-Ok-None-clause-lines
 returns-in-Ok-None-clause-lines g c =
     let found = rw c.in-Ok-None.field-0-is at c.in-Ok-None.ensures.lines in
     let none : NoneComes (coming c.args.self.now.window (text_left g.I.Input.left c.args.text.now)) = found in
-    tells_end (owner_of c.args.self.now.known) c.args.self.now.lines (coming c.args.self.now.window (text_left g.I.Input.left c.args.text.now)) none
+    answers_end (owner_of c.args.self.now.known) c.args.self.now.lines (coming c.args.self.now.window (text_left g.I.Input.left c.args.text.now)) none
 
 pub returns-in-Err-clause-lines : goal.returns-in-Err-clause-lines
 returns-in-Err-clause-lines g c =
-    tells_found (owner_of c.args.self.now.known) c.args.self.now.lines c.args.self.now.number (coming c.args.self.now.window (text_left g.I.Input.left c.args.text.now)) c.find_line.new.window (text_left g.I.Input.left c.find_line.new.text) c.in-Err.error c.requires.number c.in-Err.ensures.lines
+    answers_found (owner_of c.args.self.now.known) c.args.self.now.lines c.args.self.now.number (coming c.args.self.now.window (text_left g.I.Input.left c.args.text.now)) c.find_line.new.window (text_left g.I.Input.left c.find_line.new.text) c.in-Err.error c.requires.number c.in-Err.ensures.lines

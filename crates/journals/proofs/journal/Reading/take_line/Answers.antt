@@ -1,9 +1,9 @@
 -- One line that is held.
 use Rattle.std.proofs.Common.{◌-◌, sym, subst, take, Err}
 use Rattle.journals.specs.Lines.{line_of}
-use Rattle.journals.specs.Taking.{Takes, TakesLine}
-use Rattle.journals.specs.Knows.{Knows, owner_of}
-use Rattle.journals.specs.Reading.{TakesText}
+use Rattle.journals.specs.inner.Taking.{Takes, TakesLine}
+use Rattle.journals.specs.inner.Knows.{Knows, owner_of}
+use Rattle.journals.specs.inner.Reading.{TakesText}
 use Rattle.journals.proofs.ReadLines.{taken_next, is_next}
 use Rattle.journals.proofs.JournalLemmas.{take_unread, take_refused, take_taken, held_short}
 use Rattle.journals.proofs.journal.Reading.take_line.Goals as goal

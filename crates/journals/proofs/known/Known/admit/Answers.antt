@@ -1,7 +1,7 @@
 -- A line after the end.
 use Rattle.std.proofs.Common.{◌∙◌, sym, refl, true, take}
 use Rattle.journals.specs.Taking.{fields_at}
-use Rattle.journals.specs.Knows.{owner_of}
+use Rattle.journals.specs.inner.Knows.{owner_of}
 use Rattle.journals.proofs.AdmitLemmas.{faults_are}
 use Rattle.journals.proofs.known.Known.admit.Goals as goal
 

@@ -2,8 +2,8 @@
 use Rattle.std.proofs.Common.{◌∙◌, ap, sym, subst, refl, true, false, take, Some, Err}
 use Rattle.std.proofs.lemmas.Result.{err_from_is_err_and}
 use Rattle.journals.specs.Faults.{fault_of_line}
-use Rattle.journals.specs.Marks.{ranks_in}
-use Rattle.journals.specs.Knows.{IsRead, IsNext, Answers, owner_of}
+use Rattle.journals.specs.inner.Marks.{ranks_in}
+use Rattle.journals.specs.inner.Knows.{IsRead, IsNext, Answers, owner_of}
 use Rattle.journals.specs.declared.last.LastCall.{LastCall}
 use Rattle.journals.specs.declared.word.Word.TheVariants.{Call}
 use Rattle.journals.proofs.GroupFields.{call_members}

@@ -2,11 +2,11 @@
 use Rattle.std.proofs.Common.{◌≡◌, ℕ, ◌∙◌, ap, sym, subst, refl, true, false, take, Err}
 use Rattle.std.proofs.lemmas.Result.{on_ok_weaker, err_from_is_err_and}
 use Rattle.journals.specs.Faults.{fault_of_line}
-use Rattle.journals.specs.Marks.{ranks_in}
-use Rattle.journals.specs.Knows.{IsNext, Answers, owner_of}
-use Rattle.journals.specs.Numbered.{numbered}
+use Rattle.journals.specs.inner.Marks.{ranks_in}
+use Rattle.journals.specs.inner.Knows.{IsNext, Answers, owner_of}
+use Rattle.journals.specs.inner.Numbered.{numbered}
 use Rattle.journals.specs.declared.word.Word.TheVariants.{Report}
-use Rattle.journals.specs.Notes.{note_at, noted, may_use, may_report, by_report, IsFault}
+use Rattle.journals.specs.inner.Notes.{note_at, noted, may_use, may_report, by_report, IsFault}
 use Rattle.journals.specs.declared.fault.JournalFaultKind.TheVariants as fault
 use Rattle.journals.proofs.GroupFields.{report_members}
 use Rattle.journals.proofs.Assembly.{report_answer, report_group_is, report_refused, report_done, named_natural, answer_last, flip_true, flip_false}

@@ -1,5 +1,5 @@
 -- The ranks of a group are numbers.
-use Rattle.journals.specs.Marks.{ranks_in}
+use Rattle.journals.specs.inner.Marks.{ranks_in}
 use Rattle.journals.proofs.GroupFields.{natural_members}
 use Rattle.journals.proofs.known.Known.is_made.Goals as goal
 

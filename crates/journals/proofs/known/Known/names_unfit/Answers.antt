@@ -1,8 +1,8 @@
 -- No request is left to be unfit.
 use Rattle.std.proofs.Common.{◌≡◌, ◌∙◌, ap, sym, length, arith}
-use Rattle.journals.specs.Numbered.{numbered_from}
-use Rattle.journals.specs.Notes.{note_at}
-use Rattle.journals.specs.Knows.{is_unfit, names_unfit_by}
+use Rattle.journals.specs.inner.Numbered.{numbered_from}
+use Rattle.journals.specs.inner.Notes.{note_at}
+use Rattle.journals.specs.inner.Knows.{is_unfit, names_unfit_by}
 use Rattle.journals.specs.declared.word.Word.TheVariants.{Report}
 use Rattle.journals.proofs.NoteSteps.{none_numbered_left}
 use Rattle.journals.proofs.known.Known.names_unfit.Goals as goal

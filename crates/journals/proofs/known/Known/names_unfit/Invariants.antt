@@ -1,8 +1,8 @@
 -- The requests to come are unfit where those of the whole line are.
 use Rattle.std.proofs.Common.{◌≡◌}
-use Rattle.journals.specs.Numbered.{numbered, numbered_from}
-use Rattle.journals.specs.Notes.{note_at}
-use Rattle.journals.specs.Knows.{is_unfit, names_unfit_by}
+use Rattle.journals.specs.inner.Numbered.{numbered, numbered_from}
+use Rattle.journals.specs.inner.Notes.{note_at}
+use Rattle.journals.specs.inner.Knows.{is_unfit, names_unfit_by}
 use Rattle.journals.specs.declared.word.Word.TheVariants.{Report}
 use Rattle.journals.proofs.known.Known.names_unfit.Given as goal
 

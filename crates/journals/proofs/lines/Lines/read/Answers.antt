@@ -1,9 +1,9 @@
--- A line that was read stands behind the others, whose fields stay.
+-- A line that was read comes after the others, whose fields stay.
 use Rattle.std.proofs.Common.{◌≡◌, ◌-◌, ap, ◌∙◌, refl, arith, subst, length, List, Ok, Err}
 use Rattle.std.proofs.lemmas.Result.{err_from_is_err_and}
 use Rattle.journals.specs.Lines.{Line, line_of}
-use Rattle.journals.specs.Packing.{lines_in}
-use Rattle.journals.specs.Taking.{ReadsLine, Takes, TakesLine}
+use Rattle.journals.specs.inner.Packing.{lines_in}
+use Rattle.journals.specs.inner.Taking.{ReadsLine, Takes, TakesLine}
 use Rattle.journals.specs.declared.lines.PackedLine.{PackedLine}
 use Rattle.journals.proofs.PackingLemmas.{lines_stay, read_grows, line_taken, none_taken}
 use Rattle.journals.proofs.lines.Lines.read.Goals as goal

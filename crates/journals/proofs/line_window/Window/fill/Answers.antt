@@ -1,8 +1,8 @@
--- A read adds what it gave behind the held bytes, or leaves them.
+-- A read adds what it gave after the held bytes, or leaves them.
 use Rattle.std.proofs.Common.{arith, ◌∙◌, sym, ap, take, ◌++◌, length, List, ℕ}
 use Rattle.std.proofs.lemmas.List.{length-take, length-drop}
 use Rattle.journals.proofs.WindowLemmas.{filled, unfilled, known_filled, known_kept, window_length}
-use Rattle.journals.proofs.window.Window.fill.Goals as goal
+use Rattle.journals.proofs.line_window.Window.fill.Goals as goal
 
 pub make_room-requires-clause-few : goal.make_room-requires-clause-few
 make_room-requires-clause-few g c =

@@ -10,7 +10,8 @@ use Rattle.journals.specs.declared.word.ReportWord.TheVariants as report
 
 abbrev pub new_last : CallWord → ℕ → LastCall
 new_last word line =
-    record { word = word; line = line; has_got = false; has_chosen = false; has_brought = false; has_failed = false }
+    record
+    { word = word; line = line; has_got = false; has_chosen = false; has_brought = false; has_failed = false }
 
 -- the call can have one more such report of so many fields
 abbrev pub last_may_have : LastCall → List Field → ReportWord → ℕ → Bool
@@ -31,7 +32,7 @@ with_report report.NoComm last = record last { has_brought = true }
 with_report report.Failed last = record last { has_failed = true }
 with_report _ last = last
 
--- the call completes all that it names, where it doesn't fail
+-- the call completes all that it names, if it doesn't fail
 abbrev pub completes_all : CallWord → List Field → Bool
 completes_all call.Wait fields = true
 completes_all call.Test fields = true

@@ -2,7 +2,7 @@
 use Rattle.std.specs.Prelude.{◌≡◌, ℕ, ◌-◌, ◌<◌, ◌≤◌, true, Option, Some, None, option_map, List, [], ◌∷◌, length, take, drop, ⊤}
 use Rattle.std.specs.Io.KnownBytes.{Keeps, prepend_known, Consumes}
 use Rattle.journals.specs.Text.{whole_lines, is_too_long}
-use Rattle.journals.specs.Window.{NoFeedBelow, FirstFeed}
+use Rattle.journals.specs.inner.LineWindow.{NoFeedBelow, FirstFeed}
 use Rattle.journals.specs.declared.limits.TheConstants.{MOST_LINE_BYTES}
 use Rattle.journals.specs.declared.reader.NextLine.{NextLine}
 use Rattle.journals.specs.declared.reader.NextLine.TheVariants.{Whole, TooLong, End}
@@ -25,7 +25,7 @@ KeepsText old held left (Whole count) = Keeps old (prepend_known held left)
 KeepsText old held left TooLong = ⊤
 KeepsText old held left End = ⊤
 
--- the whole lines to come, of the bytes that are held and those that are left, where these are known
+-- the whole lines to come, of the bytes that are held and those that are left, if these are known
 abbrev pub coming : List ℕ → Option (List ℕ) → Option (List (List ℕ))
 coming held left = option_map whole_lines (prepend_known held left)
 
@@ -43,7 +43,8 @@ NoneComes (Some lines) = lines ≡ []
 -- the next line that was to come is too long
 abbrev pub LongComes : Option (List (List ℕ)) → Type 0
 LongComes None = ⊤
-LongComes (Some lines) = (line : List ℕ) × (rest : List (List ℕ)) × (lines ≡ line ∷ rest) × (is_too_long line ≡ true)
+LongComes (Some lines) =
+    (line : List ℕ) × (rest : List (List ℕ)) × (lines ≡ line ∷ rest) × (is_too_long line ≡ true)
 
 -- what was found is the next of the lines that were to come
 abbrev pub Finds : Option (List (List ℕ)) → List ℕ → Option (List ℕ) → NextLine → Type 0

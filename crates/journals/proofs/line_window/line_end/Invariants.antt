@@ -1,8 +1,8 @@
 -- What was searched has no line feed; nothing of what was known is lost, and no read failed.
 use Rattle.std.proofs.Common.{◌≡◌, ◌≤◌, ◌-◌, length}
 use Rattle.std.specs.Io.KnownBytes.{Keeps, prepend_known}
-use Rattle.journals.specs.Window.{NoFeedBelow}
-use Rattle.journals.proofs.window.line_end.Given as goal
+use Rattle.journals.specs.inner.LineWindow.{NoFeedBelow}
+use Rattle.journals.proofs.line_window.line_end.Given as goal
 
 abbrev pub invariant-loop-at : goal.invariant-loop-at
 invariant-loop-at g l = record {

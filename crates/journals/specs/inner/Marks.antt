@@ -1,7 +1,7 @@
 -- Which marks the ranks have, in the search for a wrong group.
 use Rattle.std.specs.Prelude.{ℕ, Bool, true, false, List, [], ◌∷◌, length}
 use Rattle.std.specs.List.{slice_index_or, range_with_len}
-use Rattle.journals.specs.Naturals.{naturals}
+use Rattle.journals.specs.inner.Naturals.{naturals}
 use Rattle.journals.specs.declared.group.Mark.{Mark}
 use Rattle.journals.specs.declared.group.Mark.TheVariants.{Outside, InParent, InBoth}
 use Rattle.journals.specs.declared.group.Marks.{Marks}

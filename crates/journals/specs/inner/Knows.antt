@@ -9,12 +9,12 @@ use Rattle.journals.specs.Words.{forms_of}
 use Rattle.journals.specs.Lines.{Line, fields_of}
 use Rattle.journals.specs.Entries.{Entry, call_of, entries_of, last_entry, numbers_by, is_of_request, is_request, is_comm, is_new_comm}
 use Rattle.journals.specs.Known.{is_among, are_distinct, knows_request, knows_message, awaits_any, is_cancelled, has_outcome, is_brought, parent_of, has_report, completed_by, reported_group}
-use Rattle.journals.specs.Faults.{Owner, is_after_end, brought_or_not, completed_last, fault_of_line, is_within, stands_anywhere}
+use Rattle.journals.specs.Faults.{Owner, is_after_end, brought_or_not, completed_last, fault_of_line, is_within, may_be_anywhere}
 use Rattle.journals.specs.Taking.{fields_at}
-use Rattle.journals.specs.Naturals.{naturals}
-use Rattle.journals.specs.Marks.{ranks_in}
-use Rattle.journals.specs.Last.{last_may_have}
-use Rattle.journals.specs.Notes.{note_at, undone_at}
+use Rattle.journals.specs.inner.Naturals.{naturals}
+use Rattle.journals.specs.inner.Marks.{ranks_in}
+use Rattle.journals.specs.inner.Last.{last_may_have}
+use Rattle.journals.specs.inner.Notes.{note_at, undone_at}
 use Rattle.journals.specs.declared.field.Field.{Field}
 use Rattle.journals.specs.declared.field.Field.TheVariants.{Natural}
 use Rattle.journals.specs.declared.form.Form.{Form}
@@ -38,7 +38,7 @@ pub record IsRead (ranks : ℕ) (line : Line) : Type 0 where
   pub spell : fields_of ranks (forms_of line.word (length line.fields)) texts ≡ Some line.fields
   pub fits : length (forms_of line.word (length line.fields)) ≡ length line.fields
 
--- the line stands last, at this place
+-- the line is the last, at this place
 pub record IsNext (ranks : ℕ) (lines : List Line) (place : ℕ) (line : Line) : Type 0 where
   pub split : lines ≡ take place lines ++ line ∷ []
   pub place_is : length (take place lines) ≡ place
@@ -97,7 +97,8 @@ IsBelow count (Some line) = line < count
 
 abbrev pub NoteBelow : ℕ → Option Note → Type 0
 NoteBelow count None = ⊤
-NoteBelow count (Some note) = IsBelow count note.completed × (note.called < count) × IsBelow count note.reported
+NoteBelow count (Some note) =
+    IsBelow count note.completed × (note.called < count) × IsBelow count note.reported
 
 -- what is noted of a number is what the lines say of it
 pub record NoteIs (lines : List Line) (last : Option LastCall) (number : ℕ) (note : Option Note) : Type 0 where
@@ -112,8 +113,10 @@ pub record NoteIs (lines : List Line) (last : Option LastCall) (number : ℕ) (n
   pub completed : completed_last (last_entry lines) number ≡ by_note (λ it. is_last last it.completed) note
   pub called : called_last (last_entry lines) number ≡ by_note (λ it. is_last last (Some it.called)) note
   -- what the last call completed it named, and what it named wasn't completed before
-  pub by_call : by_note (λ it. is_last last it.completed) note ≡ true → by_note (λ it. is_last last (Some it.called)) note ≡ true
-  pub not_before : by_note (λ it. is_last last (Some it.called)) note ≡ true → by_note (λ it. is_earlier last it.completed) note ≡ false
+  pub by_call : by_note (λ it. is_last last it.completed) note ≡ true
+      → by_note (λ it. is_last last (Some it.called)) note ≡ true
+  pub not_before : by_note (λ it. is_last last (Some it.called)) note ≡ true
+      → by_note (λ it. is_earlier last it.completed) note ≡ false
   pub below : NoteBelow (length lines) note
 
 -- ---- Communicators ----
@@ -140,7 +143,8 @@ group_fields _ fields = []
 -- that of the line at a place
 abbrev pub group_at : List Line → Option ℕ → Option (List ℕ)
 group_at lines None = None
-group_at lines (Some place) = option_map (λ line. naturals (group_fields line.word line.fields)) (slice_get lines place)
+group_at lines (Some place) =
+    option_map (λ line. naturals (group_fields line.word line.fields)) (slice_get lines place)
 
 -- the line of a communicator is one that reports it
 pub record CommIs (lines : List Line) (comm : ℕ) (line : Option ℕ) : Type 0 where
@@ -198,7 +202,7 @@ is_right_call ranks rank _ fields = true
 
 -- a report may follow the last call
 abbrev pub may_follow_last : Option LastCall → List Line → ReportWord → ℕ → Bool
-may_follow_last None lines word count = stands_anywhere word
+may_follow_last None lines word count = may_be_anywhere word
 may_follow_last (Some last) lines word count = last_may_have last (fields_at lines last.line) word count
 
 -- a report may be of the request that this is noted of
@@ -241,7 +245,8 @@ is_made_last known lines _ fields group =
 
 abbrev pub is_made_by_last : Known → List Line → Option LastCall → List Field → Bool
 is_made_by_last known lines None group = false
-is_made_by_last known lines (Some last) group = is_made_last known lines last.word (fields_at lines last.line) group
+is_made_by_last known lines (Some last) group =
+    is_made_last known lines last.word (fields_at lines last.line) group
 
 -- the communicator that the request of a report duplicates
 abbrev pub duplicated_by : Known → Option ℕ → Option ℕ
@@ -256,10 +261,11 @@ is_right_report known lines report.Idup fields =
     is_right_group known.rank (group_by known lines (duplicated_by known (second_natural fields)))
     (naturals (group_fields (Report report.Idup) fields))
 is_right_report known lines report.Apart fields =
-    is_right_group known.rank (world_of (ranks_in known.marks)) (naturals (group_fields (Report report.Apart) fields))
+    is_right_group known.rank (world_of (ranks_in known.marks))
+    (naturals (group_fields (Report report.Apart) fields))
 is_right_report known lines _ fields = true
 
--- what is held of communicators once a report stands at a place
+-- what is held of communicators after a report at a place
 abbrev pub brings : ReportWord → Bool
 brings report.Comm = true
 brings report.Idup = true

@@ -1,7 +1,7 @@
--- The bytes behind the first ones.
+-- The bytes after the first ones.
 use Rattle.std.proofs.Common.{arith, ◌∙◌, ap, drop, sym, length}
 use Rattle.journals.proofs.WindowLemmas.{dropped, window_length}
-use Rattle.journals.proofs.window.Window.drop_front.Goals as goal
+use Rattle.journals.proofs.line_window.Window.drop_front.Goals as goal
 
 pub returns : goal.returns
 returns c =

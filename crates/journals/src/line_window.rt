@@ -1,9 +1,12 @@
 //! The bytes that were read ahead of an input, held in place.
+//!
+//! The buffer has room for two lines of the greatest length. Held bytes are moved to its front only if there
+//! is no room left after them.
 
 ghost use Rattle.std.specs.Prelude.{◌≡◌, ◌≢◌, true, false, Ok, ◌+◌, ◌-◌, ◌≤◌, ◌<◌, ℕ, List, [], ◌++◌, length, drop, IsTrue, IfOk, MatchOption, OnErr, ◌↔◌};
 ghost use Rattle.std.specs.Io.KnownBytes.{Keeps, prepend_known, IsAtEnd};
 ghost use Rattle.mpicall.specs.Device.{CountsFailure};
-ghost use Rattle.journals.specs.Window.{Fills, held_between, NoFeedBelow, FirstFeed, EndsLine};
+ghost use Rattle.journals.specs.inner.LineWindow.{Fills, held_between, NoFeedBelow, FirstFeed, EndsLine};
 
 use crate::limits::MOST_LINE_BYTES;
 use memchr::memchr;
@@ -17,15 +20,15 @@ const CAPACITY: usize = 65_536;
 #[derive(Drop)]
 pub(crate) struct Window {
     buffer: [u8; CAPACITY],
-    /// Where the held bytes begin and end in the buffer.
+    /// The places in the buffer at which the held bytes begin and end.
     start: usize,
     end: usize,
 }
 
 impl Model for Window {
     ghost use Rattle.std.specs.Prelude.{List, ℕ, ◌≤◌};
-    ghost use Rattle.journals.specs.Window.{held_between};
-    ghost use Rattle.journals.specs.declared.window.TheConstants.{CAPACITY};
+    ghost use Rattle.journals.specs.inner.LineWindow.{held_between};
+    ghost use Rattle.journals.specs.declared.line_window.TheConstants.{CAPACITY};
 
     ghost Value = { List ℕ };
 
@@ -34,8 +37,8 @@ impl Model for Window {
     ghost invariant = { λ w. (w.start ≤ w.end) × (w.end ≤ CAPACITY) };
 }
 
-/// Makes room behind the bytes that are held from `start` to `end`; they go to the buffer's front
-/// where that is needed.
+/// Makes room after the bytes that are held from `start` to `end`; they move to the buffer's front
+/// if that is needed.
 fn make_room(buffer: &mut [u8; CAPACITY], start: &mut usize, end: &mut usize)
     requires order { start.old ≤ end.old }
     requires within { end.old ≤ CAPACITY }
@@ -94,7 +97,7 @@ impl Window {
         self.end = 0;
     }
 
-    /// Reads once, straight behind the held bytes, and says how many bytes came; 0 at the input's end.
+    /// Reads once, right after the held bytes, and says how many bytes came; 0 at the input's end.
     pub(crate) fn fill<I: Input>(&mut self, input: &mut I) -> Result<usize, DeviceFault>
         requires { length self.old ≤ MOST_LINE_BYTES }
         ensures known { Keeps
@@ -116,7 +119,7 @@ impl Window {
     }
 }
 
-/// Where the first line feed stands, which is no place before `from`.
+/// The place of the first line feed, which is not before `from`.
 pub(crate) fn feed_at(bytes: &[u8], from: usize) -> Option<usize>
     requires within { from ≤ length bytes.now }
     requires before { NoFeedBelow bytes.now from }

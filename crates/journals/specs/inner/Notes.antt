@@ -5,7 +5,7 @@ use Rattle.std.specs.declared.hash.FoldHasher.{FoldHasher}
 use Rattle.std.specs.declared.hash.BuildHasherDefault.{BuildHasherDefault}
 use Rattle.journals.specs.Entries.{is_of_request}
 use Rattle.journals.specs.Known.{is_cancel, is_outcome, is_report, receive_in, is_wildcard, duplicated_in}
-use Rattle.journals.specs.Last.{completes_all}
+use Rattle.journals.specs.inner.Last.{completes_all}
 use Rattle.journals.specs.declared.field.Field.{Field}
 use Rattle.journals.specs.declared.form.Form.{Form}
 use Rattle.journals.specs.declared.form.Form.TheVariants.{NewRequest, NewMessage, Request, Message}
@@ -32,7 +32,8 @@ may_use may by notes [] = true
 may_use may by notes (item ∷ items) =
     if is_of_request item.0
     then may item.0 (notes item.1)
-    && may_use may by (λ other. if item.1 == other then by item.1 item.0 (notes item.1) else notes other) items
+    && may_use may by (λ other. if item.1 == other then by item.1 item.0 (notes item.1)
+    else notes other) items
     else may_use may by notes items
 
 -- what is noted of a number after that
@@ -139,7 +140,7 @@ undone_at line note = option_map (undone_note line) note
 
 -- ---- Faults ----
 
--- a fault is of this kind where this holds; out of memory says nothing
+-- a fault is of this kind, and this holds; out of memory says nothing
 abbrev pub IsFault : JournalFaultKind → Type 0 → LineFault → Type 0
 IsFault kind holds (Journal other) = (other ≡ kind) × holds
 IsFault kind holds Memory = ⊤

@@ -1,6 +1,6 @@
--- By a search behind the bytes that were searched before.
+-- By a search after the bytes that were searched before.
 use Rattle.journals.proofs.FeedLemmas.{feed_found, feed_missing}
-use Rattle.journals.proofs.window.feed_at.Goals as goal
+use Rattle.journals.proofs.line_window.feed_at.Goals as goal
 
 pub returns-in-Some : goal.returns-in-Some
 returns-in-Some c = feed_found c.args.bytes.now c.args.from c.in-Some.at c.requires.within c.requires.before c.in-Some.ensures

@@ -1,9 +1,0 @@
--- The fields without the first one.
-use Rattle.journals.proofs.LineLemmas.{behind_short, behind_is}
-use Rattle.journals.proofs.line.behind_word.Goals as goal
-
-pub returns-clause-short : goal.returns-clause-short
-returns-clause-short c = behind_short c.args.line.now c.next_field.result c.of-fields.result c.next_field.new.self c.requires c.of-fields.ensures c.next_field.ensures
-
-pub returns-clause-value : goal.returns-clause-value
-returns-clause-value c = behind_is c.args.line.now c.next_field.result c.of-fields.result c.next_field.new.self c.of-fields.ensures c.next_field.ensures
