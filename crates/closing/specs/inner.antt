@@ -15,3 +15,5 @@ pub mod Left
 pub mod Texts
 pub mod Views
 pub mod Words
+pub mod Outcomes
+pub mod Standings

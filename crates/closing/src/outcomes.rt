@@ -1,5 +1,11 @@
 //! What a journal reports of its requests, anywhere.
 
+ghost use Rattle.std.specs.Prelude.{◌≡◌, ◌<◌, ◌==◌, ℕ, OnOk, option_map, if◌then◌else◌};
+ghost use Rattle.std.specs.Vec.{vec_len};
+ghost use Rattle.closing.specs.inner.Outcomes.{is_gone, is_settled, kept_at, message_by, outcome_at, outcome_by, outcome_in};
+ghost use Rattle.closing.specs.inner.Views.{message_view};
+ghost use Rattle.closing.specs.declared.outcomes.Outcome.TheVariants.{Unknown};
+
 use crate::message::{Message, message_in};
 use crate::places::count_of;
 use journals::field::Field;
@@ -33,7 +39,9 @@ pub(crate) struct Outcomes {
 }
 
 /// The outcome that a line reports, if it does.
-fn outcome_in(word: ReportWord, line: u32) -> Option<Outcome> {
+fn outcome_in(word: ReportWord, line: u32) -> Option<Outcome>
+    ensures { result ≡ outcome_in word line }
+{
     match word {
         ReportWord::Done => Some(Outcome::Done(line)),
         ReportWord::Gone => Some(Outcome::Gone),
@@ -44,7 +52,9 @@ fn outcome_in(word: ReportWord, line: u32) -> Option<Outcome> {
 
 impl Outcomes {
     /// Nothing is reported, in so many lines.
-    fn of_none(alloc: Global, most: usize) -> Outcomes {
+    fn of_none(alloc: Global, most: usize) -> Outcomes
+        ensures { (request : ℕ) → outcome_at result request ≡ Unknown }
+    {
         Outcomes {
             near: Vec::new(alloc),
             most,
@@ -53,7 +63,9 @@ impl Outcomes {
     }
 
     /// That of a rank without a journal.
-    pub(crate) fn empty(alloc: Global) -> Outcomes {
+    pub(crate) fn empty(alloc: Global) -> Outcomes
+        ensures { (request : ℕ) → outcome_at result request ≡ Unknown }
+    {
         Outcomes::of_none(alloc, 0)
     }
 
@@ -69,15 +81,22 @@ impl Outcomes {
     }
 
     /// Has a place for a request that isn't far.
-    fn make_room(&mut self, request: u32) -> Result<(), AllocError> {
-        for _ in self.near.len()..request as usize + 1 {
+    #[tactic(auto, using(crate::proofs::OutcomeLemmas::unknown_same))]
+    fn make_room(&mut self, request: u32) -> Result<(), AllocError>
+        ensures room { OnOk result (request < vec_len self.new.near) }
+        ensures most { OnOk result (self.new.most ≡ self.old.most) }
+        ensures same { OnOk result ((other : ℕ) → outcome_at self.new other ≡ outcome_at self.old other) }
+    {
+        for place in self.near.len()..request as usize + 1 {
             self.near.push(Outcome::Unknown)?;
         }
         Ok(())
     }
 
     /// Notes the outcome of a request.
-    fn put(&mut self, request: u32, outcome: Outcome) -> Result<(), AllocError> {
+    fn put(&mut self, request: u32, outcome: Outcome) -> Result<(), AllocError>
+        ensures { OnOk result ((other : ℕ) → outcome_at self.new other ≡ (if request == other then outcome else outcome_at self.old other)) }
+    {
         let place = request as usize;
         if place > self.most {
             self.far.insert(request, outcome)?;
@@ -90,21 +109,31 @@ impl Outcomes {
         Ok(())
     }
 
-    /// What came of a request.
-    fn outcome(&self, request: u32) -> Outcome {
+    /// What is kept of a request, if anything.
+    fn kept(&self, request: u32) -> Option<Outcome>
+        ensures { result ≡ kept_at self.now request }
+    {
         let place = request as usize;
-        let found = if place > self.most {
-            self.far.get(&request)
-        } else {
-            self.near.get(place)
-        };
-        match found {
-            Some(outcome) => *outcome,
+        if place > self.most {
+            return self.far.get(&request).copied();
+        }
+        self.near.get(place).copied()
+    }
+
+    /// What came of a request.
+    fn outcome(&self, request: u32) -> Outcome
+        ensures { result ≡ outcome_at self.now request }
+    {
+        match self.kept(request) {
+            Some(outcome) => outcome,
             None => Outcome::Unknown,
         }
     }
 
-    fn take(&mut self, word: ReportWord, fields: &[Field], line: u32) -> Result<(), AllocError> {
+    /// Takes a report, whose line has this place.
+    fn take(&mut self, word: ReportWord, fields: &[Field], line: u32) -> Result<(), AllocError>
+        ensures { OnOk result ((other : ℕ) → outcome_at self.new other ≡ outcome_by word fields.now line other (outcome_at self.old other)) }
+    {
         if let (Some(outcome), [Field::Natural(request), ..]) = (outcome_in(word, line), fields) {
             self.put(*request, outcome)?;
         }
@@ -112,7 +141,9 @@ impl Outcomes {
     }
 
     /// The message with which a request completed, where that is reported.
-    pub(crate) fn message(&self, lines: &Lines, request: u32) -> Option<Message> {
+    pub(crate) fn message(&self, lines: &Lines, request: u32) -> Option<Message>
+        ensures { option_map message_view result ≡ message_by lines.now (outcome_at self.now request) }
+    {
         match self.outcome(request) {
             Outcome::Done(line) => match lines.fields(line) {
                 [_, message @ ..] => message_in(message),
@@ -123,12 +154,16 @@ impl Outcomes {
     }
 
     /// Whether the request was cancelled.
-    pub(crate) fn is_gone(&self, request: u32) -> bool {
-        self.outcome(request) == Outcome::Gone
+    pub(crate) fn is_gone(&self, request: u32) -> bool
+        ensures { result ≡ is_gone (outcome_at self.now request) }
+    {
+        matches!(self.outcome(request), Outcome::Gone)
     }
 
     /// Whether what came of a cancel of the request was reported.
-    pub(crate) fn is_settled(&self, request: u32) -> bool {
-        self.outcome(request) != Outcome::Unknown
+    pub(crate) fn is_settled(&self, request: u32) -> bool
+        ensures { result ≡ is_settled (outcome_at self.now request) }
+    {
+        !matches!(self.outcome(request), Outcome::Unknown)
     }
 }
