@@ -1,5 +1,7 @@
 //! The recording of journals as files: a head, and a trace a rank.
 
+ghost use Rattle.std.specs.Prelude.{◌+◌, ◌≤◌, length, OnOk};
+
 use crate::head::head_text;
 use crate::read::{Journals, ReadFault, read_journals};
 use closing::choice::Choice;
@@ -62,11 +64,13 @@ impl From<ReadFault> for CloseFault {
     }
 }
 
-/// The room that a line of a trace is given.
+/// The room that a line of a trace is given, more than any takes.
 const ROOM_BYTES: usize = 2048;
 
 /// Writes a page where another line has no room on it.
-fn make_room<O: Output>(page: &mut Page, out: &mut O) -> Result<(), DeviceFault> {
+fn make_room<O: Output>(page: &mut Page, out: &mut O) -> Result<(), DeviceFault>
+    ensures { OnOk result (length page.new + ROOM_BYTES ≤ PAGE_BYTES) }
+{
     if page.as_str().len() > PAGE_BYTES - ROOM_BYTES {
         write_all(out, page.as_str().as_bytes())?;
         page.clear();
