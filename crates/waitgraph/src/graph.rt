@@ -1,6 +1,6 @@
 //! Who waits for whom where the ranks stand, and why.
 
-ghost use Rattle.std.specs.Prelude.{◌≡◌, ◌<◌, ℕ, length, map, IfOk, OnOk};
+ghost use Rattle.std.specs.Prelude.{◌≡◌, ◌<◌, ℕ, length, map, IfOk};
 ghost use Rattle.std.specs.List.{filter, range_with_len};
 ghost use Rattle.callnotes.specs.Recordings.{IsClosed};
 ghost use Rattle.waitgraph.specs.Stuck.{stuck_of, unmet_of};

@@ -4,7 +4,7 @@
 //! none. Mostly two or three sweeps are enough. A worklist would want who waits for whom the other way
 //! round.
 
-ghost use Rattle.std.specs.Prelude.{◌≡◌, ◌<◌, ℕ, true, false, length, replicate, slice_set, find, IfOk};
+ghost use Rattle.std.specs.Prelude.{◌≡◌, ◌<◌, ℕ, true, false, length, replicate, slice_set, IfOk};
 ghost use Rattle.std.specs.List.{filter, list_all, range_with_len};
 ghost use Rattle.waitgraph.specs.inner.Causes.{walks_in};
 ghost use Rattle.waitgraph.specs.Held.{TheHeldAreTheGreatest};
