@@ -1,7 +1,7 @@
 -- What an answer says of traces, where the sources' inputs know them. These are the words of `run`; what it
 -- rests on speaks of each rank alone, by the words of `Ranks`.
 use Rattle.moves.specs.declared.reading.Reading.{Reading}
-use Rattle.std.specs.Prelude.{◌≡◌, ◌↔◌, ℕ, ◌<◌, Bool, true, false, ⊤, Option, Some, None, List, length, map, slice_get, All}
+use Rattle.std.specs.Prelude.{◌≡◌, ◌↔◌, ℕ, ◌<◌, Bool, true, false, ⊤, Option, Some, None, List, length, slice_get, All}
 use Rattle.std.specs.List.{AllZip}
 use Rattle.mpicall.specs.Lines.{lines_of}
 use Rattle.mpicall.specs.Source.{coming, ended, unread}

@@ -1,8 +1,8 @@
 -- The causes are those that the search finds.
 use Rattle.moves.specs.declared.reading.Reading.{Reading}
-use Rattle.std.proofs.Common.{inl, inr, ◌≡◌, ◌↔◌, ℕ, zero, suc, ◌<◌, Bool, true, false, not, ◌||◌, Option, Some, None, find, if◌then◌else◌, List, [], ◌∷◌, ◌++◌, length, map, drop, refl, sym, ap, subst, ◌∙◌, ⊎_elim}
+use Rattle.std.proofs.Common.{inl, inr, ◌≡◌, ℕ, zero, suc, Bool, true, false, not, ◌||◌, Option, Some, None, find, if◌then◌else◌, List, [], ◌∷◌, ◌++◌, length, map, drop, refl, sym, ap, subst, ◌∙◌, ⊎_elim}
 use Rattle.std.specs.Prelude.{nat_le, option_map, option_and_then}
-use Rattle.std.specs.List.{list_all, filter_map, cons_option, range_with_len}
+use Rattle.std.specs.List.{list_all, filter_map, range_with_len}
 use Rattle.std.proofs.lemmas.Option.{none-some, same_Some}
 use Rattle.std.proofs.lemmas.Bool.{cases_Bool, false≢true}
 use Rattle.mpigroup.specs.Groups.{Groups}
@@ -13,19 +13,19 @@ use Rattle.moves.specs.declared.need.Need.TheVariants.{At, Lacking}
 use Rattle.pairing.specs.LeftOpen.{is_left_open}
 use Rattle.waitgraph.specs.Stuck.{rank_needed, unmet_of}
 use Rattle.waitgraph.specs.Waits.{needs_in}
-use Rattle.waitgraph.specs.Held.{Set, is_missing, is_blocked, IsDeadlocked, AreHeld, ListsHeld}
+use Rattle.waitgraph.specs.Held.{Set, is_missing, is_blocked, IsDeadlocked, ListsHeld}
 use Rattle.waitgraph.specs.Causes.{CauseView, CycleOf, MissingOf, held_by, next_of, missing_of, IsCycle, AreCauses, after_steps, IsEnd, ComesTo, TellsCauses, WalksEndInTheCauses, EachRecordingHasOneListOfCauses}
 use Rattle.waitgraph.specs.Graphs.{GraphView, IsGraphOf}
 use Rattle.waitgraph.specs.inner.Graphs.{IsGraphBy}
-use Rattle.waitgraph.specs.inner.Held.{opened_of, standings_at, is_held, held_of}
-use Rattle.waitgraph.specs.inner.Loose.{goes_on, onward, onward_by, onward_of}
+use Rattle.waitgraph.specs.inner.Held.{opened_of, is_held}
+use Rattle.waitgraph.specs.inner.Loose.{goes_on, onward, onward_by}
 use Rattle.waitgraph.specs.inner.Waits.{waits_of}
 use Rattle.waitgraph.specs.inner.Causes.{Walks, walks_of, onward_in, to_of, lacked_by, next_in, way_home, cycle_by, cycle_at, missing_at, causes_of}
 use Rattle.waitgraph.specs.declared.onward.Onward.{Onward}
 use Rattle.waitgraph.proofs.AmongLemmas.{Among}
 use Rattle.waitgraph.proofs.UnmetLemmas.{unmet_from, waits_are}
 use Rattle.waitgraph.proofs.CycleLemmas.{way_home_is, cycle_found, cycle_no_lower}
-use Rattle.waitgraph.proofs.WalkLaws.{TellsCycle, told_by_way}
+use Rattle.waitgraph.proofs.WalkLaws.{told_by_way}
 use Rattle.waitgraph.proofs.WalkingLemmas.{walk_is, walk_count, walks_end_in_found}
 use Rattle.waitgraph.proofs.DeadlockLemmas.{opened_all, blocked_is, waits_from, waits_held, held_are, are_found, found_is_deadlocked}
 use Rattle.waitgraph.proofs.VerdictLemmas.{held_list, held_found, same_held}

@@ -1,12 +1,12 @@
 -- The held ranks, those of a deadlocked set, are the ones that the search finds.
 use Rattle.moves.specs.declared.reading.Reading.{Reading}
-use Rattle.std.proofs.Common.{inl, inr, ◌≡◌, ◌↔◌, ℕ, zero, suc, ◌<◌, ◌≤◌, ◌==◌, Bool, true, false, not, ◌&&◌, ◌||◌, Option, Some, None, List, [], ◌∷◌, length, refl, sym, ap, subst, ◌∙◌, ⊎_elim}
+use Rattle.std.proofs.Common.{inl, inr, ◌≡◌, ℕ, zero, suc, ◌<◌, ◌≤◌, ◌==◌, Bool, true, false, not, ◌&&◌, ◌||◌, Option, Some, None, List, [], ◌∷◌, length, refl, sym, ap, subst, ◌∙◌, ⊎_elim}
 use mathlib.Core.Bool.{Bool-set}
 use Rattle.std.proofs.Math.Logic.{∥∥₁_elim}
 use Rattle.std.specs.Prelude.{slice_index}
 use Rattle.std.specs.List.{slice_get, list_any, list_all}
-use Rattle.std.proofs.lemmas.Option.{none-some, slice_get_within, slice_get_past}
-use Rattle.std.proofs.lemmas.Bool.{cases_Bool, cases_lt, cases_eq, false≢true, and_parts, and_from, or_left, or_right, not-true, not_from_false, eqb-true, eq-eqb}
+use Rattle.std.proofs.lemmas.Option.{slice_get_within, slice_get_past}
+use Rattle.std.proofs.lemmas.Bool.{cases_Bool, cases_lt, false≢true, and_parts, and_from, or_left, or_right, not-true, not_from_false, eqb-true, eq-eqb}
 use Rattle.mpicall.specs.Ending.{ends_list}
 use Rattle.mpicall.specs.declared.call.Call.{Call}
 use Rattle.mpigroup.specs.Groups.{Groups}
@@ -25,9 +25,8 @@ use Rattle.waitgraph.specs.inner.Held.{opened_of, standing_by, standings_at, is_
 use Rattle.waitgraph.specs.inner.Loose.{standing_of, is_on, loosens, are_loose, are_held, goes_on}
 use Rattle.waitgraph.specs.inner.Least.{after_rounds}
 use Rattle.waitgraph.specs.inner.Waits.{waits_of}
-use Rattle.waitgraph.specs.declared.standing.Standing.{Standing}
 use Rattle.waitgraph.specs.declared.standing.Standing.TheVariants.{Stuck}
-use Rattle.waitgraph.proofs.AmongLemmas.{Among, among_in, in_among}
+use Rattle.waitgraph.proofs.AmongLemmas.{Among, in_among}
 use Rattle.waitgraph.proofs.GoingLemmas.{stuck_is_held, holds_by}
 use Rattle.waitgraph.proofs.StaysLemmas.{stays_if_held, past_open}
 use Rattle.waitgraph.proofs.StuckLemmas.{ends_without_needs}

@@ -34,7 +34,7 @@ use Rattle.waitgraph.proofs.AmongLemmas.{Among, among_in, in_among}
 use Rattle.waitgraph.proofs.UnmetLemmas.{waits_are}
 use Rattle.waitgraph.proofs.GoingLemmas.{held_ranks_go_on}
 use Rattle.waitgraph.proofs.StuckLemmas.{ends_at, StandsBefore, stands_before, not_past, awaited_stands}
-use Rattle.waitgraph.proofs.WalkLaws.{IsWaiting, WalkGoesOn, waiting_is_rank, next_is_waiting, walk_ends}
+use Rattle.waitgraph.proofs.WalkLaws.{IsWaiting, WalkGoesOn, next_is_waiting, walk_ends}
 use Rattle.waitgraph.proofs.ListedLemmas.{each_is_an_end, none_twice}
 use Rattle.waitgraph.proofs.RangeLemmas.{in_table, past_table}
 

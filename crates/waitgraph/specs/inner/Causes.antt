@@ -1,6 +1,6 @@
 -- The causes as the search finds them, by a walk from rank to rank.
 use Rattle.moves.specs.declared.reading.Reading.{Reading}
-use Rattle.std.specs.Prelude.{◌≡◌, ℕ, zero, suc, ◌<◌, ◌==◌, true, nat_le, if◌then◌else◌, Option, Some, None, option_map, option_and_then, List, [], ◌∷◌, ◌++◌, length, map, slice_get}
+use Rattle.std.specs.Prelude.{ℕ, zero, suc, ◌==◌, nat_le, if◌then◌else◌, Option, Some, None, option_map, option_and_then, List, [], ◌∷◌, ◌++◌, length, map, slice_get}
 use Rattle.std.specs.List.{list_all, filter_map, range_with_len}
 use Rattle.mpigroup.specs.Groups.{Groups}
 use Rattle.callnotes.specs.Recordings.{Lists}
@@ -79,6 +79,3 @@ causes_in walks =
 -- the causes of a recording
 abbrev pub causes_of : Reading → Groups → Lists → List CauseView
 causes_of reading groups recording = causes_in (walks_of reading groups recording)
-
-abbrev pub WalksEndInTheCauses : Type 0
-WalksEndInTheCauses = (reading : Reading) (groups : Groups) (recording : Lists) → IsClosed recording → TellsCauses reading groups recording
