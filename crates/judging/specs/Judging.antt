@@ -5,7 +5,8 @@ use Rattle.mpicall.specs.Device.{one_more, AppendsBeginning}
 use Rattle.mpigroup.specs.Groups.{Groups, ranks_of}
 use Rattle.callnotes.specs.Recordings.{Lists, IsClosed}
 use Rattle.moves.specs.declared.reading.Reading.{Reading}
-use Rattle.waitgraph.specs.Verdicts.{verdict_of}
+use Rattle.waitgraph.specs.Causes.{CauseView, AreCauses}
+use Rattle.waitgraph.specs.Verdicts.{IsVerdictOf}
 use Rattle.waitgraph.specs.declared.verdict.Verdict.{Verdict}
 use Rattle.reports.specs.Judged.{judged_of}
 use Rattle.reports.specs.declared.judged.Judged.{Judged}
@@ -20,8 +21,10 @@ pub record IsJudgedReport (reading : Reading) (format : Format) (verdict : Verdi
   pub judged : Judged
   pub one_a_rank : length recording ≡ ranks_of groups
   pub closed : IsClosed recording
-  pub report_is : report ≡ judged_of format reading groups recording judged
-  pub verdict_is : verdict ≡ verdict_of reading groups recording
+  pub is_verdict : IsVerdictOf reading groups recording verdict
+  pub causes : List CauseView
+  pub are_causes : AreCauses reading groups recording causes
+  pub is_text : report ≡ judged_of format reading groups recording verdict causes judged
 
 -- only a failed write leaves the output other than it was: with a prefix of a text, and one failure more
 abbrev pub LeavesAt : {O : Type 0} → (O → Option (List ℕ)) → (O → ℕ) → O → O → JudgeFault → Type 0

@@ -9,9 +9,9 @@ use Rattle.mpigroup.specs.Groups.{Groups}
 use Rattle.callnotes.specs.Recordings.{Lists}
 use Rattle.moves.specs.declared.reading.Reading.{Reading}
 use Rattle.findings.specs.declared.finding.Finding.{Finding}
-use Rattle.waitgraph.specs.Causes.{causes_of}
+use Rattle.waitgraph.specs.Causes.{CauseView}
 use Rattle.waitgraph.specs.Stuck.{stuck_of}
-use Rattle.waitgraph.specs.Verdicts.{verdict_of}
+use Rattle.waitgraph.specs.declared.verdict.Verdict.{Verdict}
 use Rattle.reports.specs.JsonReport.{numeral, each, cause_data, finding_data, rank_data}
 use Rattle.reports.specs.TextReport.{line, verdict_line, verdict_text, rank_lines, cause_line, finding_line}
 use Rattle.reports.specs.declared.judged.Judged.{Judged}
@@ -32,28 +32,27 @@ left_data it = array (item (numeral it.rank) (item (numeral it.line) (item (stri
 abbrev pub line_data : LineAt → Data
 line_data it = array (item (numeral it.rank) (item (numeral it.place) (item (numeral it.line) no_items)))
 
-unfoldable pub judged_text : Reading → Groups → Lists → List Finding → List LeftAt → List ℕ
-judged_text reading groups recording findings left =
-    verdict_line (verdict_of reading groups recording)
-    ++ flat_map (rank_lines reading groups recording) (stuck_of reading groups recording)
-    ++ flat_map cause_line (causes_of reading groups recording)
-    ++ flat_map finding_line findings
-    ++ flat_map left_line left
+unfoldable pub judged_text : Reading → Groups → Lists → Verdict → List CauseView → List Finding → List LeftAt → List ℕ
+judged_text reading groups recording verdict causes findings left =
+    verdict_line verdict ++ flat_map (rank_lines reading groups recording) (stuck_of reading groups recording)
+    ++ flat_map cause_line causes ++ flat_map finding_line findings ++ flat_map left_line left
 
 -- `{"causes":[..],"findings":[..],"left":[..],"lines":[..],"ranks":[..],"verdict":..}`
-unfoldable pub judged_data : Reading → Groups → Lists → List Finding → List LeftAt → List LineAt → Data
-judged_data reading groups recording findings left lines =
-    object (member (codes "causes") (each cause_data (causes_of reading groups recording))
+unfoldable pub judged_data : Reading → Groups → Lists → Verdict → List CauseView → List Finding → List LeftAt → List LineAt → Data
+judged_data reading groups recording verdict causes findings left lines =
+    object (member (codes "causes") (each cause_data causes)
     (member (codes "findings") (each finding_data findings)
     (member (codes "left") (each left_data left)
     (member (codes "lines") (each line_data lines)
     (member (codes "ranks") (each (rank_data reading groups recording) (stuck_of reading groups recording))
-    (member (codes "verdict") (string (verdict_text (verdict_of reading groups recording))) no_members))))))
+    (member (codes "verdict") (string (verdict_text verdict)) no_members))))))
 
-unfoldable pub judged_json : Reading → Groups → Lists → List Finding → List LeftAt → List LineAt → List ℕ
-judged_json reading groups recording findings left lines =
-    compact_text (judged_data reading groups recording findings left lines) ++ line_feed ∷ []
+unfoldable pub judged_json : Reading → Groups → Lists → Verdict → List CauseView → List Finding → List LeftAt → List LineAt → List ℕ
+judged_json reading groups recording verdict causes findings left lines =
+    compact_text (judged_data reading groups recording verdict causes findings left lines) ++ line_feed ∷ []
 
-unfoldable pub judged_of : Format → Reading → Groups → Lists → Judged → List ℕ
-judged_of Text reading groups recording it = judged_text reading groups recording it.findings.now it.left.now
-judged_of Json reading groups recording it = judged_json reading groups recording it.findings.now it.left.now it.lines.now
+unfoldable pub judged_of : Format → Reading → Groups → Lists → Verdict → List CauseView → Judged → List ℕ
+judged_of Text reading groups recording verdict causes it =
+    judged_text reading groups recording verdict causes it.findings.now it.left.now
+judged_of Json reading groups recording verdict causes it =
+    judged_json reading groups recording verdict causes it.findings.now it.left.now it.lines.now

@@ -80,7 +80,7 @@ pub(crate) fn judged_json_text(
 ) -> Result<String, AllocError>
     requires { IsGraphOf analyser.now.reading analyser.now.groups analyser.now.recording graph.now }
     ensures { IfOk result (λ text. string_bytes text
-        ≡ judged_json analyser.now.reading analyser.now.groups analyser.now.recording judged.now.findings.now judged.now.left.now judged.now.lines.now) }
+        ≡ judged_json analyser.now.reading analyser.now.groups analyser.now.recording (verdict_by graph.now.held graph.now.left_open) graph.now.causes judged.now.findings.now judged.now.left.now judged.now.lines.now) }
 {
     let mut text = String::new(alloc);
     push_key(alloc, &mut text, "{", "causes", ":")?;

@@ -4,6 +4,7 @@
 ghost use Rattle.std.specs.Prelude.{◌≡◌, ◌≤◌, All, length, IfErr, OnOk};
 ghost use Rattle.std.specs.Io.KnownBytes.{Appends};
 ghost use Rattle.waitgraph.specs.Graphs.{IsGraphOf};
+ghost use Rattle.waitgraph.specs.Verdicts.{verdict_by};
 ghost use Rattle.reports.specs.Judged.{judged_json, judged_of};
 ghost use Rattle.reports.specs.Reports.{LeavesReport};
 
@@ -53,10 +54,10 @@ fn write_judged_json<O: Output>(
 ) -> Result<(), ReportFault>
     requires { IsGraphOf analyser.now.reading analyser.now.groups analyser.now.recording graph.now }
     ensures written { OnOk result (Appends (O.written out.old) (O.written out.new)
-        (judged_json analyser.now.reading analyser.now.groups analyser.now.recording judged.now.findings.now judged.now.left.now judged.now.lines.now)) }
+        (judged_json analyser.now.reading analyser.now.groups analyser.now.recording (verdict_by graph.now.held graph.now.left_open) graph.now.causes judged.now.findings.now judged.now.left.now judged.now.lines.now)) }
     ensures no_write_failed { OnOk result (O.failures out.new ≡ O.failures out.old) }
     ensures fault { IfErr result (LeavesReport O.written O.failures out.old out.new Format.Json
-        (judged_json analyser.now.reading analyser.now.groups analyser.now.recording judged.now.findings.now judged.now.left.now judged.now.lines.now)) }
+        (judged_json analyser.now.reading analyser.now.groups analyser.now.recording (verdict_by graph.now.held graph.now.left_open) graph.now.causes judged.now.findings.now judged.now.left.now judged.now.lines.now)) }
 {
     let Ok(text) = judged_json_text(alloc, analyser, graph, judged) else {
         return Err(ReportFault::Memory);
@@ -80,9 +81,9 @@ pub fn write_judged<O: Output>(
 ) -> Result<(), ReportFault>
     requires graph { IsGraphOf analyser.now.reading analyser.now.groups analyser.now.recording graph.now }
     requires short { All (λ one. length one.why.now ≤ MOST_WORDS) judged.now.left.now }
-    ensures written { OnOk result (Appends (O.written out.old) (O.written out.new) (judged_of format analyser.now.reading analyser.now.groups analyser.now.recording judged.now)) }
+    ensures written { OnOk result (Appends (O.written out.old) (O.written out.new) (judged_of format analyser.now.reading analyser.now.groups analyser.now.recording (verdict_by graph.now.held graph.now.left_open) graph.now.causes judged.now)) }
     ensures no_write_failed { OnOk result (O.failures out.new ≡ O.failures out.old) }
-    ensures fault { IfErr result (LeavesReport O.written O.failures out.old out.new format (judged_of format analyser.now.reading analyser.now.groups analyser.now.recording judged.now)) }
+    ensures fault { IfErr result (LeavesReport O.written O.failures out.old out.new format (judged_of format analyser.now.reading analyser.now.groups analyser.now.recording (verdict_by graph.now.held graph.now.left_open) graph.now.causes judged.now)) }
 {
     match format {
         Format::Text => match write_judged_text(analyser, graph, judged, out) {

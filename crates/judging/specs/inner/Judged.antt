@@ -12,17 +12,17 @@ use Rattle.findings.specs.Findings.{findings_of}
 use Rattle.findings.specs.Places.{over_ranks}
 use Rattle.findings.specs.declared.finding.Finding.{Finding}
 use Rattle.findings.specs.declared.finding.Finding.TheVariants.{Request}
-use Rattle.waitgraph.specs.Causes.{causes_of}
+use Rattle.waitgraph.specs.inner.Causes.{causes_of}
 use Rattle.waitgraph.specs.Stuck.{stuck_of}
-use Rattle.waitgraph.specs.Verdicts.{verdict_of}
+use Rattle.waitgraph.specs.inner.Verdicts.{verdict_of}
 use Rattle.reports.specs.TextReport.{line, verdict_line, verdict_text, rank_lines, cause_line, finding_line}
 use Rattle.reports.specs.JsonReport.{numeral, each, cause_data, finding_data, rank_data}
 use Rattle.reports.specs.declared.report.Format.{Format}
 use Rattle.reports.specs.declared.report.Format.TheVariants as format
-use Rattle.closing.specs.Entries.{Run}
-use Rattle.closing.specs.Entry.{Choice}
-use Rattle.closing.specs.Recording.{Listed, Recording, calls_of, recording_of}
-use Rattle.closing.specs.Left.{Left, left_of, starts_freed}
+use Rattle.closing.specs.inner.Entries.{Run}
+use Rattle.closing.specs.inner.Entry.{Choice}
+use Rattle.closing.specs.inner.Recording.{Listed, Recording, calls_of, recording_of}
+use Rattle.closing.specs.inner.Left.{Left, left_of, starts_freed}
 use Rattle.closing.specs.declared.choice.Calls.{Calls}
 use Rattle.closing.specs.declared.choice.Calls.TheVariants as calls
 use Rattle.closing.specs.declared.why.Why.{Why}

@@ -326,7 +326,7 @@ pub(crate) fn write_judged_text<O: Output>(
     requires graph { IsGraphOf analyser.now.reading analyser.now.groups analyser.now.recording graph.now }
     requires short { All (λ one. length one.why.now ≤ MOST_WORDS) judged.now.left.now }
     ensures { PrintsAll (O.written out.old) (O.failures out.old) (O.written out.new) (O.failures out.new)
-        (judged_text analyser.now.reading analyser.now.groups analyser.now.recording judged.now.findings.now judged.now.left.now) result }
+        (judged_text analyser.now.reading analyser.now.groups analyser.now.recording (verdict_by graph.now.held graph.now.left_open) graph.now.causes judged.now.findings.now judged.now.left.now) result }
 {
     let mut printer = Printer::new();
     push_verdict(&mut printer.page, graph.verdict());

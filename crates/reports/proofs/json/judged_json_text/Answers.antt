@@ -1,11 +1,10 @@
-use Rattle.std.proofs.Common.{◌≡◌, ℕ, Bool, List, ◌++◌, string_bytes, sym, ap, ◌∙◌}
+use Rattle.std.proofs.Common.{◌≡◌, ℕ, List, ◌++◌, string_bytes, sym, ap, ◌∙◌}
 use Rattle.std.specs.Prelude.{codes}
 use Rattle.serde_json.specs.Data.{string}
 use Rattle.serde_json.specs.Written.{compact_text}
-use Rattle.waitgraph.specs.Causes.{CauseView, causes_of}
-use Rattle.waitgraph.specs.Held.{held_of}
+use Rattle.waitgraph.specs.Causes.{CauseView}
 use Rattle.waitgraph.specs.Stuck.{stuck_of}
-use Rattle.waitgraph.specs.Verdicts.{verdict_by, verdict_of}
+use Rattle.waitgraph.specs.Verdicts.{verdict_by}
 use Rattle.waitgraph.specs.declared.verdict.Verdict.{Verdict}
 use Rattle.reports.specs.inner.ArrayTexts.{elements_text, key_text}
 use Rattle.reports.specs.JsonReport.{each, cause_data, finding_data, rank_data}
@@ -19,16 +18,13 @@ returns c =
     let reading = c.args.analyser.now.reading in
     let groups = c.args.analyser.now.groups in
     let recording = c.args.analyser.now.recording in
-    let causes = compact_text (each cause_data (causes_of reading groups recording)) in
+    let causes = compact_text (each cause_data c.args.graph.now.causes) in
     let findings = elements_text finding_data c.args.judged.now.findings.now in
     let left = elements_text left_data c.args.judged.now.left.now in
     let lines = elements_text line_data c.args.judged.now.lines.now in
     let ranks = elements_text (rank_data reading groups recording) (stuck_of reading groups recording) in
-    let verdict = compact_text (string (verdict_text (verdict_of reading groups recording))) in
-    let held : c.verdict.result ≡ verdict_of reading groups recording =
-    c.verdict.ensures
-    ∙ ap (λ (held : List ℕ). verdict_by held c.args.graph.now.left_open) c.requires.held
-    ∙ ap (λ (left_open : Bool). verdict_by (held_of reading groups recording) left_open) c.requires.left_open in
+    let said = verdict_by c.args.graph.now.held c.args.graph.now.left_open in
+    let verdict = compact_text (string (verdict_text said)) in
     let key_1 = key_text (codes "{") (codes "causes") (codes ":") in
     let key_2 = key_text (codes ",") (codes "findings") (codes ":[") in
     let key_3 = key_text (codes "],") (codes "left") (codes ":[") in
@@ -39,7 +35,7 @@ returns c =
     c.in_ok-push_key.ensures ∙ ap (λ (text : List ℕ). text ++ key_1) c.new-text.ensures.bytes in
     let b : string_bytes c.push_causes.new.text ≡ key_1 ++ causes =
     c.in_ok-push_causes.ensures
-    ∙ ap (λ (seen : List CauseView). string_bytes c.push_key.new.text ++ compact_text (each cause_data seen)) (c.causes.ensures ∙ c.requires.causes)
+    ∙ ap (λ (seen : List CauseView). string_bytes c.push_key.new.text ++ compact_text (each cause_data seen)) c.causes.ensures
     ∙ ap (λ (text : List ℕ). text ++ causes) a in
     let d : string_bytes c.push_findings.new.text ≡ ((key_1 ++ causes) ++ key_2) ++ findings =
     c.in_ok-push_findings.ensures
@@ -56,7 +52,7 @@ returns c =
     c.in_ok-push_str.ensures.bytes
     ∙ ap (λ (text : List ℕ). text ++ codes "}\n")
     (c.in_ok-push_verdict.ensures
-    ∙ ap (λ (told : Verdict). string_bytes c.push_key-6.new.text ++ compact_text (string (verdict_text told))) held
+    ∙ ap (λ (told : Verdict). string_bytes c.push_key-6.new.text ++ compact_text (string (verdict_text told))) c.verdict.ensures
     ∙ ap (λ (text : List ℕ). text ++ verdict) (c.in_ok-push_key-6.ensures ∙ ap (λ (text : List ℕ). text ++ key_6) h))
     ∙ thirteen key_1 causes key_2 findings key_3 left key_4 lines key_5 ranks key_6 verdict (codes "}\n")
-    ∙ sym (judged_parts reading groups recording c.args.judged.now.findings.now c.args.judged.now.left.now c.args.judged.now.lines.now)
+    ∙ sym (judged_parts reading groups recording said c.args.graph.now.causes c.args.judged.now.findings.now c.args.judged.now.left.now c.args.judged.now.lines.now)
