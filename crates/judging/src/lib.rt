@@ -3,7 +3,7 @@
 #![tactic(auto)]
 
 pub mod close;
-mod findings;
+mod freed;
 mod head;
 pub mod judge;
 pub mod read;
