@@ -12,7 +12,7 @@ returns-then-exchanges c =
     let sends = c.partner-send.ensures ∙ c.requires.seen.partner SendHalf in
     let receives = c.partner-recv.ensures ∙ c.requires.seen.partner RecvHalf in
     let first = c.wake_partner.ensures ∙ ap (woken_partner c.args.waiters.now) sends in
-    let second = c.wake_partner-2.ensures ∙ ap (woken_partner c.wake_partner.new.waiters) receives in
+    let second = c.wake_partner-then-exchanges.ensures ∙ ap (woken_partner c.wake_partner.new.waiters) receives in
     c.wake_prober.ensures
     ∙ ap (woken_prober p.groups p.recording c.args.at.0 c.args.at.1)
     (second ∙ ap (λ (w : WaitLists). woken_partner w (partner_of p.groups p.recording c.args.at.0 c.args.at.1 RecvHalf)) first)
