@@ -3,7 +3,7 @@
 #![tactic(auto)]
 
 pub mod close;
-mod freed;
+mod findings;
 mod head;
 pub mod judge;
 pub mod read;
