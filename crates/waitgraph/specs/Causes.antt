@@ -133,7 +133,7 @@ pub record TellsCauses (reading : Reading) (groups : Groups) (recording : Lists)
       (cause : CauseView) × IsListed cause (causes_of reading groups recording) × ComesTo (walks_of reading groups recording) rank cause
   pub each_is_an_end : (cause : CauseView) → IsListed cause (causes_of reading groups recording) →
       (rank : Rank) × (rank < length recording) × (is_held reading groups recording rank ≡ true)
-          × ComesTo (walks_of reading groups recording) rank cause
+      × ComesTo (walks_of reading groups recording) rank cause
   pub none_twice : (index other : ℕ) (cause : CauseView) →
       slice_get (causes_of reading groups recording) index ≡ Some cause → slice_get (causes_of reading groups recording) other ≡ Some cause → index ≡ other
 
