@@ -9,9 +9,9 @@ ghost use Rattle.judging.specs.Judging.{IsJudgedReport, LeavesAt};
 ghost use Rattle.judging.specs.inner.Unwritten.{IsUnwritten};
 ghost use Rattle.judging.specs.declared.judge.JudgeFault.TheVariants.{Memory};
 
-use crate::findings::reported_findings;
 use crate::head::head_text;
 use crate::read::{Journals, ReadFault, read_journals};
+use crate::reported::reported_findings;
 use crate::spots::lines_of;
 use crate::turns::{LineTable, Lists};
 use closing::choice::Choice;

@@ -3,9 +3,9 @@
 #![tactic(auto)]
 
 pub mod close;
-mod findings;
 mod head;
 pub mod judge;
 pub mod read;
+mod reported;
 mod spots;
 mod turns;

@@ -1,6 +1,6 @@
 //! The calls that a report names, each with the line of its entry in the journal.
 
-use crate::findings::Spot;
+use crate::reported::Spot;
 use crate::turns::LineTable;
 use findings::finding::Finding;
 use moves::analyser::Analyser;
