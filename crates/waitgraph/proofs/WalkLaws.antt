@@ -1,5 +1,5 @@
 -- Where walks end, over waits in which no rank waits for one that waits for none.
-use Rattle.std.proofs.Common.{inl, inr, ◌≡◌, ℕ, zero, suc, ◌+◌, ◌-◌, ◌<◌, ◌≤◌, ◌⊎◌, true, Option, Some, None, List, length, refl, sym, ap, ◌∙◌, ⊎_elim, arith}
+use Rattle.std.proofs.Common.{inl, inr, ◌≡◌, ℕ, zero, suc, ◌+◌, ◌-◌, ◌<◌, ◌≤◌, ◌⊎◌, true, Option, Some, None, List, ◌∷◌, length, refl, sym, ap, ◌∙◌, ⊎_elim, arith}
 use Rattle.std.specs.Prelude.{nat_le, option_and_then, unwrap_or}
 use Rattle.std.specs.List.{slice_get, list_all, filter_map, range_with_len}
 use Rattle.std.proofs.lemmas.Option.{none-some, same_Some, slice_get_past}

@@ -19,7 +19,7 @@ causes_in-requires c =
 pub returns-clause-left_open : goal.returns-clause-left_open
 returns-clause-left_open c =
     let recording = c.args.pairs.now.recording in
-    c.is_some.ensures
+    c.is_some-left_open.ensures
     ∙ ap (λ (marks : List Bool). list_any (λ open_list. open_list) marks) (c.deref-7.ensures.value ∙ c.in_ok-opened.ensures)
     ∙ some_marked (is_left_open recording) (range_with_len 0 (length recording))
 
