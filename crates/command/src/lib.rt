@@ -21,7 +21,7 @@ mod folder;
 mod found;
 pub mod given;
 pub mod head_to_head;
-mod journals;
+mod journal_folder;
 pub mod limit;
 mod lint;
 mod manner;

@@ -14,7 +14,7 @@ ghost use Rattle.command.specs.Texts.{IsFaultOfCheck};
 
 use crate::check::{Run, check};
 use crate::fault::Fault;
-use crate::journals::{JournalFolder, RecordingFolder};
+use crate::journal_folder::{JournalFolder, RecordingFolder};
 use crate::lint::lint_file;
 use crate::opener::{Maker, Opener};
 use crate::status::Status;
