@@ -189,7 +189,6 @@ fn lines_in(
 }
 
 /// Writes a report, and gives the verdict that it says.
-#[tactic(auto, using(crate::proofs::JudgedLemmas::judged_written))]
 fn write_report<O: Output>(
     alloc: Global,
     analyser: &Analyser,
