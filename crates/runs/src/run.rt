@@ -180,7 +180,6 @@ fn fault_of_close(fault: CloseFault) -> RunFault
 }
 
 /// Writes the report of a run whose calls were all accepted, and gives the verdict that it says.
-#[tactic(auto, using(crate::proofs::RunLemmas::graph_reported, crate::proofs::RunLemmas::graph_not_reported))]
 fn report<O: Output>(
     alloc: Global,
     outcome: &Outcome,
