@@ -194,19 +194,20 @@ fn write_report<O: Output>(
     analyser: &Analyser,
     graph: &Graph,
     judged: &Judged<'_>,
-    format: Format,
+    manner: Manner,
     out: &mut O,
 ) -> Result<Verdict, JudgeFault>
+    requires reading { analyser.now.reading ≡ manner.reading }
     requires closed { IsClosed analyser.now.recording }
     requires graph { IsGraphOf analyser.now.reading analyser.now.groups analyser.now.recording graph.now }
     requires short { All (λ one. length one.why.now ≤ MOST_WORDS) judged.now.left.now }
-    ensures written { IfOk result (λ verdict. (report : List ℕ) × IsJudgedReport analyser.now.reading format verdict report × Appends (O.written out.old) (O.written out.new) report) }
+    ensures written { IfOk result (λ verdict. (report : List ℕ) × IsJudgedReport manner.reading manner.format verdict report × Appends (O.written out.old) (O.written out.new) report) }
     ensures no_write_failed { OnOk result (O.failures out.new ≡ O.failures out.old) }
     ensures output { IfErr result (LeavesAt O.written O.failures out.old out.new) }
 {
     let verdict = graph.verdict();
     let _head = analyser.head();
-    match write_judged(alloc, analyser, graph, judged, format, out) {
+    match write_judged(alloc, analyser, graph, judged, manner.format, out) {
         Ok(()) => Ok(verdict),
         Err(ReportFault::Memory) => Err(JudgeFault::Memory),
         Err(ReportFault::Write) => Err(JudgeFault::Write),
@@ -223,9 +224,10 @@ fn report<O: Output>(
     manner: Manner,
     out: &mut O,
 ) -> Result<Verdict, JudgeFault>
+    requires reading { analyser.now.reading ≡ manner.reading }
     requires closed { IsClosed analyser.now.recording }
     requires graph { IsGraphOf analyser.now.reading analyser.now.groups analyser.now.recording graph.now }
-    ensures written { IfOk result (λ verdict. (report : List ℕ) × IsJudgedReport analyser.now.reading manner.format verdict report × Appends (O.written out.old) (O.written out.new) report) }
+    ensures written { IfOk result (λ verdict. (report : List ℕ) × IsJudgedReport manner.reading manner.format verdict report × Appends (O.written out.old) (O.written out.new) report) }
     ensures no_write_failed { OnOk result (O.failures out.new ≡ O.failures out.old) }
     ensures output { IfErr result (LeavesAt O.written O.failures out.old out.new) }
 {
@@ -239,7 +241,7 @@ fn report<O: Output>(
         left: left.as_slice(),
         lines: lines.as_slice(),
     };
-    write_report(alloc, analyser, graph, &judged, format, out)
+    write_report(alloc, analyser, graph, &judged, manner, out)
 }
 
 /// Judges the journals of a run, and writes the report of their recording.
