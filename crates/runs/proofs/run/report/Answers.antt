@@ -15,7 +15,7 @@ returns-in-Ok-clause-written g c =
     let graph = c.graph.result.now in
     graph_reported g.O.Output.written c.args.out.now c.write_report.new.out c.args.format it.reading it.groups it.recording graph c.verdict.result c.graph.ensures c.verdict.ensures.value
     (subst (λ (a : Analysed). Appends (g.O.Output.written c.args.out.now) (g.O.Output.written c.write_report.new.out)
-        (report_of c.args.format a.reading a.groups a.recording (verdict_by graph.held graph.left_open) graph.causes)) c.analyser.ensures c.in-Ok.ensures.written)
+    (report_of c.args.format a.reading a.groups a.recording (verdict_by graph.held graph.left_open) graph.causes)) c.analyser.ensures c.in-Ok.ensures.written)
 
 pub returns-in-Err-Memory-clause-fault : goal.returns-in-Err-Memory-clause-fault
 returns-in-Err-Memory-clause-fault g c =
@@ -28,5 +28,5 @@ returns-in-Err-Write-clause-fault g c =
     let it = c.args.outcome.now in
     let graph = c.graph.result.now in
     let leaves : LeavesRunReport g.O.Output.written g.O.Output.failures c.args.out.now c.write_report.new.out
-        (report_of c.args.format it.reading it.groups it.recording (verdict_by graph.held graph.left_open) graph.causes) Write = search rules in
+    (report_of c.args.format it.reading it.groups it.recording (verdict_by graph.held graph.left_open) graph.causes) Write = search rules in
     graph_not_reported g.O.Output.written g.O.Output.failures c.args.out.now c.write_report.new.out c.args.format it.reading it.groups it.recording graph Write c.graph.ensures leaves
