@@ -1,5 +1,7 @@
 -- Two ranks that send to each other before either receives: what the words ask for, what the texts of the files say,
 -- and what comes of it.
+use Rattle.waitgraph.specs.declared.verdict.Verdict.{Verdict}
+use Rattle.reports.specs.declared.report.Format.{Format}
 use Rattle.std.proofs.Common.{◌≡◌, ◌≢◌, ◌∙◌, ℕ, Bool, true, false, Option, Some, None, Ok, Err, IfSome, List, [], ◌∷◌, ap, codes, inl, inr, length, map, refl, subst, sym, Bor}
 use Rattle.std.proofs.lemmas.List.{length-map}
 use Rattle.std.specs.Fmt.{digits}

@@ -39,7 +39,7 @@ as_left written failures old new Write other same = absurd (other refl)
 as_left written failures old new fault other same = same
 
 pub judged_left : {O : Type 0} (written : O → Option Text) (failures : O → ℕ) (old new : O) (fault : JudgeFault) (reported : Fault) → IsWriteAs fault reported → LeavesAt written failures old new fault → LeavesAtFault written failures old new reported
-judged_left written failures old new judged.Write reported is left = subst (λ (f : Fault). LeavesAtFault written failures old new f) (sym is) left
+judged_left written failures old new judged.Write reported is left = subst (λ (f : Fault). LeavesAtFault written failures old new f) (sym is) (left.0, (left.1, left.2))
 judged_left written failures old new (judged.Read fault) reported is left = as_left written failures old new reported is left
 judged_left written failures old new (judged.Head fault) reported is left = as_left written failures old new reported is left
 judged_left written failures old new (judged.Refused refusal) reported is left = as_left written failures old new reported is left

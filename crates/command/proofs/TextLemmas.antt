@@ -1,5 +1,8 @@
 -- How the answers over a check's sources follow for the texts of its files.
 use Rattle.command.specs.declared.options.Options.{Options}
+use Rattle.moves.specs.declared.reading.Reading.{Reading}
+use Rattle.reports.specs.declared.report.Format.{Format}
+use Rattle.command.specs.inner.Outputs.{LeavesAtFault}
 use Rattle.std.proofs.Common.{◌≡◌, ◌<◌, ℕ, length, Option, Some, None, List, [], ◌∷◌, map, option_map, ap, ◌∙◌, sym, refl, subst, arith, Result, Ok, Err, IfSome, take, Bool, true, false, if◌then◌else◌, Bor}
 use Rattle.mpicall.specs.Trace.{Trace, trace_of}
 use Rattle.mpicall.specs.declared.source.Source.{Source}
@@ -10,7 +13,7 @@ use Rattle.mpigroup.specs.HeadText.{read_head}
 use Rattle.mpigroup.specs.declared.fault.HeadFault.{HeadFault}
 use Rattle.runs.specs.Runs.{RefusesFeeds, StopsWhereAllowed}
 use Rattle.runs.specs.Told.{RefusesOver, Tells, is_from_outside}
-use Rattle.runs.specs.Written.{IsReportOver}
+use Rattle.runs.specs.Written.{IsReportOver, LeavesOutput}
 use Rattle.runs.proofs.HeldLemmas.{lowest_refusal}
 use Rattle.gather.specs.declared.fault.Refusal.{Refusal}
 use Rattle.gather.specs.declared.fault.RunFault.{RunFault}
@@ -90,3 +93,16 @@ module _ (told : Text → Option Text) (head : Text) (files : List (Bor Text)) w
   run_fault_says left may_stop sources groups (run.Refused refusal) count counted fed stops never refuses =
       let lowest = lowest_refusal left may_stop sources groups refusal (count ∙ counted.one_a_rank) fed in
       by_failure refusal (is_from_outside refusal.fault) (record { groups = groups; counted = counted; is_rank = omega (arith, lowest.is_rank, counted.one_a_rank); unstopped = λ is. never _ _ (stops is); of_traces = refuses }) refl
+
+-- what a run leaves on the output at a fault
+by_kind : {O : Type 0} (written : O → Option Text) (failures : O → ℕ) (old new : O) (refusal : Refusal) (fails : Bool) → new ≡ old → LeavesAtFault written failures old new (if fails then Failed refusal else Refused refusal)
+by_kind written failures old new refusal true same = same
+by_kind written failures old new refusal false same = same
+
+pub run_leaves : {I O : Type 0} (left : I → Option Text) (written : O → Option Text) (failures : O → ℕ) (sources : List (Source I)) (reading : Reading) (groups : Groups) (format : Format) (old new : O) (fault : RunFault) →
+    LeavesOutput left written failures sources reading groups format old new fault → LeavesAtFault written failures old new (of_run fault)
+run_leaves left written failures sources reading groups format old new run.Memory leaves = leaves
+run_leaves left written failures sources reading groups format old new (run.Unproved rank) leaves = leaves
+run_leaves left written failures sources reading groups format old new run.Write leaves = (leaves.0.1, (leaves.0.3, leaves.1))
+run_leaves left written failures sources reading groups format old new (run.Refused refusal) leaves =
+    by_kind written failures old new refusal (is_from_outside refusal.fault) leaves

@@ -28,14 +28,6 @@ use waitgraph::verdict::Verdict;
 /// How many bytes of a head are read at once.
 const PIECE: usize = 4096;
 
-/// A run to check: the paths of its head and of its traces in rank order, and how it is checked.
-#[derive(Debug, Drop)]
-pub struct Run<'a, 'b> {
-    pub head: &'a str,
-    pub files: &'b [&'a str],
-    pub options: Options,
-}
-
 /// The bytes of a head, as far as they decide it. What is after them stays in the input.
 fn read_front<'a, I: Input>(alloc: Global, input: &mut I) -> Result<Vec<u8>, Fault<'a>>
     ensures front { IfOk result (λ front. IsFrontOf (I.left input.old) front.items) }
@@ -126,33 +118,30 @@ fn read_by<P: Opener>(opener: &P, paths: &[&str]) -> ReadBy
     ReadBy::Turns
 }
 
-/// Checks a run, and writes its report. The traces are opened in rank order, once their number is known to be
-/// that of the ranks, and then read at once.
+/// Checks a run, of which the paths of the head and of the traces in rank order are given, and writes its report. The
+/// traces are opened in rank order, once their number is known to be that of the ranks, and then read at once.
 pub fn check<'a, P: Opener, O: Output, R: Threads + Wait + Sync>(
     alloc: Global,
-    run: Run<'a, '_>,
+    head: &'a str,
+    files: &[&'a str],
+    options: Options,
     opener: &P,
     rt: &R,
     out: &mut O,
 ) -> Result<Verdict, Fault<'a>>
     // The answer is that of the texts of the files, where the opener knows them.
     ensures verdict { IfOk result (λ verdict. (text : List ℕ) (texts : List (List ℕ)) →
-        P.told opener.now run.entry.head.now ≡ Some text →
-        map (λ file. P.told opener.now file.now) run.entry.files.now ≡ map Some texts →
-        IsVerdictOfTexts run.entry.options.reading text texts verdict) }
+        P.told opener.now head.now ≡ Some text →
+        map (λ file. P.told opener.now file.now) files.now ≡ map Some texts →
+        IsVerdictOfTexts options.reading text texts verdict) }
 
     // Which fault is reported, by what came before it.
-    ensures fault { IfErr result (IsFaultOfCheck (P.told opener.now) run.entry.head.now run.entry.files.now) }
+    ensures fault { IfErr result (IsFaultOfCheck (P.told opener.now) head.now files.now) }
 
-    ensures written { IfOk result (WritesReportOf O.written out.old out.new run.entry.options (P.told opener.now run.entry.head.now) (map (λ file. P.told opener.now file.now) run.entry.files.now)) }
+    ensures written { IfOk result (WritesReportOf O.written out.old out.new options (P.told opener.now head.now) (map (λ file. P.told opener.now file.now) files.now)) }
     ensures no_write_failed { OnOk result (O.failures out.new ≡ O.failures out.old) }
     ensures output { IfErr result (LeavesAtFault O.written O.failures out.old out.new) }
 {
-    let Run {
-        head,
-        files,
-        options,
-    } = run;
     let head = open_head(alloc, opener, head)?;
     if files.len() != usize::from(head.ranks()) {
         return Err(Fault::FileCount {

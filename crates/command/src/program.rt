@@ -12,11 +12,12 @@ ghost use Rattle.command.specs.Outputs.{Tries};
 ghost use Rattle.command.specs.Statuses.{status_of_verdict};
 ghost use Rattle.command.specs.Texts.{IsFaultOfCheck};
 
-use crate::check::{Run, check};
+use crate::check::check;
 use crate::fault::Fault;
 use crate::journal_folder::{JournalFolder, RecordingFolder};
 use crate::lint::lint_file;
 use crate::opener::{Maker, Opener};
+use crate::options::Options;
 use crate::status::Status;
 use crate::words::{Words, parse};
 use closing::choice::Choice;
@@ -76,15 +77,17 @@ fn refuse<'a, O: Output>(
 /// Checks a run.
 fn answer_check<'a, P: Opener, O: Output, R: Threads + Wait + Sync>(
     alloc: Global,
-    run: Run<'a, '_>,
+    head: &'a str,
+    files: &[&'a str],
+    options: Options,
     opener: &P,
     rt: &R,
     out: &mut O,
 ) -> Result<Status, Complaint<'a>>
     ensures { let told = P.told opener.now in
-        IsAnswered O.written O.failures (EndsInReport run.entry.options (told run.entry.head.now) (map (λ file. told file.now) run.entry.files.now)) (IsFaultOfCheck told run.entry.head.now run.entry.files.now) out.old out.new result }
+        IsAnswered O.written O.failures (EndsInReport options (told head.now) (map (λ file. told file.now) files.now)) (IsFaultOfCheck told head.now files.now) out.old out.new result }
 {
-    match check(alloc, run, opener, rt, out) {
+    match check(alloc, head, files, options, opener, rt, out) {
         Ok(verdict) => Ok(status_of(verdict)),
         Err(fault) => refuse(alloc, fault, out),
     }
@@ -189,14 +192,7 @@ fn answer<'a, P: Opener + Maker, O: Output, R: Threads + Wait + Sync>(
             head,
             files,
             options,
-        } => {
-            let run = Run {
-                head,
-                files: &files,
-                options,
-            };
-            answer_check(alloc, run, opener, rt, out)
-        }
+        } => answer_check(alloc, head, &files, options, opener, rt, out),
         Words::Lint { file } => answer_lint(alloc, file, opener, rt, out),
         Words::Judge { folder, manner } => {
             let journals = JournalFolder::new(alloc, opener, folder);
