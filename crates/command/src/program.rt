@@ -195,8 +195,8 @@ fn answer<'a, P: Opener + Maker, O: Output, R: Threads + Wait + Sync>(
         } => answer_check(alloc, head, &files, options, opener, rt, out),
         Words::Lint { file } => answer_lint(alloc, file, opener, rt, out),
         Words::Judge { folder, manner } => {
-            let journals = JournalFolder::new(alloc, opener, folder);
-            answer_judge(&journals, manner, rt, out)
+            let judged = JournalFolder::new(alloc, opener, folder);
+            answer_judge(&judged, manner, rt, out)
         }
         Words::Close {
             folder,

@@ -30,7 +30,7 @@ returns-in-Judge g c =
     let failures = g.O.Output.failures in
     subst (λ (words : Words). IsAnswered written failures (IsDone told words) (IsFaultOf told words) c.args.out.now c.answer_judge.new.out c.answer_judge.result) (sym c.in-Judge.is)
     (subst (λ (folder : Bor (List ℕ)). IsAnswered written failures (EndsInJudged c.in-Judge.manner) (IsFaultOfJudge folder.now) c.args.out.now c.answer_judge.new.out c.answer_judge.result)
-    c.new-in-Judge.ensures c.answer_judge.ensures)
+    c.new-judged.ensures c.answer_judge.ensures)
 
 pub returns-in-Close : goal.returns-in-Close
 returns-in-Close g c =
@@ -38,7 +38,7 @@ returns-in-Close g c =
     let written = g.O.Output.written in
     let failures = g.O.Output.failures in
     subst (λ (words : Words). IsAnswered written failures (IsDone told words) (IsFaultOf told words) c.args.out.now c.answer_close.new.out c.answer_close.result) (sym c.in-Close.is)
-    (subst (λ (folder : Bor (List ℕ)). IsAnswered written failures EndsInFiles (IsFaultOfClose folder.now c.in-Close.out.now) c.args.out.now c.answer_close.new.out c.answer_close.result)
+    (subst (λ (folder : Bor (List ℕ)). IsAnswered written failures EndsInFiles (IsFaultOfClose folder.now c.in-Close.path.now) c.args.out.now c.answer_close.new.out c.answer_close.result)
     c.new-journals.ensures
     (subst (λ (path : Bor (List ℕ)). IsAnswered written failures EndsInFiles (IsFaultOfClose c.new-journals.result.path.now path.now) c.args.out.now c.answer_close.new.out c.answer_close.result)
     c.new-made.ensures c.answer_close.ensures))
