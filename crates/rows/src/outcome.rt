@@ -113,12 +113,18 @@ fn answer_of_number(alloc: Global, number: Option<Capacity>) -> Result<Answer, A
     }
 }
 
-/// How many records of a rank may wait, by the words of the program.
-fn answer_of_capacity(alloc: Global, words: &[&str]) -> Result<Answer, AllocError> {
-    let number = match parse(alloc, &*words) {
+/// How many records of a rank may wait, by what is asked for.
+fn capacity_of(words: &Words<'_>) -> Option<Capacity> {
+    match words {
         Words::Check { options, .. } => Some(options.capacity),
         _ => None,
-    };
+    }
+}
+
+/// The same by the words of the program.
+fn answer_of_capacity<'a>(alloc: Global, words: &[&'a str]) -> Result<Answer, AllocError> {
+    let asked: Words<'a> = parse(alloc, words);
+    let number = capacity_of(&asked);
     answer_of_number(alloc, number)
 }
 
