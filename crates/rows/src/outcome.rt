@@ -122,7 +122,7 @@ fn capacity_of(words: &Words<'_>) -> Option<Capacity> {
 }
 
 /// The same by the words of the program.
-fn answer_of_capacity<'a>(alloc: Global, words: &[&'a str]) -> Result<Answer, AllocError> {
+fn answer_of_capacity<'a>(alloc: Global, words: &'a [&'a str]) -> Result<Answer, AllocError> {
     let asked: Words<'a> = parse(alloc, words);
     let number = capacity_of(&asked);
     answer_of_number(alloc, number)
