@@ -1,4 +1,4 @@
-"""The script mpiwait and tools/unproved, with a command `rt` that only plays what a test gives it."""
+"""The script mpiwait, with a command `rt` that only plays what a test gives it."""
 
 import os
 import shutil
@@ -33,7 +33,7 @@ class Script(unittest.TestCase):
         for name in ("src", "specs", "proofs"):
             (crate / name).mkdir(parents=True)
         shutil.copytree(TOP / "tools/texts", self.top / "tools/texts")
-        for name in ("mpiwait", "tools/unproved", "HANDLES", "crates.txt"):
+        for name in ("mpiwait", "HANDLES", "crates.txt"):
             shutil.copy(TOP / name, self.top / name)
         self.here = self.folder / "here"
         self.here.mkdir()
@@ -157,9 +157,27 @@ class Script(unittest.TestCase):
         said = self.run_script("--unproved", "check", "head", "r0", path=str(tools))
         self.assertEqual(said[:2], (3, ""))
 
+    def test_journals_are_handed_over(self):
+        (self.here / "run").mkdir()
+        for name in ("journal0", "journal1", "journal"):
+            (self.here / "run" / name).write_text("journal 2 0 2 x o y\n")
+        self.play("verdict free\n")
+        self.assertEqual(self.run_script("--unproved", "judge", "--tests", "pass", "run"), (0, "verdict free\n", LINE))
+        given = " ".join(self.given())
+        self.assertIn("journal1=", given)
+        self.assertNotIn("journal=", given)
+        self.assertIn("judge --tests pass mpiwait-file-0.", given)
+
+    def test_close_needs_the_proved_program(self):
+        status, out, err = self.run_script("--unproved", "close", "run", "out")
+        self.assertEqual((status, out), (4, ""))
+        self.assertIn("close makes a folder", err)
+
     def test_help_needs_no_build(self):
         for words, name in (("--help", "help"), ("-V", "version"), ("check --help", "check-help"), ("check -h", "check-h"),
-                            ("lint -h", "lint-help"), ("check -V", "check-version"), ("lint --version", "lint-version")):
+                            ("lint -h", "lint-help"), ("check -V", "check-version"), ("lint --version", "lint-version"),
+                            ("judge -h", "judge-help"), ("close --help", "close-help"),
+                            ("judge -V", "judge-version"), ("close --version", "close-version")):
             said = (TOP / "tools/texts" / name).read_text()
             self.assertEqual(self.run_script(*words.split()), (0, said, ""))
             self.assertEqual(self.run_script("--unproved", *words.split()), (0, said, ""))

@@ -28,12 +28,12 @@ BYTES = {
     "docs/ARCHITECTURE.md": 12_288,
     "docs/DECISIONS.md": 25_600,
     "docs/DEFINITIONS.md": 22_000,
-    "docs/FORMATS.md": 30_500,
-    "docs/PROOFS.md": 19_500,
+    "docs/FORMATS.md": 41_500,
+    "docs/PROOFS.md": 20_480,
     "docs/TESTING.md": 10_240,
     "tools/README.md": 20_500,
 }
-ALL_BYTES = 140_000
+ALL_BYTES = 159_000
 # Where a document is read, if that isn't its own folder: the one of a release lies at its top.
 PLACES = {"release/README.md": TOP}
 

@@ -11,7 +11,7 @@ use Rattle.mpicall.specs.Spelling.{arguments_of}
 use Rattle.mpicall.specs.declared.limits.TheConstants.{MOST_REQUESTS}
 use Rattle.mpicall.specs.declared.call.Call.{Call}
 use Rattle.mpicall.specs.declared.call.Call.TheVariants as made
-use Rattle.mpicall.specs.Laid.{call_by}
+use Rattle.mpicall.specs.inner.Laid.{call_from}
 use Rattle.mpicall.specs.declared.laid.Laid.{Laid}
 use Rattle.mpicall.specs.declared.laid.Laid.TheVariants as laid
 use Rattle.mpicall.specs.declared.word.Name.{Name}
@@ -121,7 +121,7 @@ pub record IsApart (call : Call) : Type 0 where
   pub among : completed_among call [] ≡ []
   pub kind : kind_no call ≡ 0
 
-pub laid_apart : (it : Laid) (n : Name) → IsApart (call_by n it)
+pub laid_apart : (it : Laid) (n : Name) → IsApart (call_from n it)
 laid_apart laid.Nothing name.Waitall = record { starts = refl; waits = refl; completes = refl; among = refl; kind = refl }
 laid_apart (laid.Message comm source tag) name.Waitall = record { starts = refl; waits = refl; completes = refl; among = refl; kind = refl }
 laid_apart (laid.Exchange comm dest send_tag source recv_tag bytes) name.Waitall = record { starts = refl; waits = refl; completes = refl; among = refl; kind = refl }

@@ -1,5 +1,6 @@
 -- What is kept with a call: the wave that a collective joins, and where the partners of a message's halves
 -- stand.
+use Rattle.mpicall.specs.Names.{Place}
 use Rattle.std.specs.Prelude.{ℕ, Option, Some, None}
 use Rattle.callnotes.specs.declared.envelope.Half.{Half}
 use Rattle.callnotes.specs.declared.envelope.Half.TheVariants.{Send as SendHalf, Recv as RecvHalf}
@@ -7,7 +8,7 @@ use Rattle.callnotes.specs.declared.beside.Beside.{Beside}
 use Rattle.callnotes.specs.declared.beside.Beside.TheVariants.{Wave, Sent, Received, Exchanged}
 
 -- the place of the partner that is kept for a half
-abbrev pub partner_in : Half → Beside → Option ℕ
+abbrev pub partner_in : Half → Beside → Option Place
 partner_in SendHalf (Sent to) = Some to
 partner_in SendHalf (Exchanged to from) = Some to
 partner_in RecvHalf (Received from) = Some from
@@ -20,7 +21,7 @@ wave_in (Wave number) = number
 wave_in _ = 0
 
 -- the same with the place of a half's partner
-abbrev pub with_partner : Half → ℕ → Beside → Beside
+abbrev pub with_partner : Half → Place → Beside → Beside
 with_partner SendHalf there (Received from) = Exchanged there from
 with_partner SendHalf there (Exchanged to from) = Exchanged there from
 with_partner SendHalf there _ = Sent there

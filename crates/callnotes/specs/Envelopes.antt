@@ -3,11 +3,12 @@
 -- (section 3.2.1) and a half that receives one (section 3.2.4); MPI_Sendrecv has both (section 3.10). The
 -- modes and the nonblocking forms send and receive alike (section 3.7: either form meets either). A call
 -- whose peer is MPI_PROC_NULL has no message (section 3.11).
-use Rattle.std.specs.Prelude.{ℕ, ◌==◌, Bool, false, ◌&&◌, Option, Some, None, option_map, option_and_then}
+use Rattle.mpicall.specs.Names.{Rank, Comm, Tag}
+use Rattle.std.specs.Prelude.{◌==◌, Bool, false, ◌&&◌, Option, Some, None, option_map, option_and_then}
 use Rattle.std.specs.Option.{option_map_or}
 use Rattle.mpicall.specs.Does.{does_of}
 use Rattle.mpicall.specs.declared.call.Peer.{Peer}
-use Rattle.mpicall.specs.declared.call.Peer.TheVariants.{Rank, Null}
+use Rattle.mpicall.specs.declared.call.Peer.TheVariants as peer
 use Rattle.mpicall.specs.declared.does.Side.{Side}
 use Rattle.mpicall.specs.declared.does.Does.{Does}
 use Rattle.mpicall.specs.declared.does.Does.TheVariants.{Exchanges}
@@ -24,12 +25,12 @@ other_half SendHalf = RecvHalf
 other_half RecvHalf = SendHalf
 
 -- a message over a communicator, by what a call says of its other end; none where that is MPI_PROC_NULL
-abbrev pub message : ℕ → Side → Option Message
+abbrev pub message : Comm → Side → Option Message
 message comm side = by_peer comm side.peer side.tag
   where
-    by_peer : ℕ → Peer → ℕ → Option Message
-    by_peer comm (Rank peer) tag = Some (record { comm = comm; peer = peer; tag = tag })
-    by_peer comm Null tag = None
+    by_peer : Comm → Peer → Tag → Option Message
+    by_peer comm (peer.Rank peer) tag = Some (record { comm = comm; peer = peer; tag = tag })
+    by_peer comm peer.Null tag = None
 
 -- the message that is sent or received
 abbrev pub message_by : Half → Does → Option Message
@@ -52,13 +53,13 @@ probed_message call = probed_by_what (does_of call)
     probed_by_what _ = None
 
 -- the envelope of a message by the half that a member of the communicator's group has of it
-abbrev pub envelope_by : Half → Message → ℕ → Envelope
+abbrev pub envelope_by : Half → Message → Rank → Envelope
 envelope_by SendHalf m own = record { comm = m.comm; source = own; dest = m.peer; tag = m.tag }
 envelope_by RecvHalf m own = record { comm = m.comm; source = m.peer; dest = own; tag = m.tag }
 
 -- The envelope of the message that a half of the rank's call sends or receives. None where the call has
 -- no such message, and where the rank is not in the communicator's group.
-abbrev pub envelope_of : Groups → ℕ → Half → Call → Option Envelope
+abbrev pub envelope_of : Groups → Rank → Half → Call → Option Envelope
 envelope_of groups rank half call =
     option_and_then (λ m. option_map (envelope_by half m) (group_rank_of groups m.comm rank)) (message_of half call)
 
@@ -66,10 +67,10 @@ abbrev pub same_envelope : Envelope → Envelope → Bool
 same_envelope e f = e.comm == f.comm && (e.source == f.source && (e.dest == f.dest && e.tag == f.tag))
 
 -- the rank of the world whose calls have that half of the envelope's messages, if there is one
-abbrev pub rank_of_half : Groups → Half → Envelope → Option ℕ
+abbrev pub rank_of_half : Groups → Half → Envelope → Option Rank
 rank_of_half groups SendHalf e = world_rank_of groups e.comm e.source
 rank_of_half groups RecvHalf e = world_rank_of groups e.comm e.dest
 
 -- that half of the rank's call has the envelope
-abbrev pub has_envelope : Groups → ℕ → Half → Envelope → Call → Bool
+abbrev pub has_envelope : Groups → Rank → Half → Envelope → Call → Bool
 has_envelope groups rank half e call = option_map_or (same_envelope e) (envelope_of groups rank half call) false

@@ -1,5 +1,6 @@
 -- Recordings. A recording gives each rank of the world its trace: the list of its recorded calls. A call's
 -- place is its index in its rank's list, from 0.
+use Rattle.mpicall.specs.Names.{Rank}
 use Rattle.std.specs.Prelude.{◌≡◌, ℕ, ◌<◌, ◌-◌, Bool, true, false, List, [], ◌∷◌, ◌++◌, length, slice_get, slice_set}
 use Rattle.std.specs.List.{list_any}
 use Rattle.std.specs.Option.{option_map_or}
@@ -12,11 +13,11 @@ abbrev pub Lists : Type 0
 Lists = List (List Call)
 
 -- the calls of a rank
-abbrev pub calls_of : Lists → ℕ → List Call
+abbrev pub calls_of : Lists → Rank → List Call
 calls_of recording rank = or_empty recording rank
 
 -- the recording with one more call at the end of the rank's list
-abbrev pub appended : Lists → ℕ → Call → Lists
+abbrev pub appended : Lists → Rank → Call → Lists
 appended recording rank call = slice_set recording rank (calls_of recording rank ++ call ∷ [])
 
 -- some call of the list ends it
@@ -38,10 +39,10 @@ pub record IsClosedList (calls : List Call) : Type 0 where
 
 -- a recording is closed if each rank's list is
 abbrev pub IsClosed : Lists → Type 0
-IsClosed recording = (rank : ℕ) → rank < length recording → IsClosedList (calls_of recording rank)
+IsClosed recording = (rank : Rank) → rank < length recording → IsClosedList (calls_of recording rank)
 
 -- the longer recording goes on from the other: it has the same ranks, and each list may go on
 pub record GoesOn (recording longer : Lists) : Type 0 where
   pub same_ranks : length recording ≡ length longer
-  pub more : ℕ → List Call
-  pub goes_on : (rank : ℕ) → calls_of longer rank ≡ calls_of recording rank ++ more rank
+  pub more : Rank → List Call
+  pub goes_on : (rank : Rank) → calls_of longer rank ≡ calls_of recording rank ++ more rank

@@ -1,4 +1,5 @@
 -- Lists of places by numbers.
+use Rattle.mpicall.specs.Names.{Place}
 use Rattle.std.specs.Prelude.{ℕ, ◌<◌, unwrap_or, List, [], ◌∷◌, ◌++◌, length, slice_get, slice_set}
 use Rattle.mpigroup.specs.Groups.{or_empty}
 
@@ -8,11 +9,11 @@ pub record Seats : Type 0 where
   pub rooms : List ℕ
 
 -- the places in the list of that number
-abbrev pub list_in : List (List ℕ) → ℕ → List ℕ
+abbrev pub list_in : List (List ℕ) → ℕ → List Place
 list_in lists index = or_empty lists index
 
 -- the lists once a place is put at the end of one, if there is such a list
-abbrev pub with_place_in : List (List ℕ) → ℕ → ℕ → List (List ℕ)
+abbrev pub with_place_in : List (List ℕ) → ℕ → Place → List (List ℕ)
 with_place_in lists index place = slice_set lists index (list_in lists index ++ place ∷ [])
 
 -- there is a list of that number, and it has room for one more place

@@ -3,7 +3,8 @@
 ghost use Rattle.std.specs.Prelude.{◌≡◌, ◌+◌, ◌≤◌, [], ◌++◌, List, ℕ, length, IsTrue};
 ghost use Rattle.std.specs.List.{list_all};
 ghost use Rattle.mpicall.specs.Argument.{is_in_range};
-ghost use Rattle.mpicall.specs.Laid.{laid_arguments, call_by};
+ghost use Rattle.mpicall.specs.Laid.{laid_arguments};
+ghost use Rattle.mpicall.specs.inner.Laid.{call_from};
 ghost use Rattle.mpicall.specs.Limits.{few_enough, names_enough, in_ranges};
 ghost use Rattle.callnotes.specs.Requests.{waits_for};
 ghost use Rattle.callnotes.specs.Notes.{listed};
@@ -52,7 +53,7 @@ fn count(reqs: &Reqs) -> u8
 /// A name and what follows it, packed.
 fn pack_laid(name: Name, laid: Laid) -> Packed
     requires { IsTrue (list_all is_in_range (laid_arguments laid)) }
-    ensures call { (entries : List Entry) (starts : List ℕ) → unpack entries starts result ≡ call_by name laid }
+    ensures call { (entries : List Entry) (starts : List ℕ) → unpack entries starts result ≡ call_from name laid }
     ensures starts { (starts : List ℕ) → unpack_starts starts result ≡ [] }
     ensures end { end_of result ≡ 0 }
 {

@@ -15,7 +15,7 @@ use Rattle.command.specs.declared.program.Complaint.TheVariants as complaint
 use Rattle.command.specs.declared.status.Status.{Status}
 use Rattle.command.specs.declared.status.Status.TheVariants as status
 use Rattle.command.specs.declared.words.Words.{Words}
-use Rattle.command.specs.declared.words.Words.TheVariants.{Check, Lint, Said, NoMemory}
+use Rattle.command.specs.declared.words.Words.TheVariants.{Check, Lint, Judge, Close, Said, NoMemory}
 
 -- with the status of standard error a fault's line is told there
 tells_line : (ended : Status) (fault : Fault) (out err : Written) → IsOfError ended → IsLeftAt fault out → IsTried (line_of_fault fault) err → TellsLine ended fault out err
@@ -25,8 +25,10 @@ tells_line ended fault out err wants left tried = absurd wants
 
 -- where memory is wanted for a fault's line, that may be told of the same words
 memory_may_be : (told : Text → Option Text) (asked : Words) (fault : Fault) → IsFaultOf told asked fault → fault ≢ Write → IsFaultOf told asked Memory
-memory_may_be told (Check head files reading format capacity) fault is_fault other = tt
+memory_may_be told (Check head files options) fault is_fault other = tt
 memory_may_be told (Lint file) fault is_fault other = tt
+memory_may_be told (Judge folder manner) fault is_fault other = tt
+memory_may_be told (Close folder out choice) fault is_fault other = tt
 memory_may_be told (Said text is_error) fault is_fault other = absurd (other is_fault.0)
 memory_may_be told NoMemory fault is_fault other = refl
 

@@ -1,5 +1,8 @@
 -- Two ranks that send to each other before either receives: what the words ask for, what the texts of the files say,
 -- and what comes of it.
+use Rattle.waitgraph.specs.declared.verdict.Verdict.{Verdict}
+use Rattle.reports.specs.declared.report.Format.{Format}
+use Rattle.moves.specs.declared.reading.Reading.{Reading}
 use Rattle.std.proofs.Common.{◌≡◌, ◌≢◌, ◌∙◌, ℕ, Bool, true, false, Option, Some, None, Ok, Err, IfSome, List, [], ◌∷◌, ap, codes, inl, inr, length, map, refl, subst, sym, Bor}
 use Rattle.std.proofs.lemmas.List.{length-map}
 use Rattle.std.specs.Fmt.{digits}
@@ -22,19 +25,21 @@ use Rattle.mpigroup.specs.Groups.{Groups, ranks_of}
 use Rattle.mpigroup.specs.HeadText.{ranks_of_fields, read_head}
 use Rattle.pairing.specs.Faults.{fault_of as fault_of_call}
 use Rattle.callnotes.specs.Recordings.{Lists}
-use Rattle.moves.specs.declared.reading.Reading.{Reading}
+use Rattle.command.specs.declared.options.Options.{Options}
 use Rattle.moves.specs.declared.reading.Reading.TheVariants.{Strict}
 use Rattle.findings.specs.Findings.{kind_found, kinds_of, root_found, roots_of, unreceived_at, unreceived_of, lost_at, lost_requests, group_at, wrong_groups_of, findings_of}
 use Rattle.waitgraph.specs.Stuck.{unmet_at}
-use Rattle.waitgraph.specs.Verdicts.{verdict_of}
+use Rattle.waitgraph.specs.inner.Causes.{causes_of}
+use Rattle.waitgraph.specs.inner.Verdicts.{verdict_of}
+use Rattle.waitgraph.proofs.CauseLemmas.{causes_found}
+use Rattle.waitgraph.proofs.VerdictLemmas.{verdict_found}
 use Rattle.waitgraph.specs.declared.verdict.Verdict.TheVariants.{Hang}
 use Rattle.reports.specs.Reports.{report_of}
 use Rattle.reports.specs.TextReport.{text_report}
-use Rattle.reports.specs.declared.report.Format.{Format}
 use Rattle.reports.specs.declared.report.Format.TheVariants as format
 use Rattle.gather.specs.Answers.{fault_of_rank, recording_of_traces, refusal_of}
 use Rattle.command.proofs.TraceLemmas.{hold_read}
-use Rattle.command.specs.Asked.{Answers, CheckRun, LintTrace, Task, program, task_in}
+use Rattle.command.specs.Asked.{Answers, CheckRun, CloseJournals, JudgeJournals, LintTrace, Task, program, task_in}
 use Rattle.command.specs.Ends.{Ends, EndsBy, EndsInReport}
 use Rattle.command.specs.Faults.{status_of_fault}
 use Rattle.command.specs.HeadToHead.{report}
@@ -42,17 +47,20 @@ use Rattle.command.specs.Outputs.{Written, Becomes, Writes}
 use Rattle.command.specs.Statuses.{status_of_verdict}
 use Rattle.command.specs.Texts.{IsFaultOfCheck, IsHeadOf}
 use Rattle.command.specs.declared.fault.Fault.{Fault}
-use Rattle.command.specs.declared.fault.Fault.TheVariants.{Head, FileCount, Refused, LintRefused}
+use Rattle.command.specs.declared.fault.Fault.TheVariants.{RefusedJournal, Head, FileCount, Refused, LintRefused}
 use Rattle.command.specs.declared.status.Status.{Status}
 use Rattle.command.specs.declared.status.Status.TheVariants as status
 use Rattle.command.specs.declared.words.Words.{Words}
-use Rattle.command.specs.declared.words.Words.TheVariants.{Check, Lint, Said, NoMemory}
+use Rattle.command.specs.declared.words.Words.TheVariants.{Check, Lint, Judge, Close, Said, NoMemory}
 
 abbrev pub words : List Text
 words = codes "check" ∷ codes "head" ∷ codes "r0" ∷ codes "r1" ∷ []
 
+abbrev options : Options
+options = record { reading = Strict; format = format.Text; capacity = 64 }
+
 abbrev task : Task
-task = CheckRun (codes "head") (codes "r0" ∷ codes "r1" ∷ []) Strict format.Text 64
+task = CheckRun (codes "head") (codes "r0" ∷ codes "r1" ∷ []) options
 
 abbrev pub head : Text
 head = codes "ranks 2\n"
@@ -110,29 +118,29 @@ hangs : verdict_of Strict groups recording ≡ Hang
 unfolding unmet_at
 hangs = refl
 
-reported : report_of format.Text Strict groups recording ≡ report
+-- the report by the verdict and the causes that the search finds
+abbrev found_report : Format → Reading → Groups → Lists → Text
+found_report in_format reading groups recording = report_of in_format reading groups recording (verdict_of reading groups recording) (causes_of reading groups recording)
+
+reported : found_report format.Text Strict groups recording ≡ report
 unfolding digits report_of text_report unmet_at findings_of kinds_of kind_found roots_of root_found unreceived_of unreceived_at lost_requests lost_at wrong_groups_of group_at
 reported = refl
 
 -- what a task has
 abbrev head_in : Option Task → Text
-head_in (Some (CheckRun path files reading format capacity)) = path
+head_in (Some (CheckRun path files its)) = path
 head_in _ = []
 
 abbrev files_in : Option Task → List Text
-files_in (Some (CheckRun path files reading format capacity)) = files
+files_in (Some (CheckRun path files its)) = files
 files_in _ = []
 
-abbrev reading_in : Option Task → Reading
-reading_in (Some (CheckRun path files reading format capacity)) = reading
-reading_in _ = Strict
-
-abbrev format_in : Option Task → Format
-format_in (Some (CheckRun path files reading format capacity)) = format
-format_in _ = format.Text
+abbrev options_in : Option Task → Options
+options_in (Some (CheckRun path files its)) = its
+options_in _ = options
 
 abbrev is_check : Option Task → Bool
-is_check (Some (CheckRun path files reading format capacity)) = true
+is_check (Some (CheckRun path files its)) = true
 is_check _ = false
 
 no_kind : (kind : ErrorKind) → IsAmong kind (fault_of program words) → ⊥
@@ -181,25 +189,33 @@ module _ (told : Text → Option Text) (is_head : told (codes "head") ≡ Some h
       ∙ ap (refusal_of groups) of_texts ∙ none_refused in
       let e : None ≡ Some refusal = sym none ∙ own in cc
   no_fault_told path files (LintRefused fault) is are says other_status = says
+  no_fault_told path files (RefusedJournal rank fault) is are says other_status = says
   no_fault_told path files fault is are says other_status = other_status refl
 
   module _ {O E : Type 0} (written : O → Option Text) (failures : O → ℕ) (written_errors : E → Option Text) (failed_errors : E → ℕ) (old new : O) (old_errors new_errors : E) (ended : Status) where
-    of_report : (path : Text) (files : List (Bor Text)) (reading : Reading) (in_format : Format) (out err : Written) →
-        path ≡ codes "head" → map (λ file. file.now) files ≡ codes "r0" ∷ codes "r1" ∷ [] → reading ≡ Strict → in_format ≡ format.Text →
-        EndsInReport reading in_format (told path) (map (λ file. told file.now) files) ended out err →
+    of_report : (path : Text) (files : List (Bor Text)) (its : Options) (out err : Written) →
+        path ≡ codes "head" → map (λ file. file.now) files ≡ codes "r0" ∷ codes "r1" ∷ [] → its ≡ options →
+        EndsInReport its (told path) (map (λ file. told file.now) files) ended out err →
         Becomes written failures old new out → Becomes written_errors failed_errors old_errors new_errors err → Hangs written failures old new old_errors new_errors ended
-    of_report path files reading in_format out err is are reads is_text ends output errors =
+    of_report path files its out err is are asked ends output errors =
         let report_is = ends.is_report in
         let run = report_is.of_texts head (first ∷ second ∷ []) (head_told path is) (texts_told files are) in
-        let its : report_is.groups ≡ groups = its_groups _ run.is_head in
+        let as_read : report_is.groups ≡ groups = its_groups _ run.is_head in
         let calls : report_is.recording ≡ recording = run.is_recording (map trace_of (first ∷ second ∷ [])) (hold_read (first ∷ second ∷ [])) ∙ ap recording_of_traces of_texts in
+        let is = report_is.is_report in
+        let found : ends.verdict ≡ verdict_of its.reading report_is.groups report_is.recording =
+        verdict_found its.reading report_is.groups report_is.recording ends.verdict report_is.closed is.is_verdict in
+        let causes : is.causes ≡ causes_of its.reading report_is.groups report_is.recording =
+        causes_found its.reading report_is.groups report_is.recording is.causes report_is.closed is.are_causes in
         let verdict : ends.verdict ≡ Hang =
-        report_is.verdict_is ∙ ap (λ (r : Reading). verdict_of r report_is.groups report_is.recording) reads
-        ∙ ap (λ (g : Groups). verdict_of Strict g report_is.recording) its ∙ ap (verdict_of Strict groups) calls ∙ hangs in
+        found ∙ ap (λ (o : Options). verdict_of o.reading report_is.groups report_is.recording) asked
+        ∙ ap (λ (g : Groups). verdict_of Strict g report_is.recording) as_read ∙ ap (verdict_of Strict groups) calls ∙ hangs in
         let text : ends.report ≡ report =
-        report_is.report_is ∙ ap (λ (f : Format). report_of f reading report_is.groups report_is.recording) is_text
-        ∙ ap (λ (r : Reading). report_of format.Text r report_is.groups report_is.recording) reads
-        ∙ ap (λ (g : Groups). report_of format.Text Strict g report_is.recording) its ∙ ap (report_of format.Text Strict groups) calls ∙ reported in
+        is.is_text
+        ∙ ap (λ (v : Verdict). report_of its.format its.reading report_is.groups report_is.recording v is.causes) found
+        ∙ ap (report_of its.format its.reading report_is.groups report_is.recording (verdict_of its.reading report_is.groups report_is.recording)) causes
+        ∙ ap (λ (o : Options). found_report o.format o.reading report_is.groups report_is.recording) asked
+        ∙ ap (λ (g : Groups). found_report format.Text Strict g report_is.recording) as_read ∙ ap (found_report format.Text Strict groups) calls ∙ reported in
         record {
           status_is = ends.status_is ∙ ap status_of_verdict verdict;
           output = subst (Writes written failures old new) text (subst (Becomes written failures old new) ends.output output);
@@ -207,14 +223,20 @@ module _ (told : Text → Option Text) (is_head : told (codes "head") ≡ Some h
         }
 
     of_asked : (asked : Words) (out err : Written) → Answers words asked → EndsBy told asked ended out err → Becomes written failures old new out → Becomes written_errors failed_errors old_errors new_errors err → ended ≢ status.Fault → Hangs written failures old new old_errors new_errors ended
-    of_asked (Check path files reading format capacity) out err answers (inl done) output errors other =
-        let e : Some (CheckRun path.now (map (λ file. file.now) files.items) reading format capacity) ≡ Some task = sym answers.1 ∙ asks in
-        of_report path.now files.items reading format out err (ap head_in e) (ap files_in e) (ap reading_in e) (ap format_in e) done output errors
-    of_asked (Check path files reading format capacity) out err answers (inr (fault, is_fault, ends)) output errors other =
-        let e : Some (CheckRun path.now (map (λ file. file.now) files.items) reading format capacity) ≡ Some task = sym answers.1 ∙ asks in
+    of_asked (Check path files its) out err answers (inl done) output errors other =
+        let e : Some (CheckRun path.now (map (λ file. file.now) files.items) its) ≡ Some task = sym answers.1 ∙ asks in
+        of_report path.now files.items its out err (ap head_in e) (ap files_in e) (ap options_in e) done output errors
+    of_asked (Check path files its) out err answers (inr (fault, is_fault, ends)) output errors other =
+        let e : Some (CheckRun path.now (map (λ file. file.now) files.items) its) ≡ Some task = sym answers.1 ∙ asks in
         absurd (no_fault_told path.now files.items fault (ap head_in e) (ap files_in e) is_fault (λ same. other (ends.0 ∙ same)))
     of_asked (Lint file) out err answers by output errors other =
         let e : Some (LintTrace file.now) ≡ Some task = sym answers.1 ∙ asks in
+        let no : false ≡ true = ap is_check e in cc
+    of_asked (Judge folder manner) out err answers by output errors other =
+        let e : Some (JudgeJournals folder.now manner) ≡ Some task = sym answers.1 ∙ asks in
+        let no : false ≡ true = ap is_check e in cc
+    of_asked (Close folder target choice) out err answers by output errors other =
+        let e : Some (CloseJournals folder.now target.now choice) ≡ Some task = sym answers.1 ∙ asks in
         let no : false ≡ true = ap is_check e in cc
     of_asked (Said text false) out err answers by output errors other = absurd (no_kind answers.0 answers.1)
     of_asked (Said text true) out err (inl found) by output errors other = absurd (no_kind found.0 found.1)

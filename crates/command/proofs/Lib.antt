@@ -6,3 +6,4 @@ pub mod TextLemmas
 pub mod EndLemmas
 pub mod LintLemmas
 pub mod HeadToHeadLemmas
+pub mod JournalLemmas

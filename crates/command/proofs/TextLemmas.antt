@@ -1,17 +1,19 @@
 -- How the answers over a check's sources follow for the texts of its files.
+use Rattle.command.specs.declared.options.Options.{Options}
 use Rattle.moves.specs.declared.reading.Reading.{Reading}
+use Rattle.reports.specs.declared.report.Format.{Format}
+use Rattle.command.specs.inner.Outputs.{LeavesAtFault}
 use Rattle.std.proofs.Common.{◌≡◌, ◌<◌, ℕ, length, Option, Some, None, List, [], ◌∷◌, map, option_map, ap, ◌∙◌, sym, refl, subst, arith, Result, Ok, Err, IfSome, take, Bool, true, false, if◌then◌else◌, Bor}
 use Rattle.mpicall.specs.Trace.{Trace, trace_of}
 use Rattle.mpicall.specs.declared.source.Source.{Source}
 use Rattle.waitgraph.specs.declared.verdict.Verdict.{Verdict}
-use Rattle.reports.specs.declared.report.Format.{Format}
 use Rattle.mpigroup.proofs.FrontLemmas.{read_head-front}
 use Rattle.mpigroup.specs.Groups.{Groups}
 use Rattle.mpigroup.specs.HeadText.{read_head}
 use Rattle.mpigroup.specs.declared.fault.HeadFault.{HeadFault}
 use Rattle.runs.specs.Runs.{RefusesFeeds, StopsWhereAllowed}
 use Rattle.runs.specs.Told.{RefusesOver, Tells, is_from_outside}
-use Rattle.runs.specs.Written.{IsReportOver}
+use Rattle.runs.specs.Written.{IsReportOver, LeavesOutput}
 use Rattle.runs.proofs.HeldLemmas.{lowest_refusal}
 use Rattle.gather.specs.declared.fault.Refusal.{Refusal}
 use Rattle.gather.specs.declared.fault.RunFault.{RunFault}
@@ -49,9 +51,9 @@ head_of_told None text groups of_told is = cc
 head_of_told (Some other) text groups of_told is = subst (λ (known : Option Text). IsHeadOf known groups) is of_told
 
 -- the report over sources that tell the traces of the files' texts is that of the texts
-pub report_says : {I : Type 0} (left : I → Option Text) (sources : List (Source I)) (reading : Reading) (groups : Groups) (format : Format) (verdict : Verdict) (report : Text) (head : Option Text) (files : List (Option Text)) →
-    IsHeadOf head groups → ((texts : List Text) (traces : List Trace) → files ≡ map Some texts → AreTracesOf texts traces → Tells left sources traces) → IsReportOver left sources reading groups format verdict report → IsReportOf reading format head files verdict report
-report_says left sources reading groups format verdict report head files of_head tells over = record {
+pub report_says : {I : Type 0} (left : I → Option Text) (sources : List (Source I)) (options : Options) (groups : Groups) (verdict : Verdict) (report : Text) (head : Option Text) (files : List (Option Text)) →
+    IsHeadOf head groups → ((texts : List Text) (traces : List Trace) → files ≡ map Some texts → AreTracesOf texts traces → Tells left sources traces) → IsReportOver left sources options.reading groups options.format verdict report → IsReportOf options head files verdict report
+report_says left sources options groups verdict report head files of_head tells over = record {
   groups = groups;
   recording = over.recording;
   one_a_rank = over.one_a_rank;
@@ -60,8 +62,7 @@ report_says left sources reading groups format verdict report head files of_head
     is_head = head_of_told head text groups of_head head_is;
     is_recording = λ traces hold. over.of_traces traces (tells texts traces files_are hold);
   };
-  report_is = over.report_is;
-  verdict_is = over.verdict_is;
+  is_report = over.is_report;
 }
 
 -- the text of a head says what its front says
@@ -92,3 +93,16 @@ module _ (told : Text → Option Text) (head : Text) (files : List (Bor Text)) w
   run_fault_says left may_stop sources groups (run.Refused refusal) count counted fed stops never refuses =
       let lowest = lowest_refusal left may_stop sources groups refusal (count ∙ counted.one_a_rank) fed in
       by_failure refusal (is_from_outside refusal.fault) (record { groups = groups; counted = counted; is_rank = omega (arith, lowest.is_rank, counted.one_a_rank); unstopped = λ is. never _ _ (stops is); of_traces = refuses }) refl
+
+-- what a run leaves on the output at a fault
+by_kind : {O : Type 0} (written : O → Option Text) (failures : O → ℕ) (old new : O) (refusal : Refusal) (fails : Bool) → new ≡ old → LeavesAtFault written failures old new (if fails then Failed refusal else Refused refusal)
+by_kind written failures old new refusal true same = same
+by_kind written failures old new refusal false same = same
+
+pub run_leaves : {I O : Type 0} (left : I → Option Text) (written : O → Option Text) (failures : O → ℕ) (sources : List (Source I)) (reading : Reading) (groups : Groups) (format : Format) (old new : O) (fault : RunFault) →
+    LeavesOutput left written failures sources reading groups format old new fault → LeavesAtFault written failures old new (of_run fault)
+run_leaves left written failures sources reading groups format old new run.Memory leaves = leaves
+run_leaves left written failures sources reading groups format old new (run.Unproved rank) leaves = leaves
+run_leaves left written failures sources reading groups format old new run.Write leaves = (leaves.0.1, (leaves.0.3, leaves.1))
+run_leaves left written failures sources reading groups format old new (run.Refused refusal) leaves =
+    by_kind written failures old new refusal (is_from_outside refusal.fault) leaves

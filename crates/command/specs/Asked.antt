@@ -1,22 +1,20 @@
 -- What a command line asks for, by clap's own definitions: what it makes of words, with
 -- the program's command.
-use Rattle.std.specs.Prelude.{◌≡◌, ◌⊎◌, ℕ, Bool, true, false, Option, Some, None, List, [], ◌∷◌, codes, map, option_and_then, option_map, bytes_eq, if◌then◌else◌}
+use Rattle.std.specs.Prelude.{◌≡◌, ◌⊎◌, Bool, true, false, Option, Some, None, List, [], ◌∷◌, codes, map, option_and_then, option_map, bytes_eq, if◌then◌else◌}
 use Rattle.clap.specs.Lexer.{usize_max}
-use Rattle.std.specs.Option.{option_map_or}
 use Rattle.clap.specs.Walk.{Row, Rule, Text, first_of, all_of}
 use Rattle.clap.specs.Simple.{App, new_rule, new_shape, new_app, with_rule, with_subcommand, subcommand_of}
 use Rattle.clap.specs.Faults.{fault_of}
 use Rattle.clap.specs.Kinds.{IsAmong}
-use Rattle.clap.specs.declared.builder.action.ArgAction.TheVariants.{SetTrue}
 use Rattle.clap.specs.declared.error.kind.ErrorKind.{ErrorKind}
 use Rattle.clap.specs.declared.error.kind.ErrorKind.TheVariants.{DisplayHelp, DisplayVersion}
-use Rattle.reports.specs.declared.report.Format.{Format}
-use Rattle.reports.specs.declared.report.Format.TheVariants as format
-use Rattle.moves.specs.declared.reading.Reading.{Reading}
-use Rattle.command.specs.Capacities.{capacity_in, capacity_parser}
-use Rattle.command.specs.Limits.{limit_parser, reading_in}
+use Rattle.closing.specs.declared.choice.Choice.{Choice}
+use Rattle.judging.specs.declared.judge.Manner.{Manner}
+use Rattle.command.specs.Choices.{choice_of, choice_rules, manner_of, manner_rules}
+use Rattle.command.specs.Options.{option_rules, options_of}
+use Rattle.command.specs.declared.options.Options.{Options}
 use Rattle.command.specs.declared.words.Words.{Words}
-use Rattle.command.specs.declared.words.Words.TheVariants.{Check, Lint, Said, NoMemory}
+use Rattle.command.specs.declared.words.Words.TheVariants.{Check, Lint, Judge, Close, Said, NoMemory}
 
 -- a head, and traces of which there is one at least
 abbrev pub head_rule : Rule
@@ -28,88 +26,92 @@ traces_rule = record (new_rule (codes "FILE")) {
   range = Some (record { start_inclusive = 1; end_inclusive = usize_max });
 }
 
--- a flag, which clap notes as `true` where it is given
-abbrev pub json_rule : Rule
-json_rule = record (new_rule (codes "json")) {
-  long = Some (codes "json");
-  action = Some SetTrue;
-}
-
--- an option with a number from 1 to 1024, which is 64 where it isn't given
-abbrev pub capacity_rule : Rule
-capacity_rule = record (new_rule (codes "capacity")) {
-  long = Some (codes "capacity");
-  value_names = 1;
-  defaults = codes "64" ∷ [];
-  parser = Some capacity_parser;
-}
-
--- an option with a number of bytes, which has no value where it isn't given
-abbrev pub eager_rule : Rule
-eager_rule = record (new_rule (codes "eager")) {
-  long = Some (codes "eager");
-  value_names = 1;
-  parser = Some limit_parser;
-}
-
 -- one trace
 abbrev pub trace_rule : Rule
 trace_rule = record (new_rule (codes "FILE")) { required = true }
+
+-- the folder of some journals, and the one that is made for their recording
+abbrev pub folder_rule : Rule
+folder_rule = record (new_rule (codes "FOLDER")) { required = true }
+
+abbrev pub out_rule : Rule
+out_rule = record (new_rule (codes "OUT")) { required = true }
 
 -- a command with a version
 abbrev pub versioned : Text → App
 versioned name = record (new_app name) { top = record (new_shape name) { has_version = true } }
 
--- the commands `check` and `lint`
+-- a command with these rules too, in turn
+abbrev pub with_rules : App → List Rule → App
+with_rules app [] = app
+with_rules app (rule ∷ rules) = with_rules (with_rule app rule) rules
+
+-- the commands
 abbrev pub check : App
-check = with_rule (with_rule (with_rule (with_rule (with_rule (versioned (codes "check")) head_rule) traces_rule) json_rule) capacity_rule) eager_rule
+check = with_rules (versioned (codes "check")) (head_rule ∷ traces_rule ∷ option_rules)
 
 abbrev pub lint : App
 lint = with_rule (versioned (codes "lint")) trace_rule
 
+abbrev pub judge : App
+judge = with_rules (versioned (codes "judge")) (folder_rule ∷ manner_rules)
+
+abbrev pub close : App
+close = with_rules (versioned (codes "close")) (folder_rule ∷ out_rule ∷ choice_rules)
+
 -- the program
 unfoldable pub program : App
-program = with_subcommand (with_subcommand (record (new_app (codes "mpiwait")) {
+program = with_subcommand (with_subcommand (with_subcommand (with_subcommand (record (new_app (codes "mpiwait")) {
   top = record (new_shape (codes "mpiwait")) {
     no_binary_name = true;
     has_version = true;
     subcommand_required = true;
     disable_help_subcommand = true;
   };
-}) check.top) lint.top
+}) check.top) lint.top) judge.top) close.top
 
--- what a command line can ask the program to do: to check a run, of a head and its traces, one a rank, by a
--- reading, to report it in a format, and to let so many records of a rank wait; to read one trace alone
+-- what a command line can ask the program to do: to check a run, of a head and its traces, one a rank, with
+-- options; to read one trace alone; to judge the journals in a folder; to write their recording into another one
 pub data Task : Type 0 where
-  CheckRun : Text → List Text → Reading → Format → ℕ → Task
+  CheckRun : Text → List Text → Options → Task
   LintTrace : Text → Task
+  JudgeJournals : Text → Manner → Task
+  CloseJournals : Text → Text → Choice → Task
 
--- a run to check, if there are a head, a trace, a reading and a number of records
-abbrev pub run_of : Option Text → Option (List Text) → Option Reading → Format → Option ℕ → Option Task
-run_of (Some head) (Some (trace ∷ traces)) (Some reading) format (Some capacity) = Some (CheckRun head (trace ∷ traces) reading format capacity)
-run_of _ _ _ format _ = None
-
--- JSON where the flag is noted as given, and else text
-abbrev pub format_of : Option Text → Format
-format_of flag = if option_map_or (λ value. bytes_eq value (codes "true")) flag false then format.Json else format.Text
-
--- the number of records that the option names
-abbrev pub capacity_of : Option Text → Option ℕ
-capacity_of number = option_and_then capacity_in number
+-- a run to check, if there are a head, a trace and options
+abbrev pub run_of : Option Text → Option (List Text) → Option Options → Option Task
+run_of (Some head) (Some (trace ∷ traces)) (Some options) = Some (CheckRun head (trace ∷ traces) options)
+run_of _ _ _ = None
 
 -- the task that clap finds in what follows `check`, and in what follows `lint`
 abbrev pub check_of : List Row → Option Task
-check_of rows =
-    run_of (first_of (codes "HEAD") rows) (all_of (codes "FILE") rows) (reading_in (first_of (codes "eager") rows)) (format_of (first_of (codes "json") rows)) (capacity_of (first_of (codes "capacity") rows))
+check_of rows = run_of (first_of (codes "HEAD") rows) (all_of (codes "FILE") rows) (options_of rows)
 
 abbrev pub lint_of : List Row → Option Task
 lint_of rows = option_map LintTrace (first_of (codes "FILE") rows)
+
+-- that in what follows `judge`, and in what follows `close`
+abbrev pub judging_of : Option Text → Option Manner → Option Task
+judging_of (Some folder) (Some manner) = Some (JudgeJournals folder manner)
+judging_of _ _ = None
+
+abbrev pub judge_of : List Row → Option Task
+judge_of rows = judging_of (first_of (codes "FOLDER") rows) (manner_of rows)
+
+abbrev pub closing_of : Option Text → Option Text → Option Choice → Option Task
+closing_of (Some folder) (Some out) (Some choice) = Some (CloseJournals folder out choice)
+closing_of _ _ _ = None
+
+abbrev pub close_of : List Row → Option Task
+close_of rows = closing_of (first_of (codes "FOLDER") rows) (first_of (codes "OUT") rows) (choice_of rows)
 
 -- the task of a command and of what follows it
 abbrev pub task_of : Text → List Row → Option Task
 task_of name rows =
     if bytes_eq name (codes "check") then check_of rows
-    else (if bytes_eq name (codes "lint") then lint_of rows else None)
+    else (if bytes_eq name (codes "lint") then lint_of rows
+    else (if bytes_eq name (codes "judge") then judge_of rows
+    else (if bytes_eq name (codes "close") then close_of rows else None)))
 
 -- the task that clap finds in words that it takes
 unfoldable pub task_in : List Text → Option Task
@@ -142,7 +144,9 @@ SaysRightly words false = AsksForText words
 
 -- the answer has the task for which the words ask, or a text where they ask for none
 abbrev pub Answers : List Text → Words → Type 0
-Answers words (Check head files reading format capacity) = Asks words (CheckRun head.now (map (λ file. file.now) files.items) reading format capacity)
+Answers words (Check head files options) = Asks words (CheckRun head.now (map (λ file. file.now) files.items) options)
 Answers words (Lint file) = Asks words (LintTrace file.now)
+Answers words (Judge folder manner) = Asks words (JudgeJournals folder.now manner)
+Answers words (Close folder out choice) = Asks words (CloseJournals folder.now out.now choice)
 Answers words (Said text is_error) = SaysRightly words is_error
 Answers words NoMemory = Unit {0}

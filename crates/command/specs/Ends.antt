@@ -6,30 +6,32 @@ use Rattle.command.specs.Asked.{Answers}
 use Rattle.command.specs.Faults.{status_of_fault}
 use Rattle.command.specs.FaultTexts.{line_of_fault}
 use Rattle.command.specs.Outputs.{Written, Nothing, Whole, Broken, Becomes, lint_report}
+use Rattle.command.specs.Journals.{IsFaultOfClose, IsFaultOfJudge}
 use Rattle.command.specs.Lints.{IsCountOf, IsFaultOfLint}
 use Rattle.command.specs.Statuses.{status_of_verdict}
 use Rattle.command.specs.Texts.{IsFaultOfCheck, IsReportOf, IsVerdictOfTexts}
-use Rattle.reports.specs.declared.report.Format.{Format}
-use Rattle.moves.specs.declared.reading.Reading.{Reading}
+use Rattle.judging.specs.Judging.{IsJudgedReport}
+use Rattle.judging.specs.declared.judge.Manner.{Manner}
+use Rattle.command.specs.declared.options.Options.{Options}
 use Rattle.command.specs.declared.fault.Fault.{Fault as FaultOf}
 use Rattle.command.specs.declared.fault.Fault.TheVariants.{Memory, Write}
 use Rattle.command.specs.declared.status.Status.{Status}
 use Rattle.command.specs.declared.status.Status.TheVariants.{Free, Refused, Usage}
 use Rattle.command.specs.declared.words.Words.{Words}
-use Rattle.command.specs.declared.words.Words.TheVariants.{Check, Lint, Said, NoMemory}
+use Rattle.command.specs.declared.words.Words.TheVariants.{Check, Lint, Judge, Close, Said, NoMemory}
 
--- the verdict is that of the texts of the files by the reading, where all of these are known
-abbrev pub IsVerdictWhereTold : Reading → Option Text → List (Option Text) → Verdict → Type 0
-IsVerdictWhereTold reading head files verdict =
-    (text : Text) (texts : List Text) → head ≡ Some text → files ≡ map Some texts → IsVerdictOfTexts reading text texts verdict
+-- the verdict is that of the texts of the files by the options' reading, where all of these are known
+abbrev pub IsVerdictWhereTold : Options → Option Text → List (Option Text) → Verdict → Type 0
+IsVerdictWhereTold options head files verdict =
+    (text : Text) (texts : List Text) → head ≡ Some text → files ≡ map Some texts → IsVerdictOfTexts options.reading text texts verdict
 
 -- a run was checked: its report is on standard output alone, in its format; report and verdict are those of
 -- the files' texts, and the status is that of the verdict
-pub record EndsInReport (reading : Reading) (format : Format) (head : Option Text) (files : List (Option Text)) (status : Status) (out err : Written) : Type 0 where
+pub record EndsInReport (options : Options) (head : Option Text) (files : List (Option Text)) (status : Status) (out err : Written) : Type 0 where
   pub verdict : Verdict
   pub report : Text
-  pub is_report : IsReportOf reading format head files verdict report
-  pub is_verdict : IsVerdictWhereTold reading head files verdict
+  pub is_report : IsReportOf options head files verdict report
+  pub is_verdict : IsVerdictWhereTold options head files verdict
   pub status_is : status ≡ status_of_verdict verdict
   pub output : out ≡ Whole report
   pub errors : err ≡ Nothing
@@ -41,6 +43,20 @@ pub record EndsInCount (text : Option Text) (status : Status) (out err : Written
   pub status_is : status ≡ Free
   pub output : out ≡ Whole (lint_report count)
   pub errors : err ≡ Nothing
+
+-- journals were judged: the report of a closed recording is on standard output alone, in its format, and the status is
+-- that of its verdict. That the recording is that of the journals isn't said here
+pub record EndsInJudged (manner : Manner) (status : Status) (out err : Written) : Type 0 where
+  pub verdict : Verdict
+  pub report : Text
+  pub is_report : IsJudgedReport manner.reading manner.format verdict report
+  pub status_is : status ≡ status_of_verdict verdict
+  pub output : out ≡ Whole report
+  pub errors : err ≡ Nothing
+
+-- the recording of journals was written, and nothing is on either output. What is in its files isn't said here
+abbrev pub EndsInFiles : Status → Written → Written → Type 0
+EndsInFiles status out err = (status ≡ Free) × (out ≡ Nothing) × (err ≡ Nothing)
 
 -- the text was written, whole unless a write failed
 abbrev pub IsTried : Text → Written → Type 0
@@ -71,16 +87,20 @@ EndsInFault fault status out err = (status ≡ status_of_fault fault) × TellsLi
 
 -- what the words ask for was done, and reported
 abbrev pub IsDone : (Text → Option Text) → Words → Status → Written → Written → Type 0
-IsDone told (Check head files reading format capacity) = EndsInReport reading format (told head.now) (map (λ file. told file.now) files.items)
+IsDone told (Check head files options) = EndsInReport options (told head.now) (map (λ file. told file.now) files.items)
 IsDone told (Lint file) = EndsInCount (told file.now)
+IsDone told (Judge folder manner) = EndsInJudged manner
+IsDone told (Close folder out choice) = EndsInFiles
 IsDone told (Said text false) = EndsInText (string_bytes text)
 IsDone told (Said text true) = EndsInUsage (string_bytes text)
 IsDone told NoMemory = λ status out err. ⊥
 
 -- the faults with which that may end
 abbrev pub IsFaultOf : (Text → Option Text) → Words → FaultOf → Type 0
-IsFaultOf told (Check head files reading format capacity) fault = IsFaultOfCheck told head.now files.items fault
+IsFaultOf told (Check head files options) fault = IsFaultOfCheck told head.now files.items fault
 IsFaultOf told (Lint file) fault = IsFaultOfLint told file.now fault
+IsFaultOf told (Judge folder manner) fault = IsFaultOfJudge folder.now fault
+IsFaultOf told (Close folder out choice) fault = IsFaultOfClose folder.now out.now fault
 IsFaultOf told (Said text is_error) fault = (fault ≡ Write) × (is_error ≡ false)
 IsFaultOf told NoMemory fault = fault ≡ Memory
 

@@ -1,6 +1,8 @@
 pub mod Numbers
 pub mod Capacities
 pub mod Limits
+pub mod Options
+pub mod Choices
 pub mod Asked
 pub mod Statuses
 pub mod Faults
@@ -8,6 +10,7 @@ pub mod FaultTexts
 pub mod Outputs
 pub mod Ends
 pub mod Texts
+pub mod Journals
 pub mod Given
 pub mod Lints
 pub mod Shelves

@@ -8,17 +8,16 @@ use Rattle.mpicall.specs.declared.fault.SourceFault.TheVariants.{GateStopped}
 use Rattle.mpigroup.specs.Groups.{Groups, ranks_of}
 use Rattle.mpigroup.specs.HeadText.{read_head}
 use Rattle.waitgraph.specs.declared.verdict.Verdict.{Verdict}
-use Rattle.waitgraph.specs.Verdicts.{verdict_of}
 use Rattle.moves.specs.declared.reading.Reading.{Reading}
 use Rattle.callnotes.specs.Recordings.{Lists, IsClosed}
-use Rattle.reports.specs.Reports.{report_of}
-use Rattle.reports.specs.declared.report.Format.{Format}
+use Rattle.reports.specs.Reports.{IsReport}
+use Rattle.command.specs.declared.options.Options.{Options}
 use Rattle.gather.specs.Answers.{recording_of_traces, refusal_of}
 use Rattle.gather.specs.declared.fault.RankFault.TheVariants.{OfSource}
 use Rattle.gather.specs.declared.fault.Refusal.{Refusal}
 use Rattle.runs.specs.Told.{IsRefusalOver, IsVerdictOver, is_from_outside}
 use Rattle.command.specs.declared.fault.Fault.{Fault}
-use Rattle.command.specs.declared.fault.Fault.TheVariants.{Open, ReadHead, Head, FileCount, Refused, Failed, LintRefused, LintFailed, Memory, Unproved, Write}
+use Rattle.command.specs.declared.fault.Fault.TheVariants.{Open, ReadHead, Head, FileCount, Refused, Failed, Memory, Unproved, Write}
 
 -- the head is the one that the text gives, where it is known
 abbrev pub IsHeadOf : Option (List ℕ) → Groups → Type 0
@@ -45,16 +44,15 @@ pub record IsRunOfTexts (head : List ℕ) (texts : List (List ℕ)) (groups : Gr
   pub is_head : read_head head ≡ Ok groups
   pub is_recording : (traces : List Trace) → AreTracesOf texts traces → recording ≡ recording_of_traces traces
 
--- the report of a run, and the verdict that it says: by the reading they are those of groups and a closed recording
--- of their ranks, and where the texts of the head and the files are known, these are of the texts
-pub record IsReportOf (reading : Reading) (format : Format) (head : Option (List ℕ)) (files : List (Option (List ℕ))) (verdict : Verdict) (report : List ℕ) : Type 0 where
+-- the report of a run, and the verdict that it says: by the options they are those of groups and a closed
+-- recording of their ranks, and where the texts of the head and the files are known, these are of the texts
+pub record IsReportOf (options : Options) (head : Option (List ℕ)) (files : List (Option (List ℕ))) (verdict : Verdict) (report : List ℕ) : Type 0 where
   pub groups : Groups
   pub recording : Lists
   pub one_a_rank : length recording ≡ ranks_of groups
   pub closed : IsClosed recording
   pub of_texts : (text : List ℕ) (texts : List (List ℕ)) → head ≡ Some text → files ≡ map Some texts → IsRunOfTexts text texts groups recording
-  pub report_is : report ≡ report_of format reading groups recording
-  pub verdict_is : verdict ≡ verdict_of reading groups recording
+  pub is_report : IsReport options.format options.reading groups recording verdict report
 
 -- the head was read and gives groups, and the number of the files is another than that of their ranks
 pub record IsWrongCount (told : List ℕ → Option (List ℕ)) (head : List ℕ) (ranks count : ℕ) (files : List (Bor (List ℕ))) : Type 0 where
@@ -89,8 +87,7 @@ IsFaultOfCheck told head files (Head fault) = IfSome (told head) (λ text. read_
 IsFaultOfCheck told head files (FileCount ranks count) = IsWrongCount told head ranks count files
 IsFaultOfCheck told head files (Refused refusal) = IsRefusalOfRun told head files refusal × (is_from_outside refusal.fault ≡ false)
 IsFaultOfCheck told head files (Failed refusal) = IsRefusalOfRun told head files refusal × (is_from_outside refusal.fault ≡ true)
-IsFaultOfCheck told head files (LintRefused fault) = ⊥
-IsFaultOfCheck told head files (LintFailed fault) = ⊥
 IsFaultOfCheck told head files Memory = ⊤
 IsFaultOfCheck told head files (Unproved rank) = (rank < length files) × ((groups : Groups) × IsCounted told head files groups)
 IsFaultOfCheck told head files Write = ⊤
+IsFaultOfCheck told head files fault = ⊥

@@ -4,3 +4,4 @@ pub mod Asked
 pub mod Front
 pub mod Outputs
 pub mod Texts
+pub mod Journals

@@ -11,16 +11,14 @@ ghost use Rattle.command.specs.inner.Outputs.{LeavesAtFault};
 ghost use Rattle.command.specs.Texts.{IsFaultOfCheck, IsHeadOf, IsVerdictOfTexts};
 ghost use Rattle.command.specs.inner.Texts.{IsFaultOfFront, IsFaultOfHead, IsFaultOfOpening, WritesReportOf};
 
-use crate::capacity::Capacity;
 use crate::fault::Fault;
 use crate::opener::Opener;
+use crate::options::Options;
 use gather::gate::OpenGate;
-use moves::reading::Reading;
 use mpicall::device::{DeviceFault, Input, Output};
 use mpicall::source::Source;
 use mpigroup::fault::ReadFault;
 use mpigroup::head::{DECIDING_BYTES, Head};
-use reports::report::Format;
 use runs::run::{ReadBy, run_by};
 use std::alloc::Global;
 use std::sync::Wait;
@@ -120,16 +118,13 @@ fn read_by<P: Opener>(opener: &P, paths: &[&str]) -> ReadBy
     ReadBy::Turns
 }
 
-/// Checks the run of a head and its traces by the reading, and writes its report in the format. The traces are opened in
-/// rank order, once their number is known to be that of the ranks, and then read at once; of each so many
-/// records may wait to be judged.
+/// Checks a run, of which the paths of the head and of the traces in rank order are given, and writes its report. The
+/// traces are opened in rank order, once their number is known to be that of the ranks, and then read at once.
 pub fn check<'a, P: Opener, O: Output, R: Threads + Wait + Sync>(
     alloc: Global,
     head: &'a str,
     files: &[&'a str],
-    reading: Reading,
-    format: Format,
-    capacity: Capacity,
+    options: Options,
     opener: &P,
     rt: &R,
     out: &mut O,
@@ -138,12 +133,12 @@ pub fn check<'a, P: Opener, O: Output, R: Threads + Wait + Sync>(
     ensures verdict { IfOk result (λ verdict. (text : List ℕ) (texts : List (List ℕ)) →
         P.told opener.now head.now ≡ Some text →
         map (λ file. P.told opener.now file.now) files.now ≡ map Some texts →
-        IsVerdictOfTexts reading text texts verdict) }
+        IsVerdictOfTexts options.reading text texts verdict) }
 
     // Which fault is reported, by what came before it.
     ensures fault { IfErr result (IsFaultOfCheck (P.told opener.now) head.now files.now) }
 
-    ensures written { IfOk result (WritesReportOf O.written out.old out.new reading format (P.told opener.now head.now) (map (λ file. P.told opener.now file.now) files.now)) }
+    ensures written { IfOk result (WritesReportOf O.written out.old out.new options (P.told opener.now head.now) (map (λ file. P.told opener.now file.now) files.now)) }
     ensures no_write_failed { OnOk result (O.failures out.new ≡ O.failures out.old) }
     ensures output { IfErr result (LeavesAtFault O.written O.failures out.old out.new) }
 {
@@ -155,10 +150,19 @@ pub fn check<'a, P: Opener, O: Output, R: Threads + Wait + Sync>(
         });
     }
     let sources = open_sources(alloc, opener, files)?;
-    let records = capacity.records();
+    let records = options.capacity.records();
     let by = read_by(opener, files);
     match run_by(
-        alloc, head, reading, sources, records, &OpenGate, format, out, rt, by,
+        alloc,
+        head,
+        options.reading,
+        sources,
+        records,
+        &OpenGate,
+        options.format,
+        out,
+        rt,
+        by,
     ) {
         Ok(verdict) => Ok(verdict),
         Err(fault) => Err(Fault::from(fault)),

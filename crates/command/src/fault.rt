@@ -1,14 +1,17 @@
 //! Why the program has no answer.
 
 ghost use Rattle.std.specs.Prelude.{◌≡◌, Some};
-ghost use Rattle.command.specs.FaultTexts.{text_of_fault};
+ghost use Rattle.command.specs.FaultTexts.{journal_words, text_of_fault};
 ghost use Rattle.gather.specs.declared.fault.RankFault.TheVariants.{OfSource};
 ghost use Rattle.runs.specs.Told.{is_from_outside};
 ghost use Rattle.command.specs.Faults.{of_head, of_lint, of_run, status_of_fault};
+ghost use Rattle.command.specs.Journals.{IsFaultOfJournals};
 ghost use Rattle.command.specs.declared.fault.Fault.TheVariants.{Memory};
 
 use crate::status::Status;
 use gather::fault::{RankFault, Refusal, RunFault};
+use journals::fault::{JournalFault, JournalFaultKind};
+use judging::read::ReadFault;
 use mpicall::fault::SourceFault;
 use mpicall::lint::LintFault;
 use mpigroup::fault::HeadFault;
@@ -20,6 +23,11 @@ use std::fmt;
 #[derive(Clone, Copy, Debug, PartialEq, Eq)]
 pub enum Fault<'a> {
     Open(&'a str),
+    /// The journal of a rank in this folder.
+    OpenJournal { folder: &'a str, rank: u16 },
+    RefusedJournal { rank: u16, fault: JournalFault },
+    FailedJournal { rank: u16, line: u64 },
+    Make(&'a str),
     ReadHead,
     Head(HeadFault),
     FileCount { ranks: u16, files: usize },
@@ -29,7 +37,28 @@ pub enum Fault<'a> {
     LintFailed(LintFault),
     Memory,
     Unproved(u16),
+    /// Of standard output.
     Write,
+    /// Of a file of a recording.
+    WriteFile,
+}
+
+/// What is said of a fault of a journal, in addition to its code.
+fn journal_words(kind: JournalFaultKind) -> &'static str
+    ensures { result.now ≡ journal_words kind }
+{
+    match kind {
+        JournalFaultKind::Header => "header",
+        JournalFaultKind::UnknownWord => "unknown word",
+        JournalFaultKind::FieldCount => "number of fields",
+        JournalFaultKind::FieldForm => "field out of form or range",
+        JournalFaultKind::AfterEnd => "line behind the end",
+        JournalFaultKind::TooLong => "line too long",
+        JournalFaultKind::OutOfPlace => "told line out of place",
+        JournalFaultKind::Request => "request",
+        JournalFaultKind::Comm => "communicator",
+        JournalFaultKind::Group => "group",
+    }
 }
 
 impl fmt::Display for Fault<'_> {
@@ -38,6 +67,18 @@ impl fmt::Display for Fault<'_> {
     fn fmt<W: fmt::Write>(&self, f: &mut fmt::Formatter<W>) -> fmt::Result {
         match *self {
             Fault::Open(path) => write!(f, "fault open {path}"),
+            Fault::OpenJournal { folder, rank } => {
+                write!(f, "fault open {folder}/journal{rank}")
+            }
+            Fault::RefusedJournal { rank, fault } => {
+                let JournalFault { line, kind } = fault;
+                let (code, words) = (kind.code(), journal_words(kind));
+                write!(f, "refused rank {rank} line {line} {code} {words}")
+            }
+            Fault::FailedJournal { rank, line } => {
+                write!(f, "fault rank {rank} line {line} E2 read failed")
+            }
+            Fault::Make(path) => write!(f, "fault make {path}"),
             Fault::ReadHead => write!(f, "fault read head"),
             Fault::Head(fault) => write!(f, "refused head {fault}"),
             Fault::FileCount { ranks, files } => {
@@ -49,12 +90,26 @@ impl fmt::Display for Fault<'_> {
             Fault::LintFailed(fault) => write!(f, "fault lint {fault}"),
             Fault::Memory => write!(f, "fault memory"),
             Fault::Unproved(rank) => write!(f, "fault seal {rank}"),
-            Fault::Write => write!(f, "fault write"),
+            Fault::Write | Fault::WriteFile => write!(f, "fault write"),
         }
     }
 }
 
 impl Error for Fault<'_> {}
+
+impl<'a> Fault<'a> {
+    /// The fault of the journals in a folder.
+    pub(crate) fn of_journals(folder: &'a str, fault: ReadFault) -> Fault<'a>
+        ensures { IsFaultOfJournals folder.now result }
+    {
+        match fault {
+            ReadFault::Open(rank) => Fault::OpenJournal { folder, rank },
+            ReadFault::Refused { rank, fault } => Fault::RefusedJournal { rank, fault },
+            ReadFault::ReadFailed { rank, line } => Fault::FailedJournal { rank, line },
+            ReadFault::Memory => Fault::Memory,
+        }
+    }
+}
 
 impl Fault<'_> {
     /// The exit status of the fault.
@@ -62,15 +117,22 @@ impl Fault<'_> {
         ensures { result ≡ status_of_fault self.now }
     {
         match self {
-            Fault::Head(_) | Fault::Refused(_) | Fault::LintRefused(_) => Status::Refused,
+            Fault::Head(_)
+            | Fault::Refused(_)
+            | Fault::LintRefused(_)
+            | Fault::RefusedJournal { .. } => Status::Refused,
             Fault::FileCount { .. } => Status::Usage,
             Fault::Open(_)
+            | Fault::OpenJournal { .. }
+            | Fault::FailedJournal { .. }
+            | Fault::Make(_)
             | Fault::ReadHead
             | Fault::Failed(_)
             | Fault::LintFailed(_)
             | Fault::Memory
             | Fault::Unproved(_)
-            | Fault::Write => Status::Fault,
+            | Fault::Write
+            | Fault::WriteFile => Status::Fault,
         }
     }
 }

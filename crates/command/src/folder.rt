@@ -5,13 +5,14 @@ ghost use Rattle.std.specs.Prelude.{◌<◌, length, IfSome};
 use crate::check::open_head;
 use crate::fault::Fault;
 use crate::opener::Opener;
+use crate::options::takes_value;
 use mpigroup::limits::MOST_RANKS;
 use std::alloc::{AllocError, Global};
 
 /// Whether a word after `check` is no path: an option, or the number of the option before it.
 fn is_option(before: &str, word: &str) -> bool {
     let begins = word.as_bytes().first() == Some(&b'-');
-    begins && word.len() > 1 || before == "--capacity" || before == "--eager"
+    begins && word.len() > 1 || takes_value(before)
 }
 
 /// The index of the one path after the first word; None where there is none, or a second one. All words after

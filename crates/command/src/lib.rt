@@ -10,20 +10,24 @@
 //!
 //! What is on both outputs at the end, by the words and by the texts of the files, is the contract of
 //! `program`; that of `given::run` says the same of some words. The definitions are in `specs/`: `Asked` for
-//! the words, `Ends` for the end, `Texts` and `Lints` for what a check and a lint answer. What only proofs
-//! and private contracts cite is in `specs/inner/`, and nobody has to believe it.
+//! the words, `Options` for the options, `Ends` for the end, `Texts` and `Lints` for what a check and a lint answer.
+//! What only proofs and private contracts cite is in `specs/inner/`, and nobody has to believe it.
 #![tactic(auto)]
 
 pub mod capacity;
 mod check;
 pub mod fault;
 mod folder;
+mod found;
 pub mod given;
 pub mod head_to_head;
+mod journal_folder;
 pub mod limit;
 mod lint;
+mod manner;
 mod number;
 pub mod opener;
+pub mod options;
 pub mod program;
 pub mod shelf;
 pub mod status;

@@ -1,25 +1,29 @@
 //! The whole program, over any files and outputs.
 
-ghost use Rattle.std.specs.Prelude.{◌≡◌, map};
+ghost use Rattle.std.specs.Prelude.{◌≡◌, ◌≢◌, map};
 ghost use Rattle.command.specs.inner.Answer.{Complains, IsAnswered, Refuses, Shows, TellsFaultLine};
-ghost use Rattle.command.specs.Ends.{Ends, EndsInCount, EndsInReport, IsDone, IsFaultOf};
+ghost use Rattle.command.specs.Ends.{Ends, EndsInCount, EndsInFiles, EndsInJudged, EndsInReport, IsDone, IsFaultOf};
 ghost use Rattle.command.specs.FaultTexts.{line_of_fault};
 ghost use Rattle.command.specs.Faults.{status_of_fault};
+ghost use Rattle.command.specs.Journals.{IsFaultOfClose, IsFaultOfJudge};
+ghost use Rattle.command.specs.inner.Journals.{IsWriteAs};
 ghost use Rattle.command.specs.Lints.{IsFaultOfLint};
 ghost use Rattle.command.specs.Outputs.{Tries};
 ghost use Rattle.command.specs.Statuses.{status_of_verdict};
 ghost use Rattle.command.specs.Texts.{IsFaultOfCheck};
 
-use crate::capacity::Capacity;
 use crate::check::check;
 use crate::fault::Fault;
+use crate::journal_folder::{JournalFolder, RecordingFolder};
 use crate::lint::lint_file;
-use crate::opener::Opener;
+use crate::opener::{Maker, Opener};
+use crate::options::Options;
 use crate::status::Status;
 use crate::words::{Words, parse};
-use moves::reading::Reading;
+use closing::choice::Choice;
+use judging::close::{CloseFault, close};
+use judging::judge::{JudgeFault, Manner, judge};
 use mpicall::device::{Output, write_all};
-use reports::report::Format;
 use std::alloc::Global;
 use std::sync::Wait;
 use std::thread::Threads;
@@ -75,19 +79,15 @@ fn answer_check<'a, P: Opener, O: Output, R: Threads + Wait + Sync>(
     alloc: Global,
     head: &'a str,
     files: &[&'a str],
-    reading: Reading,
-    format: Format,
-    capacity: Capacity,
+    options: Options,
     opener: &P,
     rt: &R,
     out: &mut O,
 ) -> Result<Status, Complaint<'a>>
     ensures { let told = P.told opener.now in
-        IsAnswered O.written O.failures (EndsInReport reading format (told head.now) (map (λ file. told file.now) files.now)) (IsFaultOfCheck told head.now files.now) out.old out.new result }
+        IsAnswered O.written O.failures (EndsInReport options (told head.now) (map (λ file. told file.now) files.now)) (IsFaultOfCheck told head.now files.now) out.old out.new result }
 {
-    match check(
-        alloc, head, files, reading, format, capacity, opener, rt, out,
-    ) {
+    match check(alloc, head, files, options, opener, rt, out) {
         Ok(verdict) => Ok(status_of(verdict)),
         Err(fault) => refuse(alloc, fault, out),
     }
@@ -110,8 +110,75 @@ fn answer_lint<'a, P: Opener, O: Output>(
     }
 }
 
+/// Why journals in a folder weren't judged.
+#[tactic(auto, using(crate::proofs::JournalLemmas::no_write, crate::proofs::JournalLemmas::of_judge))]
+fn fault_of_judge<'a>(folder: &'a str, fault: JudgeFault) -> Fault<'a>
+    ensures may { IsFaultOfJudge folder.now result }
+    ensures write { IsWriteAs fault result }
+{
+    match fault {
+        JudgeFault::Read(fault) => Fault::of_journals(folder, fault),
+        JudgeFault::Head(fault) => Fault::Head(fault),
+        JudgeFault::Refused(refusal) => Fault::Refused(refusal),
+        JudgeFault::Unended => Fault::Unproved(0),
+        JudgeFault::Memory => Fault::Memory,
+        JudgeFault::Write => Fault::Write,
+    }
+}
+
+/// Judges the journals in a folder.
+fn answer_judge<'a, P: Opener, O: Output>(
+    journals: &JournalFolder<'_, 'a, P>,
+    manner: Manner,
+    wait: &impl Wait,
+    out: &mut O,
+) -> Result<Status, Complaint<'a>>
+    ensures { IsAnswered O.written O.failures (EndsInJudged manner) (IsFaultOfJudge journals.now.path.now) out.old out.new result }
+{
+    match judge(journals.alloc, journals, manner, wait, out) {
+        Ok(verdict) => Ok(status_of(verdict)),
+        Err(fault) => {
+            let fault = fault_of_judge(journals.path, fault);
+            refuse(journals.alloc, fault, out)
+        }
+    }
+}
+
+/// Why the recording of journals in a folder wasn't written.
+#[tactic(auto, using(crate::proofs::JournalLemmas::no_write, crate::proofs::JournalLemmas::of_close))]
+fn fault_of_close<'a>(folder: &'a str, path: &'a str, fault: CloseFault) -> Fault<'a>
+    ensures may { IsFaultOfClose folder.now path.now result }
+    ensures unwritten { result ≢ Fault.Write }
+{
+    match fault {
+        CloseFault::Read(fault) => Fault::of_journals(folder, fault),
+        CloseFault::Make => Fault::Make(path),
+        CloseFault::Write => Fault::WriteFile,
+        CloseFault::Memory => Fault::Memory,
+    }
+}
+
+/// Writes the recording of the journals in a folder into another one.
+fn answer_close<'a, P: Opener + Maker, O: Output>(
+    journals: &JournalFolder<'_, 'a, P>,
+    made: &RecordingFolder<'_, 'a, P>,
+    choice: Choice,
+    wait: &impl Wait,
+    out: &mut O,
+) -> Result<Status, Complaint<'a>>
+    ensures { IsAnswered O.written O.failures EndsInFiles (IsFaultOfClose journals.now.path.now made.now.path.now) out.old out.new result }
+{
+    match close(journals.alloc, journals, choice, made, wait) {
+        Ok(()) => Ok(Status::Free),
+        Err(fault) => {
+            let fault = fault_of_close(journals.path, made.path, fault);
+            refuse(journals.alloc, fault, out)
+        }
+    }
+}
+
 /// Does what the words ask for, and gives the exit status where that goes with standard output.
-fn answer<'a, P: Opener, O: Output, R: Threads + Wait + Sync>(
+fn answer<'a, P: Opener + Maker, O: Output, R: Threads + Wait + Sync>(
     alloc: Global,
     words: Words<'a>,
     opener: &P,
@@ -124,13 +191,22 @@ fn answer<'a, P: Opener, O: Output, R: Threads + Wait + Sync>(
         Words::Check {
             head,
             files,
-            reading,
-            format,
-            capacity,
-        } => answer_check(
-            alloc, head, &files, reading, format, capacity, opener, rt, out,
-        ),
+            options,
+        } => answer_check(alloc, head, &files, options, opener, rt, out),
         Words::Lint { file } => answer_lint(alloc, file, opener, rt, out),
+        Words::Judge { folder, manner } => {
+            let judged = JournalFolder::new(alloc, opener, folder);
+            answer_judge(&judged, manner, rt, out)
+        }
+        Words::Close {
+            folder,
+            out: path,
+            choice,
+        } => {
+            let journals = JournalFolder::new(alloc, opener, folder);
+            let made = RecordingFolder::new(alloc, opener, path);
+            answer_close(&journals, &made, choice, rt, out)
+        }
         Words::Said {
             text,
             is_error: false,
@@ -189,7 +265,7 @@ fn complain<E: Output>(alloc: Global, complaint: Complaint<'_>, err: &mut E) -> 
 
 /// Does what the words after the program's name ask for, over the opener's files, and gives the exit
 /// status. A trace may have no end, so it may wait.
-pub fn program<P: Opener, O: Output, E: Output, R: Threads + Wait + Sync>(
+pub fn program<P: Opener + Maker, O: Output, E: Output, R: Threads + Wait + Sync>(
     alloc: Global,
     words: &[&str],
     opener: &P,

@@ -7,34 +7,41 @@ ghost use Rattle.clap.specs.Values.{kind_of};
 ghost use Rattle.clap.specs.Walk.{rows_of, rule_of};
 ghost use Rattle.clap.specs.declared.builder.command.Command.TheViews.{out-Command as fields_of};
 ghost use Rattle.clap.specs.declared.error.kind.ErrorKind.TheVariants.{OutOfMemory};
-ghost use Rattle.command.specs.Asked.{Answers, LintTrace, capacity_of, capacity_rule, check, check_of, eager_rule, format_of, head_rule, is_text, json_rule, lint, lint_of, program, run_of, task_of, trace_rule, traces_rule};
+ghost use Rattle.command.specs.Asked.{Answers, LintTrace, check, check_of, close, close_of, closing_of, folder_rule, head_rule, is_text, judge, judge_of, judging_of, lint, lint_of, out_rule, program, run_of, task_of, trace_rule, traces_rule};
 ghost use Rattle.command.specs.inner.Asked.{Names, Says, SaysError};
 
-use crate::capacity::{Capacity, LEAST, MOST};
-use crate::limit::read_reading;
-use clap::builder::ValueParser;
+use crate::found::{text_of, texts_of};
+use crate::manner::{choice_arguments, choice_of, manner_arguments, manner_of};
+use crate::options::{Options, option_arguments, options_of};
 use clap::error::ErrorKind;
-use clap::{Arg, ArgAction, ArgMatches, Command, Error};
-use moves::reading::Reading;
-use mpicall::limits::GREATEST_BYTES;
-use reports::report::Format;
+use clap::{Arg, ArgMatches, Command, Error};
+use closing::choice::Choice;
+use judging::judge::Manner;
 use std::alloc::{AllocError, Global};
 
 /// What the words ask for.
 #[derive(Debug, Drop)]
 pub enum Words<'a> {
-    /// To check a run, by the path of its head and those of its traces, at least one, in rank order, and by a
-    /// reading, to report it in a format, and to let so many records of a rank wait to be judged.
+    /// To check a run, by the path of its head and those of its traces, at least one, in rank order.
     Check {
         head: &'a str,
         files: Vec<&'a str>,
-        reading: Reading,
-        format: Format,
-        capacity: Capacity,
+        options: Options,
     },
     /// To read one trace alone, by its path.
     Lint {
         file: &'a str,
+    },
+    /// To judge the journals in a folder.
+    Judge {
+        folder: &'a str,
+        manner: Manner,
+    },
+    /// To write the recording of the journals in a folder into another one, which is made.
+    Close {
+        folder: &'a str,
+        out: &'a str,
+        choice: Choice,
     },
     /// To show a text: the help or the version, or what is wrong with the words.
     Said {
@@ -104,7 +111,8 @@ mpiwait check [OPTIONS] <HEAD> <FILE>...
        mpiwait check [OPTIONS] <FOLDER>";
 
 const USAGE: &str =
-    "usage: mpiwait check [OPTIONS] HEAD FILE.. or mpiwait check [OPTIONS] FOLDER or mpiwait lint FILE\n";
+    "usage: mpiwait check [OPTIONS] HEAD FILE.. or mpiwait check [OPTIONS] FOLDER or mpiwait lint FILE \
+or mpiwait judge [OPTIONS] FOLDER or mpiwait close [OPTIONS] FOLDER OUT\n";
 
 /// What clap knows of the head.
 fn head_argument<'a>(alloc: Global) -> Arg<'a>
@@ -128,42 +136,6 @@ fn traces_argument<'a>(alloc: Global) -> Arg<'a>
         .long_help(TRACES_HELP)
 }
 
-/// What clap knows of the flag for JSON.
-fn json_argument<'a>(alloc: Global) -> Arg<'a>
-    ensures rule { rule_of result ≡ json_rule }
-    ensures local { result.global ≡ false }
-{
-    Arg::new(alloc, "json")
-        .long("json")
-        .action(ArgAction::SetTrue)
-        .help("Writes the report as one JSON value")
-}
-
-/// What clap knows of the number of records that may wait.
-fn capacity_argument<'a>(alloc: Global) -> Arg<'a>
-    ensures rule { rule_of result ≡ capacity_rule }
-    ensures local { result.global ≡ false }
-{
-    Arg::new(alloc, "capacity")
-        .long("capacity")
-        .value_name("N")
-        .default_value("64")
-        .value_parser(ValueParser::unsigned(u64::from(LEAST), u64::from(MOST)))
-        .help("How many records of a rank may be read ahead of the checking, 1 to 1024")
-}
-
-/// What clap knows of the eager limit.
-fn eager_argument<'a>(alloc: Global) -> Arg<'a>
-    ensures rule { rule_of result ≡ eager_rule }
-    ensures local { result.global ≡ false }
-{
-    Arg::new(alloc, "eager")
-        .long("eager")
-        .value_name("N")
-        .value_parser(ValueParser::unsigned(0, u64::from(GREATEST_BYTES)))
-        .help("Takes standard sends of at most N recorded bytes as buffered, 0 to 2147483647")
-}
-
 /// What clap knows of one trace.
 fn trace_argument<'a>(alloc: Global) -> Arg<'a>
     ensures rule { rule_of result ≡ trace_rule }
@@ -179,6 +151,7 @@ fn check_command<'a>(alloc: Global) -> Result<Command<'a>, AllocError>
     ensures app { IfOk result (λ command. app_of command ≡ check) }
     ensures local { IfOk result (λ command. (fields_of command).has_globals ≡ false) }
 {
+    let options = option_arguments(alloc)?;
     Command::new(alloc, "check")
         .about(CHECK_ABOUT)
         .long_about(CHECK_LONG_ABOUT)
@@ -187,9 +160,7 @@ fn check_command<'a>(alloc: Global) -> Result<Command<'a>, AllocError>
         .version(VERSION)
         .arg(head_argument(alloc))?
         .arg(traces_argument(alloc))?
-        .arg(json_argument(alloc))?
-        .arg(capacity_argument(alloc))?
-        .arg(eager_argument(alloc))
+        .args(options)
 }
 
 /// What clap knows of `lint`.
@@ -204,12 +175,68 @@ fn lint_command<'a>(alloc: Global) -> Result<Command<'a>, AllocError>
         .arg(trace_argument(alloc))
 }
 
+const JUDGE_ABOUT: &str =
+    "Reads the journals of a run, one a rank, and says whether the run can hang";
+
+const CLOSE_ABOUT: &str = "Reads the journals of a run, and writes its head and its traces";
+
+/// What clap knows of the folder of journals.
+fn folder_argument<'a>(alloc: Global) -> Arg<'a>
+    ensures rule { rule_of result ≡ folder_rule }
+    ensures local { result.global ≡ false }
+{
+    Arg::new(alloc, "FOLDER")
+        .required(true)
+        .help("The folder of the journals: journal0, journal1 and so on")
+}
+
+/// What clap knows of the folder that is made.
+fn out_argument<'a>(alloc: Global) -> Arg<'a>
+    ensures rule { rule_of result ≡ out_rule }
+    ensures local { result.global ≡ false }
+{
+    Arg::new(alloc, "OUT")
+        .required(true)
+        .help("The folder that is made, for head, r0, r1 and so on")
+}
+
+/// What clap knows of `judge`.
+fn judge_command<'a>(alloc: Global) -> Result<Command<'a>, AllocError>
+    ensures app { IfOk result (λ command. app_of command ≡ judge) }
+    ensures local { IfOk result (λ command. (fields_of command).has_globals ≡ false) }
+{
+    let options = manner_arguments(alloc)?;
+    Command::new(alloc, "judge")
+        .about(JUDGE_ABOUT)
+        .after_help(AFTER)
+        .version(VERSION)
+        .arg(folder_argument(alloc))?
+        .args(options)
+}
+
+/// What clap knows of `close`.
+fn close_command<'a>(alloc: Global) -> Result<Command<'a>, AllocError>
+    ensures app { IfOk result (λ command. app_of command ≡ close) }
+    ensures local { IfOk result (λ command. (fields_of command).has_globals ≡ false) }
+{
+    let options = choice_arguments(alloc)?;
+    Command::new(alloc, "close")
+        .about(CLOSE_ABOUT)
+        .after_help(AFTER)
+        .version(VERSION)
+        .arg(folder_argument(alloc))?
+        .arg(out_argument(alloc))?
+        .args(options)
+}
+
 /// What clap knows of the program.
 fn program_command<'a>(alloc: Global) -> Result<Command<'a>, AllocError>
     ensures { IfOk result (λ command. app_of command ≡ program) }
 {
     let check = check_command(alloc)?;
     let lint = lint_command(alloc)?;
+    let judge = judge_command(alloc)?;
+    let close = close_command(alloc)?;
     Command::new(alloc, "mpiwait")
         .about(ABOUT)
         .override_usage(PROGRAM_USAGE)
@@ -220,7 +247,9 @@ fn program_command<'a>(alloc: Global) -> Result<Command<'a>, AllocError>
         .disable_help_subcommand(true)
         .bin_name("mpiwait")?
         .subcommand(check)?
-        .subcommand(lint)
+        .subcommand(lint)?
+        .subcommand(judge)?
+        .subcommand(close)
 }
 
 /// A text as the answer; without memory for it, that.
@@ -263,11 +292,9 @@ fn run_named<'a>(
     alloc: Global,
     head: Option<&'a str>,
     files: Option<&[&'a str]>,
-    reading: Option<Reading>,
-    format: Format,
-    capacity: Option<Capacity>,
+    options: Option<Options>,
 ) -> Words<'a>
-    ensures { Names (run_of (option_map (λ path. path.now) head.entry) (option_map (λ paths. map (λ path. path.now) paths.now) files.entry) reading format capacity) result }
+    ensures { Names (run_of (option_map (λ path. path.now) head.entry) (option_map (λ paths. map (λ path. path.now) paths.now) files.entry) options) result }
 {
     let Some(head) = head else {
         return say(alloc, USAGE, true);
@@ -278,39 +305,17 @@ fn run_named<'a>(
     if files.is_empty() {
         return say(alloc, USAGE, true);
     }
-    let Some(reading) = reading else {
-        return say(alloc, USAGE, true);
-    };
-    let Some(capacity) = capacity else {
+    let Some(options) = options else {
         return say(alloc, USAGE, true);
     };
     match Vec::from_slice(alloc, files) {
         Ok(files) => Words::Check {
             head,
             files,
-            reading,
-            format,
-            capacity,
+            options,
         },
         Err(_) => Words::NoMemory,
     }
-}
-
-/// The format that a flag asks for.
-fn format_of(flag: Option<&str>) -> Format
-    ensures { result ≡ format_of (option_map (λ value. value.now) flag.entry) }
-{
-    match flag {
-        Some(value) if value == "true" => Format::Json,
-        _ => Format::Text,
-    }
-}
-
-/// The number of records that an option names.
-fn capacity_of(number: Option<&str>) -> Option<Capacity>
-    ensures { result ≡ capacity_of (option_map (λ text. text.now) number.entry) }
-{
-    Capacity::read(number?)
 }
 
 /// The run that the words after `check` name.
@@ -319,11 +324,9 @@ fn check_of<'a>(alloc: Global, matches: &ArgMatches<'a>) -> Words<'a>
 {
     run_named(
         alloc,
-        matches.get_str("HEAD"),
-        matches.get_strs("FILE"),
-        read_reading(matches.get_str("eager")),
-        format_of(matches.get_str("json")),
-        capacity_of(matches.get_str("capacity")),
+        text_of(matches, "HEAD"),
+        texts_of(matches, "FILE"),
+        options_of(matches),
     )
 }
 
@@ -342,7 +345,66 @@ fn trace_named<'a>(alloc: Global, file: Option<&'a str>) -> Words<'a>
 fn lint_of<'a>(alloc: Global, matches: &ArgMatches<'a>) -> Words<'a>
     ensures { Names (lint_of (rows_of (found_of matches.now))) result }
 {
-    trace_named(alloc, matches.get_str("FILE"))
+    trace_named(alloc, text_of(matches, "FILE"))
+}
+
+/// The journals in this folder, to be judged.
+#[tactic(auto, using(crate::proofs::AskedLemmas::asked_steps))]
+fn judging_of<'a>(alloc: Global, folder: Option<&'a str>, manner: Option<Manner>) -> Words<'a>
+    ensures { Names (judging_of (option_map (λ path. path.now) folder.entry) manner) result }
+{
+    let Some(folder) = folder else {
+        return say(alloc, USAGE, true);
+    };
+    match manner {
+        Some(manner) => Words::Judge { folder, manner },
+        None => say(alloc, USAGE, true),
+    }
+}
+
+/// The journals that the words after `judge` name.
+fn judge_of<'a>(alloc: Global, matches: &ArgMatches<'a>) -> Words<'a>
+    ensures { Names (judge_of (rows_of (found_of matches.now))) result }
+{
+    judging_of(alloc, text_of(matches, "FOLDER"), manner_of(matches))
+}
+
+/// The journals in this folder, for whose recording that one is made.
+#[tactic(auto, using(crate::proofs::AskedLemmas::asked_steps))]
+fn closing_of<'a>(
+    alloc: Global,
+    folder: Option<&'a str>,
+    out: Option<&'a str>,
+    choice: Option<Choice>,
+) -> Words<'a>
+    ensures { Names (closing_of (option_map (λ path. path.now) folder.entry) (option_map (λ path. path.now) out.entry) choice) result }
+{
+    let Some(folder) = folder else {
+        return say(alloc, USAGE, true);
+    };
+    let Some(out) = out else {
+        return say(alloc, USAGE, true);
+    };
+    match choice {
+        Some(choice) => Words::Close {
+            folder,
+            out,
+            choice,
+        },
+        None => say(alloc, USAGE, true),
+    }
+}
+
+/// The journals and the folder that the words after `close` name.
+fn close_of<'a>(alloc: Global, matches: &ArgMatches<'a>) -> Words<'a>
+    ensures { Names (close_of (rows_of (found_of matches.now))) result }
+{
+    closing_of(
+        alloc,
+        text_of(matches, "FOLDER"),
+        text_of(matches, "OUT"),
+        choice_of(matches),
+    )
 }
 
 /// The task of a command and of the words after it.
@@ -354,6 +416,10 @@ fn task_of<'a>(alloc: Global, name: &str, matches: &ArgMatches<'a>) -> Words<'a>
         check_of(alloc, matches)
     } else if name == "lint" {
         lint_of(alloc, matches)
+    } else if name == "judge" {
+        judge_of(alloc, matches)
+    } else if name == "close" {
+        close_of(alloc, matches)
     } else {
         say(alloc, USAGE, true)
     }

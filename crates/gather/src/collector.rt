@@ -34,6 +34,7 @@ pub struct Collector {
     ghost passed: { ArePassed ledger.reading ledger.groups ledger.recording (published_by publisher) },
 }
 
+// By hand: a derived drop is proved again at each exit of a function that owns one.
 impl Drop for Collector {
     fn drop(self) {
         let Collector {

@@ -40,6 +40,7 @@ pub struct Ledger {
     wanted: bool,
 }
 
+// By hand: a derived drop is proved again at each exit of a function that owns one.
 impl Drop for Ledger {
     fn drop(self) {
         let Ledger {

@@ -3,7 +3,7 @@
 ghost use Rattle.std.specs.Prelude.{◌≡◌, ◌↔◌, false, IfOk, IfErr};
 ghost use Rattle.callnotes.specs.Recordings.{IsClosed};
 ghost use Rattle.waitgraph.specs.Held.{is_some_left_open};
-ghost use Rattle.waitgraph.specs.Verdicts.{verdict_of, SomeRankIsHeld, SomeRankIsStuck};
+ghost use Rattle.waitgraph.specs.Verdicts.{IsVerdictOf, SomeRankIsStuck};
 ghost use Rattle.waitgraph.specs.declared.verdict.Verdict.TheVariants.{Hang};
 ghost use Rattle.waitgraph.specs.Graphs.{IsGraphOf};
 ghost use Rattle.gather.specs.declared.outcome.CloseFault.TheVariants.{Memory};
@@ -36,6 +36,7 @@ pub struct Outcome {
     graph: Graph,
 }
 
+// By hand: a derived drop is proved again at each exit of a function that owns one.
 impl Drop for Outcome {
     fn drop(self) {
         let Outcome {
@@ -48,13 +49,13 @@ impl Drop for Outcome {
 impl Model for Outcome {
     ghost use Rattle.callnotes.specs.Recordings.{IsClosed};
     ghost use Rattle.moves.specs.Analysed.{Analysed};
-    ghost use Rattle.waitgraph.specs.Graphs.{IsGraphOf};
+    ghost use Rattle.waitgraph.specs.inner.Graphs.{IsGraphBy};
 
     ghost Value = { Analysed };
 
     ghost view = { λ o. o.analyser };
 
-    ghost invariant = { λ o. ∥ IsClosed o.analyser.recording ∥₁ × IsGraphOf o.analyser.reading o.analyser.groups o.analyser.recording o.graph };
+    ghost invariant = { λ o. ∥ IsClosed o.analyser.recording ∥₁ × IsGraphBy o.analyser.reading o.analyser.groups o.analyser.recording o.graph };
 }
 
 impl Outcome {
@@ -73,8 +74,7 @@ impl Outcome {
     /// Whether the run can hang: exactly if some rank is held. Where no list was left open, that is so exactly if
     /// some rank is stuck.
     pub fn verdict(&self) -> Verdict
-        ensures value { result ≡ verdict_of self.now.reading self.now.groups self.now.recording }
-        ensures hang { (result ≡ Hang) ↔ SomeRankIsHeld self.now.reading self.now.groups self.now.recording }
+        ensures value { IsVerdictOf self.now.reading self.now.groups self.now.recording result }
         ensures closed { is_some_left_open self.now.recording ≡ false → (result ≡ Hang) ↔ SomeRankIsStuck self.now.reading self.now.groups self.now.recording }
     {
         self.graph.verdict()

@@ -19,9 +19,14 @@ use Rattle.pairing.specs.Probed.{probed_envelope, probed_envelope_at, probed_by,
 use Rattle.callnotes.proofs.OptionLemmas.{and_then_parts, map_parts}
 use Rattle.pairing.proofs.PartnerLemmas.{numbered_parts, numbered_half}
 use Rattle.pairing.proofs.ProbedLemmas.{prober}
-use Rattle.arenalist.specs.Numbers.{list_at}
 use Rattle.arenalist.specs.inner.Numbers.{count}
-use Rattle.moves.specs.inner.Waiting.{WaitLists, own_list, comm_list, woken, awaits, woken_at, woken_partner, sent_to, sees, prober_of, woken_prober, woken_comm, WaitsFor, HasLists}
+use Rattle.arenalist.specs.Numbers.{list_at}
+use Rattle.moves.specs.inner.Waiting.{WaitLists, own_list, comm_list, woken, awaits, woken_at, woken_partner, sent_to, sees, prober_of, woken_prober, woken_peers, woken_comm, WaitsFor, HasLists}
+use Rattle.callnotes.specs.Waves.{wave_of}
+use Rattle.pairing.specs.Seen.{wave_seen}
+use Rattle.pairing.specs.declared.call_at.CallAt.{CallAt}
+use Rattle.moves.specs.inner.Positions.{IsCallIf, IsSeenIf}
+use Rattle.moves.specs.declared.world.World.{World}
 use Rattle.moves.proofs.LinkLemmas.{Wakes, wakes_none, wakes_both, wakes_list, woken_there, woken_work}
 
 -- the greatest count
@@ -252,3 +257,12 @@ none_woken groups recording rank place w none =
     let received : partner_of groups recording rank place RecvHalf ≡ None = rw none refl in
     let to : sent_to groups recording rank place ≡ None = rw none refl in
     rw (sent, received, to) refl
+
+-- who has no message wakes nobody by one
+pub no_peers : (groups : Groups) (recording : Lists) (rank place : ℕ) (w : WaitLists) → partner_of groups recording rank place SendHalf ≡ None → partner_of groups recording rank place RecvHalf ≡ None → sent_to groups recording rank place ≡ None → w ≡ woken_peers groups recording rank place w
+no_peers groups recording rank place w sends receives sent = rw sends (rw receives (rw sent refl))
+
+-- the wave that a call joins, if there is one
+pub wave_if : (w : World) (at : ℕ × ℕ) (seen : Option CallAt) → IsCallIf w at seen → IsSeenIf w at seen → option_and_then wave_seen seen ≡ wave_of w.pairs.recording at.0 at.1
+wave_if w at None there seen = rw (sym there) refl
+wave_if w at (Some call) there seen = seen.wave

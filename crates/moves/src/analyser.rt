@@ -4,7 +4,7 @@
 //! 3 when it is accepted, 13 when it is reached, 2 when it is passed and 4 when its wave is complete: 22 in
 //! all, of the 24 that the contract promises. Looks aren't counted.
 
-ghost use Rattle.std.specs.Prelude.{◌≡◌, ◌≢◌, ◌<◌, ◌≤◌, ◌↔◌, [], ◌∷◌, length, true, replicate, slice_get, option_map, None, Some, Err, IfOk, IfErr, IfSome, OnOk, OnErr};
+ghost use Rattle.std.specs.Prelude.{◌≡◌, ◌≢◌, ◌<◌, ◌≤◌, ◌↔◌, [], length, true, replicate, slice_get, option_map, None, Some, Err, IfOk, IfErr, IfSome, OnOk, OnErr};
 ghost use Rattle.std.specs.List.{list_all, range_with_len};
 ghost use Rattle.mpigroup.specs.Groups.{ranks_of};
 ghost use Rattle.callnotes.specs.Limits.{most_calls};
@@ -160,6 +160,15 @@ impl Analyser {
     {
         let work = self.positions.waiters.work();
         work.saturating_add(self.positions.progress.changes)
+    }
+
+    /// The calls that were accepted, with the reading of their sends.
+    pub fn world(&self) -> &World
+        ensures reading { result.now.reading ≡ self.now.reading }
+        ensures groups { result.now.pairs.groups ≡ self.now.groups }
+        ensures recording { result.now.pairs.recording ≡ self.now.recording }
+    {
+        &self.world
     }
 
     /// By which reading the sends are read.

@@ -55,4 +55,4 @@ pub mod run;
 mod settle;
 pub mod stand;
 mod waiters;
-mod world;
+pub mod world;

@@ -4,26 +4,19 @@
 //! A call that its rank hasn't reached meets no need of anybody, so no look follows it. A look at a wave
 //! compares two numbers: how many waves of the communicator are complete, and the number of the wave.
 
-ghost use Rattle.std.specs.Prelude.{◌≡◌, ◌<◌, Some, true, nat_lt, length, slice_get, slice_index};
+ghost use Rattle.std.specs.Prelude.{◌≡◌, ◌<◌, slice_index};
 ghost use Rattle.std.specs.List.{list_all};
 ghost use Rattle.callnotes.specs.Limits.{most_calls};
-ghost use Rattle.callnotes.specs.Recordings.{calls_of};
-ghost use Rattle.moves.specs.Needs.{half_needs, probe_needs, is_met};
-ghost use Rattle.moves.specs.inner.Waiting.{message_needs, open_wave};
+ghost use Rattle.moves.specs.Needs.{is_met};
+ghost use Rattle.pairing.specs.Seen.{call_seen};
+ghost use Rattle.moves.specs.inner.Waiting.{message_needs};
+ghost use Rattle.moves.specs.Worlds.{IsSeenAt, needs_for};
 ghost use Rattle.moves.specs.inner.Positions.{IsCallAt, KnowWaves, OperationTells, RequestTells, RequestsTell, CallTells, RankTells};
 
-use crate::need::is_reached;
-use crate::progress::Progress;
-use crate::reading::sends_freely;
+use crate::need::{At, Part, is_met, need_for};
 use crate::world::{Positions, World};
-use callnotes::call_ref::CallRef;
-use callnotes::envelope::Half;
 use callnotes::often::{COLL, IRECV, ISEND, RECV, SEND, WAIT, WAITALL};
-use mpicall::does::Does;
-use pairing::pairs::Pairs;
-
-/// A call, by its rank and its place.
-type At = (u16, u32);
+use pairing::call_at::CallAt;
 
 /// What a look at a rank tells.
 #[derive(Clone, Copy)]
@@ -39,64 +32,41 @@ pub(crate) enum Look {
     Wave { comm: u16 },
 }
 
-/// Whether a half of the call has what it needs: nothing where it has no message, else its partner.
+/// Whether the call has what it needs for one of its messages.
 #[inline(always)]
-fn is_half_met(pairs: &Pairs, stands: &[u32], at: At, half: Half, call: &CallRef<'_>) -> bool
-    ensures { result ≡ list_all (is_met stands.now) (half_needs pairs.now.groups pairs.now.recording at.0 at.1 half call.now) }
+fn is_met_for(world: &World, positions: &Positions, at: At, part: Part, call: &CallAt<'_>) -> bool
+    requires { IsSeenAt world.now at call.now }
+    ensures { result ≡ list_all (is_met positions.now.stands.items) (needs_for world.now at part (call_seen call.now)) }
 {
-    match call.message(half) {
-        Some(_) => is_reached(stands, pairs.partner(at.0, at.1, half)),
+    match need_for(world, at, part, call) {
+        Some(need) => is_met(&positions.stands, &need),
         None => true,
     }
 }
 
-/// Whether a probe has what it needs: the send that the next receive of its envelope would get. Every other call
-/// has.
-fn is_probe_met(pairs: &Pairs, stands: &[u32], at: At, call: &CallRef<'_>) -> bool
-    ensures { result ≡ list_all (is_met stands.now) (probe_needs pairs.now.groups pairs.now.recording at.0 at.1 call.now) }
-{
-    match call.probed() {
-        Some(_) => is_reached(stands, pairs.probed(at.0, at.1)),
-        None => true,
-    }
-}
-
-/// Whether each message of the call has what it needs. The partner is asked for first: a send whose receive is reached
-/// goes by every reading.
+/// Whether each message of the call has what it needs.
 #[inline(always)]
-fn are_messages_met(world: &World, positions: &Positions, at: At, call: &CallRef<'_>) -> bool
-    ensures { result ≡ list_all (is_met positions.now.stands.items) (message_needs world.now.reading world.now.pairs.groups world.now.pairs.recording at.0 at.1 call.now) }
+fn are_messages_met(world: &World, positions: &Positions, at: At, call: &CallAt<'_>) -> bool
+    requires { IsSeenAt world.now at call.now }
+    ensures { result ≡ list_all (is_met positions.now.stands.items) (message_needs world.now.reading world.now.pairs.groups world.now.pairs.recording at.0 at.1 (call_seen call.now)) }
 {
-    let pairs = &world.pairs;
-    let stands = positions.stands.as_slice();
-    (is_half_met(pairs, stands, at, Half::Send, call) || sends_freely(world.reading, call))
-        && is_half_met(pairs, stands, at, Half::Recv, call)
-        && is_probe_met(pairs, stands, at, call)
-}
-
-/// The communicator of the wave that the call joins, where that wave is not complete.
-#[inline(always)]
-fn open_wave(pairs: &Pairs, progress: &Progress, at: At, call: &CallRef<'_>) -> Option<u16>
-    requires { slice_get (calls_of pairs.now.recording at.0) at.1 ≡ Some call.now }
-    ensures { result ≡ open_wave pairs.now.groups pairs.now.recording progress.now at.0 at.1 }
-{
-    match call.does() {
-        Does::Joins { .. } => progress.open_wave(pairs, at.0, at.1),
-        _ => None,
-    }
+    is_met_for(world, positions, at, Part::Sent, call)
+        && is_met_for(world, positions, at, Part::Received, call)
+        && is_met_for(world, positions, at, Part::Probed, call)
 }
 
 /// What is told of the operation of the call at the place.
 #[inline(always)]
-fn look_at_operation(world: &World, positions: &Positions, at: At, call: &CallRef<'_>) -> Look
+fn look_at_operation(world: &World, positions: &Positions, at: At, call: &CallAt<'_>) -> Look
     requires waves { KnowWaves world.now positions.now }
-    requires call { IsCallAt world.now at call.now }
+    requires call { IsCallAt world.now at (call_seen call.now) }
+    requires seen { IsSeenAt world.now at call.now }
     ensures { OperationTells world.now positions.now at result }
 {
     if !are_messages_met(world, positions, at, call) {
         return Look::Partner { place: at.1 };
     }
-    match open_wave(&world.pairs, &positions.progress, at, call) {
+    match positions.progress.open_wave(&world.pairs, call.wave()) {
         Some(comm) => Look::Wave { comm },
         None => Look::Moves,
     }
@@ -104,12 +74,13 @@ fn look_at_operation(world: &World, positions: &Positions, at: At, call: &CallRe
 
 /// What is told of the operation of any call at the place: the slow way, for calls that come seldom.
 #[inline(never)]
-fn look_at_any_operation(world: &World, positions: &Positions, at: At, call: CallRef<'_>) -> Look
+fn look_at_any_operation(world: &World, positions: &Positions, at: At, call: &CallAt<'_>) -> Look
     requires waves { KnowWaves world.now positions.now }
-    requires call { IsCallAt world.now at call }
+    requires call { IsCallAt world.now at (call_seen call.now) }
+    requires seen { IsSeenAt world.now at call.now }
     ensures { OperationTells world.now positions.now at result }
 {
-    look_at_operation(world, positions, at, &call)
+    look_at_operation(world, positions, at, call)
 }
 
 /// What is told of the operation of a call of this kind at the place. There is one such function for each kind that
@@ -118,41 +89,60 @@ fn look_at_operation_of<const KIND: u8>(
     world: &World,
     positions: &Positions,
     at: At,
-    call: CallRef<'_>,
+    call: &CallAt<'_>,
 ) -> Look
     requires waves { KnowWaves world.now positions.now }
-    requires call { IsCallAt world.now at call }
+    requires call { IsCallAt world.now at (call_seen call.now) }
+    requires seen { IsSeenAt world.now at call.now }
     ensures { OperationTells world.now positions.now at result }
 {
-    if call.kind_no() == KIND {
-        look_at_operation(world, positions, at, &call)
+    if call.call().kind_no() == KIND {
+        look_at_operation(world, positions, at, call)
     } else {
         look_at_any_operation(world, positions, at, call)
     }
 }
 
-/// What is told of the operation of the call that started a request.
+/// What is told of the operation of a call that starts a request.
+#[inline(always)]
+fn look_at_started(world: &World, positions: &Positions, at: At, call: &CallAt<'_>) -> Look
+    requires waves { KnowWaves world.now positions.now }
+    requires call { IsCallAt world.now at (call_seen call.now) }
+    requires seen { IsSeenAt world.now at call.now }
+    ensures { OperationTells world.now positions.now at result }
+{
+    match call.call().kind_no() {
+        ISEND => look_at_operation_of::<ISEND>(world, positions, at, call),
+        IRECV => look_at_operation_of::<IRECV>(world, positions, at, call),
+        _ => look_at_any_operation(world, positions, at, call),
+    }
+}
+
+/// The same of the call at a place.
 #[inline(never)]
 fn look_at_start(world: &World, positions: &Positions, rank: u16, start: u32) -> Look
     requires { KnowWaves world.now positions.now }
     ensures { OperationTells world.now positions.now (rank, start) result }
 {
-    let Some(call) = world.pairs.call(rank, start) else {
-        return Look::Moves;
-    };
-    match call.kind_no() {
-        ISEND => look_at_operation_of::<ISEND>(world, positions, (rank, start), call),
-        IRECV => look_at_operation_of::<IRECV>(world, positions, (rank, start), call),
-        _ => look_at_any_operation(world, positions, (rank, start), call),
+    match world.pairs.at(rank, start) {
+        Some(call) => look_at_started(world, positions, (rank, start), &call),
+        None => Look::Moves,
     }
 }
 
 /// What is told of the request with that index among those that the call at the place completes.
-fn look_at_request(world: &World, positions: &Positions, at: At, index: usize) -> Look
-    requires { KnowWaves world.now positions.now }
+fn look_at_request(
+    world: &World,
+    positions: &Positions,
+    at: At,
+    call: &CallAt<'_>,
+    index: usize,
+) -> Look
+    requires waves { KnowWaves world.now positions.now }
+    requires seen { IsSeenAt world.now at call.now }
     ensures { RequestTells world.now positions.now at index result }
 {
-    match world.pairs.completed(at.0, at.1, index) {
+    match call.completed(index) {
         Some(start) => look_at_start(world, positions, at.0, start),
         None => Look::Moves,
     }
@@ -160,13 +150,14 @@ fn look_at_request(world: &World, positions: &Positions, at: At, index: usize) -
 
 /// What is told of the requests that the call at the place completes.
 #[inline(always)]
-fn look_at_requests(world: &World, positions: &Positions, at: At, call: &CallRef<'_>) -> Look
+fn look_at_requests(world: &World, positions: &Positions, at: At, call: &CallAt<'_>) -> Look
     requires waves { KnowWaves world.now positions.now }
-    requires call { IsCallAt world.now at call.now }
-    ensures { RequestsTell world.now positions.now at call.now result }
+    requires call { IsCallAt world.now at (call_seen call.now) }
+    requires seen { IsSeenAt world.now at call.now }
+    ensures { RequestsTell world.now positions.now at (call_seen call.now) result }
 {
-    for index in 0..call.completed_count() {
-        match look_at_request(world, positions, at, index) {
+    for index in 0..call.call().completed_count() {
+        match look_at_request(world, positions, at, call, index) {
             Look::Moves => {}
             look => return look,
         }
@@ -176,16 +167,17 @@ fn look_at_requests(world: &World, positions: &Positions, at: At, call: &CallRef
 
 /// What is told of any call at the place: the slow way. A call that starts a request needs nothing.
 #[inline(never)]
-fn look_at_any_call(world: &World, positions: &Positions, at: At, call: CallRef<'_>) -> Look
+fn look_at_any_call(world: &World, positions: &Positions, at: At, call: &CallAt<'_>) -> Look
     requires waves { KnowWaves world.now positions.now }
-    requires call { IsCallAt world.now at call }
-    ensures { CallTells world.now positions.now at call.entry result }
+    requires call { IsCallAt world.now at (call_seen call.now) }
+    requires seen { IsSeenAt world.now at call.now }
+    ensures { CallTells world.now positions.now at (call_seen call.now) result }
 {
-    if call.starts().is_some() {
+    if call.call().starts().is_some() {
         return Look::Moves;
     }
-    match look_at_any_operation(world, positions, at, call.again()) {
-        Look::Moves => look_at_requests(world, positions, at, &call),
+    match look_at_any_operation(world, positions, at, call) {
+        Look::Moves => look_at_requests(world, positions, at, call),
         look => look,
     }
 }
@@ -196,51 +188,42 @@ fn look_at_call_of<const KIND: u8>(
     world: &World,
     positions: &Positions,
     at: At,
-    call: CallRef<'_>,
+    call: &CallAt<'_>,
 ) -> Look
     requires waves { KnowWaves world.now positions.now }
-    requires call { IsCallAt world.now at call }
-    ensures { CallTells world.now positions.now at call.entry result }
+    requires call { IsCallAt world.now at (call_seen call.now) }
+    requires seen { IsSeenAt world.now at call.now }
+    ensures { CallTells world.now positions.now at (call_seen call.now) result }
 {
-    if call.kind_no() != KIND {
+    if call.call().kind_no() != KIND {
         return look_at_any_call(world, positions, at, call);
     }
-    if call.starts().is_some() {
+    if call.call().starts().is_some() {
         return Look::Moves;
     }
-    match look_at_operation_of::<KIND>(world, positions, at, call.again()) {
-        Look::Moves => look_at_requests(world, positions, at, &call),
+    match look_at_operation_of::<KIND>(world, positions, at, call) {
+        Look::Moves => look_at_requests(world, positions, at, call),
         look => look,
     }
 }
 
 /// What is told of the call at the place, by the function of its kind. A call that starts a request needs nothing.
 #[inline(always)]
-fn look_at_call(world: &World, positions: &Positions, at: At, call: CallRef<'_>) -> Look
+fn look_at_call(world: &World, positions: &Positions, at: At, call: &CallAt<'_>) -> Look
     requires waves { KnowWaves world.now positions.now }
-    requires call { IsCallAt world.now at call }
-    ensures { CallTells world.now positions.now at call.entry result }
+    requires call { IsCallAt world.now at (call_seen call.now) }
+    requires seen { IsSeenAt world.now at call.now }
+    ensures { CallTells world.now positions.now at (call_seen call.now) result }
 {
     // Not by_kind!: functions for starts that are never called would be second callers of those for a started request.
-    match call.kind_no() {
-        ISEND | IRECV if call.starts().is_some() => Look::Moves,
+    match call.call().kind_no() {
+        ISEND | IRECV if call.call().starts().is_some() => Look::Moves,
         SEND => look_at_call_of::<SEND>(world, positions, at, call),
         RECV => look_at_call_of::<RECV>(world, positions, at, call),
         COLL => look_at_call_of::<COLL>(world, positions, at, call),
         WAIT => look_at_call_of::<WAIT>(world, positions, at, call),
         WAITALL => look_at_call_of::<WAITALL>(world, positions, at, call),
         _ => look_at_any_call(world, positions, at, call),
-    }
-}
-
-#[inline(always)]
-fn has_call(pairs: &Pairs, rank: u16, place: u32) -> bool
-    ensures value { result ≡ nat_lt place (length (calls_of pairs.now.recording rank)) }
-    ensures room { result ≡ true → place < most_calls }
-{
-    match pairs.accepted(rank) {
-        Some(count) => place < count,
-        None => false,
     }
 }
 
@@ -252,11 +235,10 @@ pub(crate) fn look_at(world: &World, positions: &Positions, rank: u16) -> Look
     ensures room { result ≡ Look.Moves → slice_index positions.now.stands.items rank < most_calls }
 {
     let stand = positions.stand(rank);
-    if !has_call(&world.pairs, rank, stand) {
-        return Look::Over;
-    }
-    match world.pairs.call(rank, stand) {
-        Some(call) if !call.ends_list() => look_at_call(world, positions, (rank, stand), call),
+    match world.pairs.at(rank, stand) {
+        Some(call) if !call.call().ends_list() => {
+            look_at_call(world, positions, (rank, stand), &call)
+        }
         _ => Look::Over,
     }
 }

@@ -1,11 +1,21 @@
 //! What a call waits for.
 
-ghost use Rattle.std.specs.Prelude.{◌≡◌, false, length, nat_le, slice_index};
+ghost use Rattle.std.specs.Prelude.{◌≡◌, Some, length, slice_index, option_to_list};
 ghost use Rattle.std.specs.Option.{option_map_or};
-ghost use Rattle.mpigroup.specs.Groups.{group_of};
-ghost use Rattle.moves.specs.Needs.{is_met};
+ghost use Rattle.mpigroup.specs.Groups.{group_of, world_rank_of};
+ghost use Rattle.moves.specs.Needs.{world_of, half_needs, probe_needs, member_need, is_met};
+ghost use Rattle.moves.specs.Worlds.{needs_for, IsSeenAt};
+ghost use Rattle.pairing.specs.Seen.{call_seen, IsSeen};
 
+use crate::reading::sends_freely;
+use crate::world::World;
+use callnotes::envelope::{Half, Message};
+use mpigroup::head::Head;
+use pairing::call_at::CallAt;
 use pairing::pairs::Pairs;
+
+/// A call, by its rank and its place.
+pub type At = (u16, u32);
 
 /// What a call needs before its rank moves on.
 #[derive(Clone, Copy, PartialEq, Eq)]
@@ -14,6 +24,14 @@ pub enum Need {
     At { rank: u16, place: u32 },
     /// There is no such call of the rank.
     Lacking { rank: u16 },
+}
+
+/// A message of a call: the one that it sends, that it receives, or that it probes for.
+#[derive(Clone, Copy)]
+pub enum Part {
+    Sent,
+    Received,
+    Probed,
 }
 
 /// How many members a communicator has.
@@ -46,13 +64,67 @@ pub fn is_met(stands: &[u32], need: &Need) -> bool
     }
 }
 
-/// Whether there is a call, told by its rank and its place, and it is reached.
+/// What a message needs: that the call is reached that it goes with; where there is none, its peer lacks it.
 #[inline(always)]
-pub(crate) fn is_reached(stands: &[u32], call: Option<(u16, u32)>) -> bool
-    ensures { result ≡ option_map_or (λ call. nat_le call.1 (slice_index stands.now call.0)) call false }
+fn message_need(head: &Head, call: Option<At>, message: &Message) -> Need
+    ensures { result ≡ option_map_or (λ call. Need.At call.0 call.1) call (Need.Lacking (world_of head.now message.now.comm message.now.peer)) }
 {
     match call {
-        Some((rank, place)) => place <= stand_of(stands, rank),
-        None => false,
+        Some((rank, place)) => Need::At { rank, place },
+        None => Need::Lacking {
+            rank: head
+                .world_rank(message.comm, message.peer)
+                .unwrap_or(message.peer),
+        },
+    }
+}
+
+/// What a half of the call needs; nothing where the call has no such message.
+#[inline(always)]
+#[tactic(auto, using(pairing::proofs::SeenLemmas::seen_partner))]
+fn half_need(pairs: &Pairs, at: At, half: Half, call: &CallAt<'_>) -> Option<Need>
+    requires { IsSeen pairs.now.groups pairs.now.recording at.0 at.1 call.now }
+    ensures { option_to_list result ≡ half_needs pairs.now.groups pairs.now.recording at.0 at.1 half (call_seen call.now) }
+{
+    let message = call.call().message(half)?;
+    Some(message_need(pairs.head(), call.partner(half), &message))
+}
+
+/// What a probe needs: the send that the next receive of its envelope would get. Every other call needs nothing.
+fn probe_need(pairs: &Pairs, at: At, call: &CallAt<'_>) -> Option<Need>
+    ensures { option_to_list result ≡ probe_needs pairs.now.groups pairs.now.recording at.0 at.1 (call_seen call.now) }
+{
+    let message = call.call().probed()?;
+    let sent = pairs.probed(at.0, at.1);
+    Some(message_need(pairs.head(), sent, &message))
+}
+
+/// What the operation of the call at the place needs for one of its messages before it is done; nothing where it has no
+/// such message, or sends freely.
+#[inline(always)]
+pub fn need_for(world: &World, at: At, part: Part, call: &CallAt<'_>) -> Option<Need>
+    requires { IsSeenAt world.now at call.now }
+    ensures { option_to_list result ≡ needs_for world.now at part (call_seen call.now) }
+{
+    match part {
+        Part::Sent if sends_freely(world.reading, &call.call()) => None,
+        Part::Sent => half_need(&world.pairs, at, Half::Send, call),
+        Part::Received => half_need(&world.pairs, at, Half::Recv, call),
+        Part::Probed => probe_need(&world.pairs, at, call),
+    }
+}
+
+/// What a wave needs of a member, by its rank in the group and its rank of the world.
+#[inline(always)]
+pub fn member_need(pairs: &Pairs, comm: u16, wave: u32, g: u16, member: u16) -> Need
+    requires { world_rank_of pairs.now.groups comm g ≡ Some member }
+    ensures { result ≡ member_need pairs.now.recording comm wave member }
+{
+    match pairs.member(comm, wave, g) {
+        Some(place) => Need::At {
+            rank: member,
+            place,
+        },
+        None => Need::Lacking { rank: member },
     }
 }

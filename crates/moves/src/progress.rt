@@ -10,9 +10,9 @@ ghost use Rattle.mpigroup.specs.Groups.{group_of, world_rank_of};
 ghost use Rattle.callnotes.specs.Limits.{most_calls};
 ghost use Rattle.callnotes.specs.Waves.{wave_of};
 ghost use Rattle.moves.specs.Needs.{member_need, is_met};
-ghost use Rattle.moves.specs.inner.Waiting.{complete_of, met_of, is_open, open_wave, AreWaves, IsNoException};
+ghost use Rattle.moves.specs.inner.Waiting.{complete_of, met_of, is_open, open_wave_by, AreWaves, IsNoException};
 
-use crate::need::{Need, is_met, members};
+use crate::need::{is_met, member_need, members};
 use mpigroup::head::Head;
 use pairing::pairs::Pairs;
 use std::alloc::{AllocError, Global};
@@ -39,24 +39,6 @@ impl Drop for Progress {
     }
 }
 
-/// Whether a member, by its rank in the group and its rank of the world, has reached its call of the wave.
-#[inline(always)]
-fn is_member_met(pairs: &Pairs, stands: &[u32], comm: u16, wave: u32, g: u16, member: u16) -> bool
-    requires { world_rank_of pairs.now.groups comm g ≡ Some member }
-    ensures { result ≡ is_met stands.now (member_need pairs.now.recording comm wave member) }
-{
-    match pairs.member(comm, wave, g) {
-        Some(place) => {
-            let need = Need::At {
-                rank: member,
-                place,
-            };
-            is_met(stands, &need)
-        }
-        None => false,
-    }
-}
-
 /// The first member, from the one with that rank in the group on, that has not reached its call of the wave;
 /// the number of members where each has.
 fn next_missing(pairs: &Pairs, stands: &[u32], comm: u16, wave: u32, from: u16) -> u16
@@ -70,7 +52,7 @@ fn next_missing(pairs: &Pairs, stands: &[u32], comm: u16, wave: u32, from: u16) 
     let members = members(pairs, comm);
     for g in from..members {
         if let Some(member) = head.world_rank(comm, g) {
-            if !is_member_met(pairs, stands, comm, wave, g, member) {
+            if !is_met(stands, &member_need(pairs, comm, wave, g, member)) {
                 return g;
             }
         }
@@ -89,7 +71,7 @@ fn next_missing_at_once(pairs: &Pairs, stands: &[u32], comm: u16, wave: u32, fro
     ensures missing { (member : ℕ) → world_rank_of pairs.now.groups comm result ≡ Some member → is_met stands.now (member_need pairs.now.recording comm wave member) ≡ false }
 {
     match pairs.head().world_rank(comm, from) {
-        Some(member) if !is_member_met(pairs, stands, comm, wave, from, member) => from,
+        Some(member) if !is_met(stands, &member_need(pairs, comm, wave, from, member)) => from,
         _ => next_missing(pairs, stands, comm, wave, from),
     }
 }
@@ -138,12 +120,12 @@ impl Progress {
         self.complete(comm) == wave && head.world_rank(comm, self.met(comm)) == Some(rank)
     }
 
-    /// The communicator of the wave that the call at the place joins, where that wave is not complete.
+    /// The communicator of a wave that a call joins, if it joins one, where that wave is not complete.
     #[inline(always)]
-    pub(crate) fn open_wave(&self, pairs: &Pairs, rank: u16, place: u32) -> Option<u16>
-        ensures { result ≡ open_wave pairs.now.groups pairs.now.recording self.now rank place }
+    pub(crate) fn open_wave(&self, pairs: &Pairs, joined: Option<(u16, u32)>) -> Option<u16>
+        ensures { result ≡ open_wave_by pairs.now.groups self.now joined }
     {
-        match pairs.wave_of(rank, place) {
+        match joined {
             Some((comm, wave)) if self.is_open(pairs, comm, wave) => Some(comm),
             _ => None,
         }

@@ -4,22 +4,25 @@
 //! shown by one number: the calls that are not passed, times one more than the ranks, plus the length of
 //! the worklist.
 
-ghost use Rattle.std.specs.Prelude.{◌≡◌, ◌<◌, ◌≤◌, true, false, None, length, slice_get, slice_index, IfSome};
-ghost use Rattle.callnotes.specs.Recordings.{calls_of};
+ghost use Rattle.std.specs.Prelude.{◌≡◌, ◌<◌, ◌≤◌, true, false, None, length, slice_index, option_and_then, IfSome};
+ghost use Rattle.callnotes.specs.Envelopes.{message_of};
 ghost use Rattle.callnotes.specs.Limits.{most_calls};
-ghost use Rattle.pairing.specs.Partners.{partner_of};
-ghost use Rattle.callnotes.specs.declared.envelope.Half.{Half as HalfValue};
+ghost use Rattle.pairing.specs.Seen.{call_seen, wave_seen};
+ghost use Rattle.moves.specs.Worlds.{IsSeenAt};
+ghost use Rattle.callnotes.specs.declared.envelope.Half.TheVariants.{Send as SendHalf, Recv as RecvHalf};
 ghost use Rattle.moves.specs.Runs.{moved};
 ghost use Rattle.moves.specs.inner.Waiting.{comm_list, sent_to, sees, prober_of, woken_partner, woken_prober, woken_peers, woken_comm};
-ghost use Rattle.moves.specs.inner.Positions.{AreKept, AreReached, AreSettled, GoOn, HaveArrival, HaveInHand, HaveWoken, left_to_do};
+ghost use Rattle.moves.specs.inner.Positions.{IsCallAt, IsCallIf, IsSeenIf, AreKept, AreReached, AreSettled, GoOn, HaveArrival, HaveInHand, HaveWoken, left_to_do};
 
 use crate::look::{Look, look_at};
+use crate::need::At;
 use crate::waiters::Waiters;
 use crate::world::{Positions, World};
 use callnotes::by_kind;
 use callnotes::envelope::Half;
 use callnotes::often::NONE;
 use mpicall::does::Does;
+use pairing::call_at::CallAt;
 use pairing::pairs::Pairs;
 
 /// Moves the rank on by one.
@@ -87,29 +90,52 @@ fn wake_prober(pairs: &Pairs, waiters: &mut Waiters, rank: u16, place: u32)
     }
 }
 
-/// Whether the call at the place sends, receives or probes for a message; not where there is no call.
+/// Whether the call sends, receives or probes for a message.
 #[inline(always)]
-fn exchanges(pairs: &Pairs, rank: u16, place: u32) -> bool
-    ensures partner { result ≡ false → (half : HalfValue) → partner_of pairs.now.groups pairs.now.recording rank place half ≡ None }
-    ensures sent { result ≡ false → sent_to pairs.now.groups pairs.now.recording rank place ≡ None }
+fn exchanges(call: &CallAt<'_>) -> bool
+    ensures send { result ≡ false → message_of SendHalf (call_seen call.now) ≡ None }
+    ensures recv { result ≡ false → message_of RecvHalf (call_seen call.now) ≡ None }
 {
-    match pairs.call(rank, place) {
-        Some(call) => matches!(call.does(), Does::Exchanges { .. }),
-        None => false,
-    }
+    matches!(call.call().does(), Does::Exchanges { .. })
 }
 
 /// Wakes the ranks that wait for a message of the call at the place.
 #[inline(always)]
-fn wake_peers(pairs: &Pairs, waiters: &mut Waiters, rank: u16, place: u32)
-    ensures { waiters.new ≡ woken_peers pairs.now.groups pairs.now.recording rank place waiters.old }
+#[tactic(auto, using(pairing::proofs::SeenLemmas::seen_partner))]
+fn wake_peers_of(world: &World, waiters: &mut Waiters, at: At, call: &CallAt<'_>)
+    requires call { IsCallAt world.now at (call_seen call.now) }
+    requires seen { IsSeenAt world.now at call.now }
+    ensures { waiters.new ≡ woken_peers world.now.pairs.groups world.now.pairs.recording at.0 at.1 waiters.old }
 {
-    if exchanges(pairs, rank, place) {
-        let send = pairs.partner(rank, place, Half::Send);
-        let recv = pairs.partner(rank, place, Half::Recv);
+    if exchanges(call) {
+        let send = call.partner(Half::Send);
+        let recv = call.partner(Half::Recv);
         wake_partner(waiters, send);
         wake_partner(waiters, recv);
-        wake_prober(pairs, waiters, rank, place);
+        wake_prober(&world.pairs, waiters, at.0, at.1);
+    }
+}
+
+/// The same, of a place where there may be no call.
+#[inline(always)]
+fn wake_peers(world: &World, waiters: &mut Waiters, at: At, call: &Option<CallAt<'_>>)
+    requires call { IsCallIf world.now at call.now }
+    requires seen { IsSeenIf world.now at call.now }
+    ensures { waiters.new ≡ woken_peers world.now.pairs.groups world.now.pairs.recording at.0 at.1 waiters.old }
+{
+    if let Some(call) = call {
+        wake_peers_of(world, waiters, at, call);
+    }
+}
+
+/// The wave that the call joins, if there is one.
+#[inline(always)]
+fn wave_of(call: &Option<CallAt<'_>>) -> Option<(u16, u32)>
+    ensures { result ≡ option_and_then wave_seen call.now }
+{
+    match call {
+        Some(call) => call.wave(),
+        None => None,
     }
 }
 
@@ -126,47 +152,58 @@ fn wake_members(waiters: &mut Waiters, comm: Option<u16>)
 
 /// Wakes all that wait for the call at the place, which its rank has just reached. That rank is in hand then.
 #[inline(always)]
-fn reach_call(world: &World, positions: &mut Positions, rank: u16, place: u32)
-    requires { AreReached world.now positions.old rank place }
-    ensures { HaveWoken world.now positions.old positions.new rank }
+fn reach_call(world: &World, positions: &mut Positions, at: At, call: &Option<CallAt<'_>>)
+    requires reached { AreReached world.now positions.old at.0 at.1 }
+    requires call { IsCallIf world.now at call.now }
+    requires seen { IsSeenIf world.now at call.now }
+    ensures { HaveWoken world.now positions.old positions.new at.0 }
 {
     let pairs = &world.pairs;
-    let joined = pairs.wave_of(rank, place);
-    wake_peers(pairs, &mut positions.waiters, rank, place);
+    let joined = wave_of(call);
+    wake_peers(world, &mut positions.waiters, at, call);
     let complete = positions
         .progress
-        .reach(pairs, &positions.stands, (rank, place), joined);
+        .reach(pairs, &positions.stands, at, joined);
     wake_members(&mut positions.waiters, complete);
 }
 
 /// Wakes all that wait for any call at the place: the slow way, for calls that come seldom.
 #[inline(never)]
-fn reach_any(world: &World, positions: &mut Positions, rank: u16, place: u32)
-    requires { AreReached world.now positions.old rank place }
-    ensures { HaveWoken world.now positions.old positions.new rank }
+fn reach_any(world: &World, positions: &mut Positions, at: At, call: &Option<CallAt<'_>>)
+    requires reached { AreReached world.now positions.old at.0 at.1 }
+    requires call { IsCallIf world.now at call.now }
+    requires seen { IsSeenIf world.now at call.now }
+    ensures { HaveWoken world.now positions.old positions.new at.0 }
 {
-    reach_call(world, positions, rank, place);
+    reach_call(world, positions, at, call);
 }
 
-/// The number of the kind of the call at the place; `NONE` where there is no call.
+/// The number of the call's kind; `NONE` where there is no call.
 #[inline(always)]
-fn kind_at(pairs: &Pairs, rank: u16, place: u32) -> u8 {
-    match pairs.call(rank, place) {
-        Some(call) => call.kind_no(),
+fn kind_of(call: &Option<CallAt<'_>>) -> u8 {
+    match call {
+        Some(call) => call.call().kind_no(),
         None => NONE,
     }
 }
 
 /// Wakes all that wait for a call of this kind at the place. There is one such function for each kind that comes often,
 /// built for it alone, and one for no call; another kind of call goes the slow way.
-fn reach_of<const KIND: u8>(world: &World, positions: &mut Positions, rank: u16, place: u32)
-    requires { AreReached world.now positions.old rank place }
-    ensures { HaveWoken world.now positions.old positions.new rank }
+fn reach_of<const KIND: u8>(
+    world: &World,
+    positions: &mut Positions,
+    at: At,
+    call: &Option<CallAt<'_>>,
+)
+    requires reached { AreReached world.now positions.old at.0 at.1 }
+    requires call { IsCallIf world.now at call.now }
+    requires seen { IsSeenIf world.now at call.now }
+    ensures { HaveWoken world.now positions.old positions.new at.0 }
 {
-    if kind_at(&world.pairs, rank, place) == KIND {
-        reach_call(world, positions, rank, place);
+    if kind_of(call) == KIND {
+        reach_call(world, positions, at, call);
     } else {
-        reach_any(world, positions, rank, place);
+        reach_any(world, positions, at, call);
     }
 }
 
@@ -176,11 +213,13 @@ fn reach(world: &World, positions: &mut Positions, rank: u16, place: u32)
     requires { AreReached world.now positions.old rank place }
     ensures { HaveWoken world.now positions.old positions.new rank }
 {
+    let at = (rank, place);
+    let call = &world.pairs.at(rank, place);
     by_kind!(
-        kind_at(&world.pairs, rank, place),
-        reach_of(world, positions, rank, place),
-        NONE => reach_of::<NONE>(world, positions, rank, place),
-        _ => reach_any(world, positions, rank, place)
+        kind_of(call),
+        reach_of(world, positions, at, call),
+        NONE => reach_of::<NONE>(world, positions, at, call),
+        _ => reach_any(world, positions, at, call)
     )
 }
 

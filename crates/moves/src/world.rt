@@ -9,7 +9,7 @@ use crate::waiters::Waiters;
 use pairing::pairs::Pairs;
 
 /// The calls of all ranks so far, and by which reading their sends are read.
-pub(crate) struct World {
+pub struct World {
     pub reading: Reading,
     pub pairs: Pairs,
 }

@@ -1,7 +1,7 @@
 -- The call of a name and of what follows it has that name and these arguments.
 use Rattle.std.proofs.Common.{◌≡◌, ℕ, true, List, [], length, sym, ap, ◌∙◌, refl, Some}
-use Rattle.mpicall.specs.Laid.{laid_arguments, call_by}
-use Rattle.mpicall.specs.inner.Laid.{layout_by, is_laid}
+use Rattle.mpicall.specs.Laid.{laid_arguments}
+use Rattle.mpicall.specs.inner.Laid.{layout_by, is_laid, call_from}
 use Rattle.mpicall.specs.Limits.{names_enough}
 use Rattle.mpicall.specs.Line.{Fixed, shape_by, shape_of}
 use Rattle.mpicall.specs.inner.Line.{laid_forms}
@@ -19,7 +19,7 @@ use Rattle.mpicall.specs.declared.word.Name.TheVariants as name
 use Rattle.mpicall.specs.declared.word.Word.TheVariants.{Named}
 
 -- the layout of a name and of what follows it are one
-laid_back : (it : Laid) (n : Name) → layout_by it ≡ layout_of n → (arguments_of (call_by n it) ≡ laid_arguments it) × (word_of_call (call_by n it) ≡ Named n) × (names_enough (call_by n it) ≡ true)
+laid_back : (it : Laid) (n : Name) → layout_by it ≡ layout_of n → (arguments_of (call_from n it) ≡ laid_arguments it) × (word_of_call (call_from n it) ≡ Named n) × (names_enough (call_from n it) ≡ true)
 laid_back Nothing name.Waitall e = cc
 laid_back (Message comm source tag) name.Waitall e = cc
 laid_back (Exchange comm dest send_tag source recv_tag bytes) name.Waitall e = cc
@@ -27,7 +27,7 @@ laid_back (Copy comm new) name.Waitall e = cc
 laid_back (Split comm colour key new) name.Waitall e = cc
 laid_back _ _ e = (cc, cc, cc)
 
-pub laid_reads : (n : Name) (found : Layout) (fields : List (List ℕ)) (it : Laid) (call : Call) → found ≡ layout_of n → call ≡ call_by n it → (take_arguments (laid_forms found (length fields)) fields ≡ Some (laid_arguments it, [])) × (layout_by it ≡ found) → (all_taken (take_arguments (laid_forms (layout_of n) (length fields)) fields) ≡ Some (arguments_of call)) × (word_of_call call ≡ Named n) × (names_enough call ≡ true)
+pub laid_reads : (n : Name) (found : Layout) (fields : List (List ℕ)) (it : Laid) (call : Call) → found ≡ layout_of n → call ≡ call_from n it → (take_arguments (laid_forms found (length fields)) fields ≡ Some (laid_arguments it, [])) × (layout_by it ≡ found) → (all_taken (take_arguments (laid_forms (layout_of n) (length fields)) fields) ≡ Some (arguments_of call)) × (word_of_call call ≡ Named n) × (names_enough call ≡ true)
 laid_reads n found fields it call is made taken =
     let back = laid_back it n (taken.1 ∙ is) in
     rw made (ap (λ l. all_taken (take_arguments (laid_forms l (length fields)) fields)) (sym is) ∙ ap all_taken taken.0 ∙ ap Some (sym back.0), back.1, back.2)

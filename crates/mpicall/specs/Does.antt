@@ -1,7 +1,8 @@
 -- What a call does over its communicator: it sends a message, receives one (MPI 4.0, section 3.2) or waits for one
 -- that it doesn't take (section 3.8), or it is a call of all members (chapters 6 and 7). The modes and the
 -- nonblocking forms do the same (section 3.7).
-use Rattle.std.specs.Prelude.{ℕ, Option, Some, None}
+use Rattle.mpicall.specs.Names.{Tag}
+use Rattle.std.specs.Prelude.{Option, Some, None}
 use Rattle.mpicall.specs.Spelling.{root_of}
 use Rattle.mpicall.specs.declared.call.Peer.{Peer}
 use Rattle.mpicall.specs.declared.call.Call.{Call}
@@ -10,7 +11,7 @@ use Rattle.mpicall.specs.declared.does.Side.{Side}
 use Rattle.mpicall.specs.declared.does.Does.{Does}
 use Rattle.mpicall.specs.declared.does.Does.TheVariants.{Exchanges, Joins, Alone}
 
-abbrev pub side : Peer → ℕ → Option Side
+abbrev pub side : Peer → Tag → Option Side
 side peer tag = Some (record { peer = peer; tag = tag })
 
 -- what it sends, receives and probes for, each with the peer and the tag; or the root and the communicator that it

@@ -1,7 +1,6 @@
 -- The calls that are no operation and no wait: a name, and what follows it by the layout of the name.
 use Rattle.std.specs.Prelude.{Option, Some, None, List, [], ◌∷◌}
 use Rattle.mpicall.specs.Argument.{Argument, PeerOf, Colour, Key, New, comm_argument, tag_argument, bytes_arguments}
-use Rattle.mpicall.specs.declared.call.Peer.TheVariants.{Null}
 use Rattle.mpicall.specs.declared.call.Call.{Call}
 use Rattle.mpicall.specs.declared.call.Call.TheVariants as call
 use Rattle.mpicall.specs.declared.laid.Laid.{Laid}
@@ -19,15 +18,16 @@ laid_of call.Finalize = Some (name.Finalize, Nothing)
 laid_of call.Open = Some (name.Open, Nothing)
 laid_of _ = None
 
--- and the call of these; a receive from nobody of a name and what doesn't go with it
-abbrev pub call_by : Name → Laid → Call
-call_by name.Sendrecv (Exchange comm dest send_tag source recv_tag bytes) = call.Sendrecv comm dest send_tag source recv_tag bytes
-call_by name.Dup (Copy comm new) = call.Dup comm new
-call_by name.Split (Split comm colour key new) = call.Split comm colour key new
-call_by name.Probe (Message comm source tag) = call.Probe comm source tag
-call_by name.Finalize Nothing = call.Finalize
-call_by name.Open Nothing = call.Open
-call_by _ _ = call.Recv 0 Null 0
+-- and the call of these; none of a name and what doesn't go with it
+abbrev pub call_by : Name → Laid → Option Call
+call_by name.Sendrecv (Exchange comm dest send_tag source recv_tag bytes) =
+    Some (call.Sendrecv comm dest send_tag source recv_tag bytes)
+call_by name.Dup (Copy comm new) = Some (call.Dup comm new)
+call_by name.Split (Split comm colour key new) = Some (call.Split comm colour key new)
+call_by name.Probe (Message comm source tag) = Some (call.Probe comm source tag)
+call_by name.Finalize Nothing = Some call.Finalize
+call_by name.Open Nothing = Some call.Open
+call_by _ _ = None
 
 -- its arguments, in the order of its line
 abbrev pub laid_arguments : Laid → List Argument

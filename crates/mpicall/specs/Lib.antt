@@ -1,3 +1,4 @@
+pub mod Names
 pub mod Number
 pub mod Argument
 pub mod Word

@@ -1,7 +1,7 @@
 -- How the fields of a line are read, and the record that a line without a fault spells. Nobody has to
 -- believe this: `read_line` promises that `record_of_line` gives a record exactly where the line is its
 -- spelling, and else the line's first fault.
-use Rattle.std.specs.Prelude.{ℕ, ℤ, pos, Option, Some, None, Result, Ok, Err, option_map, List, [], ◌∷◌, length, map, get_or, slice_get, drop}
+use Rattle.std.specs.Prelude.{ℕ, ℤ, pos, Option, Some, None, Result, Ok, Err, option_map, unwrap_or, List, [], ◌∷◌, length, map, get_or, slice_get, drop}
 use Rattle.mpicall.specs.Argument.{Argument, Number, PeerOf, Colour, Key, New, Form, request_argument, index_argument, read_argument}
 use Rattle.mpicall.specs.Number.{value_of}
 use Rattle.mpicall.specs.Laid.{call_by}
@@ -111,7 +111,7 @@ call_of (Started (CollOperation name)) a = Icoll (numeral_in (at a 0)) (numeral_
 call_of (Named name.Wait) a = Wait (numeral_in (at a 0))
 call_of (Named name.Waitall) a = Waitall (map numeral_in a)
 call_of (Named name.Waitany) a = Waitany (numeral_in (at a 0)) (map numeral_in (drop 1 a))
-call_of (Named other) a = call_by other (laid_by (layout_of other) a)
+call_of (Named other) a = unwrap_or (call_by other (laid_by (layout_of other) a)) Finalize
 
 -- the arguments that fields of a shape spell
 abbrev pub taken : Option (List Argument × List (List ℕ)) → List Argument

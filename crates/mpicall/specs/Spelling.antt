@@ -1,4 +1,5 @@
 -- The spelling of a record: its word and its arguments, each after one space, and a line feed.
+use Rattle.mpicall.specs.Names.{Rank}
 use Rattle.std.specs.Prelude.{ℕ, Option, Some, None, List, [], ◌∷◌, ◌++◌, length, map}
 use Rattle.std.specs.List.{join_with_byte}
 use Rattle.mpicall.specs.Argument.{Argument, PeerOf, comm_argument, tag_argument, request_argument, bytes_arguments, root_argument, index_argument, spell}
@@ -37,7 +38,7 @@ name_of Allreduce = AllreduceName
 name_of Scan = ScanName
 name_of Exscan = ExscanName
 
-abbrev pub root_of : Kind → Option ℕ
+abbrev pub root_of : Kind → Option Rank
 root_of (Bcast root) = Some root
 root_of (Gather root) = Some root
 root_of (Scatter root) = Some root

@@ -1,7 +1,9 @@
 //! The calls that are no operation and no wait: a name, and what follows it, by the layout of the name.
 
-ghost use Rattle.std.specs.Prelude.{◌≡◌, IfSome};
+ghost use Rattle.std.specs.Prelude.{◌≡◌, IfSome, Some, unwrap_or};
 ghost use Rattle.mpicall.specs.Laid.{laid_of, call_by};
+ghost use Rattle.mpicall.specs.declared.call.Call.TheVariants.{Recv};
+ghost use Rattle.mpicall.specs.declared.call.Peer.TheVariants.{Null};
 
 use crate::call::{Call, Peer};
 use crate::word::Name;
@@ -40,7 +42,7 @@ impl Call {
     #[inline(always)]
     pub fn laid(&self) -> Option<(Name, Laid)>
         ensures value { result ≡ laid_of self.now }
-        ensures back { IfSome result (λ it. call_by it.0 it.1 ≡ self.now) }
+        ensures back { IfSome result (λ it. call_by it.0 it.1 ≡ Some self.now) }
     {
         match *self {
             Call::Sendrecv {
@@ -90,7 +92,7 @@ impl Name {
     /// The call of the name and what follows it; a receive from nobody where they don't go together.
     #[inline(always)]
     pub fn call(self, laid: Laid) -> Call
-        ensures { result ≡ call_by self laid }
+        ensures { result ≡ unwrap_or (call_by self laid) (Recv 0 Null 0) }
     {
         match (self, laid) {
             (

@@ -1,13 +1,15 @@
 -- What one more call changes about the active requests of ranks.
-use Rattle.std.proofs.Common.{◌≡◌, ℕ, zero, suc, ◌<◌, ◌==◌, ◌&&◌, true, false, if◌then◌else◌, Option, Some, None, List, [], ◌∷◌, ◌++◌, length, get_or, replicate, refl, sym, ap, ◌∙◌, ⊎_elim, arith}
+use Rattle.std.proofs.Common.{◌≡◌, ℕ, zero, suc, ◌<◌, ◌==◌, ◌&&◌, true, false, if◌then◌else◌, Option, Some, None, List, [], ◌∷◌, ◌++◌, length, map, get_or, replicate, refl, sym, ap, ◌∙◌, ⊎_elim, arith}
 use Rattle.std.specs.List.{list_all}
+use Rattle.std.proofs.lemmas.List.Folds.{list_all_at}
 use Rattle.std.specs.Option.{is_some, option_or}
 use Rattle.std.proofs.lemmas.Bool.{cases_eq, cases_Bool, eq-eqb}
+use Rattle.std.proofs.lemmas.Bool.Decides.{nat_tests}
 use Rattle.std.proofs.lemmas.Grind.{common_steps}
 use Rattle.mpicall.specs.declared.call.Call.{Call}
 use Rattle.callnotes.specs.Recordings.{Lists, calls_of, appended}
 use Rattle.callnotes.specs.Requests.{does_start, does_complete, started_in, is_active, HasActive}
-use Rattle.pairing.specs.inner.Starts.{cell_in, place_at, place_in, has_place, IsActive}
+use Rattle.pairing.specs.inner.Starts.{cell_in, place_at, place_in, IsActive}
 use Rattle.pairing.specs.declared.active.Request.{Request}
 use Rattle.pairing.specs.declared.active.Start.{Start}
 use Rattle.pairing.specs.declared.active.Active.{Active}
@@ -45,11 +47,20 @@ active_more recording old less more rank call taken given is_rank is_active r re
     rw (other, got, lost, before) (grind (arith, common_steps)))
     (cases_eq r rank)
 
--- a list of requests is in the table where all are active
-pub all_active : (recording : Lists) (active : Active) (rank : ℕ) (reqs : List ℕ) → IsActive recording active → list_all (has_place active rank) reqs ≡ list_all (is_active (calls_of recording rank)) reqs
-all_active recording active rank [] is_table = refl
-all_active recording active rank (req ∷ reqs) is_table =
-    rw (is_table rank req, all_active recording active rank reqs is_table) refl
+-- requests with what started each are all active
+pub all_started : (calls : List Call) (reqs starts : List ℕ) → map Some starts ≡ map (started_in calls) reqs → list_all (is_active calls) reqs ≡ true
+all_started calls [] starts h = refl
+all_started calls (req ∷ reqs) [] h = absurd cc
+all_started calls (req ∷ reqs) (start ∷ starts) h =
+    let here : started_in calls req ≡ Some start = cc in
+    let rest = all_started calls reqs starts cc in
+    rw (here, rest) refl
+
+-- and those of which one isn't are not
+pub one_inactive : (calls : List Call) (reqs : List ℕ) (i : ℕ) → i < length reqs → started_in calls (get_or reqs i 0) ≡ None → list_all (is_active calls) reqs ≡ (i == length reqs)
+one_inactive calls reqs i less none =
+    let differs : (i == length reqs) ≡ false = grind (arith, nat_tests) in
+    list_all_at (is_active calls) reqs i 0 less (rw none refl) ∙ sym differs
 
 -- cells that are all empty
 pub no_cell : (cells i : ℕ) → get_or {A = Option Start} (replicate cells None) i None ≡ None

@@ -1,10 +1,12 @@
 -- How many calls a lawful recording has at most, and so how many seats of probes.
-use Rattle.std.proofs.Common.{◌≡◌, ℕ, ◌+◌, ◌*◌, ◌<◌, ◌≤◌, ◌^◌, List, [], ◌∷◌, ◌++◌, length, take, get_or, ap, subst, ⊎_elim, arith}
+use Rattle.std.proofs.Common.{◌≡◌, ℕ, ◌+◌, ◌*◌, ◌<◌, ◌≤◌, ◌^◌, Option, Some, List, [], ◌∷◌, ◌++◌, length, take, get_or, ap, subst, ⊎_elim, arith}
 use Rattle.std.proofs.lemmas.Bool.{cases_lt}
 use Rattle.std.proofs.lemmas.List.{length-append, length-take-le}
 use Rattle.std.proofs.lemmas.List.Elements.{All-from_get_or}
 use Rattle.std.proofs.lemmas.List.Sums.{sum_by-set, sum_by-le}
-use Rattle.std.proofs.lemmas.Option.{slice_get-get_or, unwrap_or-slice_get}
+use Rattle.std.specs.Prelude.{unwrap_or}
+use Rattle.std.specs.List.{slice_get}
+use Rattle.std.proofs.lemmas.Option.{slice_get-get_or, slice_get_past, slice_get_within, unwrap_or-slice_get}
 use Rattle.mpicall.specs.declared.call.Call.{Call}
 use Rattle.mpicall.specs.declared.call.Call.TheVariants.{Finalize}
 use Rattle.mpigroup.specs.Groups.{Groups, ranks_of}
@@ -32,6 +34,17 @@ few_calls groups rank calls lawful =
     absurd (omega (arith, faultless.has_room, length-take-le most_calls calls (omega (arith, more)))))
     (λ (few : length calls ≤ most_calls). few)
     (cases_lt most_calls (length calls))
+
+-- so a call stands before the most
+pub place_few : (groups : Groups) (recording : Lists) (rank place : ℕ) (call : Call) → IsLawful groups recording → slice_get (calls_of recording rank) place ≡ Some call → place < most_calls
+place_few groups recording rank place call lawful h =
+    let within = slice_get_within (calls_of recording rank) place call h in
+    ⊎_elim
+    (λ (is_rank : rank < length recording). omega (arith, within, few_calls groups rank (calls_of recording rank) (lawful rank is_rank)))
+    (λ (past : length recording ≤ rank).
+    let none : calls_of recording rank ≡ [] = ap (λ (o : Option (List Call)). unwrap_or o []) (slice_get_past recording rank past) in
+    absurd (omega (arith, within, ap (λ (calls : List Call). length calls) none)))
+    (cases_lt rank (length recording))
 
 pub few_in_all : (groups : Groups) (recording : Lists) → IsLawful groups recording → calls_in_all recording ≤ length recording * most_calls
 few_in_all groups recording lawful =

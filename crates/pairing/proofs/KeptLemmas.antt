@@ -20,12 +20,13 @@ use Rattle.pairing.specs.inner.Kept.{IsNoted, AreNoted, ArePartnered}
 use Rattle.pairing.specs.Matched.{halves_of}
 use Rattle.pairing.specs.inner.Matched.{filed_halves, worked, ArePaired}
 use Rattle.pairing.proofs.FiledLemmas.{envelopes, filed_call, pending_to, partnered_to, paired_from, work_on}
-use Rattle.callnotes.proofs.OptionLemmas.{map_parts}
+use Rattle.callnotes.proofs.OptionLemmas.{map_parts, and_then_parts}
 use Rattle.pairing.proofs.PartnerLemmas.{partner_parts}
 use Rattle.callnotes.specs.Recordings.{Lists, calls_of, appended, has_end, is_ended}
 use Rattle.callnotes.specs.Places.{count_before}
 use Rattle.callnotes.specs.Envelopes.{message_of, envelope_by, envelope_of, other_half, rank_of_half}
 use Rattle.pairing.specs.Partners.{partner_of}
+use Rattle.pairing.specs.Seen.{partner_by}
 use Rattle.callnotes.specs.Requests.{waits_for, completes, started_in, started_of}
 use Rattle.callnotes.specs.Waves.{joins, does_join, wave_of}
 use Rattle.pairing.specs.Pairs.{completed_of}
@@ -69,40 +70,41 @@ peer_of groups rank half call m e at_envelope message =
     (sym (ap (λ (o : Option Message). option_and_then (λ m'. option_map (envelope_by half m') (group_rank_of groups m'.comm rank)) o) message) ∙ at_envelope) in
     ap (λ e'. rank_of_half groups (other_half half) e') (sym at_rank.2) ∙ peer_rank groups half m at_rank.0
 
-as_pair : (o : Option (ℕ × ℕ)) (pair : ℕ × ℕ) (other there : ℕ) → o ≡ Some pair → pair.0 ≡ other → pair.1 ≡ there → o ≡ Some (other, there)
-as_pair o pair other there is first second = is ∙ ap (λ (r : ℕ). Some (r, pair.1)) first ∙ ap (λ (t : ℕ). Some (other, t)) second
-
-rank_by : (o : Option ℕ) (a other : ℕ) (p : Option ℕ) → o ≡ Some a → o ≡ p → p ≡ Some other → a ≡ other
-rank_by o a other p is same peer = same_Some a other (sym is ∙ same ∙ peer)
-
-pub partner_kept : (groups : Groups) (notes : List (List Noted)) (rank place : ℕ) (half : Half) (there : ℕ) (noted : Noted) (m : Message) (other : ℕ) → ArePartnered groups notes → slice_get (notes_of notes rank) place ≡ Some noted → partner_in half noted.beside ≡ Some there → message_of half noted.call ≡ Some m → world_rank_of groups m.comm m.peer ≡ Some other → partner_of groups (recording_of notes) rank place half ≡ Some (other, there)
-partner_kept groups notes rank place half there noted m other partnered h kept message peer =
-    let was = map_parts (λ partner. partner.1) (partner_of groups (recording_of notes) rank place half) there
-    (sym (partnered half rank place) ∙ kept_there notes rank place half noted h ∙ kept) in
-    let parts = partner_parts groups (recording_of notes) rank place half was.0.0 was.0.1 was.1 in
-    let same_call : parts.own.call ≡ noted.call = same_Some parts.own.call noted.call (sym parts.own.stands_there ∙ its_call notes rank place noted h) in
-    as_pair (partner_of groups (recording_of notes) rank place half) was.0 other there was.1
-    (rank_by (rank_of_half groups (other_half half) parts.e) was.0.0 other (world_rank_of groups m.comm m.peer) parts.rank_there
-    (peer_of groups rank half parts.own.call m parts.e parts.own.envelope (ap (λ (call : Call). message_of half call) same_call ∙ message))
-    peer)
-    was.2
-
-pub no_partner_kept : (groups : Groups) (notes : List (List Noted)) (rank place : ℕ) (half : Half) (noted : Noted) → ArePartnered groups notes → slice_get (notes_of notes rank) place ≡ Some noted → partner_in half noted.beside ≡ None → partner_of groups (recording_of notes) rank place half ≡ None
-no_partner_kept groups notes rank place half noted partnered h none =
-    no_pair (partner_of groups (recording_of notes) rank place half)
-    (sym (partnered half rank place) ∙ kept_there notes rank place half noted h ∙ none)
-  where
-    no_pair : (o : Option (ℕ × ℕ)) → option_map (λ partner. partner.1) o ≡ None → o ≡ None
-    no_pair None h' = refl
-    no_pair (Some partner) h' = absurd (none-some partner.1 (sym h'))
-
 pub no_partner_past : (groups : Groups) (notes : List (List Noted)) (rank place : ℕ) (half : Half) → slice_get (notes_of notes rank) place ≡ None → partner_of groups (recording_of notes) rank place half ≡ None
 no_partner_past groups notes rank place half h = rw (no_call notes rank place h) refl
+
+-- a half's partner is the one whose place is kept with the call
+pub partner_noted : (groups : Groups) (notes : List (List Noted)) (rank place : ℕ) (half : Half) (noted : Noted) → ArePartnered groups notes → slice_get (notes_of notes rank) place ≡ Some noted → partner_by groups half noted ≡ partner_of groups (recording_of notes) rank place half
+partner_noted groups notes rank place half noted partnered h = by_partner (partner_of groups (recording_of notes) rank place half) refl
+  where
+    kept : partner_in half noted.beside ≡ option_map (λ partner. partner.1) (partner_of groups (recording_of notes) rank place half)
+    kept = sym (kept_there notes rank place half noted h) ∙ partnered half rank place
+
+    by_partner : (o : Option (ℕ × ℕ)) → partner_of groups (recording_of notes) rank place half ≡ o → partner_by groups half noted ≡ o
+    by_partner None e =
+        let none : partner_in half noted.beside ≡ None = kept ∙ ap (option_map (λ (partner : ℕ × ℕ). partner.1)) e in
+        rw none refl
+    by_partner (Some (other, there)) e =
+        let its_place : partner_in half noted.beside ≡ Some there = kept ∙ ap (option_map (λ (partner : ℕ × ℕ). partner.1)) e in
+        let parts = partner_parts groups (recording_of notes) rank place half other there e in
+        let same_call : parts.own.call ≡ noted.call = same_Some parts.own.call noted.call (sym parts.own.stands_there ∙ its_call notes rank place noted h) in
+        let envelope : envelope_of groups rank half noted.call ≡ Some parts.e = ap (envelope_of groups rank half) (sym same_call) ∙ parts.own.envelope in
+        let message = and_then_parts (λ m. option_map (envelope_by half m) (group_rank_of groups m.comm rank)) (message_of half noted.call) parts.e envelope in
+        let peer : world_rank_of groups message.0.comm message.0.peer ≡ Some other = sym (peer_of groups rank half noted.call message.0 parts.e envelope message.1) ∙ parts.rank_there in
+        rw (its_place, message.1, peer) refl
 
 pub wave_noted : (notes : List (List Noted)) (rank place comm : ℕ) (noted : Noted) → AreNoted notes → slice_get (notes_of notes rank) place ≡ Some noted → joins noted.call ≡ Some comm → wave_of (recording_of notes) rank place ≡ Some (comm, wave_in noted.beside)
 wave_noted notes rank place comm noted are_noted h at_comm =
     let number : wave_in noted.beside ≡ count_before (does_join comm) (calls_of (recording_of notes) rank) place = (its_note notes rank place noted are_noted h).wave comm at_comm in
     rw (its_call notes rank place noted h, at_comm) (ap (λ (wave : ℕ). Some (comm, wave)) (sym number))
+
+-- and so is the wave that it joins
+pub wave_there : (notes : List (List Noted)) (rank place : ℕ) (noted : Noted) → AreNoted notes → slice_get (notes_of notes rank) place ≡ Some noted → option_map (λ comm. (comm, wave_in noted.beside)) (joins noted.call) ≡ wave_of (recording_of notes) rank place
+wave_there notes rank place noted are_noted h = by_comm (joins noted.call) refl
+  where
+    by_comm : (o : Option ℕ) → joins noted.call ≡ o → option_map (λ comm. (comm, wave_in noted.beside)) o ≡ wave_of (recording_of notes) rank place
+    by_comm None e = rw (its_call notes rank place noted h, e) refl
+    by_comm (Some comm) e = sym (wave_noted notes rank place comm noted are_noted h e)
 
 -- what is picked of a list by the requests that a wait completes
 abbrev picked_among : {A : Type 0} → Call → List A → List A
@@ -164,9 +166,6 @@ started_noted notes rank place req noted are_noted h =
 
 pub no_start_past : (notes : List (List Noted)) (rank place req : ℕ) → slice_get (notes_of notes rank) place ≡ None → started_of (recording_of notes) rank place req ≡ None
 no_start_past notes rank place req h = rw (no_call notes rank place h) refl
-
-pub none_completed_past : (notes : List (List Noted)) (rank place index : ℕ) → slice_get (notes_of notes rank) place ≡ None → completed_of (recording_of notes) rank place index ≡ None
-none_completed_past notes rank place index h = rw (no_call notes rank place h) refl
 
 -- as many calls as notes
 pub count_noted : (notes : List (List Noted)) (rank : ℕ) → length (calls_of (recording_of notes) rank) ≡ length (notes_of notes rank)

@@ -11,9 +11,9 @@ pub mod FiledLemmas
 pub mod JoinedLemmas
 pub mod HoldingLemmas
 pub mod ActiveLemmas
-pub mod FrontLemmas
 pub mod ProbedLemmas
 pub mod CallCountLemmas
 pub mod ProbingLemmas
 pub mod ReceivedLemmas
 pub mod RankLemmas
+pub mod SeenLemmas

@@ -6,4 +6,5 @@ pub mod Work
 pub mod Matched
 pub mod Codes
 pub mod Probed
+pub mod Seen
 pub mod inner

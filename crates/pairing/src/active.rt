@@ -4,7 +4,7 @@
 //! its numbers again, or counts them up, needs no hash. If another request is in that cell, it goes into a
 //! table by `indexmap`, which is asked only while something is in it.
 
-ghost use Rattle.std.specs.Prelude.{◌≡◌, ◌+◌, ◌*◌, ◌%◌, ◌^◌, ◌<◌, ◌≤◌, ◌==◌, ◌&&◌, [], Some, None, IfSome, IfNone, length, replicate, map, take, drop, ℕ, true, false, IfOk, OnOk, if◌then◌else◌};
+ghost use Rattle.std.specs.Prelude.{◌≡◌, ◌+◌, ◌*◌, ◌%◌, ◌^◌, ◌<◌, ◌≤◌, ◌==◌, ◌&&◌, [], Some, None, IfSome, IfNone, length, replicate, map, take, ℕ, true, false, IfOk, OnOk, if◌then◌else◌};
 ghost use Rattle.std.specs.List.{list_all};
 ghost use Rattle.std.specs.Hash as fed;
 ghost use Rattle.std.specs.Cmp.Rules.{hashing};
@@ -12,7 +12,7 @@ ghost use Rattle.std.proofs.Common.{rules};
 ghost use Rattle.indexmap.specs.IndexMap.{spare};
 ghost use Rattle.callnotes.specs.Recordings.{Lists, calls_of, appended};
 ghost use Rattle.callnotes.specs.Requests.{started_in, is_among, is_active, does_start, HasActive};
-ghost use Rattle.pairing.specs.inner.Starts.{cell_no, cell_in, place_at, place_in, has_place, known_front, IsActive, HasRoomToStart};
+ghost use Rattle.pairing.specs.inner.Starts.{cell_no, cell_in, place_at, place_in, has_place, IsActive, HasRoomToStart};
 
 use callnotes::next_call::NextCall;
 use indexmap::IndexMap;
@@ -198,12 +198,16 @@ impl Active {
         self.others.get(&Request { rank, req }).copied()
     }
 
-    /// What `starts_of` does, told by the table alone.
-    fn write_starts(&self, rank: u16, reqs: &[u32], into: &mut [u32]) -> usize
+    /// Writes the places that started the rank's requests of these numbers, in order, up to the first that
+    /// is not active, and answers how many it wrote.
+    #[inline(always)]
+    pub(crate) fn starts_of(&self, rank: u16, reqs: &[u32], into: &mut [u32]) -> usize
         requires { length reqs.now ≤ length into.old }
-        ensures written { take result into.new ≡ known_front (map (place_in self.now rank) reqs.now) }
-        ensures others { drop result into.new ≡ drop result into.old }
         ensures most { result ≤ length reqs.now }
+        ensures written { (recording : Lists) → IsActive recording self.now →
+            map Some (take result into.new) ≡ map (started_in (calls_of recording rank)) (take result reqs.now) }
+        ensures all { (recording : Lists) → IsActive recording self.now →
+            list_all (is_active (calls_of recording rank)) reqs.now ≡ (result == length reqs.now) }
     {
         for i in 0..reqs.len() {
             match self.start_of(rank, reqs[i]) {
@@ -212,20 +216,6 @@ impl Active {
             }
         }
         reqs.len()
-    }
-
-    /// Writes the places that started the rank's requests of these numbers, in order, up to the first that
-    /// is not active, and answers how many it wrote. What follows them in `into` stays.
-    pub(crate) fn starts_of(&self, rank: u16, reqs: &[u32], into: &mut [u32]) -> usize
-        requires { length reqs.now ≤ length into.old }
-        ensures written { (recording : Lists) → IsActive recording self.now →
-            take result into.new ≡ known_front (map (started_in (calls_of recording rank)) reqs.now) }
-        ensures others { drop result into.new ≡ drop result into.old }
-        ensures all { (recording : Lists) → IsActive recording self.now →
-            list_all (is_active (calls_of recording rank)) reqs.now ≡ true →
-            (result ≡ length reqs.now) × (map Some (take result into.new) ≡ map (started_in (calls_of recording rank)) reqs.now) }
-    {
-        self.write_starts(rank, reqs, into)
     }
 
     /// The request that the cell has of those which belong there.

@@ -1,16 +1,15 @@
 //! The first fault of a call, by look-ups in the tables of what its rank's calls before have done.
 
-ghost use Rattle.std.specs.Prelude.{◌≡◌, ◌<◌, length, IfNone};
-ghost use Rattle.std.specs.List.{list_all};
-ghost use Rattle.callnotes.specs.Limits.{most_calls};
+ghost use Rattle.std.specs.Prelude.{◌≡◌, length};
 ghost use Rattle.callnotes.specs.Recordings.{Lists, calls_of, has_end};
 ghost use Rattle.pairing.specs.Faults.{holds_comm, starts_afresh, waits_for_active, is_fresh_comm, makes_afresh, fault_of};
 ghost use Rattle.pairing.specs.inner.Holdings.{IsHolding};
-ghost use Rattle.pairing.specs.inner.Starts.{has_place, IsActive};
+ghost use Rattle.pairing.specs.inner.Starts.{IsActive};
 
 use crate::active::Active;
 use crate::fault::{CallFault, are_distinct, comm_exists, is_member, peers_exist};
 use crate::held::Held;
+use crate::tables::Tables;
 use callnotes::limits::MOST_CALLS;
 use callnotes::next_call::NextCall;
 use mpicall::call::Call;
@@ -38,27 +37,6 @@ fn starts_afresh(active: &Active, rank: u16, call: &NextCall<'_>) -> bool
     }
 }
 
-/// Whether each of the rank's requests of these numbers is in the table.
-#[inline(always)]
-fn are_in(active: &Active, rank: u16, reqs: &[u32]) -> bool
-    ensures { result ≡ list_all (has_place active.now rank) reqs.now }
-{
-    for req in reqs {
-        if active.start_of(rank, *req).is_none() {
-            return false;
-        }
-    }
-    true
-}
-
-/// Whether each request that the wait names is active.
-#[inline(always)]
-fn waits_for_active(active: &Active, rank: u16, call: &NextCall<'_>) -> bool
-    ensures { (recording : Lists) → IsActive recording active.now → result ≡ waits_for_active (calls_of recording rank) call.now }
-{
-    are_in(active, rank, call.waits_for())
-}
-
 /// Whether the rank may come to hold the communicator: not the world, with the rank in its group, and not
 /// held before.
 #[inline(always)]
@@ -84,43 +62,48 @@ fn makes_afresh(head: &Head, held: &Held, rank: u16, call: &NextCall<'_>) -> boo
     }
 }
 
+/// What is known of a rank's calls so far, where one more comes: how many they are, whether one of them ended the list,
+/// and whether the requests are active after them that the next call waits for.
+#[derive(Clone, Copy)]
+pub(crate) struct Before {
+    pub count: usize,
+    pub is_over: bool,
+    pub are_active: bool,
+}
+
 /// The first fault of the rank's next call, in the order of the variants of `CallFault`; None where it has
-/// no fault, and then there is room for it in a recording. `held` and `active` are the tables of the calls
-/// before, `count` says how many of those are the rank's own, and `is_over` whether one of these ended its
-/// list.
+/// no fault, and then there is room for it in a recording. The tables are those of the calls before.
 #[inline(always)]
 #[tactic(auto, unfolding(crate::specs::Faults::fault_of))]
 pub(crate) fn first_fault(
     head: &Head,
-    held: &Held,
-    active: &Active,
+    tables: &Tables,
     rank: u16,
-    count: usize,
-    is_over: bool,
     call: &NextCall<'_>,
+    before: Before,
 ) -> Option<CallFault>
-    ensures value { (recording : Lists) → IsHolding recording held.now → IsActive recording active.now →
-        count ≡ length (calls_of recording rank) → is_over ≡ has_end (calls_of recording rank) →
+    ensures { (recording : Lists) → IsHolding recording tables.now.held → IsActive recording tables.now.active →
+        before.count ≡ length (calls_of recording rank) → before.is_over ≡ has_end (calls_of recording rank) →
+        before.are_active ≡ waits_for_active (calls_of recording rank) call.now →
         result ≡ fault_of head.now rank (calls_of recording rank) call.now }
-    ensures room { IfNone result (count < most_calls) }
 {
-    if is_over {
+    if before.is_over {
         Some(CallFault::CallAfterFinalize)
-    } else if count >= MOST_CALLS {
+    } else if before.count >= MOST_CALLS {
         Some(CallFault::TooManyCalls)
     } else if !comm_exists(head, call) {
         Some(CallFault::UnknownCommunicator)
-    } else if !holds_comm(head, held, rank, call) {
+    } else if !holds_comm(head, &tables.held, rank, call) {
         Some(CallFault::CommunicatorNotHeld)
     } else if !peers_exist(head, call) {
         Some(CallFault::PeerOutOfGroup)
-    } else if !starts_afresh(active, rank, call) {
+    } else if !starts_afresh(&tables.active, rank, call) {
         Some(CallFault::RequestInUse)
     } else if !are_distinct(call.waits_for()) {
         Some(CallFault::RequestRepeated)
-    } else if !waits_for_active(active, rank, call) {
+    } else if !before.are_active {
         Some(CallFault::RequestNotActive)
-    } else if !makes_afresh(head, held, rank, call) {
+    } else if !makes_afresh(head, &tables.held, rank, call) {
         Some(CallFault::WrongNewCommunicator)
     } else {
         None

@@ -6,7 +6,7 @@ ghost use Rattle.std.specs.Cmp.Rules.{hashing};
 ghost use Rattle.std.proofs.Common.{rules};
 ghost use Rattle.callnotes.specs.Recordings.{Lists, calls_of, appended};
 ghost use Rattle.callnotes.specs.Communicators.{holds, makes, NoneIsMade, HasMade};
-ghost use Rattle.pairing.specs.inner.Holdings.{has_holding, IsHolding, HasRoomToHold};
+ghost use Rattle.pairing.specs.inner.Holdings.{IsHolding, HasRoomToHold};
 
 use callnotes::next_call::NextCall;
 use indexmap::IndexSet;

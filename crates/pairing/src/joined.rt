@@ -4,9 +4,8 @@
 //! all of 1,024 ranks and 4,096 communicators would take 100 MB before any call. A list that was made for a
 //! call which is then refused for lack of memory stays empty, which reads as no list.
 
-ghost use Rattle.std.specs.Prelude.{◌≡◌, ◌<◌, ◌≤◌, ℕ, Option, None, Some, [], true, length, replicate, IfOk, IfSome, OnOk};
+ghost use Rattle.std.specs.Prelude.{◌≡◌, ◌<◌, ◌≤◌, ℕ, Option, None, Some, [], true, length, replicate, IfOk, IfSome};
 ghost use Rattle.mpicall.specs.declared.call.Call.{Call};
-ghost use Rattle.mpigroup.specs.Groups.{Groups};
 ghost use Rattle.pairing.specs.inner.Joined.{list_number, list_of, IsJoined, IsListFor, HasRoomToJoin};
 ghost use Rattle.callnotes.specs.Limits.{most_calls};
 ghost use Rattle.callnotes.specs.Places.{places};

@@ -42,10 +42,12 @@
 
 mod active;
 pub mod added;
+pub mod call_at;
 pub mod fault;
 mod first_fault;
 mod held;
 mod joined;
+mod kept;
 pub mod left_open;
 mod matches;
 mod meeting;

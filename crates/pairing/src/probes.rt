@@ -5,7 +5,7 @@
 //! send that has no receive. Probes of one envelope between two of its receives see the same, and share a
 //! seat, which the next receive fills. No send is ever noted here.
 
-ghost use Rattle.std.specs.Prelude.{◌≡◌, ◌<◌, ◌^◌, ℕ, [], length, replicate, Option, None, Some, OnOk, IfSome, slice_get, slice_set, option_map, option_and_then, is_some};
+ghost use Rattle.std.specs.Prelude.{◌≡◌, ◌<◌, ◌^◌, ℕ, [], length, replicate, Option, None, Some, OnOk, IfSome, slice_get, slice_set, option_map, option_and_then};
 ghost use Rattle.mpigroup.specs.Groups.{Groups, group_rank_of};
 ghost use Rattle.callnotes.specs.declared.envelope.Half.TheVariants.{Recv as RecvHalf};
 ghost use Rattle.callnotes.specs.Envelopes.{envelope_by};

@@ -101,23 +101,16 @@ impl Probing {
 
     /// Puts in the rank's next call, at its place, with the halves that it has. It takes no memory.
     #[inline(always)]
-    pub(crate) fn put(
-        &mut self,
-        head: &Head,
-        rank: u16,
-        place: u32,
-        call: &NextCall<'_>,
-        halves: &Halves,
-    )
+    pub(crate) fn put(&mut self, head: &Head, at: (u16, u32), call: &NextCall<'_>, halves: &Halves)
         requires room { HasRoomToProbe self.old call.now }
         requires few { length self.old.probes.seats.items < 2 ^ 32 }
-        requires received { option_map (λ half. half.envelope) halves.now.recv ≡ envelope_of head.now rank RecvHalf call.now }
-        ensures { (recording : Lists) → IsProbing head.now recording self.old → rank < length recording →
-            place ≡ length (calls_of recording rank) → IsProbing head.now (appended recording rank call.now) self.new }
+        requires received { option_map (λ half. half.envelope) halves.now.recv ≡ envelope_of head.now at.0 RecvHalf call.now }
+        ensures { (recording : Lists) → IsProbing head.now recording self.old → at.0 < length recording →
+            at.1 ≡ length (calls_of recording at.0) → IsProbing head.now (appended recording at.0 call.now) self.new }
     {
-        match probed_envelope(head, rank, call) {
-            Some(envelope) => self.probe(rank, place, envelope),
-            None => self.probes.receive(&halves.recv, place),
+        match probed_envelope(head, at.0, call) {
+            Some(envelope) => self.probe(at.0, at.1, envelope),
+            None => self.probes.receive(&halves.recv, at.1),
         }
     }
 }

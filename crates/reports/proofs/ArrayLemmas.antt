@@ -10,10 +10,10 @@ use Rattle.callnotes.specs.Recordings.{Lists}
 use Rattle.serde_json.specs.Data.{Data, string, array, Members, member, no_members}
 use Rattle.serde_json.specs.View.{items_of}
 use Rattle.serde_json.specs.Written.{comma_if, compact_text, items_text, members_text}
-use Rattle.waitgraph.specs.Causes.{causes_of}
+use Rattle.waitgraph.specs.Causes.{CauseView}
 use Rattle.findings.specs.Findings.{findings_of}
 use Rattle.waitgraph.specs.Stuck.{stuck_of}
-use Rattle.waitgraph.specs.Verdicts.{verdict_of}
+use Rattle.waitgraph.specs.declared.verdict.Verdict.{Verdict}
 use Rattle.reports.specs.inner.ArrayTexts.{values_text, elements_text, key_text}
 use Rattle.reports.specs.JsonReport.{each, cause_data, finding_data, rank_data, report_data, json_report}
 use Rattle.reports.specs.TextReport.{verdict_text}
@@ -66,7 +66,7 @@ items_values later (value ∷ values) =
     ∙ sym (append_assoc (comma_if later) (compact_text value ++ values_text true values) (93 ∷ []))
 
 -- a member whose value is an array, with what comes after it
-array_member : (key : List ℕ) (values : List Data) (rest : Members) (behind : List ℕ) → members_text true (member key (array (items_of values)) rest) ++ behind ≡ 44 ∷ (compact_text (string key) ++ 58 ∷ 91 ∷ (values_text false values ++ 93 ∷ (members_text true rest ++ behind)))
+pub array_member : (key : List ℕ) (values : List Data) (rest : Members) (behind : List ℕ) → members_text true (member key (array (items_of values)) rest) ++ behind ≡ 44 ∷ (compact_text (string key) ++ 58 ∷ 91 ∷ (values_text false values ++ 93 ∷ (members_text true rest ++ behind)))
 array_member key values rest behind =
     let items = items_text false (items_of values) in
     ap (λ (text : List ℕ). 44 ∷ text)
@@ -76,39 +76,39 @@ array_member key values rest behind =
     ∙ ap (λ (text : List ℕ). text ++ (members_text true rest ++ behind)) (items_values false values)
     ∙ append_assoc (values_text false values) (93 ∷ []) (members_text true rest ++ behind)))
 
-verdict_member : (verdict : List ℕ) → members_text true (member (codes "verdict") (string verdict) no_members) ++ line_feed ∷ [] ≡ 44 ∷ (compact_text (string (codes "verdict")) ++ 58 ∷ (compact_text (string verdict) ++ codes "}\n"))
+pub verdict_member : (verdict : List ℕ) → members_text true (member (codes "verdict") (string verdict) no_members) ++ line_feed ∷ [] ≡ 44 ∷ (compact_text (string (codes "verdict")) ++ 58 ∷ (compact_text (string verdict) ++ codes "}\n"))
 verdict_member verdict =
     ap (λ (text : List ℕ). 44 ∷ text)
     (append_assoc (compact_text (string (codes "verdict"))) (58 ∷ (compact_text (string verdict) ++ 125 ∷ [])) (line_feed ∷ [])
     ∙ ap (λ (text : List ℕ). compact_text (string (codes "verdict")) ++ 58 ∷ text) (append_assoc (compact_text (string verdict)) (125 ∷ []) (line_feed ∷ [])))
 
 -- what follows a key, put after it
-behind_key : (before key behind rest : List ℕ) → before ++ (compact_text (string key) ++ (behind ++ rest)) ≡ key_text before key behind ++ rest
+pub behind_key : (before key behind rest : List ℕ) → before ++ (compact_text (string key) ++ (behind ++ rest)) ≡ key_text before key behind ++ rest
 behind_key before key behind rest =
     ap (λ (text : List ℕ). before ++ text) (sym (append_assoc (compact_text (string key)) behind rest))
     ∙ sym (append_assoc before (compact_text (string key) ++ behind) rest)
 
 -- the report by its parts
-pub report_parts : (reading : Reading) (groups : Groups) (recording : Lists) →
-    json_report reading groups recording
-    ≡ key_text (codes "{") (codes "causes") (codes ":") ++ (compact_text (each cause_data (causes_of reading groups recording))
+pub report_parts : (reading : Reading) (groups : Groups) (recording : Lists) (verdict : Verdict) (causes : List CauseView) →
+    json_report reading groups recording verdict causes
+    ≡ key_text (codes "{") (codes "causes") (codes ":") ++ (compact_text (each cause_data causes)
     ++ (key_text (codes ",") (codes "findings") (codes ":[") ++ (elements_text finding_data (findings_of groups recording)
     ++ (key_text (codes "],") (codes "ranks") (codes ":[") ++ (elements_text (rank_data reading groups recording) (stuck_of reading groups recording)
-    ++ (key_text (codes "],") (codes "verdict") (codes ":") ++ (compact_text (string (verdict_text (verdict_of reading groups recording))) ++ codes "}\n")))))))
+    ++ (key_text (codes "],") (codes "verdict") (codes ":") ++ (compact_text (string (verdict_text verdict)) ++ codes "}\n")))))))
 unfolding json_report report_data
-report_parts reading groups recording =
-    let causes = compact_text (each cause_data (causes_of reading groups recording)) in
+report_parts reading groups recording verdict causes =
+    let why = compact_text (each cause_data causes) in
     let found = elements_text finding_data (findings_of groups recording) in
     let told = elements_text (rank_data reading groups recording) (stuck_of reading groups recording) in
-    let ends = compact_text (string (verdict_text (verdict_of reading groups recording))) ++ codes "}\n" in
-    let verdict = member (codes "verdict") (string (verdict_text (verdict_of reading groups recording))) no_members in
-    let ranks = member (codes "ranks") (each (rank_data reading groups recording) (stuck_of reading groups recording)) verdict in
+    let ends = compact_text (string (verdict_text verdict)) ++ codes "}\n" in
+    let said = member (codes "verdict") (string (verdict_text verdict)) no_members in
+    let ranks = member (codes "ranks") (each (rank_data reading groups recording) (stuck_of reading groups recording)) said in
     let findings = member (codes "findings") (each finding_data (findings_of groups recording)) ranks in
-    let last : 93 ∷ (members_text true verdict ++ line_feed ∷ []) ≡ key_text (codes "],") (codes "verdict") (codes ":") ++ ends =
-    ap (λ (text : List ℕ). 93 ∷ text) (verdict_member (verdict_text (verdict_of reading groups recording)))
+    let last : 93 ∷ (members_text true said ++ line_feed ∷ []) ≡ key_text (codes "],") (codes "verdict") (codes ":") ++ ends =
+    ap (λ (text : List ℕ). 93 ∷ text) (verdict_member (verdict_text verdict))
     ∙ behind_key (codes "],") (codes "verdict") (codes ":") ends in
     let third : 93 ∷ (members_text true ranks ++ line_feed ∷ []) ≡ key_text (codes "],") (codes "ranks") (codes ":[") ++ (told ++ (key_text (codes "],") (codes "verdict") (codes ":") ++ ends)) =
-    ap (λ (text : List ℕ). 93 ∷ text) (array_member (codes "ranks") (map (rank_data reading groups recording) (stuck_of reading groups recording)) verdict (line_feed ∷ []))
+    ap (λ (text : List ℕ). 93 ∷ text) (array_member (codes "ranks") (map (rank_data reading groups recording) (stuck_of reading groups recording)) said (line_feed ∷ []))
     ∙ ap (λ (text : List ℕ). codes "]," ++ (compact_text (string (codes "ranks")) ++ 58 ∷ 91 ∷ (told ++ text))) last
     ∙ behind_key (codes "],") (codes "ranks") (codes ":[") (told ++ (key_text (codes "],") (codes "verdict") (codes ":") ++ ends)) in
     let second : members_text true findings ++ line_feed ∷ [] ≡ key_text (codes ",") (codes "findings") (codes ":[") ++ (found ++ (key_text (codes "],") (codes "ranks") (codes ":[") ++ (told ++ (key_text (codes "],") (codes "verdict") (codes ":") ++ ends)))) =
@@ -116,11 +116,11 @@ report_parts reading groups recording =
     ∙ ap (λ (text : List ℕ). codes "," ++ (compact_text (string (codes "findings")) ++ 58 ∷ 91 ∷ (found ++ text))) third
     ∙ behind_key (codes ",") (codes "findings") (codes ":[") (found ++ (key_text (codes "],") (codes "ranks") (codes ":[") ++ (told ++ (key_text (codes "],") (codes "verdict") (codes ":") ++ ends)))) in
     ap (λ (text : List ℕ). 123 ∷ text)
-    (append_assoc (compact_text (string (codes "causes"))) (58 ∷ (causes ++ members_text true findings)) (line_feed ∷ [])
+    (append_assoc (compact_text (string (codes "causes"))) (58 ∷ (why ++ members_text true findings)) (line_feed ∷ [])
     ∙ ap (λ (text : List ℕ). compact_text (string (codes "causes")) ++ 58 ∷ text)
-    (append_assoc causes (members_text true findings) (line_feed ∷ [])
-    ∙ ap (λ (text : List ℕ). causes ++ text) second))
-    ∙ behind_key (codes "{") (codes "causes") (codes ":") (causes ++ (key_text (codes ",") (codes "findings") (codes ":[") ++ (found ++ (key_text (codes "],") (codes "ranks") (codes ":[") ++ (told ++ (key_text (codes "],") (codes "verdict") (codes ":") ++ ends))))))
+    (append_assoc why (members_text true findings) (line_feed ∷ [])
+    ∙ ap (λ (text : List ℕ). why ++ text) second))
+    ∙ behind_key (codes "{") (codes "causes") (codes ":") (why ++ (key_text (codes ",") (codes "findings") (codes ":[") ++ (found ++ (key_text (codes "],") (codes "ranks") (codes ":[") ++ (told ++ (key_text (codes "],") (codes "verdict") (codes ":") ++ ends))))))
 
 -- nine texts, put after one another
 pub nine : (a b c d e f g h i : List ℕ) → ((((((((a ++ b) ++ c) ++ d) ++ e) ++ f) ++ g) ++ h) ++ i) ≡ a ++ (b ++ (c ++ (d ++ (e ++ (f ++ (g ++ (h ++ i)))))))

@@ -2,3 +2,4 @@ pub mod JsonLemmas
 pub mod ArrayLemmas
 pub mod SpelledLemmas
 pub mod PrintingLemmas
+pub mod JudgedLemmas

@@ -1,4 +1,5 @@
 -- The JSON report: one object in compact form and a line feed. Keys are in the order of their bytes.
+use Rattle.mpicall.specs.Names.{Rank}
 use Rattle.moves.specs.declared.reading.Reading.{Reading}
 use Rattle.std.specs.Prelude.{ℕ, List, [], ◌∷◌, ◌++◌, codes, map, slice_index}
 use Rattle.std.specs.List.{join_with_byte}
@@ -9,10 +10,10 @@ use Rattle.mpicall.specs.Spelling.{space, line_feed}
 use Rattle.mpigroup.specs.Groups.{Groups}
 use Rattle.callnotes.specs.Recordings.{Lists}
 use Rattle.moves.specs.Stands.{stands_of}
-use Rattle.waitgraph.specs.Verdicts.{verdict_of}
+use Rattle.waitgraph.specs.declared.verdict.Verdict.{Verdict}
 use Rattle.moves.specs.declared.need.Need.{Need}
 use Rattle.moves.specs.declared.need.Need.TheVariants.{At, Lacking}
-use Rattle.waitgraph.specs.Causes.{CauseView, CycleOf, MissingOf, causes_of}
+use Rattle.waitgraph.specs.Causes.{CauseView, CycleOf, MissingOf}
 use Rattle.findings.specs.Findings.{findings_of}
 use Rattle.reports.specs.FindingTexts.{finding_fields}
 use Rattle.waitgraph.specs.Stuck.{stuck_of, unmet_of}
@@ -41,7 +42,7 @@ need_data (At rank place) = pair (numeral rank) (numeral place)
 need_data (Lacking rank) = pair (numeral rank) null
 
 -- `{"at":I,"call":LINE,"needs":[..],"rank":R}`: where a rank stands, its call there, and what it needs
-abbrev pub rank_data : Reading → Groups → Lists → ℕ → Data
+abbrev pub rank_data : Reading → Groups → Lists → Rank → Data
 rank_data reading groups recording rank =
     object (member (codes "at") (numeral (slice_index (stands_of reading groups recording) rank))
     (member (codes "call") (spaced (present_fields reading groups recording rank))
@@ -58,13 +59,14 @@ abbrev pub finding_data : Finding → Data
 finding_data finding = spaced (finding_fields finding)
 
 -- `{"causes":[..],"findings":[..],"ranks":[..],"verdict":..}`
-unfoldable pub report_data : Reading → Groups → Lists → Data
-report_data reading groups recording =
-    object (member (codes "causes") (each cause_data (causes_of reading groups recording))
+unfoldable pub report_data : Reading → Groups → Lists → Verdict → List CauseView → Data
+report_data reading groups recording verdict causes =
+    object (member (codes "causes") (each cause_data causes)
     (member (codes "findings") (each finding_data (findings_of groups recording))
     (member (codes "ranks") (each (rank_data reading groups recording) (stuck_of reading groups recording))
-    (member (codes "verdict") (string (verdict_text (verdict_of reading groups recording))) no_members))))
+    (member (codes "verdict") (string (verdict_text verdict)) no_members))))
 
 -- the whole report
-unfoldable pub json_report : Reading → Groups → Lists → List ℕ
-json_report reading groups recording = compact_text (report_data reading groups recording) ++ line_feed ∷ []
+unfoldable pub json_report : Reading → Groups → Lists → Verdict → List CauseView → List ℕ
+json_report reading groups recording verdict causes =
+    compact_text (report_data reading groups recording verdict causes) ++ line_feed ∷ []

@@ -2,4 +2,5 @@ pub mod FindingTexts
 pub mod TextReport
 pub mod JsonReport
 pub mod Reports
+pub mod Judged
 pub mod inner

@@ -4,6 +4,9 @@ use Rattle.mpicall.specs.Device.{one_more, AppendsBeginning}
 use Rattle.moves.specs.declared.reading.Reading.{Reading}
 use Rattle.mpigroup.specs.Groups.{Groups}
 use Rattle.callnotes.specs.Recordings.{Lists}
+use Rattle.waitgraph.specs.Causes.{CauseView, AreCauses}
+use Rattle.waitgraph.specs.Verdicts.{IsVerdictOf}
+use Rattle.waitgraph.specs.declared.verdict.Verdict.{Verdict}
 use Rattle.reports.specs.JsonReport.{json_report}
 use Rattle.reports.specs.TextReport.{text_report}
 use Rattle.reports.specs.declared.report.Format.{Format}
@@ -11,9 +14,16 @@ use Rattle.reports.specs.declared.report.Format.TheVariants.{Text, Json}
 use Rattle.reports.specs.declared.report.ReportFault.{ReportFault}
 use Rattle.reports.specs.declared.report.ReportFault.TheVariants.{Memory, Write}
 
-unfoldable pub report_of : Format → Reading → Groups → Lists → List ℕ
-report_of Text reading groups recording = text_report reading groups recording
-report_of Json reading groups recording = json_report reading groups recording
+unfoldable pub report_of : Format → Reading → Groups → Lists → Verdict → List CauseView → List ℕ
+report_of Text reading groups recording verdict causes = text_report reading groups recording verdict causes
+report_of Json reading groups recording verdict causes = json_report reading groups recording verdict causes
+
+-- the report says the verdict over the recording and its causes
+pub record IsReport (format : Format) (reading : Reading) (groups : Groups) (recording : Lists) (verdict : Verdict) (report : List ℕ) : Type 0 where
+  pub is_verdict : IsVerdictOf reading groups recording verdict
+  pub causes : List CauseView
+  pub are_causes : AreCauses reading groups recording causes
+  pub is_text : report ≡ report_of format reading groups recording verdict causes
 
 -- Only JSON takes memory, and where there is none the output is as it was; a failed write leaves a beginning
 -- of the report, and adds one to the count of failures.

@@ -1,5 +1,6 @@
 -- The text report: a line with the verdict, and then a line for each unmet need of a stuck rank, for each
 -- cycle, for each missing call and for each finding. Numbers are decimal.
+use Rattle.mpicall.specs.Names.{Rank}
 use Rattle.moves.specs.declared.reading.Reading.{Reading}
 use Rattle.std.specs.Prelude.{ℕ, List, [], ◌∷◌, ◌++◌, codes, flat_map, map, slice_index}
 use Rattle.std.specs.Option.{option_map_or}
@@ -9,12 +10,11 @@ use Rattle.mpicall.specs.Spelling.{space, line_feed, fields_of}
 use Rattle.mpigroup.specs.Groups.{Groups}
 use Rattle.callnotes.specs.Recordings.{Lists}
 use Rattle.moves.specs.Stands.{stands_of}
-use Rattle.waitgraph.specs.Verdicts.{verdict_of}
 use Rattle.moves.specs.declared.need.Need.{Need}
 use Rattle.moves.specs.declared.need.Need.TheVariants.{At, Lacking}
 use Rattle.waitgraph.specs.declared.verdict.Verdict.{Verdict}
 use Rattle.waitgraph.specs.declared.verdict.Verdict.TheVariants.{Free, Hang, Unfinished}
-use Rattle.waitgraph.specs.Causes.{CauseView, CycleOf, MissingOf, causes_of}
+use Rattle.waitgraph.specs.Causes.{CauseView, CycleOf, MissingOf}
 use Rattle.findings.specs.Findings.{findings_of}
 use Rattle.reports.specs.FindingTexts.{finding_fields}
 use Rattle.findings.specs.Places.{call_at}
@@ -35,7 +35,7 @@ abbrev pub verdict_line : Verdict → List ℕ
 verdict_line verdict = line (codes "verdict" ∷ verdict_text verdict ∷ [])
 
 -- the fields of the call at which a rank stands; its list isn't at its end there
-abbrev pub present_fields : Reading → Groups → Lists → ℕ → List (List ℕ)
+abbrev pub present_fields : Reading → Groups → Lists → Rank → List (List ℕ)
 present_fields reading groups recording rank =
     option_map_or fields_of (call_at recording rank (slice_index (stands_of reading groups recording) rank)) []
 
@@ -45,13 +45,13 @@ need_fields (At rank place) = codes "rank" ∷ decimal rank ∷ codes "call" ∷
 need_fields (Lacking rank) = codes "rank" ∷ decimal rank ∷ codes "none" ∷ []
 
 -- `rank R at I LINE waits ..`: where the rank stands, its call there as its trace has it, and what it needs
-abbrev pub unmet_line : Reading → Groups → Lists → ℕ → Need → List ℕ
+abbrev pub unmet_line : Reading → Groups → Lists → Rank → Need → List ℕ
 unmet_line reading groups recording rank need =
     line (codes "rank" ∷ decimal rank ∷ codes "at" ∷ decimal (slice_index (stands_of reading groups recording) rank)
     ∷ present_fields reading groups recording rank ++ codes "waits" ∷ need_fields need)
 
 -- a line for each unmet need of a rank
-abbrev pub rank_lines : Reading → Groups → Lists → ℕ → List ℕ
+abbrev pub rank_lines : Reading → Groups → Lists → Rank → List ℕ
 rank_lines reading groups recording rank = flat_map (unmet_line reading groups recording rank) (unmet_of reading groups recording rank)
 
 -- `cycle` and its ranks, or `missing`, the rank that waits and the rank that lacks the call
@@ -63,10 +63,8 @@ cause_line (MissingOf rank peer) = line (codes "missing" ∷ decimal rank ∷ de
 abbrev pub finding_line : Finding → List ℕ
 finding_line finding = line (codes "finding" ∷ finding_fields finding)
 
--- the whole report
-unfoldable pub text_report : Reading → Groups → Lists → List ℕ
-text_report reading groups recording =
-    verdict_line (verdict_of reading groups recording)
-    ++ flat_map (rank_lines reading groups recording) (stuck_of reading groups recording)
-    ++ flat_map cause_line (causes_of reading groups recording)
-    ++ flat_map finding_line (findings_of groups recording)
+-- the whole report, by its verdict and its causes
+unfoldable pub text_report : Reading → Groups → Lists → Verdict → List CauseView → List ℕ
+text_report reading groups recording verdict causes =
+    verdict_line verdict ++ flat_map (rank_lines reading groups recording) (stuck_of reading groups recording)
+    ++ flat_map cause_line causes ++ flat_map finding_line (findings_of groups recording)

@@ -5,13 +5,17 @@ ghost use Rattle.serde_json.specs.Data.{string};
 ghost use Rattle.serde_json.specs.Written.{compact_text};
 ghost use Rattle.waitgraph.specs.Causes.{view_of};
 ghost use Rattle.waitgraph.specs.Graphs.{IsGraphOf};
+ghost use Rattle.waitgraph.specs.Verdicts.{verdict_by};
 ghost use Rattle.reports.specs.JsonReport.{each, cause_data, json_report};
+ghost use Rattle.reports.specs.Judged.{judged_json};
 ghost use Rattle.reports.specs.TextReport.{verdict_text};
 
 use crate::json::cause::causes_value;
 use crate::json::element::{push_key, push_value};
 use crate::json::finding::push_findings;
+use crate::json::judged::{push_left, push_lines};
 use crate::json::rank::push_ranks;
+use crate::judged::Judged;
 use crate::report::text::verdict_text;
 use moves::analyser::Analyser;
 use serde_json::json;
@@ -23,6 +27,7 @@ use waitgraph::verdict::Verdict;
 mod cause;
 mod element;
 mod finding;
+mod judged;
 mod need;
 mod rank;
 
@@ -51,13 +56,41 @@ pub(crate) fn json_text(
     graph: &Graph,
 ) -> Result<String, AllocError>
     requires { IsGraphOf analyser.now.reading analyser.now.groups analyser.now.recording graph.now }
-    ensures { IfOk result (λ text. string_bytes text ≡ json_report analyser.now.reading analyser.now.groups analyser.now.recording) }
+    ensures { IfOk result (λ text. string_bytes text ≡ json_report analyser.now.reading analyser.now.groups analyser.now.recording (verdict_by graph.now.held graph.now.left_open) graph.now.causes) }
 {
     let mut text = String::new(alloc);
     push_key(alloc, &mut text, "{", "causes", ":")?;
     push_causes(alloc, &mut text, graph.causes())?;
     push_key(alloc, &mut text, ",", "findings", ":[")?;
     push_findings(alloc, &mut text, graph.findings())?;
+    push_key(alloc, &mut text, "],", "ranks", ":[")?;
+    push_ranks(alloc, &mut text, analyser, graph)?;
+    push_key(alloc, &mut text, "],", "verdict", ":")?;
+    push_verdict(alloc, &mut text, graph.verdict())?;
+    text.push_str("}\n")?;
+    Ok(text)
+}
+
+/// The JSON report of the recording of journals.
+pub(crate) fn judged_json_text(
+    alloc: Global,
+    analyser: &Analyser,
+    graph: &Graph,
+    judged: &Judged<'_>,
+) -> Result<String, AllocError>
+    requires { IsGraphOf analyser.now.reading analyser.now.groups analyser.now.recording graph.now }
+    ensures { IfOk result (λ text. string_bytes text
+        ≡ judged_json analyser.now.reading analyser.now.groups analyser.now.recording (verdict_by graph.now.held graph.now.left_open) graph.now.causes judged.now.findings.now judged.now.left.now judged.now.lines.now) }
+{
+    let mut text = String::new(alloc);
+    push_key(alloc, &mut text, "{", "causes", ":")?;
+    push_causes(alloc, &mut text, graph.causes())?;
+    push_key(alloc, &mut text, ",", "findings", ":[")?;
+    push_findings(alloc, &mut text, judged.findings)?;
+    push_key(alloc, &mut text, "],", "left", ":[")?;
+    push_left(alloc, &mut text, judged.left)?;
+    push_key(alloc, &mut text, "],", "lines", ":[")?;
+    push_lines(alloc, &mut text, judged.lines)?;
     push_key(alloc, &mut text, "],", "ranks", ":[")?;
     push_ranks(alloc, &mut text, analyser, graph)?;
     push_key(alloc, &mut text, "],", "verdict", ":")?;

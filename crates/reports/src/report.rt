@@ -3,6 +3,7 @@
 ghost use Rattle.std.specs.Prelude.{◌≡◌, IfErr, OnOk};
 ghost use Rattle.std.specs.Io.KnownBytes.{Appends};
 ghost use Rattle.waitgraph.specs.Graphs.{IsGraphOf};
+ghost use Rattle.waitgraph.specs.Verdicts.{verdict_by};
 ghost use Rattle.reports.specs.JsonReport.{json_report};
 ghost use Rattle.reports.specs.Reports.{report_of, LeavesReport};
 
@@ -41,9 +42,9 @@ fn write_json<O: Output>(
     out: &mut O,
 ) -> Result<(), ReportFault>
     requires { IsGraphOf analyser.now.reading analyser.now.groups analyser.now.recording graph.now }
-    ensures written { OnOk result (Appends (O.written out.old) (O.written out.new) (json_report analyser.now.reading analyser.now.groups analyser.now.recording)) }
+    ensures written { OnOk result (Appends (O.written out.old) (O.written out.new) (json_report analyser.now.reading analyser.now.groups analyser.now.recording (verdict_by graph.now.held graph.now.left_open) graph.now.causes)) }
     ensures no_write_failed { OnOk result (O.failures out.new ≡ O.failures out.old) }
-    ensures fault { IfErr result (LeavesReport O.written O.failures out.old out.new Format.Json (json_report analyser.now.reading analyser.now.groups analyser.now.recording)) }
+    ensures fault { IfErr result (LeavesReport O.written O.failures out.old out.new Format.Json (json_report analyser.now.reading analyser.now.groups analyser.now.recording (verdict_by graph.now.held graph.now.left_open) graph.now.causes)) }
 {
     let Ok(text) = json_text(alloc, analyser, graph) else {
         return Err(ReportFault::Memory);
@@ -65,9 +66,9 @@ pub fn write_report<O: Output>(
     out: &mut O,
 ) -> Result<(), ReportFault>
     requires { IsGraphOf analyser.now.reading analyser.now.groups analyser.now.recording graph.now }
-    ensures written { OnOk result (Appends (O.written out.old) (O.written out.new) (report_of format analyser.now.reading analyser.now.groups analyser.now.recording)) }
+    ensures written { OnOk result (Appends (O.written out.old) (O.written out.new) (report_of format analyser.now.reading analyser.now.groups analyser.now.recording (verdict_by graph.now.held graph.now.left_open) graph.now.causes)) }
     ensures no_write_failed { OnOk result (O.failures out.new ≡ O.failures out.old) }
-    ensures fault { IfErr result (LeavesReport O.written O.failures out.old out.new format (report_of format analyser.now.reading analyser.now.groups analyser.now.recording)) }
+    ensures fault { IfErr result (LeavesReport O.written O.failures out.old out.new format (report_of format analyser.now.reading analyser.now.groups analyser.now.recording (verdict_by graph.now.held graph.now.left_open) graph.now.causes)) }
 {
     match format {
         Format::Text => match write_text(analyser, graph, out) {

@@ -116,7 +116,7 @@ fn answer_of_number(alloc: Global, number: Option<Capacity>) -> Result<Answer, A
 /// How many records of a rank may wait, by the words of the program.
 fn answer_of_capacity(alloc: Global, words: &[&str]) -> Result<Answer, AllocError> {
     let number = match parse(alloc, words) {
-        Words::Check { capacity, .. } => Some(capacity),
+        Words::Check { options, .. } => Some(options.capacity),
         _ => None,
     };
     answer_of_number(alloc, number)

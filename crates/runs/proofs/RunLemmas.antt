@@ -1,8 +1,6 @@
 -- What the ranks' answers say of a run over the traces that their sources tell.
 use Rattle.moves.specs.declared.reading.Reading.{Reading}
 use Rattle.std.proofs.Common.{◌≡◌, ◌↔◌, ℕ, ◌+◌, ◌<◌, List, [], ◌∷◌, length, map, sym, ap, ◌∙◌, refl, arith, zero, suc, Option, Some, None, IfSome, slice_get, subst, option_and_then, Result, Ok, Err, IfOk, IfErr, OnOk}
-use Rattle.std.specs.Io.KnownBytes.{Appends}
-use Rattle.mpicall.specs.Device.{AppendsBeginning}
 use Rattle.mpicall.specs.Trace.{Trace}
 use Rattle.mpicall.specs.Source.{coming}
 use Rattle.mpicall.specs.declared.call.Call.{Call}
@@ -12,14 +10,15 @@ use Rattle.callnotes.specs.Recordings.{Lists, calls_of, IsClosed}
 use Rattle.std.proofs.lemmas.Bool.{not-true, not_from_false}
 use Rattle.std.proofs.lemmas.Option.{slice_get_within}
 use Rattle.moves.specs.Stands.{lowest_run_over, stands_of, is_at_end}
-use Rattle.waitgraph.specs.Verdicts.{verdict_of, SomeRankIsHeld, SomeRankIsStuck}
+use Rattle.waitgraph.specs.Graphs.{GraphView, IsGraphOf}
+use Rattle.waitgraph.specs.Verdicts.{IsVerdictOf, SomeRankIsStuck, verdict_by}
+use Rattle.std.specs.Io.KnownBytes.{Appends}
 use Rattle.waitgraph.specs.declared.verdict.Verdict.{Verdict}
-use Rattle.waitgraph.specs.declared.verdict.Verdict.TheVariants.{Hang}
-use Rattle.waitgraph.proofs.VerdictLemmas.{hang_tells_of_a_held_rank, hang_tells_of_a_stuck_rank}
+use Rattle.waitgraph.proofs.VerdictLemmas.{hang_tells_of_a_stuck_rank, one_verdict, verdict_of_graph}
 use Rattle.moves.proofs.StandLemmas.{no_run_brings_a_stuck_rank_to_its_end, every_maximal_run_ends_at_the_stands}
 use Rattle.gather.specs.Answers.{fault_of_rank, refusal_or, refusal_from, refusal_of, recording_of_traces, SomeRankCannotEnd}
 use Rattle.runs.specs.Told.{Tells, IsVerdictOver, RefusesOver}
-use Rattle.runs.specs.inner.Ranks.{told_by, AcceptsAll, AcceptsRank, LeavesRunReport, RefusesRun, IsRefusalOf}
+use Rattle.runs.specs.inner.Ranks.{told_by, AcceptsAll, AcceptsRank, LeavesRunReport, NotReported, Reported, RefusesRun, IsRefusalOf}
 use Rattle.runs.proofs.HeldLemmas.{found_at, lowest_refusal}
 use Rattle.runs.proofs.ToldLemmas.{read_of_told, to_come_is_read}
 use Rattle.runs.specs.Runs.{RefusesFeeds, StopsWhereAllowed}
@@ -27,7 +26,7 @@ use Rattle.runs.specs.inner.Runs.{of_close}
 use Rattle.gather.specs.declared.outcome.CloseFault.{CloseFault}
 use Rattle.gather.specs.declared.outcome.CloseFault.TheVariants as close
 use Rattle.runs.specs.Written.{IsReportOver, LeavesOutput, WritesReport}
-use Rattle.reports.specs.Reports.{report_of}
+use Rattle.reports.specs.Reports.{IsReport, report_of}
 use Rattle.reports.specs.declared.report.Format.{Format}
 use Rattle.gather.specs.declared.fault.Refusal.{Refusal}
 use Rattle.gather.specs.declared.fault.RunFault.{RunFault}
@@ -123,24 +122,22 @@ accepted_over left groups sources lists traces one all tells =
     let each = each_accepted left groups sources lists traces one all tells in
     none_from groups 0 traces (λ k trace at. let e : k ≡ 0 + k = omega arith in subst (λ (n : ℕ). fault_of_rank groups n trace ≡ None) e (each k trace at).1)
 
-verdict_over : {I : Type 0} (left : I → Option (List ℕ)) (reading : Reading) (groups : Groups) (sources : List (Source I)) (lists : Lists) (verdict : Verdict) (traces : List Trace) → length sources ≡ ranks_of groups → AcceptsAll groups (told_by left sources) lists → verdict ≡ verdict_of reading groups lists → Tells left sources traces → IsVerdictOver reading groups traces verdict
+verdict_over : {I : Type 0} (left : I → Option (List ℕ)) (reading : Reading) (groups : Groups) (sources : List (Source I)) (lists : Lists) (verdict : Verdict) (traces : List Trace) → length sources ≡ ranks_of groups → AcceptsAll groups (told_by left sources) lists → IsVerdictOf reading groups lists verdict → Tells left sources traces → IsVerdictOver reading groups traces verdict
 verdict_over left reading groups sources lists verdict traces one all value tells =
     let same : lists ≡ recording_of_traces traces = lists_are left groups sources lists traces one all tells in
-    let of_traces : verdict ≡ verdict_of reading groups (recording_of_traces traces) = value ∙ ap (verdict_of reading groups) same in
+    let of_traces : IsVerdictOf reading groups (recording_of_traces traces) verdict = subst (λ (ls : Lists). IsVerdictOf reading groups ls verdict) same value in
     let cannot = cannot_end reading groups (recording_of_traces traces) in
-    let stuck = hang_tells_of_a_stuck_rank reading groups (recording_of_traces traces) (subst IsClosed same all.closed) in
     record {
       value = of_traces;
       stands = (every_maximal_run_ends_at_the_stands reading groups (recording_of_traces traces)).1;
-      hang = subst (λ (v : Verdict). (v ≡ Hang) ↔ SomeRankIsHeld reading groups (recording_of_traces traces)) (sym of_traces) (hang_tells_of_a_held_rank reading groups (recording_of_traces traces));
       closed = λ none.
-          subst (λ (v : Verdict). (v ≡ Hang) ↔ SomeRankCannotEnd reading groups (recording_of_traces traces)) (sym of_traces)
-          (λ is. cannot.0 ((stuck none).0 is), λ in_no_run. (stuck none).1 (cannot.1 in_no_run));
+          let stuck = hang_tells_of_a_stuck_rank reading groups (recording_of_traces traces) verdict (subst IsClosed same all.closed) none of_traces in
+          (λ is. cannot.0 (stuck.0 is), λ in_no_run. stuck.1 (cannot.1 in_no_run));
     }
 
 -- the report of the recording is that of the run
-pub report_over : {I : Type 0} (left : I → Option (List ℕ)) (reading : Reading) (groups : Groups) (sources : List (Source I)) (lists : Lists) (format : Format) (verdict : Verdict) → length sources ≡ ranks_of groups → AcceptsAll groups (told_by left sources) lists → verdict ≡ verdict_of reading groups lists → IsReportOver left sources reading groups format verdict (report_of format reading groups lists)
-report_over left reading groups sources lists format verdict one all value = record {
+pub report_over : {I : Type 0} (left : I → Option (List ℕ)) (reading : Reading) (groups : Groups) (sources : List (Source I)) (lists : Lists) (format : Format) (verdict : Verdict) (report : List ℕ) → length sources ≡ ranks_of groups → AcceptsAll groups (told_by left sources) lists → IsReport format reading groups lists verdict report → IsReportOver left sources reading groups format verdict report
+report_over left reading groups sources lists format verdict report one all is_report = record {
   recording = lists;
   one_a_rank = all.one_a_rank;
   closed = all.closed;
@@ -148,8 +145,7 @@ report_over left reading groups sources lists format verdict one all value = rec
       (let within = slice_get_within sources rank source at in all.accepted rank (omega (arith, within, one, all.one_a_rank)))
       (ap (option_and_then (coming left)) at ∙ to_come_is_read left source trace is);
   of_traces = λ traces tells. lists_are left groups sources lists traces one all tells;
-  report_is = refl;
-  verdict_is = value;
+  is_report = is_report;
 }
 
 no_fault_at : (groups : Groups) (rank : ℕ) (told : Option Trace) (trace : Trace) → IfSome told (λ t. fault_of_rank groups rank t ≡ None) → told ≡ Some trace → fault_of_rank groups rank trace ≡ None
@@ -182,56 +178,46 @@ run_accepted left groups sources lists (Err fault) one all = tt
 run_accepted left groups sources lists (Ok verdict) one all = λ traces tells. accepted_over left groups sources lists traces one all tells
 
 -- the answer of a report is that of the run
-pub run_verdict : {I : Type 0} (left : I → Option (List ℕ)) (reading known : Reading) (groups told : Groups) (sources : List (Source I)) (lists : Lists) (answer : Result Verdict RunFault) → length sources ≡ ranks_of groups → known ≡ reading → told ≡ groups → AcceptsAll groups (told_by left sources) lists → IfOk answer (λ verdict. verdict ≡ verdict_of known told lists) → IfOk answer (λ verdict. (traces : List Trace) → Tells left sources traces → IsVerdictOver reading groups traces verdict)
-run_verdict left reading known groups told sources lists (Err fault) one alike same all value = tt
-run_verdict left reading known groups told sources lists (Ok verdict) one alike same all value = λ traces tells.
-    let of_run : verdict ≡ verdict_of reading groups lists =
-    subst (λ (gs : Groups). verdict ≡ verdict_of reading gs lists) same (subst (λ (r : Reading). verdict ≡ verdict_of r told lists) alike value) in
+pub run_verdict : {I O : Type 0} (left : I → Option (List ℕ)) (written : O → Option (List ℕ)) (reading known : Reading) (groups told : Groups) (sources : List (Source I)) (lists : Lists) (format : Format) (old new : O) (answer : Result Verdict RunFault) → length sources ≡ ranks_of groups → known ≡ reading → told ≡ groups → AcceptsAll groups (told_by left sources) lists → IfOk answer (Reported written old new format known told lists) → IfOk answer (λ verdict. (traces : List Trace) → Tells left sources traces → IsVerdictOver reading groups traces verdict)
+run_verdict left written reading known groups told sources lists format old new (Err fault) one alike same all reported = tt
+run_verdict left written reading known groups told sources lists format old new (Ok verdict) one alike same all reported = λ traces tells.
+    let of_run : IsVerdictOf reading groups lists verdict =
+    subst (λ (gs : Groups). IsVerdictOf reading gs lists verdict) same (subst (λ (r : Reading). IsVerdictOf r told lists verdict) alike reported.1.is_verdict) in
     verdict_over left reading groups sources lists verdict traces one all of_run tells
 
-pub run_written : {I O : Type 0} (left : I → Option (List ℕ)) (written : O → Option (List ℕ)) (failures : O → ℕ) (reading known : Reading) (groups told : Groups) (sources : List (Source I)) (lists : Lists) (format : Format) (old new : O) (answer : Result Verdict RunFault) → length sources ≡ ranks_of groups → known ≡ reading → told ≡ groups → AcceptsAll groups (told_by left sources) lists → IfOk answer (λ verdict. verdict ≡ verdict_of known told lists) → OnOk answer (Appends (written old) (written new) (report_of format known told lists)) → IfOk answer (WritesReport left written failures sources reading groups format old new)
-run_written left written failures reading known groups told sources lists format old new (Err fault) one alike same all value report = tt
-run_written left written failures reading known groups told sources lists format old new (Ok verdict) one alike same all value report =
-    let both : (verdict ≡ verdict_of reading groups lists) × Appends (written old) (written new) (report_of format reading groups lists) =
-    subst (λ (gs : Groups). (verdict ≡ verdict_of reading gs lists) × Appends (written old) (written new) (report_of format reading gs lists)) same
-    (subst (λ (r : Reading). (verdict ≡ verdict_of r told lists) × Appends (written old) (written new) (report_of format r told lists)) alike (value, report)) in (
-      report_of format reading groups lists,
-      report_over left reading groups sources lists format verdict one all both.0,
-      both.1,
-    )
+pub run_written : {I O : Type 0} (left : I → Option (List ℕ)) (written : O → Option (List ℕ)) (failures : O → ℕ) (reading known : Reading) (groups told : Groups) (sources : List (Source I)) (lists : Lists) (format : Format) (old new : O) (answer : Result Verdict RunFault) → length sources ≡ ranks_of groups → known ≡ reading → told ≡ groups → AcceptsAll groups (told_by left sources) lists → IfOk answer (Reported written old new format known told lists) → IfOk answer (WritesReport left written failures sources reading groups format old new)
+run_written left written failures reading known groups told sources lists format old new (Err fault) one alike same all reported = tt
+run_written left written failures reading known groups told sources lists format old new (Ok verdict) one alike same all reported =
+    let of_run : Reported written old new format reading groups lists verdict =
+    subst (λ (gs : Groups). Reported written old new format reading gs lists verdict) same (subst (λ (r : Reading). Reported written old new format r told lists verdict) alike reported) in
+    (of_run.0, report_over left reading groups sources lists format verdict of_run.0 one all of_run.1, of_run.2)
 
-pub run_output : {I O : Type 0} (left : I → Option (List ℕ)) (written : O → Option (List ℕ)) (failures : O → ℕ) (reading known : Reading) (groups told : Groups) (sources : List (Source I)) (lists : Lists) (format : Format) (old new : O) (answer : Result Verdict RunFault) → length sources ≡ ranks_of groups → known ≡ reading → told ≡ groups → AcceptsAll groups (told_by left sources) lists → IfErr answer (LeavesRunReport written failures old new (report_of format known told lists)) → IfErr answer (LeavesOutput left written failures sources reading groups format old new)
+pub run_output : {I O : Type 0} (left : I → Option (List ℕ)) (written : O → Option (List ℕ)) (failures : O → ℕ) (reading known : Reading) (groups told : Groups) (sources : List (Source I)) (lists : Lists) (format : Format) (old new : O) (answer : Result Verdict RunFault) → length sources ≡ ranks_of groups → known ≡ reading → told ≡ groups → AcceptsAll groups (told_by left sources) lists → IfErr answer (NotReported written failures old new format known told lists) → IfErr answer (LeavesOutput left written failures sources reading groups format old new)
 run_output left written failures reading known groups told sources lists format old new (Ok verdict) one alike same all leaves = tt
-run_output left written failures reading known groups told sources lists format old new (Err Memory) one alike same all leaves = leaves
-run_output left written failures reading known groups told sources lists format old new (Err (Unproved rank)) one alike same all leaves = absurd leaves
-run_output left written failures reading known groups told sources lists format old new (Err (Refused refusal)) one alike same all leaves = absurd leaves
-run_output left written failures reading known groups told sources lists format old new (Err Write) one alike same all leaves = (
-  (
-    verdict_of reading groups lists,
-    report_of format reading groups lists,
-    report_over left reading groups sources lists format (verdict_of reading groups lists) one all refl,
-    subst (λ (gs : Groups). AppendsBeginning (written old) (written new) (report_of format reading gs lists)) same
-        (subst (λ (r : Reading). AppendsBeginning (written old) (written new) (report_of format r told lists)) alike leaves.0),
-  ),
-  leaves.1,
-)
+run_output left written failures reading known groups told sources lists format old new (Err Memory) one alike same all leaves = leaves.3
+run_output left written failures reading known groups told sources lists format old new (Err (Unproved rank)) one alike same all leaves = absurd leaves.3
+run_output left written failures reading known groups told sources lists format old new (Err (Refused refusal)) one alike same all leaves = absurd leaves.3
+run_output left written failures reading known groups told sources lists format old new (Err Write) one alike same all leaves =
+    let of_run : IsReport format reading groups lists leaves.0 leaves.1 =
+    subst (λ (gs : Groups). IsReport format reading gs lists leaves.0 leaves.1) same (subst (λ (r : Reading). IsReport format r told lists leaves.0 leaves.1) alike leaves.2) in
+    ((leaves.0, leaves.1, report_over left reading groups sources lists format leaves.0 leaves.1 one all of_run, leaves.3.0), leaves.3.1)
 
 -- a report that fails refuses no rank
-pub report_refuses : {O : Type 0} (written : O → Option (List ℕ)) (failures : O → ℕ) (old new : O) (report : List ℕ) (groups : Groups) (traces : List Trace) (fault : RunFault) → LeavesRunReport written failures old new report fault → RefusesOver groups traces fault
-report_refuses written failures old new report groups traces (Unproved rank) leaves = absurd leaves
-report_refuses written failures old new report groups traces (Refused refusal) leaves = absurd leaves
-report_refuses written failures old new report groups traces fault leaves = tt
+pub report_refuses : {O : Type 0} (written : O → Option (List ℕ)) (failures : O → ℕ) (old new : O) (format : Format) (reading : Reading) (known : Groups) (lists : Lists) (groups : Groups) (traces : List Trace) (fault : RunFault) → NotReported written failures old new format reading known lists fault → RefusesOver groups traces fault
+report_refuses written failures old new format reading known lists groups traces (Unproved rank) leaves = absurd leaves.3
+report_refuses written failures old new format reading known lists groups traces (Refused refusal) leaves = absurd leaves.3
+report_refuses written failures old new format reading known lists groups traces fault leaves = tt
 
 -- a report that fails is no refusal of the ranks' feeds
-pub report_feeds : {O I : Type 0} (written : O → Option (List ℕ)) (failures : O → ℕ) (old new : O) (report : List ℕ) (left : I → Option (List ℕ)) (may_stop : ℕ → ℕ → Type 0) (sources : List (Source I)) (groups : Groups) (answer : Result Verdict RunFault) → IfErr answer (LeavesRunReport written failures old new report) → IfErr answer (RefusesFeeds left may_stop sources groups)
-report_feeds written failures old new report left may_stop sources groups (Err (Unproved rank)) leaves = absurd leaves
-report_feeds written failures old new report left may_stop sources groups (Err (Refused refusal)) leaves = absurd leaves
-report_feeds written failures old new report left may_stop sources groups answer leaves = tt
+pub report_feeds : {O I : Type 0} (written : O → Option (List ℕ)) (failures : O → ℕ) (old new : O) (format : Format) (reading : Reading) (known : Groups) (lists : Lists) (left : I → Option (List ℕ)) (may_stop : ℕ → ℕ → Type 0) (sources : List (Source I)) (groups : Groups) (answer : Result Verdict RunFault) → IfErr answer (NotReported written failures old new format reading known lists) → IfErr answer (RefusesFeeds left may_stop sources groups)
+report_feeds written failures old new format reading known lists left may_stop sources groups (Err (Unproved rank)) leaves = absurd leaves.3
+report_feeds written failures old new format reading known lists left may_stop sources groups (Err (Refused refusal)) leaves = absurd leaves.3
+report_feeds written failures old new format reading known lists left may_stop sources groups answer leaves = tt
 
-pub report_stops : {O : Type 0} (written : O → Option (List ℕ)) (failures : O → ℕ) (old new : O) (report : List ℕ) (may_stop : ℕ → ℕ → Type 0) (answer : Result Verdict RunFault) → IfErr answer (LeavesRunReport written failures old new report) → IfErr answer (StopsWhereAllowed may_stop)
-report_stops written failures old new report may_stop (Err (Unproved rank)) leaves = absurd leaves
-report_stops written failures old new report may_stop (Err (Refused refusal)) leaves = absurd leaves
-report_stops written failures old new report may_stop answer leaves = tt
+pub report_stops : {O : Type 0} (written : O → Option (List ℕ)) (failures : O → ℕ) (old new : O) (format : Format) (reading : Reading) (known : Groups) (lists : Lists) (may_stop : ℕ → ℕ → Type 0) (answer : Result Verdict RunFault) → IfErr answer (NotReported written failures old new format reading known lists) → IfErr answer (StopsWhereAllowed may_stop)
+report_stops written failures old new format reading known lists may_stop (Err (Unproved rank)) leaves = absurd leaves.3
+report_stops written failures old new format reading known lists may_stop (Err (Refused refusal)) leaves = absurd leaves.3
+report_stops written failures old new format reading known lists may_stop answer leaves = tt
 
 -- a refusal of the ranks' feeds is one over the traces that their sources tell
 feeds_refuse : {I : Type 0} (left : I → Option (List ℕ)) (may_stop : ℕ → ℕ → Type 0) (groups : Groups) (sources : List (Source I)) (fault : CloseFault) → length sources ≡ ranks_of groups → RefusesFeeds left may_stop sources groups (of_close fault) → RefusesRun groups (told_by left sources) (of_close fault)
@@ -250,3 +236,20 @@ close_leaves left written failures reading groups sources format out (close.Refu
 
 pub close_output : {I O : Type 0} (left : I → Option (List ℕ)) (written : O → Option (List ℕ)) (failures : O → ℕ) (reading : Reading) (groups : Groups) (sources : List (Source I)) (format : Format) (out : O) (fault : CloseFault) (told : RunFault) → told ≡ of_close fault → LeavesOutput left written failures sources reading groups format out out told
 close_output left written failures reading groups sources format out fault told is = rw is (close_leaves left written failures reading groups sources format out fault)
+
+-- a report by the wait graph of a recording is the one of the recording
+pub graph_reported : {O : Type 0} (written : O → Option (List ℕ)) (old new : O) (format : Format) (reading : Reading) (groups : Groups) (lists : Lists) (graph : GraphView) (verdict : Verdict) → IsGraphOf reading groups lists graph → IsVerdictOf reading groups lists verdict → Appends (written old) (written new) (report_of format reading groups lists (verdict_by graph.held graph.left_open) graph.causes) → Reported written old new format reading groups lists verdict
+graph_reported written old new format reading groups lists graph verdict is value appends = (
+  report_of format reading groups lists verdict graph.causes,
+  record { is_verdict = value; causes = graph.causes; are_causes = is.causes; is_text = refl },
+  subst (λ (v : Verdict). Appends (written old) (written new) (report_of format reading groups lists v graph.causes))
+      (one_verdict reading groups lists (verdict_by graph.held graph.left_open) verdict (verdict_of_graph reading groups lists graph is) value) appends,
+)
+
+pub graph_not_reported : {O : Type 0} (written : O → Option (List ℕ)) (failures : O → ℕ) (old new : O) (format : Format) (reading : Reading) (groups : Groups) (lists : Lists) (graph : GraphView) (fault : RunFault) → IsGraphOf reading groups lists graph → LeavesRunReport written failures old new (report_of format reading groups lists (verdict_by graph.held graph.left_open) graph.causes) fault → NotReported written failures old new format reading groups lists fault
+graph_not_reported written failures old new format reading groups lists graph fault is leaves = (
+  verdict_by graph.held graph.left_open,
+  report_of format reading groups lists (verdict_by graph.held graph.left_open) graph.causes,
+  record { is_verdict = verdict_of_graph reading groups lists graph is; causes = graph.causes; are_causes = is.causes; is_text = refl },
+  leaves,
+)

@@ -1,7 +1,7 @@
 -- What an answer says of traces, where the sources' inputs know them. These are the words of `run`; what it
 -- rests on speaks of each rank alone, by the words of `Ranks`.
 use Rattle.moves.specs.declared.reading.Reading.{Reading}
-use Rattle.std.specs.Prelude.{◌≡◌, ◌↔◌, ℕ, ◌<◌, Bool, true, false, ⊤, Option, Some, None, List, length, map, slice_get, All}
+use Rattle.std.specs.Prelude.{◌≡◌, ◌↔◌, ℕ, ◌<◌, Bool, true, false, ⊤, Option, Some, None, List, length, slice_get, All}
 use Rattle.std.specs.List.{AllZip}
 use Rattle.mpicall.specs.Lines.{lines_of}
 use Rattle.mpicall.specs.Source.{coming, ended, unread}
@@ -17,7 +17,7 @@ use Rattle.moves.specs.Needs.{can_move}
 use Rattle.moves.specs.Stands.{stands_of}
 use Rattle.waitgraph.specs.Held.{is_some_left_open}
 use Rattle.gather.specs.Answers.{fault_of_rank, refusal_of, recording_of_traces, SomeRankCannotEnd}
-use Rattle.waitgraph.specs.Verdicts.{verdict_of, SomeRankIsHeld}
+use Rattle.waitgraph.specs.Verdicts.{IsVerdictOf}
 use Rattle.waitgraph.specs.declared.verdict.Verdict.{Verdict}
 use Rattle.waitgraph.specs.declared.verdict.Verdict.TheVariants.{Hang}
 use Rattle.gather.specs.declared.fault.RankFault.{RankFault}
@@ -68,9 +68,8 @@ RefusesOver groups traces (Refused refusal) = IsRefusalOver groups traces refusa
 RefusesOver groups traces fault = ⊤
 
 -- The verdict is that of these traces: every maximal run over them ends at the final positions, and it is hang exactly
--- if some rank is held there; where no list was left open, exactly if some rank comes to its Finalize in no run.
+-- if some rank is held there; if no list was left open, exactly if some rank comes to its Finalize in no run.
 pub record IsVerdictOver (reading : Reading) (groups : Groups) (traces : List Trace) (verdict : Verdict) : Type 0 where
-  pub value : verdict ≡ verdict_of reading groups (recording_of_traces traces)
+  pub value : IsVerdictOf reading groups (recording_of_traces traces) verdict
   pub stands : IsTheEnd (can_move reading groups (recording_of_traces traces)) (length (recording_of_traces traces)) (stands_of reading groups (recording_of_traces traces))
-  pub hang : (verdict ≡ Hang) ↔ SomeRankIsHeld reading groups (recording_of_traces traces)
   pub closed : is_some_left_open (recording_of_traces traces) ≡ false → (verdict ≡ Hang) ↔ SomeRankCannotEnd reading groups (recording_of_traces traces)

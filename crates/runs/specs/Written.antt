@@ -7,9 +7,8 @@ use Rattle.mpicall.specs.Trace.{Trace}
 use Rattle.mpicall.specs.Device.{one_more, AppendsBeginning}
 use Rattle.mpigroup.specs.Groups.{Groups, ranks_of}
 use Rattle.callnotes.specs.Recordings.{Lists, calls_of, IsClosed}
-use Rattle.waitgraph.specs.Verdicts.{verdict_of}
 use Rattle.waitgraph.specs.declared.verdict.Verdict.{Verdict}
-use Rattle.reports.specs.Reports.{report_of}
+use Rattle.reports.specs.Reports.{IsReport}
 use Rattle.reports.specs.declared.report.Format.{Format}
 use Rattle.gather.specs.Answers.{fault_of_rank, recording_of_traces}
 use Rattle.runs.specs.Told.{IsToCome, Tells}
@@ -26,8 +25,7 @@ pub record IsReportOver {I : Type 0} (left : I → Option (List ℕ)) (sources :
   pub accepted : (rank : ℕ) (source : Source I) (trace : Trace) → slice_get sources rank ≡ Some source → IsToCome left source trace →
       (calls_of recording rank ≡ trace.records) × (fault_of_rank groups rank trace ≡ None)
   pub of_traces : (traces : List Trace) → Tells left sources traces → recording ≡ recording_of_traces traces
-  pub report_is : report ≡ report_of format reading groups recording
-  pub verdict_is : verdict ≡ verdict_of reading groups recording
+  pub is_report : IsReport format reading groups recording verdict report
 
 -- what a run leaves on its output, by its sources, its reading, its head and the format of its report
 module _ {I O : Type 0} (left : I → Option (List ℕ)) (written : O → Option (List ℕ)) (failures : O → ℕ) (sources : List (Source I)) (reading : Reading) (groups : Groups) (format : Format) (old new : O) where

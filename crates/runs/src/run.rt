@@ -4,11 +4,8 @@ ghost use Rattle.std.specs.Prelude.{◌≡◌, ◌<◌, ◌≤◌, ℕ, None, []
 ghost use Rattle.mpicall.specs.Trace.{Trace as TraceValue};
 ghost use Rattle.mpigroup.specs.Groups.{ranks_of};
 ghost use Rattle.gather.specs.Answers.{refusal_of};
-ghost use Rattle.waitgraph.specs.Verdicts.{verdict_of};
-ghost use Rattle.std.specs.Io.KnownBytes.{Appends};
-ghost use Rattle.reports.specs.Reports.{report_of};
 ghost use Rattle.runs.specs.Told.{AreFresh, Tells, IsVerdictOver, RefusesOver, TheTraceToComeIsRead};
-ghost use Rattle.runs.specs.inner.Ranks.{LeavesRunReport};
+ghost use Rattle.runs.specs.inner.Ranks.{Reported, NotReported};
 ghost use Rattle.runs.specs.Written.{LeavesOutput, WritesReport};
 ghost use Rattle.runs.specs.Runs.{RefusesFeeds, StopsWhereAllowed};
 ghost use Rattle.runs.specs.inner.Runs.{receipt_of, of_close, IsOutcomeOfFeeds};
@@ -189,10 +186,9 @@ fn report<O: Output>(
     format: Format,
     out: &mut O,
 ) -> Result<Verdict, RunFault>
-    ensures value { IfOk result (λ verdict. verdict ≡ verdict_of outcome.now.reading outcome.now.groups outcome.now.recording) }
-    ensures written { OnOk result (Appends (O.written out.old) (O.written out.new) (report_of format outcome.now.reading outcome.now.groups outcome.now.recording)) }
+    ensures written { IfOk result (Reported O.written out.old out.new format outcome.now.reading outcome.now.groups outcome.now.recording) }
     ensures no_write_failed { OnOk result (O.failures out.new ≡ O.failures out.old) }
-    ensures fault { IfErr result (LeavesRunReport O.written O.failures out.old out.new (report_of format outcome.now.reading outcome.now.groups outcome.now.recording)) }
+    ensures fault { IfErr result (NotReported O.written O.failures out.old out.new format outcome.now.reading outcome.now.groups outcome.now.recording) }
 {
     match write_report(alloc, outcome.analyser(), outcome.graph(), format, out) {
         Ok(()) => Ok(outcome.verdict()),

@@ -8,7 +8,7 @@ use Rattle.std.proofs.lemmas.Option.{get_or_from_slice_get, slice_get_within}
 use Rattle.std.proofs.Math.Seq.{take-suc}
 use Rattle.moves.specs.declared.need.Need.{Need}
 use Rattle.moves.specs.Runs.{State}
-use Rattle.waitgraph.specs.Stuck.{is_unmet}
+use Rattle.waitgraph.specs.inner.Stuck.{is_unmet}
 
 -- the unmet ones of two lists, added one list after the other
 add_both : (stands : State) (needs xs ys : List Need) → (needs ++ filter (is_unmet stands) xs) ++ filter (is_unmet stands) ys ≡ needs ++ filter (is_unmet stands) (xs ++ ys)

@@ -4,7 +4,8 @@ use Rattle.std.specs.List.{slice_get, filter, filter_map, cons_option, list_all,
 use Rattle.std.proofs.lemmas.Option.{none-some, same_Some}
 use Rattle.std.proofs.lemmas.Bool.{and_parts, cases_Bool, cases_eq, false≢true}
 use Rattle.moves.specs.declared.need.Need.{Need}
-use Rattle.waitgraph.specs.Stuck.{comes_before, with_need, with_needs, are_needs_in_order}
+use Rattle.waitgraph.specs.Stuck.{comes_before, with_need, are_needs_in_order}
+use Rattle.waitgraph.specs.inner.Stuck.{with_needs}
 use Rattle.waitgraph.proofs.OrderLemmas.{before_total, stays_in_order}
 
 -- the need is one of the list

@@ -6,20 +6,20 @@ use Rattle.std.proofs.lemmas.Option.{none-some, same_Some, slice_get-get_or}
 use Rattle.std.proofs.lemmas.Bool.{and_parts, not-true, cases_Bool, false≢true}
 use Rattle.moves.specs.declared.need.Need.{Need}
 use Rattle.moves.specs.declared.need.Need.TheVariants.{At, Lacking}
-use Rattle.waitgraph.specs.Least.{Set}
+use Rattle.waitgraph.specs.Held.{Set}
 use Rattle.waitgraph.specs.Waits.{Waits, needs_in}
-use Rattle.waitgraph.specs.Loose.{standing_of, is_on, are_loose, is_held_at, are_held, goes_on, onward, onward_by, FitTogether, GoesOnOrEnds, HeldRanksGoOn}
+use Rattle.waitgraph.specs.inner.Loose.{standing_of, is_on, are_loose, is_held_at, are_held, goes_on, onward, onward_by, FitTogether, GoesOnOrEnds, HeldRanksGoOn}
 use Rattle.waitgraph.specs.declared.standing.Standing.{Standing}
 use Rattle.waitgraph.specs.declared.standing.Standing.TheVariants.{AtOpen, Stuck}
 use Rattle.waitgraph.specs.declared.onward.Onward.{Onward}
 use Rattle.waitgraph.proofs.SweepLemmas.{the_loose_are_the_least}
 
 -- a need of the list
-record Stands (needs : List Need) (test : Need → Bool) (passes : Bool) : Type 0 where
-  index : ℕ
-  need : Need
-  is_there : slice_get needs index ≡ Some need
-  is_so : test need ≡ passes
+pub record Stands (needs : List Need) (test : Need → Bool) (passes : Bool) : Type 0 where
+  pub index : ℕ
+  pub need : Need
+  pub is_there : slice_get needs index ≡ Some need
+  pub is_so : test need ≡ passes
 
 fails_one : (test : Need → Bool) (needs : List Need) → list_all test needs ≡ false → Stands needs test false
 fails_one test [] h = absurd (false≢true (sym h))
@@ -57,7 +57,7 @@ held_is_stuck : (standing : Standing) (loose : Bool) → is_held_at standing loo
 held_is_stuck Stuck false h = (refl, refl)
 held_is_stuck standing loose h = absurd (false≢true h)
 
-stuck_is_held : (standing : Standing) (loose : Bool) → standing ≡ Stuck → loose ≡ false → is_held_at standing loose ≡ true
+pub stuck_is_held : (standing : Standing) (loose : Bool) → standing ≡ Stuck → loose ≡ false → is_held_at standing loose ≡ true
 stuck_is_held standing loose is not_loose = rw (is, not_loose) refl
 
 -- a need that isn't on a loose rank decides the walk
@@ -86,8 +86,9 @@ tells opened held (Lacking peer) h =
     (λ (ended : opened peer ≡ false). rw ended ended)
     (cases_Bool (opened peer))
 
-pub held_ranks_go_on : HeldRanksGoOn
-held_ranks_go_on opened standings waits rank fit held =
+-- a held rank has a need by which the walk goes on or ends
+pub holds_by : (opened : Set) (standings : List Standing) (waits : Waits) (rank : ℕ) → FitTogether opened standings waits → are_held opened standings waits rank ≡ true → Stands (needs_in waits rank) (goes_on opened (are_held opened standings waits)) true
+holds_by opened standings waits rank fit held =
     let parts = held_is_stuck (standing_of standings rank) (are_loose opened standings waits rank) held in
     let some : list_all (is_on opened (are_loose opened standings waits)) (needs_in waits rank) ≡ false =
     ⊎_elim
@@ -96,7 +97,17 @@ held_ranks_go_on opened standings waits rank fit held =
     (λ (no : list_all (is_on opened (are_loose opened standings waits)) (needs_in waits rank) ≡ false). no)
     (cases_Bool (list_all (is_on opened (are_loose opened standings waits)) (needs_in waits rank))) in
     let one = fails_one (is_on opened (are_loose opened standings waits)) (needs_in waits rank) some in
-    let it = finds (goes_on opened (are_held opened standings waits)) (needs_in waits rank) one.index one.need one.is_there (decides opened standings waits rank one.index one.need fit one.is_there one.is_so) in
+    record {
+      index = one.index;
+      need = one.need;
+      is_there = one.is_there;
+      is_so = decides opened standings waits rank one.index one.need fit one.is_there one.is_so;
+    }
+
+pub held_ranks_go_on : HeldRanksGoOn
+held_ranks_go_on opened standings waits rank fit held =
+    let one = holds_by opened standings waits rank fit held in
+    let it = finds (goes_on opened (are_held opened standings waits)) (needs_in waits rank) one.index one.need one.is_there one.is_so in
     rw (held, it.found) (tells opened (are_held opened standings waits) it.need (subst (λ (n : Need). goes_on opened (are_held opened standings waits) n ≡ true) it.is_it it.stands.is_so))
 
 -- the first of some needs that passes, where none before it does

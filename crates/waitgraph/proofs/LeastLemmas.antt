@@ -3,8 +3,8 @@ use Rattle.std.proofs.Common.{◌≡◌, ◌⊎◌, ℕ, zero, suc, ◌+◌, ◌
 use mathlib.Core.Logic.{inl, inr}
 use Rattle.std.proofs.lemmas.Bool.{cases_eq, cases_Bool, false≢true}
 use Rattle.waitgraph.specs.inner.Loose.{size}
-use Rattle.waitgraph.specs.Least.{Set, SetRule, after_rounds, IsWithin, IsClosedUnder}
-use Rattle.waitgraph.specs.inner.Least.{IsRising, MakesBelow, RoundsGiveTheLeastSet}
+use Rattle.waitgraph.specs.Held.{Set}
+use Rattle.waitgraph.specs.inner.Least.{SetRule, after_rounds, IsWithin, IsClosedUnder, IsRising, MakesBelow, RoundsGiveTheLeastSet}
 
 -- each round keeps what was made
 one_more : (rule : SetRule) → IsRising rule → (rounds : ℕ) → IsWithin (after_rounds rule rounds) (after_rounds rule (suc rounds))

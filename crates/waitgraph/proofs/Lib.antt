@@ -16,5 +16,7 @@ pub mod ListedLemmas
 pub mod CalledLemmas
 pub mod StuckLemmas
 pub mod WalkingLemmas
-pub mod VerdictLemmas
 pub mod StaysLemmas
+pub mod DeadlockLemmas
+pub mod VerdictLemmas
+pub mod CauseLemmas

@@ -5,7 +5,8 @@ use Rattle.std.specs.List.{slice_get, list_all, filter_map, cons_option, range_w
 use Rattle.std.proofs.lemmas.Option.{none-some, same_Some}
 use Rattle.std.proofs.lemmas.Bool.{cases_lt}
 use Rattle.callnotes.proofs.PlaceLemmas.{slice_get-front}
-use Rattle.waitgraph.specs.Causes.{CauseView, CycleOf, MissingOf, Walks, onward_in, next_in, lacks_in, way_home, cycle_by, cycle_at, missing_at, causes_in, ComesTo}
+use Rattle.waitgraph.specs.Causes.{CauseView, CycleOf, MissingOf, ComesTo}
+use Rattle.waitgraph.specs.inner.Causes.{Walks, onward_in, next_in, lacks_in, way_home, cycle_by, cycle_at, missing_at, causes_in}
 use Rattle.waitgraph.proofs.AmongLemmas.{Among, in_among, among_both, among_given, among_range}
 use Rattle.waitgraph.proofs.WalkLaws.{IsWaiting, told_by_way, lacks_is_waiting, next_is_waiting}
 
@@ -46,7 +47,7 @@ missing_parts walks rank cause h =
 pub record HasStart (walks : Walks) (cause : CauseView) : Type 0 where
   pub rank : ℕ
   pub is_waiting : IsWaiting walks rank
-  pub ends : ComesTo walks rank cause
+  pub ends : ComesTo (next_in walks) (missing_at walks) rank cause
 
 way_waits : (walks : Walks) (most home rank : ℕ) (ranks : List ℕ) → way_home walks most home rank ≡ Some ranks → IsWaiting walks rank
 way_waits walks zero home rank ranks h = absurd (none-some ranks h)
@@ -71,7 +72,7 @@ each_is_an_end walks cause h =
         (record {
           rank = found.0;
           is_waiting = way_waits walks (length walks) found.0 found.0 parts.ranks parts.is_way;
-          ends = record { steps = 0; end = found.0; comes_there = refl; is_end = (told.is_cycle, told.begins) };
+          ends = record { steps = 0; end = found.0; comes_there = refl; is_end = (told.rest, told.begins, told.is_cycle) };
         })
 
     of_missing : (walks : Walks) (cause : CauseView) → Among cause (filter_map (missing_at walks) (range_with_len 0 (length walks))) → HasStart walks cause
@@ -82,7 +83,7 @@ each_is_an_end walks cause h =
         (record {
           rank = found.0;
           is_waiting = lacks_is_waiting walks found.0 parts.peer (onward_in walks found.0) refl parts.lacks;
-          ends = record { steps = 0; end = found.0; comes_there = refl; is_end = (refl, parts.lacks) };
+          ends = record { steps = 0; end = found.0; comes_there = refl; is_end = rw parts.lacks refl };
         })
 
 -- what one number alone gives stands once
@@ -123,7 +124,7 @@ cycles_alone walks cause r s p q =
     let told_one = told_by_way walks (length walks) r one.ranks one.is_way one.all in
     let told_two = told_by_way walks (length walks) s two.ranks two.is_way two.all in
     let same : one.ranks ≡ two.ranks = cc (one.is, two.is) in
-    same_Some r s (sym told_one.begins ∙ ap (λ (ranks : List ℕ). slice_get ranks 0) same ∙ told_two.begins)
+    same_Some r s (ap (λ (ranks : List ℕ). slice_get ranks 0) (sym told_one.begins ∙ same ∙ told_two.begins))
 
 missing_alone : (walks : Walks) (cause : CauseView) (r s : ℕ) → missing_at walks r ≡ Some cause → missing_at walks s ≡ Some cause → r ≡ s
 missing_alone walks cause r s p q =

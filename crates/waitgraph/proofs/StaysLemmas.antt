@@ -26,17 +26,17 @@ use Rattle.moves.proofs.RunLemmas.{reached_below, reached_ranks, get_start}
 use Rattle.moves.proofs.NeedLemmas.{can_move_is_persistent, can_pass, can_from_pass}
 use Rattle.moves.proofs.StandLemmas.{every_maximal_run_ends_at_the_stands, no_call_behind_the_end_is_reached}
 use Rattle.moves.proofs.StayLemmas.{place_before, start_is_a_call, start_stays}
-use Rattle.waitgraph.specs.Least.{Set}
-use Rattle.waitgraph.specs.Loose.{standing_of, is_on, loosens, are_loose, is_held_at}
+use Rattle.waitgraph.specs.Held.{Set}
+use Rattle.waitgraph.specs.inner.Loose.{standing_of, is_on, loosens, are_loose, is_held_at}
 use Rattle.pairing.specs.LeftOpen.{leaves_open, is_left_open}
-use Rattle.waitgraph.specs.Held.{opened_of, standing_by, standings_at, is_held, held_of}
+use Rattle.waitgraph.specs.inner.Held.{opened_of, standing_by, standings_at, is_held}
 use Rattle.waitgraph.specs.Waits.{needs_in}
 use Rattle.waitgraph.specs.inner.Waits.{waits_of}
-use Rattle.waitgraph.specs.Stays.{calls_before_open, StandsInPlace, HeldRanksStay}
+use Rattle.waitgraph.specs.Stays.{calls_before_open, StandsInPlace, StaysPut}
 use Rattle.waitgraph.specs.Stuck.{unmet_of}
 use Rattle.waitgraph.specs.declared.standing.Standing.{Standing}
 use Rattle.waitgraph.specs.declared.standing.Standing.TheVariants.{AtOpen, Stuck}
-use Rattle.waitgraph.proofs.AmongLemmas.{Among, in_among, among_all, one_fails, kept_among}
+use Rattle.waitgraph.proofs.AmongLemmas.{Among, among_all, one_fails}
 use Rattle.moves.proofs.OntoLemmas.{nth_need, Onto, Same, needs_onto}
 use Rattle.pairing.proofs.RankLemmas.{calls_past}
 use Rattle.waitgraph.proofs.SweepLemmas.{the_loose_are_the_least}
@@ -292,7 +292,7 @@ on_if_unmet : (met on : Bool) → (met || on) ≡ true → met ≡ false → on 
 on_if_unmet true on h unmet = absurd (false≢true (sym unmet))
 on_if_unmet false on h unmet = h
 
-past_open : (recording : Lists) (k : ℕ) → length recording ≤ k → opened_of recording k ≡ false
+pub past_open : (recording : Lists) (k : ℕ) → length recording ≤ k → opened_of recording k ≡ false
 past_open recording k past = get_or_past (map (is_left_open recording) (range_with_len 0 (length recording))) k false (omega (arith, length-map-range_with_len (is_left_open recording) 0 (length recording), past))
 
 loose_closed : (reading : Reading) (groups : Groups) (recording : Lists) → Closed reading groups recording (are_loose (opened_of recording) (standings_at recording (stands_of reading groups recording)) (waits_of reading groups recording))
@@ -395,10 +395,9 @@ parted recording later h = record {
         sym (rw (before_is rank, opened_all rank, ended) (append-nil (calls_of recording rank))))
         (cases_Bool (is_left_open recording rank))
 
-pub held_ranks_stay : HeldRanksStay
-held_ranks_stay reading groups recording later h index rank there =
-    let kept = kept_among rank (is_held reading groups recording) (range_with_len 0 (length recording)) (in_among rank (held_of reading groups recording) (index, there)) in
+pub stays_if_held : (reading : Reading) (groups : Groups) (recording : Lists) (rank : ℕ) → is_held reading groups recording rank ≡ true → StaysPut reading groups recording rank
+stays_if_held reading groups recording rank held later h =
     stands_still reading groups recording later (parted recording later h)
     (are_loose (opened_of recording) (standings_at recording (stands_of reading groups recording)) (waits_of reading groups recording)) (loose_closed reading groups recording) rank
     (held_outside (standing_of (standings_at recording (stands_of reading groups recording)) rank)
-    (are_loose (opened_of recording) (standings_at recording (stands_of reading groups recording)) (waits_of reading groups recording) rank) kept.1)
+    (are_loose (opened_of recording) (standings_at recording (stands_of reading groups recording)) (waits_of reading groups recording) rank) held)

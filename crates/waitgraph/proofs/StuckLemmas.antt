@@ -139,7 +139,7 @@ awaited_stands reading groups recording closed rank next place h =
     let ends = ends_at (calls_of recording next) (closed next is_rank) in
     record { is_rank = is_rank; stands = stands_before reading groups recording next ends (omega (arith, ends.is_last)) }
 
-ends_without_needs : (reading : Reading) (groups : Groups) (recording : Lists) (rank place : ℕ) (call : Call) → slice_get (calls_of recording rank) place ≡ Some call → ends_list call ≡ true → needs_of reading groups recording rank place ≡ []
+pub ends_without_needs : (reading : Reading) (groups : Groups) (recording : Lists) (rank place : ℕ) (call : Call) → slice_get (calls_of recording rank) place ≡ Some call → ends_list call ≡ true → needs_of reading groups recording rank place ≡ []
 ends_without_needs Strict groups recording rank place Finalize is_there ends = rw is_there (rw is_there refl)
 ends_without_needs Strict groups recording rank place Open is_there ends = rw is_there (rw is_there refl)
 ends_without_needs (Eager limit) groups recording rank place Finalize is_there ends = rw is_there (rw is_there refl)

@@ -6,11 +6,10 @@ use Rattle.std.proofs.lemmas.List.{length-set}
 use Rattle.std.proofs.lemmas.Bool.{and_parts, cases_Bool, cases_eq, cases_lt, false≢true, and_from}
 use Rattle.moves.specs.declared.need.Need.{Need}
 use Rattle.moves.specs.declared.need.Need.TheVariants.{At, Lacking}
-use Rattle.waitgraph.specs.Least.{Set, SetRule, IsWithin, IsClosedUnder}
-use Rattle.waitgraph.specs.inner.Least.{IsRising, MakesBelow}
+use Rattle.waitgraph.specs.Held.{Set}
+use Rattle.waitgraph.specs.inner.Least.{SetRule, IsWithin, IsClosedUnder, IsRising, MakesBelow}
 use Rattle.waitgraph.specs.Waits.{Waits, needs_in}
-use Rattle.waitgraph.specs.Loose.{set_of, standing_of, is_on, loosens_at, loosens, are_loose, TheLooseAreTheLeast}
-use Rattle.waitgraph.specs.inner.Loose.{size, Sweeps}
+use Rattle.waitgraph.specs.inner.Loose.{set_of, standing_of, is_on, loosens_at, loosens, are_loose, TheLooseAreTheLeast, size, Sweeps}
 use Rattle.waitgraph.specs.declared.standing.Standing.{Standing}
 use Rattle.waitgraph.specs.declared.standing.Standing.TheVariants.{AtFinalize, AtOpen, Stuck}
 use Rattle.waitgraph.proofs.LeastLemmas.{grows, size_most, rounds_give_the_least_set}

@@ -11,8 +11,10 @@ use Rattle.moves.specs.Runs.{State}
 use Rattle.moves.specs.Needs.{needs_of, is_met}
 use Rattle.moves.specs.Stands.{stands_of}
 use Rattle.moves.specs.declared.need.Need.{Need}
-use Rattle.waitgraph.specs.Stuck.{are_needs_in_order, is_unmet, unmet_at, UnmetNeedsAreToldInOrder}
-use Rattle.waitgraph.specs.Waits.{waits_at, needs_in}
+use Rattle.waitgraph.specs.Stuck.{are_needs_in_order, unmet_at, UnmetNeedsAreToldInOrder}
+use Rattle.waitgraph.specs.inner.Stuck.{is_unmet}
+use Rattle.waitgraph.specs.inner.Waits.{waits_at}
+use Rattle.waitgraph.specs.Waits.{needs_in}
 use Rattle.waitgraph.proofs.AmongLemmas.{Among, among_in, in_among, kept_among, among_kept, with_needs_from, with_needs_new, with_needs_in_order}
 use Rattle.waitgraph.proofs.RangeLemmas.{in_table, past_table}
 

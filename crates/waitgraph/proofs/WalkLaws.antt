@@ -1,10 +1,11 @@
 -- Where walks end, over waits in which no rank waits for one that waits for none.
-use Rattle.std.proofs.Common.{inl, inr, ◌≡◌, ℕ, zero, suc, ◌+◌, ◌-◌, ◌<◌, ◌≤◌, ◌⊎◌, true, Option, Some, None, List, length, refl, sym, ap, subst, ◌∙◌, ⊎_elim, arith}
+use Rattle.std.proofs.Common.{inl, inr, ◌≡◌, ℕ, zero, suc, ◌+◌, ◌-◌, ◌<◌, ◌≤◌, ◌⊎◌, true, Option, Some, None, List, ◌∷◌, length, refl, sym, ap, ◌∙◌, ⊎_elim, arith}
 use Rattle.std.specs.Prelude.{nat_le, option_and_then, unwrap_or}
 use Rattle.std.specs.List.{slice_get, list_all, filter_map, range_with_len}
 use Rattle.std.proofs.lemmas.Option.{none-some, same_Some, slice_get_past}
 use Rattle.std.proofs.lemmas.Bool.{cases_lt}
-use Rattle.waitgraph.specs.Causes.{CauseView, CycleOf, MissingOf, Walks, onward_in, to_of, lacked_by, next_in, lacks_in, way_home, cycle_at, missing_at, causes_in, after_steps, IsCycle, ComesTo}
+use Rattle.waitgraph.specs.Causes.{CauseView, CycleOf, MissingOf, after_steps, IsCycle, ComesTo}
+use Rattle.waitgraph.specs.inner.Causes.{Walks, onward_in, to_of, lacked_by, next_in, lacks_in, way_home, cycle_at, missing_at, causes_in}
 use Rattle.waitgraph.specs.declared.onward.Onward.{Onward}
 use Rattle.waitgraph.specs.declared.onward.Onward.TheVariants.{To, Lacks}
 use Rattle.waitgraph.proofs.AmongLemmas.{Among, among_left, among_right, given_among, range_among}
@@ -28,17 +29,17 @@ waiting_is_rank walks rank waiting =
     (cases_lt rank (length walks))
 
 -- a walk of more steps goes on from where fewer steps come
-after_on : (walks : Walks) (a b : ℕ) (o : Option ℕ) → ((k : ℕ) → after_steps walks (a + b) k ≡ option_and_then (after_steps walks b) (after_steps walks a k)) → option_and_then (after_steps walks (a + b)) o ≡ option_and_then (after_steps walks b) (option_and_then (after_steps walks a) o)
+after_on : (walks : Walks) (a b : ℕ) (o : Option ℕ) → ((k : ℕ) → after_steps (next_in walks) (a + b) k ≡ option_and_then (after_steps (next_in walks) b) (after_steps (next_in walks) a k)) → option_and_then (after_steps (next_in walks) (a + b)) o ≡ option_and_then (after_steps (next_in walks) b) (option_and_then (after_steps (next_in walks) a) o)
 after_on walks a b None later = refl
 after_on walks a b (Some k) later = later k
 
-after_both : (walks : Walks) (a b rank : ℕ) → after_steps walks (a + b) rank ≡ option_and_then (after_steps walks b) (after_steps walks a rank)
+after_both : (walks : Walks) (a b rank : ℕ) → after_steps (next_in walks) (a + b) rank ≡ option_and_then (after_steps (next_in walks) b) (after_steps (next_in walks) a rank)
 after_both walks zero b rank = let e : 0 + b ≡ b = omega arith in rw e refl
 after_both walks (suc a) b rank =
     let e : suc a + b ≡ suc (a + b) = omega arith in
     rw e (after_on walks a b (next_in walks rank) (λ k. after_both walks a b k))
 
-after_then : (walks : Walks) (a b whole rank there : ℕ) → a + b ≡ whole → after_steps walks a rank ≡ Some there → after_steps walks whole rank ≡ after_steps walks b there
+after_then : (walks : Walks) (a b whole rank there : ℕ) → a + b ≡ whole → after_steps (next_in walks) a rank ≡ Some there → after_steps (next_in walks) whole rank ≡ after_steps (next_in walks) b there
 after_then walks a b whole rank there e h = rw (← e) (after_both walks a b rank ∙ rw h refl)
 
 -- the walk comes to a missing call
@@ -46,13 +47,13 @@ record ComesToMissing (walks : Walks) (rank : ℕ) : Type 0 where
   steps : ℕ
   end : ℕ
   peer : ℕ
-  comes_there : after_steps walks steps rank ≡ Some end
+  comes_there : after_steps (next_in walks) steps rank ≡ Some end
   lacks : lacks_in walks end ≡ Some peer
 
 -- the walk goes on for so many steps
 record Stands (walks : Walks) (rank steps : ℕ) : Type 0 where
   there : ℕ
-  comes_there : after_steps walks steps rank ≡ Some there
+  comes_there : after_steps (next_in walks) steps rank ≡ Some there
   is_waiting : IsWaiting walks there
 
 record StepsOn (walks : Walks) (rank : ℕ) (most : ℕ) : Type 0 where
@@ -87,9 +88,9 @@ runs walks on (suc most) rank waiting =
 
 -- the rank to which the walk comes
 there_of : Walks → ℕ → ℕ → ℕ
-there_of walks rank steps = unwrap_or (after_steps walks steps rank) 0
+there_of walks rank steps = unwrap_or (after_steps (next_in walks) steps rank) 0
 
-comes_to : (walks : Walks) (rank most steps : ℕ) → StepsOn walks rank most → steps ≤ most → after_steps walks steps rank ≡ Some (there_of walks rank steps)
+comes_to : (walks : Walks) (rank most steps : ℕ) → StepsOn walks rank most → steps ≤ most → after_steps (next_in walks) steps rank ≡ Some (there_of walks rank steps)
 unfolding there_of
 comes_to walks rank most steps on few = let here = on.at steps few in rw here.comes_there refl
 
@@ -101,12 +102,12 @@ stays_below walks rank most steps on few = let here = on.at steps few in rw here
 pub record ComesToCycle (walks : Walks) (rank : ℕ) : Type 0 where
   pub steps : ℕ
   pub low : ℕ
-  pub comes_there : after_steps walks steps rank ≡ Some low
+  pub comes_there : after_steps (next_in walks) steps rank ≡ Some low
   pub is_rank : low < length walks
   pub way : HasWayHome walks (length walks) low low low
 
 -- where the walk comes after `first` steps it comes again after `second`; `place` steps on is the lowest rank
-above_there : (walks : Walks) (rank most first second place more by : ℕ) → StepsOn walks rank most → first < second → second ≤ most → there_of walks rank first ≡ there_of walks rank second → place < second - first → ((other : ℕ) → other < second - first → there_of walks rank (first + place) ≤ there_of walks rank (first + other)) → more < second - first → after_steps walks more (there_of walks rank (first + place)) ≡ Some by → there_of walks rank (first + place) ≤ by
+above_there : (walks : Walks) (rank most first second place more by : ℕ) → StepsOn walks rank most → first < second → second ≤ most → there_of walks rank first ≡ there_of walks rank second → place < second - first → ((other : ℕ) → other < second - first → there_of walks rank (first + place) ≤ there_of walks rank (first + other)) → more < second - first → after_steps (next_in walks) more (there_of walks rank (first + place)) ≡ Some by → there_of walks rank (first + place) ≤ by
 above_there walks rank most first second place more by on before within same low is_lowest less here =
     let start = comes_to walks rank most (first + place) on (omega arith) in
     let whole = after_then walks (first + place) more (first + place + more) rank (there_of walks rank (first + place)) refl start in
@@ -114,7 +115,7 @@ above_there walks rank most first second place more by on before within same low
     (λ (once : place + more < second - first).
     let there = comes_to walks rank most (first + (place + more)) on (omega arith) in
     let sum : first + place + more ≡ first + (place + more) = omega arith in
-    let is : there_of walks rank (first + (place + more)) ≡ by = same_Some (there_of walks rank (first + (place + more))) by (sym there ∙ ap (λ (n : ℕ). after_steps walks n rank) (sym sum) ∙ whole ∙ here) in
+    let is : there_of walks rank (first + (place + more)) ≡ by = same_Some (there_of walks rank (first + (place + more))) by (sym there ∙ ap (λ (n : ℕ). after_steps (next_in walks) n rank) (sym sum) ∙ whole ∙ here) in
     omega (arith, is_lowest (place + more) once))
     (λ (twice_round : second - first ≤ place + more).
     let rest : first + ((place + more) - (second - first)) ≤ most = omega arith in
@@ -125,7 +126,7 @@ above_there walks rank most first second place more by on before within same low
     omega (arith, is_lowest ((place + more) - (second - first)) (omega arith)))
     (cases_lt (place + more) (second - first))
 
-back_there : (walks : Walks) (rank most first second place : ℕ) → StepsOn walks rank most → first < second → second ≤ most → there_of walks rank first ≡ there_of walks rank second → place < second - first → after_steps walks (second - first) (there_of walks rank (first + place)) ≡ Some (there_of walks rank (first + place))
+back_there : (walks : Walks) (rank most first second place : ℕ) → StepsOn walks rank most → first < second → second ≤ most → there_of walks rank first ≡ there_of walks rank second → place < second - first → after_steps (next_in walks) (second - first) (there_of walks rank (first + place)) ≡ Some (there_of walks rank (first + place))
 back_there walks rank most first second place on before within same low =
     let start = comes_to walks rank most (first + place) on (omega arith) in
     let whole = after_then walks (first + place) (second - first) (second + place) rank (there_of walks rank (first + place)) (omega arith) start in
@@ -157,16 +158,17 @@ comes_round walks rank on =
 
 -- a rank's cycle, told by its way home
 pub record TellsCycle (walks : Walks) (rank : ℕ) (ranks : List ℕ) : Type 0 where
-  pub is_cycle : IsCycle walks ranks
-  pub begins : slice_get ranks 0 ≡ Some rank
+  pub rest : List ℕ
+  pub begins : ranks ≡ rank ∷ rest
+  pub is_cycle : IsCycle (next_in walks) rank rest
 
 pub told_by_way : (walks : Walks) (most rank : ℕ) (ranks : List ℕ) → way_home walks most rank rank ≡ Some ranks → list_all (nat_le rank) ranks ≡ true → TellsCycle walks rank ranks
 told_by_way walks most rank ranks is_way all =
     let way = way_home_is walks most rank rank ranks is_way in
-    let cycle = way_is_cycle walks rank way.rest way.is_way (ap (λ (rs : List ℕ). list_all (nat_le rank) rs) (sym way.begins) ∙ all) in
     record {
-      is_cycle = subst (λ (rs : List ℕ). IsCycle walks rs) (sym way.begins) cycle;
-      begins = ap (λ (rs : List ℕ). slice_get rs 0) way.begins;
+      rest = way.rest;
+      begins = way.begins;
+      is_cycle = way_is_cycle walks rank way.rest way.is_way (ap (λ (rs : List ℕ). list_all (nat_le rank) rs) (sym way.begins) ∙ all);
     }
 
 cycle_listed : (walks : Walks) (rank : ℕ) (cause : CauseView) → rank < length walks → cycle_at walks rank ≡ Some cause → Among cause (causes_in walks)
@@ -191,7 +193,7 @@ next_is_waiting walks rank next (Some there) is h = record { there = there; goes
 pub record HasEnd (walks : Walks) (rank : ℕ) : Type 0 where
   pub cause : CauseView
   pub is_listed : Among cause (causes_in walks)
-  pub ends : ComesTo walks rank cause
+  pub ends : ComesTo (next_in walks) (missing_at walks) rank cause
 
 pub walk_ends : (walks : Walks) → WalkGoesOn walks → (rank : ℕ) → IsWaiting walks rank → HasEnd walks rank
 walk_ends walks on rank waiting =
@@ -204,7 +206,7 @@ walk_ends walks on rank waiting =
         record {
           cause = CycleOf found.way.ranks;
           is_listed = cycle_listed walks found.low (CycleOf found.way.ranks) found.is_rank (rw (found.way.is_way, found.way.no_lower) refl);
-          ends = record { steps = found.steps; end = found.low; comes_there = found.comes_there; is_end = (told.is_cycle, told.begins) };
+          ends = record { steps = found.steps; end = found.low; comes_there = found.comes_there; is_end = (told.rest, told.begins, told.is_cycle) };
         }
 
     by_run : (walks : Walks) (rank : ℕ) → ComesToMissing walks rank ⊎ StepsOn walks rank (length walks) → HasEnd walks rank
@@ -214,6 +216,6 @@ walk_ends walks on rank waiting =
           is_listed = missing_listed walks found.end (MissingOf found.end found.peer)
               (waiting_is_rank walks found.end (lacks_is_waiting walks found.end found.peer (onward_in walks found.end) refl found.lacks))
               (rw found.lacks refl);
-          ends = record { steps = found.steps; end = found.end; comes_there = found.comes_there; is_end = (refl, found.lacks) };
+          ends = record { steps = found.steps; end = found.end; comes_there = found.comes_there; is_end = rw found.lacks refl };
         }
     by_run walks rank (inr on) = by_cycle walks rank (comes_round walks rank on)

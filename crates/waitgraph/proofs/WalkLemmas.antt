@@ -2,7 +2,7 @@
 use Rattle.std.proofs.Common.{◌≡◌, ℕ, suc, ◌+◌, ◌-◌, ◌<◌, ◌≢◌, true, false, ◌==◌, Option, Some, None, List, [], ◌∷◌, ◌++◌, refl, sym, ap, append_assoc, arith}
 use Rattle.std.specs.Prelude.{option_map}
 use Rattle.std.proofs.lemmas.Bool.Decides.{nat_tests}
-use Rattle.waitgraph.specs.Causes.{Walks, next_in, way_home}
+use Rattle.waitgraph.specs.inner.Causes.{Walks, next_in, way_home}
 
 joined : (ranks : List ℕ) (rank : ℕ) (rest : Option (List ℕ)) → option_map (λ more. ranks ++ more) (option_map (λ more. rank ∷ more) rest) ≡ option_map (λ more. (ranks ++ rank ∷ []) ++ more) rest
 joined ranks rank None = refl

@@ -21,10 +21,11 @@ use Rattle.waitgraph.specs.Stuck.{unmet_of}
 use Rattle.waitgraph.specs.Waits.{Waits, needs_in}
 use Rattle.waitgraph.specs.inner.Waits.{waits_of}
 use Rattle.pairing.specs.LeftOpen.{leaves_open, is_left_open}
-use Rattle.waitgraph.specs.Held.{opened_of, standing_by, standing_at, standings_at, is_held}
-use Rattle.waitgraph.specs.Loose.{standing_of, are_held, onward_by, onward_of, FitTogether, GoesOnOrEnds}
-use Rattle.waitgraph.specs.Least.{Set}
-use Rattle.waitgraph.specs.Causes.{onward_in, to_of, walks_of, causes_of, WalksEndInTheCauses}
+use Rattle.waitgraph.specs.inner.Held.{opened_of, standing_by, standing_at, standings_at, is_held}
+use Rattle.waitgraph.specs.inner.Loose.{standing_of, are_held, onward_by, onward_of, FitTogether, GoesOnOrEnds}
+use Rattle.waitgraph.specs.Held.{Set}
+use Rattle.waitgraph.specs.inner.Causes.{onward_in, to_of, next_in, missing_at, walks_of, causes_of}
+use Rattle.waitgraph.specs.Causes.{TellsCauses}
 use Rattle.waitgraph.specs.declared.onward.Onward.{Onward}
 use Rattle.waitgraph.specs.declared.onward.Onward.TheVariants.{To, Lacks}
 use Rattle.waitgraph.specs.declared.standing.Standing.{Standing}
@@ -33,7 +34,7 @@ use Rattle.waitgraph.proofs.AmongLemmas.{Among, among_in, in_among}
 use Rattle.waitgraph.proofs.UnmetLemmas.{waits_are}
 use Rattle.waitgraph.proofs.GoingLemmas.{held_ranks_go_on}
 use Rattle.waitgraph.proofs.StuckLemmas.{ends_at, StandsBefore, stands_before, not_past, awaited_stands}
-use Rattle.waitgraph.proofs.WalkLaws.{IsWaiting, WalkGoesOn, waiting_is_rank, next_is_waiting, walk_ends}
+use Rattle.waitgraph.proofs.WalkLaws.{IsWaiting, WalkGoesOn, next_is_waiting, walk_ends}
 use Rattle.waitgraph.proofs.ListedLemmas.{each_is_an_end, none_twice}
 use Rattle.waitgraph.proofs.RangeLemmas.{in_table, past_table}
 
@@ -160,19 +161,19 @@ goes_on reading groups recording closed =
           (ap (λ (step : Option Onward). option_and_then to_of step) (sym (walk_is reading groups recording rank)) ∙ h));
     }
 
-walk_count : (reading : Reading) (groups : Groups) (recording : Lists) → length (walks_of reading groups recording) ≡ length recording
+pub walk_count : (reading : Reading) (groups : Groups) (recording : Lists) → length (walks_of reading groups recording) ≡ length recording
 walk_count reading groups recording =
     length-map-range_with_len (onward_of (opened_of recording) (standings_at recording (stands_of reading groups recording)) (waits_of reading groups recording)) 0 (length (standings_at recording (stands_of reading groups recording)))
     ∙ length-map-range_with_len (standing_at recording (stands_of reading groups recording)) 0 (length recording)
 
-pub walks_end_in_the_causes : WalksEndInTheCauses
-walks_end_in_the_causes reading groups recording closed = record {
-  each_walk_ends = λ rank is_rank held.
+-- the walks from the held ranks that the search finds end in the causes that it finds
+pub walks_end_in_found : (reading : Reading) (groups : Groups) (recording : Lists) → IsClosed recording → TellsCauses (next_in (walks_of reading groups recording)) (missing_at (walks_of reading groups recording)) (is_held reading groups recording) (causes_of reading groups recording)
+walks_end_in_found reading groups recording closed = record {
+  each_walk_ends = λ rank held.
       let end = walk_ends (walks_of reading groups recording) (goes_on reading groups recording closed) rank (held_waits reading groups recording closed rank held) in
       (end.cause, among_in end.cause (causes_of reading groups recording) end.is_listed, end.ends);
   each_is_an_end = λ cause listed.
       let start = each_is_an_end (walks_of reading groups recording) cause (in_among cause (causes_of reading groups recording) listed) in
-      let is_rank : start.rank < length recording = omega (arith, waiting_is_rank (walks_of reading groups recording) start.rank start.is_waiting, walk_count reading groups recording) in
-      (start.rank, is_rank, waiting_held reading groups recording start.rank start.is_waiting, start.ends);
+      (start.rank, waiting_held reading groups recording start.rank start.is_waiting, start.ends);
   none_twice = λ index other cause h k. none_twice (walks_of reading groups recording) index other cause h k;
 }

@@ -1,22 +1,16 @@
--- Why ranks are held. A held rank waits by the first of its unmet needs that is on a held rank, or for a call that
--- is lacking for good. The walk from rank to rank by these needs comes to a cycle of ranks or to a call that is
--- missing: that is the cause. Where no list was left open, each stuck rank is held, and this is its first unmet need.
+-- Why ranks are held. A held rank waits by the first of its unmet needs that is on a held rank, or that is missing.
+-- The walk from rank to rank by these needs comes to a cycle of ranks, or to a rank that waits for what is missing.
+use Rattle.mpicall.specs.Names.{Rank}
 use Rattle.moves.specs.declared.reading.Reading.{Reading}
-use Rattle.std.specs.Prelude.{◌≡◌, ℕ, zero, suc, ◌+◌, ◌-◌, ◌<◌, ◌≤◌, ◌==◌, true, nat_le, if◌then◌else◌, Option, Some, None, option_map, option_and_then, List, [], ◌∷◌, ◌++◌, length, map, slice_get}
+use Rattle.std.specs.Prelude.{◌≡◌, ◌↔◌, ℕ, zero, suc, nat_lt, true, find, if◌then◌else◌, Option, Some, None, option_map, option_and_then, List, [], ◌∷◌, ◌++◌, length, map, slice_get}
 use Rattle.std.specs.List.{list_all, filter_map, range_with_len}
 use Rattle.mpigroup.specs.Groups.{Groups}
 use Rattle.callnotes.specs.Recordings.{Lists, IsClosed}
-use Rattle.moves.specs.Runs.{State}
-use Rattle.moves.specs.Stands.{stands_of}
-use Rattle.waitgraph.specs.Held.{opened_of, standings_at, is_held}
-use Rattle.waitgraph.specs.Least.{Set}
-use Rattle.waitgraph.specs.Loose.{onward_of}
-use Rattle.waitgraph.specs.Waits.{Waits, waits_at}
-use Rattle.waitgraph.specs.declared.standing.Standing.{Standing}
+use Rattle.moves.specs.declared.need.Need.{Need}
+use Rattle.waitgraph.specs.Stuck.{rank_needed, unmet_of}
+use Rattle.waitgraph.specs.Held.{Set, is_missing, is_blocked, IsHeld, AreHeld}
 use Rattle.waitgraph.specs.declared.cause.Cause.{Cause}
 use Rattle.waitgraph.specs.declared.cause.Cause.TheVariants.{Cycle, Missing}
-use Rattle.waitgraph.specs.declared.onward.Onward.{Onward}
-use Rattle.waitgraph.specs.declared.onward.Onward.TheVariants.{To, Lacks}
 
 -- what contracts see of a cause: the ranks of a cycle, or the rank that waits and the peer that lacks the call
 pub data CauseView : Type 0 where
@@ -27,110 +21,75 @@ abbrev pub view_of : Cause → CauseView
 view_of (Cycle ranks) = CycleOf ranks.items
 view_of (Missing rank peer) = MissingOf rank peer
 
--- how the walk goes on from each rank; None where the rank isn't held
-abbrev pub Walks : Type 0
-Walks = List (Option Onward)
+-- the need by which a rank is held
+abbrev pub held_by : Reading → Groups → Lists → Set → Rank → Option Need
+held_by reading groups recording held rank = find (is_blocked recording held) (unmet_of reading groups recording rank)
 
-abbrev pub walks_in : Set → List Standing → Waits → Walks
-walks_in opened standings waits = map (onward_of opened standings waits) (range_with_len 0 (length standings))
+-- the rank for which it waits by it
+abbrev pub next_of : Reading → Groups → Lists → Set → Rank → Option ℕ
+next_of reading groups recording held rank =
+    option_and_then (λ need. if is_missing recording need then None else Some (rank_needed need))
+    (held_by reading groups recording held rank)
 
--- how it does in a state
-abbrev pub walks_at : Reading → Groups → Lists → State → Walks
-walks_at reading groups recording stands = walks_in (opened_of recording) (standings_at recording stands) (waits_at reading groups recording stands)
+-- the missing call for which it waits by it
+abbrev pub missing_of : Reading → Groups → Lists → Set → Rank → Option CauseView
+missing_of reading groups recording held rank =
+    option_and_then (λ need. if is_missing recording need then Some (MissingOf rank (rank_needed need)) else None)
+    (held_by reading groups recording held rank)
 
--- and at the stands
-abbrev pub walks_of : Reading → Groups → Lists → Walks
-walks_of reading groups recording = walks_at reading groups recording (stands_of reading groups recording)
+-- a cycle from its lowest rank on: each rank waits for the one after it, and the last for the first
+abbrev pub IsCycle : (ℕ → Option ℕ) → ℕ → List ℕ → Type 0
+IsCycle next low rest =
+    (map next (low ∷ rest) ≡ map (λ rank. Some rank) (rest ++ low ∷ [])) × (list_all (nat_lt low) rest ≡ true)
 
--- how it goes on from a rank
-abbrev pub onward_in : Walks → ℕ → Option Onward
-onward_in walks rank = option_and_then (λ there. there) (slice_get walks rank)
+-- the causes: the cycles by their lowest rank, and then the missing calls by the rank that waits
+pub record AreCauses (reading : Reading) (groups : Groups) (recording : Lists) (causes : List CauseView) : Type 0 where
+  pub held : Set
+  pub are_held : (rank : Rank) → (held rank ≡ true) ↔ IsHeld reading groups recording rank
+  pub rest_of : ℕ → Option (List ℕ)
+  pub are_cycles : (low : ℕ) (rest : List ℕ) → (rest_of low ≡ Some rest) ↔ IsCycle (next_of reading groups recording held) low rest
+  pub are_all : causes ≡
+      filter_map (λ low. option_map (λ rest. CycleOf (low ∷ rest)) (rest_of low)) (range_with_len 0 (length recording))
+      ++ filter_map (missing_of reading groups recording held) (range_with_len 0 (length recording))
 
--- the rank to which a walk goes on
-abbrev pub to_of : Onward → Option ℕ
-to_of (To rank) = Some rank
-to_of (Lacks rank) = None
+-- the rank to which a walk from a rank comes after so many steps
+abbrev pub after_steps : (ℕ → Option ℕ) → ℕ → Rank → Option Rank
+after_steps next zero rank = Some rank
+after_steps next (suc steps) rank = option_and_then (after_steps next steps) (next rank)
 
--- the rank that lacks the call at which a walk ends
-abbrev pub lacked_by : Onward → Option ℕ
-lacked_by (To rank) = None
-lacked_by (Lacks rank) = Some rank
-
--- the rank to which the walk goes on from a rank
-abbrev pub next_in : Walks → ℕ → Option ℕ
-next_in walks rank = option_and_then to_of (onward_in walks rank)
-
--- the rank that lacks the call for which a rank waits
-abbrev pub lacks_in : Walks → ℕ → Option ℕ
-lacks_in walks rank = option_and_then lacked_by (onward_in walks rank)
-
--- the ranks of the walk from a rank until it comes to `home`; None where it does not within so many steps
-abbrev pub way_home : Walks → ℕ → ℕ → ℕ → Option (List ℕ)
-way_home walks zero home rank = None
-way_home walks (suc most) home rank =
-    option_and_then (λ next. if next == home then Some (rank ∷ []) else option_map (λ ranks. rank ∷ ranks) (way_home walks most home next)) (next_in walks rank)
-
--- the cycle of ranks
-abbrev pub cycle_by : ℕ → List ℕ → Option CauseView
-cycle_by rank ranks = if list_all (nat_le rank) ranks then Some (CycleOf ranks) else None
-
--- the cycle whose lowest rank is the given one: the walk from it comes back to it and goes by no lower rank
-abbrev pub cycle_at : Walks → ℕ → Option CauseView
-cycle_at walks rank = option_and_then (cycle_by rank) (way_home walks (length walks) rank rank)
-
--- the missing call for which the rank waits
-abbrev pub missing_at : Walks → ℕ → Option CauseView
-missing_at walks rank = option_map (MissingOf rank) (lacks_in walks rank)
-
--- the cycles by their lowest rank, and then the missing calls by the rank that waits
-abbrev pub causes_in : Walks → List CauseView
-causes_in walks =
-    filter_map (cycle_at walks) (range_with_len 0 (length walks)) ++ filter_map (missing_at walks) (range_with_len 0 (length walks))
-
--- the causes of a recording
-abbrev pub causes_of : Reading → Groups → Lists → List CauseView
-causes_of reading groups recording = causes_in (walks_of reading groups recording)
-
--- the rank to which the walk from a rank comes after so many steps
-abbrev pub after_steps : Walks → ℕ → ℕ → Option ℕ
-after_steps walks zero rank = Some rank
-after_steps walks (suc steps) rank = option_and_then (after_steps walks steps) (next_in walks rank)
-
--- A cycle: distinct ranks, each of which waits for the next one and the last for the first, written from the
--- lowest on.
-pub record IsCycle (walks : Walks) (ranks : List ℕ) : Type 0 where
-  pub is_some : 0 < length ranks
-  pub waits_for_next : (index rank next : ℕ) → slice_get ranks index ≡ Some rank → slice_get ranks (index + 1) ≡ Some next → next_in walks rank ≡ Some next
-  pub last_waits_for_first : (rank first : ℕ) → slice_get ranks (length ranks - 1) ≡ Some rank → slice_get ranks 0 ≡ Some first → next_in walks rank ≡ Some first
-  pub are_distinct : (index other rank : ℕ) → slice_get ranks index ≡ Some rank → slice_get ranks other ≡ Some rank → index ≡ other
-  pub first_is_lowest : (index first rank : ℕ) → slice_get ranks 0 ≡ Some first → slice_get ranks index ≡ Some rank → first ≤ rank
-
--- the walk is at its end: at the lowest rank of a cycle, or at a rank that waits for a missing call
-abbrev pub IsEnd : Walks → ℕ → CauseView → Type 0
-IsEnd walks rank (CycleOf ranks) = IsCycle walks ranks × (slice_get ranks 0 ≡ Some rank)
-IsEnd walks rank (MissingOf waiting peer) = (waiting ≡ rank) × (lacks_in walks rank ≡ Some peer)
+-- the walk is at its end: at the lowest rank of a cycle, or at a rank that waits for what is missing
+abbrev pub IsEnd : (ℕ → Option ℕ) → (ℕ → Option CauseView) → Rank → CauseView → Type 0
+IsEnd next missing rank (CycleOf ranks) = (rest : List ℕ) × (ranks ≡ rank ∷ rest) × IsCycle next rank rest
+IsEnd next missing rank (MissingOf waiting peer) = missing rank ≡ Some (MissingOf waiting peer)
 
 -- the walk from the rank comes to the cause
-pub record ComesTo (walks : Walks) (rank : ℕ) (cause : CauseView) : Type 0 where
+pub record ComesTo (next : ℕ → Option ℕ) (missing : ℕ → Option CauseView) (rank : ℕ) (cause : CauseView) : Type 0 where
   pub steps : ℕ
-  pub end : ℕ
-  pub comes_there : after_steps walks steps rank ≡ Some end
-  pub is_end : IsEnd walks end cause
+  pub end : Rank
+  pub comes_there : after_steps next steps rank ≡ Some end
+  pub is_end : IsEnd next missing end cause
 
 -- the cause stands in the list
 abbrev pub IsListed : CauseView → List CauseView → Type 0
 IsListed cause causes = (index : ℕ) × (slice_get causes index ≡ Some cause)
 
--- the causes of a recording are those to which the walks from its held ranks come, each listed once
-pub record TellsCauses (reading : Reading) (groups : Groups) (recording : Lists) : Type 0 where
-  pub each_walk_ends : (rank : ℕ) → rank < length recording → is_held reading groups recording rank ≡ true →
-      (cause : CauseView) × IsListed cause (causes_of reading groups recording) × ComesTo (walks_of reading groups recording) rank cause
-  pub each_is_an_end : (cause : CauseView) → IsListed cause (causes_of reading groups recording) →
-      (rank : ℕ) × (rank < length recording) × (is_held reading groups recording rank ≡ true) × ComesTo (walks_of reading groups recording) rank cause
-  pub none_twice : (index other : ℕ) (cause : CauseView) →
-      slice_get (causes_of reading groups recording) index ≡ Some cause → slice_get (causes_of reading groups recording) other ≡ Some cause → index ≡ other
+-- the causes are those to which the walks from the held ranks come, each listed once
+pub record TellsCauses (next : ℕ → Option ℕ) (missing : ℕ → Option CauseView) (held : Set) (causes : List CauseView) : Type 0 where
+  pub each_walk_ends : (rank : ℕ) → held rank ≡ true → (cause : CauseView) × IsListed cause causes × ComesTo next missing rank cause
+  pub each_is_an_end : (cause : CauseView) → IsListed cause causes → (rank : ℕ) × (held rank ≡ true) × ComesTo next missing rank cause
+  pub none_twice : (index other : ℕ) (cause : CauseView) → slice_get causes index ≡ Some cause → slice_get causes other ≡ Some cause → index ≡ other
 
 -- Law: over every closed recording, the walk from each held rank comes to a cause that is listed, and each
 -- cause that is listed is one to which the walk from some held rank comes.
 abbrev pub WalksEndInTheCauses : Type 0
-WalksEndInTheCauses = (reading : Reading) (groups : Groups) (recording : Lists) → IsClosed recording → TellsCauses reading groups recording
+WalksEndInTheCauses =
+    (reading : Reading) (groups : Groups) (recording : Lists) (held : Set) (causes : List CauseView) → IsClosed recording →
+    AreHeld reading groups recording held → AreCauses reading groups recording causes →
+    TellsCauses (next_of reading groups recording held) (missing_of reading groups recording held) held causes
+
+-- Law: every closed recording has one list of causes.
+abbrev pub EachRecordingHasOneListOfCauses : Type 0
+EachRecordingHasOneListOfCauses =
+    (reading : Reading) (groups : Groups) (recording : Lists) → IsClosed recording →
+    (causes : List CauseView) × AreCauses reading groups recording causes
+    × ((others : List CauseView) → AreCauses reading groups recording others → others ≡ causes)

@@ -1,10 +1,11 @@
 -- What contracts see of a wait graph.
+use Rattle.mpicall.specs.Names.{Rank}
 use Rattle.moves.specs.declared.reading.Reading.{Reading}
 use Rattle.std.specs.Prelude.{◌≡◌, ℕ, Bool, List}
 use Rattle.mpigroup.specs.Groups.{Groups}
 use Rattle.callnotes.specs.Recordings.{Lists}
-use Rattle.waitgraph.specs.Causes.{CauseView, causes_of}
-use Rattle.waitgraph.specs.Held.{held_of, is_some_left_open}
+use Rattle.waitgraph.specs.Causes.{CauseView, AreCauses}
+use Rattle.waitgraph.specs.Held.{ListsHeld, is_some_left_open}
 use Rattle.waitgraph.specs.Waits.{Waits, needs_in}
 use Rattle.findings.specs.Findings.{findings_of}
 use Rattle.waitgraph.specs.Stuck.{stuck_of, unmet_of}
@@ -23,8 +24,8 @@ pub record GraphView : Type 0 where
 -- the graph is that of the recording
 pub record IsGraphOf (reading : Reading) (groups : Groups) (recording : Lists) (graph : GraphView) : Type 0 where
   pub stuck : graph.stuck ≡ stuck_of reading groups recording
-  pub held : graph.held ≡ held_of reading groups recording
+  pub held : ListsHeld reading groups recording graph.held
   pub left_open : graph.left_open ≡ is_some_left_open recording
-  pub unmet : (rank : ℕ) → needs_in graph.waits rank ≡ unmet_of reading groups recording rank
-  pub causes : graph.causes ≡ causes_of reading groups recording
+  pub unmet : (rank : Rank) → needs_in graph.waits rank ≡ unmet_of reading groups recording rank
+  pub causes : AreCauses reading groups recording graph.causes
   pub findings : graph.findings ≡ findings_of groups recording

@@ -1,7 +1,5 @@
 pub mod Stuck
 pub mod Waits
-pub mod Least
-pub mod Loose
 pub mod Held
 pub mod Causes
 pub mod Graphs

@@ -1,7 +1,8 @@
 -- Ranks that do not come to the end of their lists, and what each still waits for where it stands.
+use Rattle.mpicall.specs.Names.{Rank}
 use Rattle.moves.specs.declared.reading.Reading.{Reading}
 use Rattle.std.specs.Prelude.{◌≡◌, ℕ, ◌<◌, Bool, true, false, not, ◌&&◌, ◌||◌, ◌==◌, nat_lt, Some, List, [], ◌∷◌, ◌++◌, length, slice_get, slice_index}
-use Rattle.std.specs.List.{filter, list_all, range_with_len}
+use Rattle.std.specs.List.{filter, fold, list_all, range_with_len}
 use Rattle.mpigroup.specs.Groups.{Groups}
 use Rattle.callnotes.specs.Recordings.{Lists, IsClosed}
 use Rattle.moves.specs.Runs.{State}
@@ -10,24 +11,17 @@ use Rattle.moves.specs.Stands.{stands_of, is_at_end}
 use Rattle.moves.specs.declared.need.Need.{Need}
 use Rattle.moves.specs.declared.need.Need.TheVariants.{At, Lacking}
 
--- a rank is stuck in a state if its present call is not the one that ends its list
-abbrev pub is_stuck_at : Lists → State → ℕ → Bool
-is_stuck_at recording stands rank = not (is_at_end recording stands rank)
+-- a rank is stuck if its call at the stands is not the one that ends its list
+abbrev pub is_stuck : Reading → Groups → Lists → Rank → Bool
+is_stuck reading groups recording rank = not (is_at_end recording (stands_of reading groups recording) rank)
 
--- a rank is stuck if it is so at the stands
-abbrev pub is_stuck : Reading → Groups → Lists → ℕ → Bool
-is_stuck reading groups recording = is_stuck_at recording (stands_of reading groups recording)
-
--- the stuck ranks in a state, the lowest first
-abbrev pub stuck_at : Lists → State → List ℕ
-stuck_at recording stands = filter (is_stuck_at recording stands) (range_with_len 0 (length recording))
-
--- the stuck ranks
-abbrev pub stuck_of : Reading → Groups → Lists → List ℕ
-stuck_of reading groups recording = stuck_at recording (stands_of reading groups recording)
+-- the stuck ranks, the lowest first
+abbrev pub stuck_of : Reading → Groups → Lists → List Rank
+stuck_of reading groups recording =
+    filter (λ rank. not (is_at_end recording (stands_of reading groups recording) rank)) (range_with_len 0 (length recording))
 
 -- the rank that a need names
-abbrev pub rank_needed : Need → ℕ
+abbrev pub rank_needed : Need → Rank
 rank_needed (At rank place) = rank
 rank_needed (Lacking rank) = rank
 
@@ -45,21 +39,14 @@ comes_before need other = nat_lt (rank_needed need) (rank_needed other) || (rank
 abbrev pub with_need : List Need → Need → List Need
 with_need needs need = filter (λ other. comes_before other need) needs ++ need ∷ filter (comes_before need) needs
 
--- needs put among others one by one
-abbrev pub with_needs : List Need → List Need → List Need
-with_needs needs [] = needs
-with_needs needs (need ∷ more) = with_needs (with_need needs need) more
-
 -- the needs in order, each once
 abbrev pub needs_in_order : List Need → List Need
-needs_in_order needs = with_needs [] needs
-
-abbrev pub is_unmet : State → Need → Bool
-is_unmet stands need = not (is_met stands need)
+needs_in_order needs = fold with_need [] needs
 
 -- what the rank's present call in a state needs and is not met there, in order and each once
-unfoldable pub unmet_at : Reading → Groups → Lists → State → ℕ → List Need
-unmet_at reading groups recording stands rank = needs_in_order (filter (is_unmet stands) (needs_of reading groups recording rank (slice_index stands rank)))
+unfoldable pub unmet_at : Reading → Groups → Lists → State → Rank → List Need
+unmet_at reading groups recording stands rank =
+    needs_in_order (filter (λ need. not (is_met stands need)) (needs_of reading groups recording rank (slice_index stands rank)))
 
 -- the same at the stands
 abbrev pub unmet_of : Reading → Groups → Lists → ℕ → List Need
@@ -75,7 +62,7 @@ are_needs_in_order [] = true
 are_needs_in_order (need ∷ needs) = list_all (comes_before need) needs && are_needs_in_order needs
 
 -- what a rank still needs at the stands: each unmet need of its present call and no other, in order
-pub record TellsUnmet (reading : Reading) (groups : Groups) (recording : Lists) (rank : ℕ) : Type 0 where
+pub record TellsUnmet (reading : Reading) (groups : Groups) (recording : Lists) (rank : Rank) : Type 0 where
   pub stand_in_order : are_needs_in_order (unmet_of reading groups recording rank) ≡ true
   pub are_needs : (need : Need) → IsIn need (unmet_of reading groups recording rank) → IsIn need (needs_of reading groups recording rank (slice_index (stands_of reading groups recording) rank))
   pub are_unmet : (need : Need) → IsIn need (unmet_of reading groups recording rank) → is_met (stands_of reading groups recording) need ≡ false

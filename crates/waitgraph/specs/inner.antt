@@ -1,5 +1,10 @@
 -- What nobody has to believe: these definitions are cited by proofs and private contracts alone.
 pub mod Least
 pub mod Loose
+pub mod Held
+pub mod Causes
+pub mod Graphs
+pub mod Verdicts
 pub mod Spans
+pub mod Stuck
 pub mod Waits

@@ -1,14 +1,18 @@
 //! Who waits for whom where the ranks stand, and why.
 
-ghost use Rattle.std.specs.Prelude.{◌≡◌, ◌<◌, ℕ, length, map, IfOk, OnOk};
+ghost use Rattle.std.specs.Prelude.{◌≡◌, ◌<◌, ℕ, length, map, IfOk};
 ghost use Rattle.std.specs.List.{filter, range_with_len};
 ghost use Rattle.callnotes.specs.Recordings.{IsClosed};
-ghost use Rattle.waitgraph.specs.Stuck.{is_stuck_at, stuck_at, stuck_of, unmet_of};
-ghost use Rattle.waitgraph.specs.Causes.{view_of, walks_in, walks_at, causes_in, causes_of};
-ghost use Rattle.waitgraph.specs.Held.{held_at, held_of, is_some_left_open, opened_of};
-ghost use Rattle.waitgraph.specs.Loose.{are_held};
+ghost use Rattle.waitgraph.specs.Stuck.{stuck_of, unmet_of};
+ghost use Rattle.waitgraph.specs.inner.Stuck.{is_stuck_at, stuck_at};
+ghost use Rattle.waitgraph.specs.Causes.{view_of, AreCauses};
+ghost use Rattle.waitgraph.specs.inner.Causes.{walks_in, walks_at, causes_in};
+ghost use Rattle.waitgraph.specs.inner.Held.{held_at, opened_of};
+ghost use Rattle.waitgraph.specs.Held.{ListsHeld, is_some_left_open};
+ghost use Rattle.waitgraph.specs.inner.Loose.{are_held};
 ghost use Rattle.waitgraph.specs.Stays.{StayPut};
-ghost use Rattle.waitgraph.specs.Waits.{waits_at, needs_in};
+ghost use Rattle.waitgraph.specs.inner.Waits.{waits_at};
+ghost use Rattle.waitgraph.specs.Waits.{needs_in};
 ghost use Rattle.findings.specs.Findings.{findings_of};
 ghost use Rattle.waitgraph.specs.Verdicts.{verdict_by};
 
@@ -22,7 +26,7 @@ use crate::walk::causes_in;
 use findings::finding::{Finding, findings};
 use moves::analyser::Analyser;
 use moves::need::{Need, stand_of};
-use moves::reading::Reading;
+use moves::world::World;
 use pairing::pairs::Pairs;
 use std::alloc::{AllocError, Global};
 use std::marker::Model;
@@ -39,6 +43,7 @@ pub struct Graph {
     findings: Vec<Finding>,
 }
 
+// By hand: a derived drop is proved again at each exit of a function that owns one.
 impl Drop for Graph {
     fn drop(self) {
         let Graph {
@@ -80,17 +85,12 @@ fn stuck_at(alloc: Global, pairs: &Pairs, stands: &[u32]) -> Result<Vec<u16>, Al
         .collect(alloc)
 }
 
-fn waits_at(
-    alloc: Global,
-    reading: Reading,
-    pairs: &Pairs,
-    stands: &[u32],
-) -> Result<Waits, AllocError>
-    ensures { IfOk result (λ waits. waits ≡ waits_at reading pairs.now.groups pairs.now.recording stands.now) }
+fn waits_at(alloc: Global, world: &World, stands: &[u32]) -> Result<Waits, AllocError>
+    ensures { IfOk result (λ waits. waits ≡ waits_at world.now.reading world.now.pairs.groups world.now.pairs.recording stands.now) }
 {
     let mut waits = Waits::new(alloc);
-    for rank in 0..pairs.head().ranks() {
-        waits.push(&unmet_at(alloc, reading, pairs, stands, rank)?)?;
+    for rank in 0..world.pairs.head().ranks() {
+        waits.push(&unmet_at(alloc, world, stands, rank)?)?;
     }
     Ok(waits)
 }
@@ -127,21 +127,17 @@ fn who_is_held(
     })
 }
 
-fn graph_at(
-    alloc: Global,
-    reading: Reading,
-    pairs: &Pairs,
-    stands: &[u32],
-) -> Result<Graph, AllocError>
-    ensures stuck { IfOk result (λ graph. graph.stuck ≡ stuck_at pairs.now.recording stands.now) }
-    ensures held { IfOk result (λ graph. graph.held ≡ held_at reading pairs.now.groups pairs.now.recording stands.now) }
-    ensures left_open { IfOk result (λ graph. graph.left_open ≡ is_some_left_open pairs.now.recording) }
-    ensures waits { IfOk result (λ graph. graph.waits ≡ waits_at reading pairs.now.groups pairs.now.recording stands.now) }
-    ensures causes { IfOk result (λ graph. graph.causes ≡ causes_in (walks_at reading pairs.now.groups pairs.now.recording stands.now)) }
-    ensures findings { IfOk result (λ graph. graph.findings ≡ findings_of pairs.now.groups pairs.now.recording) }
+fn graph_at(alloc: Global, world: &World, stands: &[u32]) -> Result<Graph, AllocError>
+    ensures stuck { IfOk result (λ graph. graph.stuck ≡ stuck_at world.now.pairs.recording stands.now) }
+    ensures held { IfOk result (λ graph. graph.held ≡ held_at world.now.reading world.now.pairs.groups world.now.pairs.recording stands.now) }
+    ensures left_open { IfOk result (λ graph. graph.left_open ≡ is_some_left_open world.now.pairs.recording) }
+    ensures waits { IfOk result (λ graph. graph.waits ≡ waits_at world.now.reading world.now.pairs.groups world.now.pairs.recording stands.now) }
+    ensures causes { IfOk result (λ graph. graph.causes ≡ causes_in (walks_at world.now.reading world.now.pairs.groups world.now.pairs.recording stands.now)) }
+    ensures findings { IfOk result (λ graph. graph.findings ≡ findings_of world.now.pairs.groups world.now.pairs.recording) }
 {
+    let pairs = &world.pairs;
     let stuck = stuck_at(alloc, pairs, stands)?;
-    let waits = waits_at(alloc, reading, pairs, stands)?;
+    let waits = waits_at(alloc, world, stands)?;
     let standings = standings_at(alloc, pairs, stands)?;
     let Found {
         held,
@@ -167,20 +163,15 @@ impl Graph {
     pub fn of(alloc: Global, analyser: &Analyser) -> Result<Graph, AllocError>
         requires { IsClosed analyser.now.recording }
         ensures stuck { IfOk result (λ graph. graph.stuck ≡ stuck_of analyser.now.reading analyser.now.groups analyser.now.recording) }
-        ensures held { IfOk result (λ graph. graph.held ≡ held_of analyser.now.reading analyser.now.groups analyser.now.recording) }
+        ensures held { IfOk result (λ graph. ListsHeld analyser.now.reading analyser.now.groups analyser.now.recording graph.held) }
         ensures stays { IfOk result (λ graph. StayPut analyser.now.reading analyser.now.groups analyser.now.recording graph.held) }
         ensures left_open { IfOk result (λ graph. graph.left_open ≡ is_some_left_open analyser.now.recording) }
         ensures unmet { IfOk result (λ graph. (rank : ℕ) → needs_in graph.waits rank ≡ unmet_of analyser.now.reading analyser.now.groups analyser.now.recording rank) }
-        ensures causes { IfOk result (λ graph. graph.causes ≡ causes_of analyser.now.reading analyser.now.groups analyser.now.recording) }
+        ensures causes { IfOk result (λ graph. AreCauses analyser.now.reading analyser.now.groups analyser.now.recording graph.causes) }
         ensures findings { IfOk result (λ graph. graph.findings ≡ findings_of analyser.now.groups analyser.now.recording) }
     {
         analyser.stands_are_the_end();
-        let graph = graph_at(
-            alloc,
-            analyser.reading(),
-            analyser.pairs(),
-            analyser.stands(),
-        )?;
+        let graph = graph_at(alloc, analyser.world(), analyser.stands())?;
         Ok(graph)
     }
 

@@ -4,8 +4,8 @@
 //!
 //! - `graph::Graph::of` answers the stuck ranks of a closed recording, for each rank the needs of its present
 //!   call that aren't met where the ranks stand, by rank and place and each once (`Stuck`), the held ranks,
-//!   which are the stuck ones that aren't loose, where a loose rank stands at an `open` or waits for loose ranks
-//!   alone (`Loose`, `Held`), and the causes: the cycles of held ranks that wait for each other, and the calls
+//!   which are the greatest deadlocked set: each member waits for a member, or for a call that a rank lacks
+//!   whose list ended (`Held`), and the causes: the cycles of held ranks that wait for each other, and the calls
 //!   that a held rank waits for and its peer lacks for good (`Causes`).
 //! - Each held rank stands where it does, whatever calls stand in the place of an `open` (`Stays`).
 //! - `Graph::verdict` answers the verdict: `Hang` exactly if some rank is held, else `Unfinished` if some list
@@ -13,8 +13,9 @@
 //! - Its findings are what else is wrong with the recording, as the crate `findings` defines them.
 //! - Laws, each on a function that does nothing: the unmet needs are those needs of the present call that
 //!   aren't met and no others; each stuck rank has one, no other rank has, and who is waited for at a place is
-//!   stuck too; the loose ranks are the least set that has each rank which it makes loose; the walk from each
-//!   held rank comes to a listed cause, each listed cause is the end of such a walk, and none is listed twice.
+//!   stuck too; the held ranks are the greatest deadlocked set; a closed recording has one verdict and one list of
+//!   causes; the walk from each held rank comes to a listed cause, each listed cause is the end of such a walk,
+//!   and none is listed twice.
 //!
 //! What only proofs and private contracts cite is in `specs/inner/`, and nobody has to believe it.
 //!

@@ -4,12 +4,12 @@
 //! none. Mostly two or three sweeps are enough. A worklist would want who waits for whom the other way
 //! round.
 
-ghost use Rattle.std.specs.Prelude.{◌≡◌, ◌<◌, ℕ, true, false, length, replicate, slice_set, find, IfOk};
+ghost use Rattle.std.specs.Prelude.{◌≡◌, ◌<◌, ℕ, true, false, length, replicate, slice_set, IfOk};
 ghost use Rattle.std.specs.List.{filter, list_all, range_with_len};
-ghost use Rattle.waitgraph.specs.Causes.{walks_in};
+ghost use Rattle.waitgraph.specs.inner.Causes.{walks_in};
+ghost use Rattle.waitgraph.specs.Held.{TheHeldAreTheGreatest};
 ghost use Rattle.waitgraph.specs.Stays.{HeldRanksStay};
-ghost use Rattle.waitgraph.specs.Loose.{set_of, standing_of, is_on, loosens, are_loose, are_held, goes_on, onward, onward_by, onward_of, HeldRanksGoOn, TheLooseAreTheLeast};
-ghost use Rattle.waitgraph.specs.inner.Loose.{Sweeps};
+ghost use Rattle.waitgraph.specs.inner.Loose.{set_of, standing_of, is_on, loosens, are_loose, are_held, goes_on, onward, onward_by, onward_of, Sweeps};
 
 use crate::onward::Onward;
 use crate::standing::Standing;
@@ -242,19 +242,13 @@ pub(crate) fn walks_in(
         .collect(alloc)
 }
 
-/// The loose ranks are the least set that has each rank which it makes loose.
-pub fn the_loose_are_the_least()
-    ensures { TheLooseAreTheLeast }
+/// Over every closed recording, the held ranks are the greatest deadlocked set.
+pub fn the_held_are_the_greatest()
+    ensures { TheHeldAreTheGreatest }
 {}
 
 /// Each held rank stands where it does, whatever calls stand in the place of the opens. It has no premise: what comes
 /// there need not be a lawful list.
 pub fn held_ranks_stay()
     ensures { HeldRanksStay }
-{}
-
-/// The walk from a held rank goes on to a held rank, or ends at a call that is lacking for good.
-#[tactic(auto, using(crate::proofs::GoingLemmas::held_ranks_go_on))]
-pub fn held_ranks_go_on()
-    ensures { HeldRanksGoOn }
 {}

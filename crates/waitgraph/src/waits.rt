@@ -21,6 +21,7 @@ pub(crate) struct Waits {
     spans: Vec<Span>,
 }
 
+// By hand: a derived drop is proved again at each exit of a function that owns one.
 impl Drop for Waits {
     fn drop(self) {
         let Waits { needs: _, spans: _ } = self;

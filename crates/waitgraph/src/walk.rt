@@ -7,7 +7,8 @@
 ghost use Rattle.std.specs.Prelude.{◌≡◌, ◌<◌, ◌++◌, nat_le, length, map, option_map, IfOk, OnOk};
 ghost use Rattle.std.specs.Option.{option_to_list};
 ghost use Rattle.std.specs.List.{filter_map, range_with_len, list_all};
-ghost use Rattle.waitgraph.specs.Causes.{view_of, next_in, lacks_in, way_home, cycle_at, missing_at, causes_in, WalksEndInTheCauses};
+ghost use Rattle.waitgraph.specs.Causes.{view_of, WalksEndInTheCauses, EachRecordingHasOneListOfCauses};
+ghost use Rattle.waitgraph.specs.inner.Causes.{next_in, lacks_in, way_home, cycle_at, missing_at, causes_in};
 
 use crate::cause::Cause;
 use crate::onward::Onward;
@@ -131,7 +132,13 @@ pub(crate) fn causes_in(alloc: Global, walks: &[Option<Onward>]) -> Result<Vec<C
 
 /// The walk from each held rank of a closed recording comes to a cause that is listed, and each cause that
 /// is listed is one to which the walk from some held rank comes. None is listed twice.
-#[tactic(auto, using(crate::proofs::WalkingLemmas::walks_end_in_the_causes))]
+#[tactic(auto, using(crate::proofs::CauseLemmas::walks_end_in_the_causes))]
 pub fn walks_end_in_the_causes()
     ensures { WalksEndInTheCauses }
+{}
+
+/// Every closed recording has one list of causes.
+#[tactic(auto, using(crate::proofs::CauseLemmas::each_recording_has_one_list_of_causes))]
+pub fn each_recording_has_one_list_of_causes()
+    ensures { EachRecordingHasOneListOfCauses }
 {}

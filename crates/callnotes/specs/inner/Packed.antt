@@ -2,7 +2,7 @@
 use Rattle.std.specs.Prelude.{ℕ, ◌+◌, ◌*◌, ◌≤◌, Option, Some, None, IsSome, option_and_then, unwrap_or, List, [], ◌∷◌, map, length, take, drop, slice_get, IsTrue}
 use Rattle.std.specs.List.{All}
 use Rattle.mpicall.specs.declared.limits.TheConstants.{MOST_REQUESTS}
-use Rattle.mpicall.specs.Laid.{call_by}
+use Rattle.mpicall.specs.inner.Laid.{call_from}
 use Rattle.mpicall.specs.Limits.{in_ranges}
 use Rattle.mpicall.specs.declared.call.Call.{Call}
 use Rattle.mpicall.specs.declared.call.Peer.TheVariants.{Rank}
@@ -59,11 +59,11 @@ unpack_starts starts _ = []
 
 -- the call of a name and what follows it; none of an operation and of a wait
 abbrev pub plain_of : Packed → Option Call
-plain_of (Nothing name) = Some (call_by name laid.Nothing)
-plain_of (Message name comm source tag) = Some (call_by name (laid.Message comm source tag))
-plain_of (Exchange name comm dest source send_tag recv_tag bytes) = Some (call_by name (laid.Exchange comm dest send_tag source recv_tag bytes))
-plain_of (Copy name comm new) = Some (call_by name (laid.Copy comm new))
-plain_of (Split name comm colour key new) = Some (call_by name (laid.Split comm colour key new))
+plain_of (Nothing name) = Some (call_from name laid.Nothing)
+plain_of (Message name comm source tag) = Some (call_from name (laid.Message comm source tag))
+plain_of (Exchange name comm dest source send_tag recv_tag bytes) = Some (call_from name (laid.Exchange comm dest send_tag source recv_tag bytes))
+plain_of (Copy name comm new) = Some (call_from name (laid.Copy comm new))
+plain_of (Split name comm colour key new) = Some (call_from name (laid.Split comm colour key new))
 plain_of _ = None
 
 -- the call: a wait names the requests that the calls at its starts start

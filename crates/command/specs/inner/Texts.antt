@@ -4,8 +4,7 @@ use Rattle.std.specs.Borrow.{Bor}
 use Rattle.std.specs.Io.KnownBytes.{Appends}
 use Rattle.mpigroup.specs.HeadText.{read_head}
 use Rattle.waitgraph.specs.declared.verdict.Verdict.{Verdict}
-use Rattle.moves.specs.declared.reading.Reading.{Reading}
-use Rattle.reports.specs.declared.report.Format.{Format}
+use Rattle.command.specs.declared.options.Options.{Options}
 use Rattle.command.specs.declared.fault.Fault.{Fault}
 use Rattle.command.specs.declared.fault.Fault.TheVariants.{Open, ReadHead, Head, Memory}
 use Rattle.command.specs.Texts.{IsUnopened, IsReportOf}
@@ -31,6 +30,6 @@ IsFaultOfOpening told files Memory = ⊤
 IsFaultOfOpening told files fault = ⊥
 
 -- the report follows what was there
-abbrev pub WritesReportOf : {O : Type 0} → (O → Option (List ℕ)) → O → O → Reading → Format → Option (List ℕ) → List (Option (List ℕ)) → Verdict → Type 0
-WritesReportOf written old new reading format head files verdict =
-    (report : List ℕ) × IsReportOf reading format head files verdict report × Appends (written old) (written new) report
+abbrev pub WritesReportOf : {O : Type 0} → (O → Option (List ℕ)) → O → O → Options → Option (List ℕ) → List (Option (List ℕ)) → Verdict → Type 0
+WritesReportOf written old new options head files verdict =
+    (report : List ℕ) × IsReportOf options head files verdict report × Appends (written old) (written new) report

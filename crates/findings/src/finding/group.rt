@@ -5,7 +5,6 @@ ghost use Rattle.std.specs.Str.{bytes_eq};
 ghost use Rattle.std.specs.Option.{option_map_or};
 ghost use Rattle.mpigroup.specs.Groups.{Groups, group_of};
 ghost use Rattle.callnotes.specs.Recordings.{Lists};
-ghost use Rattle.callnotes.specs.Waves.{wave_of};
 ghost use Rattle.findings.specs.Places.{call_of_member, over_places};
 ghost use Rattle.findings.specs.Findings.{same_word, all_call_alike, choice_of, choices_in, split_ranks, in_world, member_makes, is_given, makes_given, is_wrong_group, is_wrong_at, group_at, wrong_groups_of};
 ghost use Rattle.findings.specs.inner.Makings.{is_wrong_making, is_same_making, known_of, IsKnown};
@@ -16,7 +15,6 @@ use crate::finding::Finding;
 use crate::finding::kind::is_same_word;
 use crate::finding::making::{Making, making_call, making_of};
 use crate::finding::wave::call_of_member;
-use callnotes::call_ref::CallRef;
 use callnotes::comm::makes;
 use mpicall::call::Call;
 use mpigroup::split::colour_group;
@@ -142,21 +140,6 @@ fn has_group(alloc: Global, pairs: &Pairs, comm: u16, group: &[u16]) -> Result<b
     Ok(by_head.as_slice() == group)
 }
 
-/// Whether the new communicator has the group by the head, and the first member names it as well.
-fn is_given(
-    alloc: Global,
-    pairs: &Pairs,
-    comm: u16,
-    wave: u32,
-    new: u16,
-    group: &[u16],
-    first: Option<u16>,
-) -> Result<bool, AllocError>
-    ensures { IfOk result (λ is. is ≡ is_given pairs.now.groups pairs.now.recording comm wave new group.now first) }
-{
-    Ok(has_group(alloc, pairs, new, group)? && first_makes(pairs, comm, wave, new, first))
-}
-
 /// Whether a dup's new communicator is the one that the wave gives.
 fn is_dup_given(
     alloc: Global,
@@ -168,32 +151,27 @@ fn is_dup_given(
     ensures { IfOk result (λ is. is ≡ is_given pairs.now.groups pairs.now.recording comm wave new (group_of pairs.now.groups comm) (Some 0)) }
 {
     let group = group_of(alloc, pairs, comm)?;
-    is_given(alloc, pairs, comm, wave, new, group.as_slice(), Some(0))
+    Ok(has_group(alloc, pairs, new, &group)? && member_makes(pairs, comm, wave, new, 0))
 }
 
 /// Whether a split's new communicator is the one that the wave gives the colour.
 fn is_split_given(
     alloc: Global,
     pairs: &Pairs,
-    comm: u16,
-    wave: u32,
+    joined: (u16, u32),
     colour: u32,
     new: u16,
 ) -> Result<bool, AllocError>
-    ensures { IfOk result (λ is. is ≡ is_given pairs.now.groups pairs.now.recording comm wave new
-        (in_world pairs.now.groups comm (split_ranks pairs.now.groups pairs.now.recording comm wave colour))
-        (slice_get (split_ranks pairs.now.groups pairs.now.recording comm wave colour) 0)) }
+    ensures { IfOk result (λ is. is ≡ is_given pairs.now.groups pairs.now.recording joined.0 joined.1 new
+        (in_world pairs.now.groups joined.0 (split_ranks pairs.now.groups pairs.now.recording joined.0 joined.1 colour))
+        (slice_get (split_ranks pairs.now.groups pairs.now.recording joined.0 joined.1 colour) 0)) }
 {
+    let (comm, wave) = joined;
     let ranks = split_ranks(alloc, pairs, comm, wave, colour)?;
-    let group = in_world(alloc, pairs, comm, ranks.as_slice())?;
-    is_given(
-        alloc,
-        pairs,
-        comm,
-        wave,
-        new,
-        group.as_slice(),
-        ranks.first().copied(),
+    let group = in_world(alloc, pairs, comm, &ranks)?;
+    Ok(
+        has_group(alloc, pairs, new, &group)?
+            && first_makes(pairs, comm, wave, new, ranks.first().copied()),
     )
 }
 
@@ -214,7 +192,7 @@ fn makes_given(
             colour: Some(colour),
             new: Some(new),
             ..
-        } => is_split_given(alloc, pairs, comm, wave, colour, new),
+        } => is_split_given(alloc, pairs, (comm, wave), colour, new),
         _ => Ok(true),
     }
 }
@@ -289,47 +267,22 @@ fn is_wrong_call(
     alloc: Global,
     known: &mut Known,
     pairs: &Pairs,
-    comm: u16,
-    wave: u32,
+    joined: (u16, u32),
     call: &Call,
 ) -> Result<bool, AllocError>
     requires { IsKnown pairs.now.groups pairs.now.recording known.old }
-    ensures value { IfOk result (λ is. is ≡ is_wrong_group pairs.now.groups pairs.now.recording call.now (comm, wave)) }
+    ensures value { IfOk result (λ is. is ≡ is_wrong_group pairs.now.groups pairs.now.recording call.now joined) }
     ensures known { OnOk result (IsKnown pairs.now.groups pairs.now.recording known.new) }
 {
-    match making_of(comm, wave, call) {
+    match making_of(joined.0, joined.1, call) {
         Some(making) => known.is_wrong(alloc, pairs, making),
         None => Ok(false),
     }
 }
 
-/// The same of a call that is kept, in the wave that it joins, if it joins one. A collective of a kind makes no
+/// Whether the call at the place has such a group, in the wave that it joins. A collective of a kind makes no
 /// communicator.
 #[tactic(auto, using(crate::proofs::AlikeLemmas::no_wave_is_wrong))]
-fn is_wrong_stored(
-    alloc: Global,
-    known: &mut Known,
-    pairs: &Pairs,
-    rank: u16,
-    place: u32,
-    call: &CallRef<'_>,
-) -> Result<bool, AllocError>
-    requires { IsKnown pairs.now.groups pairs.now.recording known.old }
-    ensures value { IfOk result (λ is. is ≡ option_map_or (is_wrong_group pairs.now.groups pairs.now.recording call.now) (wave_of pairs.now.recording rank place) false) }
-    ensures known { OnOk result (IsKnown pairs.now.groups pairs.now.recording known.new) }
-{
-    if call.kind().is_some() {
-        return Ok(false);
-    }
-    match pairs.wave_of(rank, place) {
-        Some((comm, wave)) => {
-            is_wrong_call(alloc, known, pairs, comm, wave, call.record().as_call())
-        }
-        None => Ok(false),
-    }
-}
-
-/// Whether the call at the place has such a group.
 fn is_wrong_at(
     alloc: Global,
     known: &mut Known,
@@ -342,14 +295,16 @@ fn is_wrong_at(
     ensures known { OnOk result (IsKnown pairs.now.groups pairs.now.recording known.new) }
 {
     match pairs.call(rank, place) {
-        Some(call) => is_wrong_stored(alloc, known, pairs, rank, place, &call),
-        None => Ok(false),
+        Some(call) if call.kind().is_none() => match pairs.wave_of(rank, place) {
+            Some(joined) => is_wrong_call(alloc, known, pairs, joined, call.record().as_call()),
+            None => Ok(false),
+        },
+        _ => Ok(false),
     }
 }
 
 #[tactic(auto, unfolding(crate::specs::Findings::group_at))]
 fn add_at(
-    alloc: Global,
     findings: &mut Vec<Finding>,
     known: &mut Known,
     pairs: &Pairs,
@@ -360,7 +315,7 @@ fn add_at(
     ensures value { OnOk result (findings.new.items ≡ findings.old.items ++ group_at pairs.now.groups pairs.now.recording rank place) }
     ensures known { OnOk result (IsKnown pairs.now.groups pairs.now.recording known.new) }
 {
-    if is_wrong_at(alloc, known, pairs, rank, place)? {
+    if is_wrong_at(*findings.allocator(), known, pairs, rank, place)? {
         findings.push(Finding::Group { rank, place })?;
     }
     Ok(())
@@ -368,7 +323,6 @@ fn add_at(
 
 #[tactic(auto, using(crate::proofs::FindingLemmas::one_more))]
 fn add_of_rank(
-    alloc: Global,
     findings: &mut Vec<Finding>,
     known: &mut Known,
     pairs: &Pairs,
@@ -380,7 +334,7 @@ fn add_of_rank(
     ensures known { OnOk result (IsKnown pairs.now.groups pairs.now.recording known.new) }
 {
     for place in 0..calls(pairs, rank) {
-        add_at(alloc, findings, known, pairs, rank, place)?;
+        add_at(findings, known, pairs, rank, place)?;
     }
     Ok(())
 }
@@ -400,7 +354,7 @@ pub fn add_wrong_groups(
     }
     let mut known = Known::new(alloc);
     for rank in 0..ranks(pairs) {
-        add_of_rank(alloc, findings, &mut known, pairs, rank)?;
+        add_of_rank(findings, &mut known, pairs, rank)?;
     }
     Ok(())
 }

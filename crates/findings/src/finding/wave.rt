@@ -39,14 +39,14 @@ pub(crate) enum Compared {
 /// What the comparison finds of a member's call.
 fn difference(
     compared: Compared,
-    comm: u16,
-    wave: u32,
+    joined: (u16, u32),
     member: u16,
     first: &Call,
     call: &Call,
 ) -> Option<Finding>
-    ensures { option_to_list result ≡ comparison_of compared comm wave member first.now call.now }
+    ensures { option_to_list result ≡ comparison_of compared joined.0 joined.1 member first.now call.now }
 {
+    let (comm, wave) = joined;
     match compared {
         Compared::Kinds => kind_found(comm, wave, member, first, call),
         Compared::Roots => root_found(comm, wave, member, first, call),
@@ -126,21 +126,14 @@ fn is_of_kind(pairs: &Pairs, comm: u16, wave: u32, g: u16, first: Option<Kind>) 
 }
 
 /// Whether a member's calls in the first waves of a block are of these kinds, which are the first member's.
-fn is_alike_in_block(
-    pairs: &Pairs,
-    comm: u16,
-    from: u32,
-    kinds: &[Option<Kind>; WAVES_A_BLOCK],
-    count: usize,
-    g: u16,
-) -> bool
+fn is_alike_in_block(pairs: &Pairs, comm: u16, from: u32, kinds: &[Option<Kind>], g: u16) -> bool
     requires few { from ≤ most_calls }
-    requires within { count ≤ WAVES_A_BLOCK }
-    requires first { AreFirstKinds pairs.now.groups pairs.now.recording comm from count kinds.now }
-    ensures { IsTrue result → (compared : Compared) (i : ℕ) → i < count →
+    requires within { length kinds.now ≤ WAVES_A_BLOCK }
+    requires first { AreFirstKinds pairs.now.groups pairs.now.recording comm from (length kinds.now) kinds.now }
+    ensures { IsTrue result → (compared : Compared) (i : ℕ) → i < length kinds.now →
         found_of_member (comparison_of compared) pairs.now.groups pairs.now.recording comm (from + i) g ≡ [] }
 {
-    for i in 0..count {
+    for i in 0..kinds.len() {
         if !is_of_kind(pairs, comm, from + i as u32, g, kinds[i]) {
             return false;
         }
@@ -157,7 +150,7 @@ fn are_alike_in_block(pairs: &Pairs, comm: u16, from: u32, count: usize) -> bool
 {
     let kinds = first_kinds(pairs, comm, from, count);
     for g in 1..members(pairs, comm) {
-        if !is_alike_in_block(pairs, comm, from, &kinds, count, g) {
+        if !is_alike_in_block(pairs, comm, from, &kinds[..count], g) {
             return false;
         }
     }
@@ -218,43 +211,20 @@ fn keep_callers(others: &mut Vec<u16>, pairs: &Pairs, comm: u16, wave: u32)
 fn found_of_member(
     pairs: &Pairs,
     compared: Compared,
-    comm: u16,
-    wave: u32,
+    joined: (u16, u32),
     first: &Option<CallRef<'_>>,
     g: u16,
 ) -> Option<Finding>
-    requires { first.now ≡ call_of_member pairs.now.groups pairs.now.recording comm wave 0 }
-    ensures { option_to_list result ≡ found_of_member (comparison_of compared) pairs.now.groups pairs.now.recording comm wave g }
+    requires { first.now ≡ call_of_member pairs.now.groups pairs.now.recording joined.0 joined.1 0 }
+    ensures { option_to_list result ≡ found_of_member (comparison_of compared) pairs.now.groups pairs.now.recording joined.0 joined.1 g }
 {
-    let call = stored_of_member(pairs, comm, wave, g)?;
+    let call = stored_of_member(pairs, joined.0, joined.1, g)?;
     match first {
         Some(first) if !are_alike(first, &call) => {
             let (first, call) = (first.record(), call.record());
-            difference(compared, comm, wave, g, first.as_call(), call.as_call())
+            difference(compared, joined, g, first.as_call(), call.as_call())
         }
         _ => None,
-    }
-}
-
-fn add_of_member(
-    findings: &mut Vec<Finding>,
-    pairs: &Pairs,
-    compared: Compared,
-    comm: u16,
-    wave: u32,
-    first: &Option<CallRef<'_>>,
-    g: u16,
-) -> Result<(), AllocError>
-    requires { first.now ≡ call_of_member pairs.now.groups pairs.now.recording comm wave 0 }
-    ensures { OnOk result (findings.new.items
-        ≡ findings.old.items ++ found_of_member (comparison_of compared) pairs.now.groups pairs.now.recording comm wave g) }
-{
-    match found_of_member(pairs, compared, comm, wave, first, g) {
-        Some(finding) => {
-            findings.push(finding)?;
-            Ok(())
-        }
-        None => Ok(()),
     }
 }
 
@@ -263,16 +233,17 @@ fn add_in_wave(
     findings: &mut Vec<Finding>,
     pairs: &Pairs,
     compared: Compared,
-    comm: u16,
-    wave: u32,
+    joined: (u16, u32),
     others: &[u16],
 ) -> Result<(), AllocError>
     ensures { OnOk result (findings.new.items
-        ≡ findings.old.items ++ flat_map (found_of_member (comparison_of compared) pairs.now.groups pairs.now.recording comm wave) others.now) }
+        ≡ findings.old.items ++ flat_map (found_of_member (comparison_of compared) pairs.now.groups pairs.now.recording joined.0 joined.1) others.now) }
 {
-    let first = stored_of_member(pairs, comm, wave, 0);
+    let first = stored_of_member(pairs, joined.0, joined.1, 0);
     for g in others {
-        add_of_member(findings, pairs, compared, comm, wave, &first, *g)?;
+        if let Some(finding) = found_of_member(pairs, compared, joined, &first, *g) {
+            findings.push(finding)?;
+        }
     }
     Ok(())
 }
@@ -291,7 +262,7 @@ fn add_in_comm(
     let mut others = other_members(*findings.allocator(), pairs, comm)?;
     for wave in 0..waves(pairs, comm) {
         keep_callers(&mut others, pairs, comm, wave);
-        add_in_wave(findings, pairs, compared, comm, wave, &others)?;
+        add_in_wave(findings, pairs, compared, (comm, wave), &others)?;
     }
     Ok(())
 }

@@ -1,6 +1,8 @@
 -- What `Waiting` says, of a world (the calls with the reading of their sends) and of the positions of its ranks.
-use Rattle.std.specs.Prelude.{◌≡◌, ◌≤◌, ℕ, Some, slice_get}
+use Rattle.std.specs.Prelude.{◌≡◌, ◌≤◌, ℕ, Option, Some, option_map, slice_get, IfSome}
 use Rattle.callnotes.specs.Recordings.{calls_of}
+use Rattle.pairing.specs.Seen.{call_seen, IsSeen}
+use Rattle.pairing.specs.declared.call_at.CallAt.{CallAt}
 use Rattle.mpicall.specs.declared.call.Call.{Call}
 use Rattle.moves.specs.declared.look.Look.{Look}
 use Rattle.moves.specs.declared.world.World.{World}
@@ -11,6 +13,13 @@ use Rattle.moves.specs.inner.Waiting.{AreWaves, IsNoException, IsNobody, HoldsBe
 -- the call stands there, by its rank and its place
 abbrev pub IsCallAt : World → ℕ × ℕ → Call → Type 0
 IsCallAt w at call = slice_get (calls_of w.pairs.recording at.0) at.1 ≡ Some call
+
+-- the same of a place where there may be no call
+abbrev pub IsCallIf : World → ℕ × ℕ → Option CallAt → Type 0
+IsCallIf w at seen = option_map call_seen seen ≡ slice_get (calls_of w.pairs.recording at.0) at.1
+
+abbrev pub IsSeenIf : World → ℕ × ℕ → Option CallAt → Type 0
+IsSeenIf w at seen = IfSome seen (IsSeen w.pairs.groups w.pairs.recording at.0 at.1)
 
 -- it is known how far the waves are
 abbrev pub KnowWaves : World → Positions → Type 0

@@ -76,10 +76,12 @@ IsNoException comm member = ⊥
 abbrev pub is_open : Groups → Progress → ℕ → ℕ → Bool
 is_open groups progress comm wave = nat_le (complete_of progress comm) wave && nat_lt 0 (length (group_of groups comm))
 
--- the communicator of the wave that the call at the place joins, where that wave isn't complete
+-- the communicator of the wave that a call joins, where that wave isn't complete
+abbrev pub open_wave_by : Groups → Progress → Option (ℕ × ℕ) → Option ℕ
+open_wave_by groups progress joined = option_and_then (λ wave. if is_open groups progress wave.0 wave.1 then Some wave.0 else None) joined
+
 abbrev pub open_wave : Groups → Lists → Progress → ℕ → ℕ → Option ℕ
-open_wave groups recording progress rank place =
-    option_and_then (λ wave. if is_open groups progress wave.0 wave.1 then Some wave.0 else None) (wave_of recording rank place)
+open_wave groups recording progress rank place = open_wave_by groups progress (wave_of recording rank place)
 
 -- Touches, and what pays for them. A call that is accepted pays 3, one that is reached 13, one that is passed 2,
 -- and one whose wave is complete 4.

@@ -1,9 +1,14 @@
 -- What proofs and private contracts cite, in addition to the definitions of `specs/Laid.antt`.
-use Rattle.std.specs.Prelude.{Bool, true, false}
+use Rattle.std.specs.Prelude.{Bool, true, false, unwrap_or}
+use Rattle.mpicall.specs.Laid.{call_by}
+use Rattle.mpicall.specs.declared.call.Call.{Call}
+use Rattle.mpicall.specs.declared.call.Call.TheVariants.{Recv}
+use Rattle.mpicall.specs.declared.call.Peer.TheVariants.{Null}
 use Rattle.mpicall.specs.declared.laid.Laid.{Laid}
 use Rattle.mpicall.specs.declared.laid.Laid.TheVariants.{Nothing, Message, Exchange, Copy, Split}
 use Rattle.mpicall.specs.declared.word.Layout.{Layout}
 use Rattle.mpicall.specs.declared.word.Layout.TheVariants as layout
+use Rattle.mpicall.specs.declared.word.Name.{Name}
 
 -- its layout
 abbrev pub layout_by : Laid → Layout
@@ -19,3 +24,8 @@ is_laid layout.Request = false
 is_laid layout.Requests = false
 is_laid layout.Chosen = false
 is_laid _ = true
+
+-- the call of a name and what follows it, as code answers it: of a name and what doesn't go with it a receive
+-- from nobody. A packed call is a name and a layout, and what it is asked is proved for every value it may have.
+abbrev pub call_from : Name → Laid → Call
+call_from name it = unwrap_or (call_by name it) (Recv 0 Null 0)

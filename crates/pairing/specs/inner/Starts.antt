@@ -1,6 +1,6 @@
 -- The table of the active requests with the places that started them.
 use Rattle.std.specs.Option.{option_or}
-use Rattle.std.specs.Prelude.{◌≡◌, ◌<◌, ◌+◌, ◌*◌, ◌%◌, ◌==◌, if◌then◌else◌, ℕ, Bool, Option, None, Some, IsSome, is_some, List, [], ◌∷◌, slice_index_or}
+use Rattle.std.specs.Prelude.{◌≡◌, ◌<◌, ◌+◌, ◌*◌, ◌%◌, ◌==◌, if◌then◌else◌, ℕ, Bool, Option, None, Some, IsSome, is_some, slice_index_or}
 use Rattle.mpicall.specs.declared.call.Call.{Call}
 use Rattle.indexmap.specs.IndexMap.{get, spare}
 use Rattle.callnotes.specs.Recordings.{Lists, calls_of}
@@ -45,9 +45,3 @@ IsActive recording active =
 -- what the call starts can be put into the table without memory
 abbrev pub HasRoomToStart : Active → Call → Type 0
 HasRoomToStart active call = IsSome (starts call) → 0 < spare active.others
-
--- the values of the list's front, up to the first that is none
-abbrev pub known_front : List (Option ℕ) → List ℕ
-known_front [] = []
-known_front (None ∷ _) = []
-known_front (Some x ∷ xs) = x ∷ known_front xs

@@ -1,17 +1,20 @@
 //! The report as text: a line with the verdict, and then a line for each unmet need, each cause and each
 //! finding.
 
-ghost use Rattle.std.specs.Prelude.{◌≡◌, ◌+◌, ◌≤◌, [], ◌∷◌, ◌++◌, flat_map, length};
+ghost use Rattle.std.specs.Prelude.{◌≡◌, ◌+◌, ◌≤◌, [], ◌∷◌, ◌++◌, All, flat_map, length};
 ghost use Rattle.std.specs.Option.{option_map_or};
 ghost use Rattle.std.specs.Fmt.{decimal};
 ghost use Rattle.mpicall.specs.Spelling.{space, fields_of};
 ghost use Rattle.waitgraph.specs.Causes.{CycleOf, MissingOf, view_of};
 ghost use Rattle.waitgraph.specs.Graphs.{IsGraphOf};
+ghost use Rattle.waitgraph.specs.Verdicts.{verdict_by};
 ghost use Rattle.reports.specs.inner.Printing.{with_fields, PrintsAll, Prints};
 ghost use Rattle.findings.specs.Places.{call_at};
+ghost use Rattle.reports.specs.Judged.{judged_text, left_line};
 ghost use Rattle.reports.specs.TextReport.{cause_line, finding_line, need_fields, rank_lines, text_report, unmet_line, verdict_line, verdict_text};
 
 use crate::finding::push_finding;
+use crate::judged::{Judged, LeftAt, MOST_WORDS};
 use crate::report::printer::{Printer, ROOM_BYTES};
 use crate::stand::stand_of;
 use findings::finding::Finding;
@@ -268,12 +271,68 @@ pub(crate) fn write_text<O: Output>(
     out: &mut O,
 ) -> Result<(), DeviceFault>
     requires { IsGraphOf analyser.now.reading analyser.now.groups analyser.now.recording graph.now }
-    ensures { PrintsAll (O.written out.old) (O.failures out.old) (O.written out.new) (O.failures out.new) (text_report analyser.now.reading analyser.now.groups analyser.now.recording) result }
+    ensures { PrintsAll (O.written out.old) (O.failures out.old) (O.written out.new) (O.failures out.new) (text_report analyser.now.reading analyser.now.groups analyser.now.recording (verdict_by graph.now.held graph.now.left_open) graph.now.causes) result }
 {
     let mut printer = Printer::new();
     push_verdict(&mut printer.page, graph.verdict());
     write_ranks(&mut printer, out, analyser, graph, graph.stuck());
     write_causes(&mut printer, out, graph.causes());
     write_findings(&mut printer, out, graph.findings());
+    printer.finish(out)
+}
+
+// ---- What journals say in addition ----
+
+/// Adds the line of a list that ended before its end.
+fn push_left(page: &mut Page, left: &LeftAt)
+    requires room { length page.old + ROOM_BYTES ≤ PAGE_BYTES }
+    requires short { length left.now.why.now ≤ MOST_WORDS }
+    ensures { page.new ≡ page.old ++ left_line left.now }
+{
+    page.push_str("left");
+    page.push_number(u32::from(left.rank));
+    page.push_number(left.line);
+    page.push_field(left.why);
+    page.push_str("\n");
+}
+
+#[tactic(auto, using(crate::proofs::PrintingLemmas::prints_pushed))]
+fn write_left<O: Output>(printer: &mut Printer, out: &mut O, left: &LeftAt)
+    requires { length left.now.why.now ≤ MOST_WORDS }
+    ensures { Prints O.written O.failures out.old printer.old out.new printer.new (left_line left.now) }
+{
+    printer.make_room(out);
+    push_left(&mut printer.page, left);
+}
+
+/// Writes a line for each list that ended before its end.
+#[tactic(auto, using(crate::proofs::PrintingLemmas::prints_none, crate::proofs::PrintingLemmas::prints_next))]
+fn write_all_left<O: Output>(printer: &mut Printer, out: &mut O, left: &[LeftAt])
+    requires { All (λ one. length one.why.now ≤ MOST_WORDS) left.now }
+    ensures { Prints O.written O.failures out.old printer.old out.new printer.new (flat_map left_line left.now) }
+{
+    for one in left {
+        write_left(printer, out, one);
+    }
+}
+
+/// Writes the report of the recording of journals as text.
+pub(crate) fn write_judged_text<O: Output>(
+    analyser: &Analyser,
+    graph: &Graph,
+    judged: &Judged<'_>,
+    out: &mut O,
+) -> Result<(), DeviceFault>
+    requires graph { IsGraphOf analyser.now.reading analyser.now.groups analyser.now.recording graph.now }
+    requires short { All (λ one. length one.why.now ≤ MOST_WORDS) judged.now.left.now }
+    ensures { PrintsAll (O.written out.old) (O.failures out.old) (O.written out.new) (O.failures out.new)
+        (judged_text analyser.now.reading analyser.now.groups analyser.now.recording (verdict_by graph.now.held graph.now.left_open) graph.now.causes judged.now.findings.now judged.now.left.now) result }
+{
+    let mut printer = Printer::new();
+    push_verdict(&mut printer.page, graph.verdict());
+    write_ranks(&mut printer, out, analyser, graph, graph.stuck());
+    write_causes(&mut printer, out, graph.causes());
+    write_findings(&mut printer, out, judged.findings);
+    write_all_left(&mut printer, out, judged.left);
     printer.finish(out)
 }

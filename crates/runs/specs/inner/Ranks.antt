@@ -6,6 +6,11 @@ use Rattle.mpicall.specs.Trace.{Trace}
 use Rattle.mpicall.specs.Device.{one_more, AppendsBeginning}
 use Rattle.mpicall.specs.declared.call.Call.{Call}
 use Rattle.mpigroup.specs.Groups.{Groups, ranks_of}
+use Rattle.std.specs.Io.KnownBytes.{Appends}
+use Rattle.moves.specs.declared.reading.Reading.{Reading}
+use Rattle.waitgraph.specs.declared.verdict.Verdict.{Verdict}
+use Rattle.reports.specs.Reports.{IsReport}
+use Rattle.reports.specs.declared.report.Format.{Format}
 use Rattle.callnotes.specs.Recordings.{Lists, calls_of, IsClosed}
 use Rattle.gather.specs.Answers.{fault_of_rank}
 use Rattle.runs.specs.Told.{is_from_outside}
@@ -56,3 +61,14 @@ LeavesRunReport written failures old new report (Unproved rank) = ⊥
 LeavesRunReport written failures old new report (Refused refusal) = ⊥
 LeavesRunReport written failures old new report Write =
     AppendsBeginning (written old) (written new) report × (failures new ≡ one_more (failures old))
+
+-- the report of a recording follows what was there
+abbrev pub Reported : {O : Type 0} → (O → Option (List ℕ)) → O → O → Format → Reading → Groups → Lists → Verdict → Type 0
+Reported written old new format reading groups recording verdict =
+    (report : List ℕ) × IsReport format reading groups recording verdict report × Appends (written old) (written new) report
+
+-- or the output is left as by a report that failed
+abbrev pub NotReported : {O : Type 0} → (O → Option (List ℕ)) → (O → ℕ) → O → O → Format → Reading → Groups → Lists → RunFault → Type 0
+NotReported written failures old new format reading groups recording fault =
+    (verdict : Verdict) × (report : List ℕ) × IsReport format reading groups recording verdict report
+    × LeavesRunReport written failures old new report fault

@@ -1,6 +1,22 @@
--- What proofs and private contracts cite, in addition to the definitions of `specs/Least.antt`.
-use Rattle.std.specs.Prelude.{◌≡◌, ℕ, ◌<◌, true}
-use Rattle.waitgraph.specs.Least.{Set, SetRule, after_rounds, IsWithin, IsClosedUnder}
+-- The least set of ranks that a rule makes, found by rounds. This module knows nothing of MPI.
+use Rattle.std.specs.Prelude.{◌≡◌, ℕ, zero, suc, ◌<◌, true, false}
+use Rattle.waitgraph.specs.Held.{Set}
+
+-- a rule says which ranks belong to the set that has these
+abbrev pub SetRule : Type 0
+SetRule = Set → Set
+
+-- the ranks that so many rounds of the rule make, beginning with none
+abbrev pub after_rounds : SetRule → ℕ → Set
+after_rounds rule zero rank = false
+after_rounds rule (suc rounds) rank = rule (after_rounds rule rounds) rank
+
+abbrev pub IsWithin : Set → Set → Type 0
+IsWithin a b = (rank : ℕ) → a rank ≡ true → b rank ≡ true
+
+-- the set has each rank that the rule makes of it
+abbrev pub IsClosedUnder : SetRule → Set → Type 0
+IsClosedUnder rule set = IsWithin (rule set) set
 
 -- a larger set makes no fewer ranks
 abbrev pub IsRising : SetRule → Type 0

@@ -1,7 +1,7 @@
 -- The answer over the sources is that of the files' texts.
 use Rattle.std.proofs.Common.{map, rules, ℕ, List, Bor, ap, sym, ◌∙◌, length}
 use Rattle.std.proofs.lemmas.List.{length-map}
-use Rattle.command.proofs.TextLemmas.{head_of_told, report_says, run_fault_says, tells_texts}
+use Rattle.command.proofs.TextLemmas.{head_of_told, report_says, run_fault_says, run_leaves, tells_texts}
 use Rattle.command.proofs.check.check.Goals as goal
 
 pub returns-in-Ok-clause-verdict : goal.returns-in-Ok-clause-verdict
@@ -18,7 +18,7 @@ pub returns-in-Ok-clause-written : goal.returns-in-Ok-clause-written
 returns-in-Ok-clause-written g c =
     let told = λ (file : Bor (List ℕ)). g.P.Opener.told c.args.opener.now file.now in (
       c.in-Ok.ensures.written.0,
-      report_says g.P.In.Input.left _ c.args.reading c.in_ok-head.head c.args.format c.in-Ok.verdict _ _ (map told c.args.files.now) c.in_ok-head.ensures.head
+      report_says g.P.In.Input.left _ c.args.options c.in_ok-head.head c.in-Ok.verdict _ _ (map told c.args.files.now) c.in_ok-head.ensures.head
           (λ texts traces files_are hold. tells_texts g.P.In.Input.left c.in_ok-sources.sources.items told c.args.files.now texts traces c.in_ok-sources.ensures.told files_are hold)
           c.in-Ok.ensures.written.1,
       c.in-Ok.ensures.written.2,
@@ -35,3 +35,9 @@ returns-in-Err-clause-fault g c =
     (λ texts files_are traces hold. c.in-Err.ensures.refused traces
     (tells_texts g.P.In.Input.left c.in_ok-sources.sources.items (λ file. g.P.Opener.told c.args.opener.now file.now) c.args.files.now texts traces c.in_ok-sources.ensures.told files_are hold)) in
     rw (c.from-in-Err.ensures) says
+
+pub returns-in-Err-clause-output : goal.returns-in-Err-clause-output
+returns-in-Err-clause-output g c =
+    rw (c.from-in-Err.ensures)
+    (run_leaves g.P.In.Input.left g.O.Output.written g.O.Output.failures c.in_ok-sources.sources.items c.args.options.reading c.in_ok-head.head c.args.options.format c.args.out.now c.run_by.new.out c.in-Err.fault
+    c.in-Err.ensures.output)

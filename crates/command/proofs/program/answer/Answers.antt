@@ -1,6 +1,7 @@
 use Rattle.std.proofs.Common.{◌≡◌, ℕ, false, List, Bor, map, sym, subst}
 use Rattle.command.specs.inner.Answer.{IsAnswered, Shows}
-use Rattle.command.specs.Ends.{EndsInReport, IsDone, IsFaultOf}
+use Rattle.command.specs.Ends.{EndsInFiles, EndsInJudged, EndsInReport, IsDone, IsFaultOf}
+use Rattle.command.specs.Journals.{IsFaultOfClose, IsFaultOfJudge}
 use Rattle.command.specs.Texts.{IsFaultOfCheck}
 use Rattle.command.specs.declared.words.Words.{Words}
 use Rattle.command.specs.declared.words.Words.TheVariants.{Said}
@@ -14,13 +15,33 @@ returns-in-Check g c =
     let written = g.O.Output.written in
     let failures = g.O.Output.failures in
     subst (λ (words : Words). IsAnswered written failures (IsDone told words) (IsFaultOf told words) c.args.out.now c.answer_check.new.out c.answer_check.result) (sym c.in-Check.is)
-    (subst (λ (files : List (Bor (List ℕ))). IsAnswered written failures (EndsInReport c.in-Check.reading c.in-Check.format (told c.in-Check.head.now) (map (λ (file : Bor (List ℕ)). told file.now) files)) (IsFaultOfCheck told c.in-Check.head.now files) c.args.out.now c.answer_check.new.out c.answer_check.result)
+    (subst (λ (files : List (Bor (List ℕ))). IsAnswered written failures (EndsInReport c.in-Check.options (told c.in-Check.head.now) (map (λ (file : Bor (List ℕ)). told file.now) files)) (IsFaultOfCheck told c.in-Check.head.now files) c.args.out.now c.answer_check.new.out c.answer_check.result)
     c.deref.ensures.value c.answer_check.ensures)
 
 pub returns-in-Lint : goal.returns-in-Lint
 returns-in-Lint g c =
     let told = g.P.Opener.told c.args.opener.now in
     subst (λ (words : Words). IsAnswered g.O.Output.written g.O.Output.failures (IsDone told words) (IsFaultOf told words) c.args.out.now c.answer_lint.new.out c.answer_lint.result) (sym c.in-Lint.is) c.answer_lint.ensures
+
+pub returns-in-Judge : goal.returns-in-Judge
+returns-in-Judge g c =
+    let told = g.P.Opener.told c.args.opener.now in
+    let written = g.O.Output.written in
+    let failures = g.O.Output.failures in
+    subst (λ (words : Words). IsAnswered written failures (IsDone told words) (IsFaultOf told words) c.args.out.now c.answer_judge.new.out c.answer_judge.result) (sym c.in-Judge.is)
+    (subst (λ (folder : Bor (List ℕ)). IsAnswered written failures (EndsInJudged c.in-Judge.manner) (IsFaultOfJudge folder.now) c.args.out.now c.answer_judge.new.out c.answer_judge.result)
+    c.new-judged.ensures c.answer_judge.ensures)
+
+pub returns-in-Close : goal.returns-in-Close
+returns-in-Close g c =
+    let told = g.P.Opener.told c.args.opener.now in
+    let written = g.O.Output.written in
+    let failures = g.O.Output.failures in
+    subst (λ (words : Words). IsAnswered written failures (IsDone told words) (IsFaultOf told words) c.args.out.now c.answer_close.new.out c.answer_close.result) (sym c.in-Close.is)
+    (subst (λ (folder : Bor (List ℕ)). IsAnswered written failures EndsInFiles (IsFaultOfClose folder.now c.in-Close.path.now) c.args.out.now c.answer_close.new.out c.answer_close.result)
+    c.new-journals.ensures
+    (subst (λ (path : Bor (List ℕ)). IsAnswered written failures EndsInFiles (IsFaultOfClose c.new-journals.result.path.now path.now) c.args.out.now c.answer_close.new.out c.answer_close.result)
+    c.new-made.ensures c.answer_close.ensures))
 
 pub returns-in-Said-default-false : goal.returns-in-Said-default-false
 returns-in-Said-default-false g c =

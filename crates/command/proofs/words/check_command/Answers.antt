@@ -1,8 +1,8 @@
 use Rattle.std.proofs.Common.{rules, ap, ap₂, codes, true, ◌≡◌, ◌∙◌}
 use Rattle.std.proofs.lemmas.Result.{IfOk-weaker}
 use Rattle.clap.specs.Simple.{App, app_of, app_of_fields, on_top, with_rule, new_app}
-use Rattle.command.specs.Asked.{capacity_rule, head_rule, json_rule, traces_rule}
-use Rattle.command.proofs.AskedLemmas.{no_global_added}
+use Rattle.command.specs.Asked.{head_rule, traces_rule, with_rules}
+use Rattle.command.proofs.AskedLemmas.{no_global_added, no_globals_added, rules_added}
 use Rattle.command.proofs.words.check_command.Goals as goal
 
 abbrev with_version : App → App
@@ -16,16 +16,10 @@ returns-clause-app c =
     c.in_ok-arg.ensures.shape c.head_argument.ensures.local ∙ ap₂ with_rule base c.head_argument.ensures.rule in
     let two : app_of c.in_ok-arg-2.field-0 ≡ with_rule (with_rule (with_version (new_app (codes "check"))) head_rule) traces_rule =
     c.in_ok-arg-2.ensures.shape c.traces_argument.ensures.local ∙ ap₂ with_rule one c.traces_argument.ensures.rule in
-    let three : app_of c.in_ok-arg-3.field-0 ≡ with_rule (with_rule (with_rule (with_version (new_app (codes "check"))) head_rule) traces_rule) json_rule =
-    c.in_ok-arg-3.ensures.shape c.json_argument.ensures.local ∙ ap₂ with_rule two c.json_argument.ensures.rule in
-    let four : app_of c.in_ok-arg-4.field-0 ≡ with_rule (with_rule (with_rule (with_rule (with_version (new_app (codes "check"))) head_rule) traces_rule) json_rule) capacity_rule =
-    c.in_ok-arg-4.ensures.shape c.capacity_argument.ensures.local ∙ ap₂ with_rule three c.capacity_argument.ensures.rule in
-    IfOk-weaker c.arg-5.result _ _ (λ command adds. adds.shape c.eager_argument.ensures.local ∙ ap₂ with_rule four c.eager_argument.ensures.rule) c.arg-5.ensures
+    IfOk-weaker c.args-2.result _ _ (λ command adds. rules_added _ _ _ adds c.in_ok-options.ensures.local ∙ ap₂ with_rules two c.in_ok-options.ensures.rules) c.args-2.ensures
 
 pub returns-clause-local : goal.returns-clause-local
 returns-clause-local c =
     let one = no_global_added _ _ _ c.in_ok-arg.ensures (search rules) c.head_argument.ensures.local in
     let two = no_global_added _ _ _ c.in_ok-arg-2.ensures one c.traces_argument.ensures.local in
-    let three = no_global_added _ _ _ c.in_ok-arg-3.ensures two c.json_argument.ensures.local in
-    let four = no_global_added _ _ _ c.in_ok-arg-4.ensures three c.capacity_argument.ensures.local in
-    IfOk-weaker c.arg-5.result _ _ (λ command adds. no_global_added _ _ _ adds four c.eager_argument.ensures.local) c.arg-5.ensures
+    IfOk-weaker c.args-2.result _ _ (λ command adds. no_globals_added _ _ _ adds c.in_ok-options.ensures.local two) c.args-2.ensures

@@ -26,4 +26,6 @@ returns c =
     let helpless = ap app_of_fields c.disable_help_subcommand.ensures ∙ ap without_help_subcommand required in
     let base = ap app_of_fields c.in_ok-bin_name.ensures.0 ∙ helpless in
     let one = c.in_ok-subcommand.ensures.shape c.in_ok-check.ensures.local ∙ ap₂ with_subcommand base (ap (λ (a : App). a.top) c.in_ok-check.ensures.app) in
-    IfOk-weaker c.subcommand-2.result _ _ (λ command adds. adds.shape c.in_ok-lint.ensures.local ∙ ap₂ with_subcommand one (ap (λ (a : App). a.top) c.in_ok-lint.ensures.app)) c.subcommand-2.ensures
+    let two = c.in_ok-subcommand-2.ensures.shape c.in_ok-lint.ensures.local ∙ ap₂ with_subcommand one (ap (λ (a : App). a.top) c.in_ok-lint.ensures.app) in
+    let three = c.in_ok-subcommand-3.ensures.shape c.in_ok-judge.ensures.local ∙ ap₂ with_subcommand two (ap (λ (a : App). a.top) c.in_ok-judge.ensures.app) in
+    IfOk-weaker c.subcommand-4.result _ _ (λ command adds. adds.shape c.in_ok-close.ensures.local ∙ ap₂ with_subcommand three (ap (λ (a : App). a.top) c.in_ok-close.ensures.app)) c.subcommand-4.ensures

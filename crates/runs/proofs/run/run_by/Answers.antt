@@ -11,23 +11,23 @@ returns-in-Ok-clause-accepted g c =
 
 pub returns-in-Ok-clause-verdict : goal.returns-in-Ok-clause-verdict
 returns-in-Ok-clause-verdict g c =
-    run_verdict g.I.Input.left c.args.reading _ c.args.head _ c.args.sources.items _ c.report.result c.requires.one_a_rank c.in-Ok.ensures.ok.over.same_reading c.in-Ok.ensures.ok.over.same_groups
-    (accepts_all g.I.Input.left (g.G.Gate.may_stop c.args.gate.now) c.args.sources.items c.args.reading c.args.head c.in-Ok.outcome c.requires.one_a_rank c.in-Ok.ensures.ok) c.report.ensures.value
+    run_verdict g.I.Input.left g.O.Output.written c.args.reading _ c.args.head _ c.args.sources.items _ c.args.format _ _ c.report.result c.requires.one_a_rank c.in-Ok.ensures.ok.over.same_reading c.in-Ok.ensures.ok.over.same_groups
+    (accepts_all g.I.Input.left (g.G.Gate.may_stop c.args.gate.now) c.args.sources.items c.args.reading c.args.head c.in-Ok.outcome c.requires.one_a_rank c.in-Ok.ensures.ok) c.report.ensures.written
 
 pub returns-in-Ok-clause-refused : goal.returns-in-Ok-clause-refused
 returns-in-Ok-clause-refused g c =
-    IfErr-weaker c.report.result _ _ (λ fault leaves. λ traces tells. report_refuses g.O.Output.written g.O.Output.failures _ _ _ c.args.head traces fault leaves) c.report.ensures.fault
+    IfErr-weaker c.report.result _ _ (λ fault leaves. λ traces tells. report_refuses g.O.Output.written g.O.Output.failures _ _ _ _ _ _ c.args.head traces fault leaves) c.report.ensures.fault
 
 pub returns-in-Ok-clause-fed : goal.returns-in-Ok-clause-fed
-returns-in-Ok-clause-fed g c = report_feeds g.O.Output.written g.O.Output.failures _ _ _ g.I.Input.left (g.G.Gate.may_stop c.args.gate.now) c.args.sources.items c.args.head c.report.result c.report.ensures.fault
+returns-in-Ok-clause-fed g c = report_feeds g.O.Output.written g.O.Output.failures _ _ _ _ _ _ g.I.Input.left (g.G.Gate.may_stop c.args.gate.now) c.args.sources.items c.args.head c.report.result c.report.ensures.fault
 
 pub returns-in-Ok-clause-stopped : goal.returns-in-Ok-clause-stopped
-returns-in-Ok-clause-stopped g c = report_stops g.O.Output.written g.O.Output.failures _ _ _ (g.G.Gate.may_stop c.args.gate.now) c.report.result c.report.ensures.fault
+returns-in-Ok-clause-stopped g c = report_stops g.O.Output.written g.O.Output.failures _ _ _ _ _ _ (g.G.Gate.may_stop c.args.gate.now) c.report.result c.report.ensures.fault
 
 pub returns-in-Ok-clause-written : goal.returns-in-Ok-clause-written
 returns-in-Ok-clause-written g c =
     run_written g.I.Input.left g.O.Output.written g.O.Output.failures c.args.reading _ c.args.head _ c.args.sources.items _ c.args.format _ _ c.report.result c.requires.one_a_rank c.in-Ok.ensures.ok.over.same_reading c.in-Ok.ensures.ok.over.same_groups
-    (accepts_all g.I.Input.left (g.G.Gate.may_stop c.args.gate.now) c.args.sources.items c.args.reading c.args.head c.in-Ok.outcome c.requires.one_a_rank c.in-Ok.ensures.ok) c.report.ensures.value c.report.ensures.written
+    (accepts_all g.I.Input.left (g.G.Gate.may_stop c.args.gate.now) c.args.sources.items c.args.reading c.args.head c.in-Ok.outcome c.requires.one_a_rank c.in-Ok.ensures.ok) c.report.ensures.written
 
 pub returns-in-Ok-clause-output : goal.returns-in-Ok-clause-output
 returns-in-Ok-clause-output g c =

@@ -12,5 +12,5 @@ one_more f rank waits later unmet so_far here pushed =
 
 pub loop-rank-preserved : goal.loop-rank-preserved
 loop-rank-preserved c =
-    one_more (unmet_at c.args.reading c.args.pairs.now.groups c.args.pairs.now.recording c.args.stands.now) c.loop-rank.rank c.loop-rank.waits _ _
+    one_more (unmet_at c.args.world.now.reading c.args.world.now.pairs.groups c.args.world.now.pairs.recording c.args.stands.now) c.loop-rank.rank c.loop-rank.waits _ _
     c.loop-rank.invariant (c.deref.ensures.value ∙ c.in_ok-unmet_at.ensures) c.in_ok-push.ensures

@@ -1,7 +1,10 @@
 use Rattle.std.proofs.Common.{Bool, List, length, ap, ◌∙◌, arith}
+use Rattle.std.specs.List.{list_any, range_with_len}
+use Rattle.pairing.specs.LeftOpen.{is_left_open}
+use Rattle.waitgraph.proofs.VerdictLemmas.{some_marked}
 use Rattle.std.proofs.lemmas.List.FromFn.{length-map-range_with_len}
-use Rattle.waitgraph.specs.Causes.{Walks, walks_in, causes_in}
-use Rattle.waitgraph.specs.Loose.{set_of, onward_of}
+use Rattle.waitgraph.specs.inner.Causes.{Walks, walks_in, causes_in}
+use Rattle.waitgraph.specs.inner.Loose.{set_of, onward_of}
 use Rattle.waitgraph.proofs.graph.who_is_held.Goals as goal
 
 pub causes_in-requires : goal.causes_in-requires
@@ -12,6 +15,13 @@ causes_in-requires c =
       ap (λ (walks : Walks). length walks) (c.deref-6.ensures.value ∙ c.in_ok-walks.ensures)
           ∙ length-map-range_with_len (onward_of (set_of c.deref-4.result.now) c.args.standings.now c.args.waits.now) 0 (length c.args.standings.now),
     )
+
+pub returns-clause-left_open : goal.returns-clause-left_open
+returns-clause-left_open c =
+    let recording = c.args.pairs.now.recording in
+    c.is_some-left_open.ensures
+    ∙ ap (λ (marks : List Bool). list_any (λ open_list. open_list) marks) (c.deref-7.ensures.value ∙ c.in_ok-opened.ensures)
+    ∙ some_marked (is_left_open recording) (range_with_len 0 (length recording))
 
 pub returns-clause-causes : goal.returns-clause-causes
 returns-clause-causes c =

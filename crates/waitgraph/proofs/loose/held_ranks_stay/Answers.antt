@@ -1,4 +1,4 @@
-use Rattle.waitgraph.proofs.StaysLemmas.{held_ranks_stay}
+use Rattle.waitgraph.proofs.DeadlockLemmas.{held_ranks_stay}
 use Rattle.waitgraph.proofs.loose.held_ranks_stay.Goals as goal
 
 pub returns : goal.returns

@@ -1,7 +1,7 @@
 use Rattle.std.proofs.Common.{◌∙◌, false, refl, sym, length}
 use Rattle.std.proofs.lemmas.List.{length-replicate}
 use Rattle.std.proofs.lemmas.Bool.{false≢true}
-use Rattle.waitgraph.specs.Loose.{set_of, are_loose}
+use Rattle.waitgraph.specs.inner.Loose.{set_of, are_loose}
 use Rattle.waitgraph.proofs.SweepLemmas.{none_marked, marks_are_loose, less_left, the_loose_are_the_least}
 use Rattle.waitgraph.proofs.loose.loose.Goals as goal
 

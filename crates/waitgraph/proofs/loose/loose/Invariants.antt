@@ -1,7 +1,6 @@
 use Rattle.std.proofs.Common.{◌≡◌, ◌-◌, length}
-use Rattle.waitgraph.specs.Least.{IsWithin}
-use Rattle.waitgraph.specs.Loose.{set_of, are_loose}
-use Rattle.waitgraph.specs.inner.Loose.{size}
+use Rattle.waitgraph.specs.inner.Least.{IsWithin}
+use Rattle.waitgraph.specs.inner.Loose.{set_of, are_loose, size}
 use Rattle.waitgraph.proofs.loose.loose.Given as goal
 
 abbrev pub invariant-loop : goal.invariant-loop

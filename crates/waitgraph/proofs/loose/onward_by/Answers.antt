@@ -1,5 +1,5 @@
 use Rattle.std.proofs.Common.{refl, sym, ◌∙◌, arith}
-use Rattle.waitgraph.specs.Loose.{set_of, are_held}
+use Rattle.waitgraph.specs.inner.Loose.{set_of, are_held}
 use Rattle.waitgraph.proofs.GoingLemmas.{onward_found, onward_none}
 use Rattle.waitgraph.proofs.loose.onward_by.Goals as goal
 

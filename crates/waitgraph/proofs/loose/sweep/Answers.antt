@@ -1,5 +1,5 @@
 use Rattle.std.proofs.Common.{◌∙◌, refl, ap, length, arith}
-use Rattle.waitgraph.specs.Loose.{set_of, loosens}
+use Rattle.waitgraph.specs.inner.Loose.{set_of, loosens}
 use Rattle.waitgraph.proofs.SweepLemmas.{swept_none, swept_marked, swept_passed, swept_all, rising, below}
 use Rattle.waitgraph.proofs.loose.sweep.Goals.{then-is_next, else-is_next}
 use Rattle.waitgraph.proofs.loose.sweep.Goals as goal

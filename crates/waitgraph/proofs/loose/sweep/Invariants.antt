@@ -1,5 +1,5 @@
 use Rattle.std.proofs.Common.{length}
-use Rattle.waitgraph.specs.Loose.{set_of, loosens}
+use Rattle.waitgraph.specs.inner.Loose.{set_of, loosens}
 use Rattle.waitgraph.proofs.SweepLemmas.{Swept}
 use Rattle.waitgraph.proofs.loose.sweep.Given as goal
 

@@ -5,7 +5,7 @@ use Rattle.std.proofs.lemmas.Option.{none-some, slice_get-get_or}
 use Rattle.mpigroup.specs.Groups.{group_of, world_rank_of}
 use Rattle.moves.specs.declared.need.Need.{Need}
 use Rattle.moves.specs.Needs.{member_need}
-use Rattle.waitgraph.specs.Stuck.{is_unmet}
+use Rattle.waitgraph.specs.inner.Stuck.{is_unmet}
 use Rattle.waitgraph.proofs.AddingLemmas.{add_one}
 use Rattle.waitgraph.proofs.unmet.add_member_needs.Goals.{in-Some+in_ok-add_unmet, in_default}
 use Rattle.waitgraph.proofs.unmet.add_member_needs.Goals as goal

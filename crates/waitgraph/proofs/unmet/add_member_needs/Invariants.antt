@@ -2,7 +2,7 @@ use Rattle.std.proofs.Common.{◌≡◌, ◌++◌, map, take}
 use Rattle.std.specs.List.{filter}
 use Rattle.mpigroup.specs.Groups.{group_of}
 use Rattle.moves.specs.Needs.{member_need}
-use Rattle.waitgraph.specs.Stuck.{is_unmet}
+use Rattle.waitgraph.specs.inner.Stuck.{is_unmet}
 use Rattle.waitgraph.proofs.unmet.add_member_needs.Given as goal
 
 -- what the wave still needs of each member so far

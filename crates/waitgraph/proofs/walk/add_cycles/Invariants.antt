@@ -1,6 +1,7 @@
 use Rattle.std.proofs.Common.{◌≡◌, ◌++◌, map}
 use Rattle.std.specs.List.{filter_map, range_with_len}
-use Rattle.waitgraph.specs.Causes.{view_of, cycle_at}
+use Rattle.waitgraph.specs.Causes.{view_of}
+use Rattle.waitgraph.specs.inner.Causes.{cycle_at}
 use Rattle.waitgraph.proofs.walk.add_cycles.Given as goal
 
 -- the cycles of the ranks so far

@@ -1,6 +1,7 @@
 use Rattle.std.proofs.Common.{◌≡◌, ◌++◌, map}
 use Rattle.std.specs.List.{filter_map, range_with_len}
-use Rattle.waitgraph.specs.Causes.{view_of, missing_at}
+use Rattle.waitgraph.specs.Causes.{view_of}
+use Rattle.waitgraph.specs.inner.Causes.{missing_at}
 use Rattle.waitgraph.proofs.walk.add_missing_calls.Given as goal
 
 -- the missing calls of the ranks so far

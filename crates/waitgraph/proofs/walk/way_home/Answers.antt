@@ -1,6 +1,6 @@
 use Rattle.std.proofs.Common.{ℕ, ◌+◌, ◌-◌, Some, List, ◌++◌, length, sym, ap, ◌∙◌}
 use Rattle.std.specs.Prelude.{option_map}
-use Rattle.waitgraph.specs.Causes.{way_home}
+use Rattle.waitgraph.specs.inner.Causes.{way_home}
 use Rattle.waitgraph.proofs.WalkLemmas.{no_way, way_ends, way_on}
 use Rattle.waitgraph.proofs.walk.way_home.Goals as goal
 

@@ -1,6 +1,6 @@
 use Rattle.std.proofs.Common.{◌≡◌, ◌++◌, ◌-◌, length}
 use Rattle.std.specs.Prelude.{option_map}
-use Rattle.waitgraph.specs.Causes.{way_home}
+use Rattle.waitgraph.specs.inner.Causes.{way_home}
 use Rattle.waitgraph.proofs.walk.way_home.Given as goal
 
 -- the whole way is the ranks so far and the way from here

@@ -6,4 +6,4 @@ use Rattle.findings.proofs.finding.wave.add_in_wave.Given as goal
 -- what is found of the members so far
 abbrev pub invariant-loop-g : goal.invariant-loop-g
 invariant-loop-g l =
-    l.findings.items ≡ l.fn.findings.items ++ flat_map (found_of_member (comparison_of l.compared) l.pairs.groups l.pairs.recording l.comm l.wave) (take l.g-index l.others)
+    l.findings.items ≡ l.fn.findings.items ++ flat_map (found_of_member (comparison_of l.compared) l.pairs.groups l.pairs.recording l.joined.0 l.joined.1) (take l.g-index l.others)

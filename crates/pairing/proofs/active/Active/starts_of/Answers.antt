@@ -1,18 +1,31 @@
-use Rattle.std.proofs.Common.{◌≡◌, ◌∙◌, Option, ℕ, List, take, length, ap, arith, length-take-le}
+use Rattle.std.proofs.Common.{◌≡◌, ◌∙◌, length, take, refl, sym, arith}
+use Rattle.std.proofs.lemmas.List.{take_all}
+use Rattle.std.proofs.lemmas.Bool.{eq-eqb}
 use Rattle.callnotes.specs.Recordings.{calls_of}
 use Rattle.callnotes.specs.Requests.{started_in}
-use Rattle.pairing.specs.inner.Starts.{known_front, place_in}
 use Rattle.callnotes.proofs.OptionLemmas.{same_map}
-use Rattle.pairing.proofs.FrontLemmas.{starts_of_all}
+use Rattle.pairing.specs.inner.Starts.{place_in}
+use Rattle.pairing.proofs.ActiveLemmas.{one_inactive, all_started}
 use Rattle.pairing.proofs.active.Active.starts_of.Goals as goal
+
+pub returns-in-None-clause-written : goal.returns-in-None-clause-written
+returns-in-None-clause-written c recording is_active =
+    c.loop-i.invariant ∙ same_map (place_in c.args.self.now c.args.rank) (started_in (calls_of recording c.args.rank)) (take c.loop-i.i c.args.reqs.now) (is_active c.args.rank)
+
+pub returns-in-None-clause-all : goal.returns-in-None-clause-all
+returns-in-None-clause-all c recording is_active =
+    one_inactive (calls_of recording c.args.rank) c.args.reqs.now c.loop-i.i c.loop-i-test.true (sym (c.start_of.ensures.value recording is_active) ∙ c.in-None.is)
 
 pub returns-clause-written : goal.returns-clause-written
 returns-clause-written c recording is_active =
-    c.write_starts.ensures.written
-    ∙ ap (λ (os : List (Option ℕ)). known_front os) (same_map (place_in c.args.self.now c.args.rank) (started_in (calls_of recording c.args.rank)) c.args.reqs.now (is_active c.args.rank))
+    let end : c.loop-i.i ≡ length c.args.reqs.now = omega arith in
+    rw end at c.loop-i.invariant
+    ∙ same_map (place_in c.args.self.now c.args.rank) (started_in (calls_of recording c.args.rank)) (take (length c.args.reqs.now) c.args.reqs.now) (is_active c.args.rank)
 
 pub returns-clause-all : goal.returns-clause-all
-returns-clause-all c recording is_active all =
-    let written = starts_of_all (calls_of recording c.args.rank) c.args.reqs.now (take c.write_starts.result c.write_starts.new.into) all (returns-clause-written c recording is_active) in
-    let count : length (take c.write_starts.result c.write_starts.new.into) ≡ c.write_starts.result = length-take-le c.write_starts.result c.write_starts.new.into (omega arith) in
-    (omega (arith, count, written.0), written.1)
+returns-clause-all c recording is_active =
+    let end : c.loop-i.i ≡ length c.args.reqs.now = omega arith in
+    let whole = take_all (length c.args.reqs.now) c.args.reqs.now (omega arith) in
+    all_started (calls_of recording c.args.rank) c.args.reqs.now (take (length c.args.reqs.now) c.loop-i.into)
+    (rw (end, whole) at c.loop-i.invariant ∙ same_map (place_in c.args.self.now c.args.rank) (started_in (calls_of recording c.args.rank)) c.args.reqs.now (is_active c.args.rank))
+    ∙ sym (eq-eqb (length c.args.reqs.now) (length c.args.reqs.now) refl)

@@ -1,14 +1,14 @@
 -- The verdict, the ranks, the causes and the findings are printed in turn.
-use Rattle.std.proofs.Common.{◌≡◌, ℕ, Bool, List, [], ◌∷◌, ◌++◌, flat_map, map, refl, subst, ap, ◌∙◌}
+use Rattle.std.proofs.Common.{◌≡◌, ℕ, List, [], ◌∷◌, ◌++◌, flat_map, map, refl, subst, ap, ◌∙◌}
 use Rattle.std.proofs.KnownBytes.{Appends-nil}
 use Rattle.moves.specs.declared.reading.Reading.{Reading}
 use Rattle.mpigroup.specs.Groups.{Groups}
 use Rattle.callnotes.specs.Recordings.{Lists}
-use Rattle.waitgraph.specs.Causes.{causes_of, view_of}
+use Rattle.waitgraph.specs.Causes.{CauseView, view_of}
 use Rattle.findings.specs.Findings.{findings_of}
-use Rattle.waitgraph.specs.Held.{held_of, is_some_left_open}
 use Rattle.waitgraph.specs.Stuck.{stuck_of}
 use Rattle.waitgraph.specs.Verdicts.{verdict_by}
+use Rattle.waitgraph.specs.declared.verdict.Verdict.{Verdict}
 use Rattle.waitgraph.specs.declared.cause.Cause.{Cause}
 use Rattle.findings.specs.declared.finding.Finding.{Finding}
 use Rattle.reports.specs.inner.Printing.{IsPrinted, PrintsAll}
@@ -20,14 +20,13 @@ lines_of_views [] = refl
 lines_of_views (cause ∷ causes) = ap (λ (bytes : List ℕ). cause_line (view_of cause) ++ bytes) (lines_of_views causes)
 
 -- the report by what the graph tells
-in_parts : (reading : Reading) (groups : Groups) (recording : Lists) (held stuck : List ℕ) (left_open : Bool) (causes : List Cause) (findings : List Finding) →
-    held ≡ held_of reading groups recording → left_open ≡ is_some_left_open recording → stuck ≡ stuck_of reading groups recording →
-    map view_of causes ≡ causes_of reading groups recording → findings ≡ findings_of groups recording →
-    ((verdict_line (verdict_by held left_open) ++ flat_map (rank_lines reading groups recording) stuck) ++ flat_map (λ cause. cause_line (view_of cause)) causes) ++ flat_map finding_line findings
-    ≡ text_report reading groups recording
+in_parts : (reading : Reading) (groups : Groups) (recording : Lists) (verdict : Verdict) (stuck : List ℕ) (causes : List Cause) (views : List CauseView) (findings : List Finding) →
+    stuck ≡ stuck_of reading groups recording → map view_of causes ≡ views → findings ≡ findings_of groups recording →
+    ((verdict_line verdict ++ flat_map (rank_lines reading groups recording) stuck) ++ flat_map (λ cause. cause_line (view_of cause)) causes) ++ flat_map finding_line findings
+    ≡ text_report reading groups recording verdict views
 unfolding text_report
-in_parts reading groups recording held stuck left_open causes findings are_held lists are_stuck are_causes are_findings =
-    rw (are_held, lists, are_stuck, are_findings, lines_of_views causes, are_causes) refl
+in_parts reading groups recording verdict stuck causes views findings are_stuck are_causes are_findings =
+    rw (are_stuck, are_findings, lines_of_views causes, are_causes) refl
 
 pub returns : goal.returns
 returns g c =
@@ -46,6 +45,6 @@ returns g c =
     rw c.new-printer.ensures.failed (record { given = []; went = Appends-nil begun; none_is_lost = put }, refl) in
     let last = c.write_findings.ensures begun count ((verdict ++ ranks) ++ causes)
     (c.write_causes.ensures begun count (verdict ++ ranks) (c.write_ranks.ensures begun count verdict first)) in
-    let whole = in_parts reading groups recording _ _ _ _ _ c.requires.held c.requires.left_open (c.stuck.ensures ∙ c.requires.stuck) (c.causes.ensures ∙ c.requires.causes) (c.findings.ensures ∙ c.requires.findings) in
+    let whole = in_parts reading groups recording (verdict_by c.args.graph.now.held c.args.graph.now.left_open) _ _ _ _ (c.stuck.ensures ∙ c.requires.stuck) c.causes.ensures (c.findings.ensures ∙ c.requires.findings) in
     subst (λ (text : List ℕ). PrintsAll begun count (g.O.Output.written c.finish.new.out) (g.O.Output.failures c.finish.new.out) text c.finish.result) whole
     (c.finish.ensures begun count (((verdict ++ ranks) ++ causes) ++ findings) last)

@@ -1,0 +1,4 @@
+mod Rows
+pub mod OutcomeLemmas
+pub mod PlaceLemmas
+pub mod StandingLemmas

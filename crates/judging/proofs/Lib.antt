@@ -1,0 +1,3 @@
+pub mod UnwrittenLemmas
+pub mod TurnLemmas
+pub mod JudgedLemmas

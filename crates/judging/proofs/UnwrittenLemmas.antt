@@ -1,0 +1,14 @@
+-- Before anything is written the output is as it was.
+use Rattle.std.proofs.Common.{◌≡◌, ℕ, Option, List, refl}
+use Rattle.judging.specs.Judging.{LeavesAt}
+use Rattle.judging.specs.inner.Unwritten.{IsUnwritten}
+use Rattle.judging.specs.declared.judge.JudgeFault.{JudgeFault}
+use Rattle.judging.specs.declared.judge.JudgeFault.TheVariants.{Read, Head, Refused, Unended, Memory, Write}
+
+pub leaves_as_it_was : {O : Type 0} (written : O → Option (List ℕ)) (failures : O → ℕ) (out : O) (fault : JudgeFault) → IsUnwritten fault → LeavesAt written failures out out fault
+leaves_as_it_was written failures out (Read fault) is = refl
+leaves_as_it_was written failures out (Head fault) is = refl
+leaves_as_it_was written failures out (Refused refusal) is = refl
+leaves_as_it_was written failures out Unended is = refl
+leaves_as_it_was written failures out Memory is = refl
+leaves_as_it_was written failures out Write is = absurd is

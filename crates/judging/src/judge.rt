@@ -1,0 +1,264 @@
+//! The report of the recording that the journals of a run are.
+
+ghost use Rattle.std.specs.Prelude.{◌≡◌, ◌≤◌, ℕ, All, List, length, IfErr, IfOk, OnOk};
+ghost use Rattle.std.specs.Io.KnownBytes.{Appends};
+ghost use Rattle.callnotes.specs.Recordings.{IsClosed};
+ghost use Rattle.waitgraph.specs.Graphs.{IsGraphOf};
+ghost use Rattle.reports.specs.declared.judged.TheConstants.{MOST_WORDS};
+ghost use Rattle.judging.specs.Judging.{IsJudgedReport, LeavesAt};
+ghost use Rattle.judging.specs.inner.Unwritten.{IsUnwritten};
+ghost use Rattle.judging.specs.declared.judge.JudgeFault.TheVariants.{Memory};
+
+use crate::head::head_text;
+use crate::read::{Journals, ReadFault, read_journals};
+use crate::reported::reported_findings;
+use crate::spots::lines_of;
+use crate::turns::{LineTable, Lists};
+use closing::choice::Choice;
+use closing::recording::Recording;
+use closing::why::Why;
+use findings::finding::Finding;
+use gather::fault::Refusal;
+use moves::analyser::Analyser;
+use moves::reading::Reading;
+use mpicall::device::Output;
+use mpigroup::fault::{HeadFault, ReadFault as HeadReadFault};
+use mpigroup::head::Head;
+use reports::judged::{Judged, LeftAt, LineAt, write_judged};
+use reports::report::{Format, ReportFault};
+use std::alloc::{AllocError, AllocFailed, Global};
+use std::sync::Wait;
+use waitgraph::graph::Graph;
+use waitgraph::verdict::Verdict;
+
+/// Why there is no report.
+#[derive(Clone, Copy, Debug, PartialEq, Eq)]
+pub enum JudgeFault {
+    /// The journals weren't read.
+    Read(ReadFault),
+    /// The head of the recording has a fault. That of journals has none.
+    Head(HeadFault),
+    /// A call of the recording has a fault. Those of journals have none.
+    Refused(Refusal),
+    /// A list of the recording has no end. Those of journals have one.
+    Unended,
+    Memory,
+    Write,
+}
+
+impl From<AllocError> for JudgeFault {
+    ghost from_gives = { λ _ fault. fault ≡ Memory };
+
+    fn from(_fault: AllocError) -> JudgeFault {
+        JudgeFault::Memory
+    }
+}
+
+impl<T: Drop> From<AllocFailed<T>> for JudgeFault {
+    ghost from_gives = { λ _ fault. fault ≡ Memory };
+
+    fn from(_fault: AllocFailed<T>) -> JudgeFault {
+        JudgeFault::Memory
+    }
+}
+
+/// How journals are judged, and in which form that is reported.
+#[derive(Clone, Copy, Debug, PartialEq, Eq)]
+pub struct Manner {
+    pub choice: Choice,
+    pub reading: Reading,
+    pub format: Format,
+}
+
+/// The head of a recording.
+fn head_of(alloc: Global, recording: &Recording) -> Result<Head, JudgeFault>
+    ensures { IfErr result IsUnwritten }
+{
+    let text = head_text(alloc, recording.ranks(), recording.communicators())?;
+    match Head::read(alloc, text.as_bytes()) {
+        Ok(head) => Ok(head),
+        Err(HeadReadFault::Text(fault)) => Err(JudgeFault::Head(fault)),
+        Err(HeadReadFault::Memory) => Err(JudgeFault::Memory),
+    }
+}
+
+/// Why the journals of a run aren't judged, which weren't read.
+fn of_reading(fault: ReadFault) -> JudgeFault
+    ensures { IsUnwritten result }
+{
+    match fault {
+        ReadFault::Memory => JudgeFault::Memory,
+        fault => JudgeFault::Read(fault),
+    }
+}
+
+/// The recording of the journals of a run, of which no list is made yet.
+fn lists_of<J: Journals>(
+    alloc: Global,
+    journals: &J,
+    manner: Manner,
+    wait: &impl Wait,
+) -> Result<Lists, JudgeFault>
+    ensures { IfErr result IsUnwritten }
+{
+    let journals = match read_journals(alloc, journals, wait) {
+        Ok(journals) => journals,
+        Err(fault) => return Err(of_reading(fault)),
+    };
+    let recording = Recording::of(alloc, journals, manner.choice)?;
+    let table = LineTable::new(alloc, recording.ranks(), manner.format == Format::Json)?;
+    Ok(Lists { recording, table })
+}
+
+/// The analyser of a recording, whose lists are made here.
+fn analyser_of(alloc: Global, lists: &mut Lists, reading: Reading) -> Result<Analyser, JudgeFault>
+    ensures reading { IfOk result (λ analyser. analyser.reading ≡ reading) }
+    ensures closed { IfOk result (λ analyser. IsClosed analyser.recording) }
+    ensures fault { IfErr result IsUnwritten }
+{
+    let head = head_of(alloc, &lists.recording)?;
+    let mut analyser = Analyser::new(alloc, head, reading)?;
+    lists.take_all(&mut analyser)?;
+    if !analyser.is_closed() {
+        return Err(JudgeFault::Unended);
+    }
+    Ok(analyser)
+}
+
+/// Who waits for whom, and why.
+fn graph_of(alloc: Global, analyser: &Analyser) -> Result<Graph, JudgeFault>
+    requires { IsClosed analyser.now.recording }
+    ensures graph { IfOk result (IsGraphOf analyser.now.reading analyser.now.groups analyser.now.recording) }
+    ensures fault { IfErr result IsUnwritten }
+{
+    match Graph::of(alloc, analyser) {
+        Ok(graph) => Ok(graph),
+        Err(_) => Err(JudgeFault::Memory),
+    }
+}
+
+/// The words for why a list ended before its end.
+fn why_text(why: Why) -> &'static str
+    ensures { length result.now ≤ MOST_WORDS }
+{
+    match why {
+        Why::NeverCameBack => "never came back",
+        Why::NeverReported => "never told",
+        Why::Failed => "failed",
+        Why::NoNumber => "no number",
+        Why::TooLong => "too long",
+        Why::CannotBe => "cannot be",
+        Why::Stopped => "stopped",
+        Why::Aborted => "aborted",
+        Why::Full => "full",
+        Why::NoJournal => "no journal",
+    }
+}
+
+/// At which lines, and why, lists ended before their ends.
+fn left_of(alloc: Global, recording: &Recording) -> Result<Vec<LeftAt>, AllocError>
+    ensures { IfOk result (λ all. All (λ one. length one.why.now ≤ MOST_WORDS) all.items) }
+{
+    let mut all = Vec::new(alloc);
+    for rank in 0..recording.ranks() {
+        if let Some(left) = recording.left(rank) {
+            let why = why_text(left.why);
+            all.push(LeftAt {
+                rank,
+                line: left.line,
+                why,
+            })?;
+        }
+    }
+    Ok(all)
+}
+
+/// The lines of the calls that a report in this format names.
+fn lines_in(
+    alloc: Global,
+    lists: &Lists,
+    analyser: &Analyser,
+    graph: &Graph,
+    findings: &[Finding],
+    format: Format,
+) -> Result<Vec<LineAt>, AllocError> {
+    match format {
+        Format::Json => lines_of(alloc, analyser, graph, findings, &lists.table),
+        Format::Text => Ok(Vec::new(alloc)),
+    }
+}
+
+/// Writes a report, and gives the verdict that it says.
+fn write_report<O: Output>(
+    alloc: Global,
+    analyser: &Analyser,
+    graph: &Graph,
+    judged: &Judged<'_>,
+    manner: Manner,
+    out: &mut O,
+) -> Result<Verdict, JudgeFault>
+    requires reading { analyser.now.reading ≡ manner.reading }
+    requires closed { IsClosed analyser.now.recording }
+    requires graph { IsGraphOf analyser.now.reading analyser.now.groups analyser.now.recording graph.now }
+    requires short { All (λ one. length one.why.now ≤ MOST_WORDS) judged.now.left.now }
+    ensures written { IfOk result (λ verdict. (report : List ℕ) × IsJudgedReport manner.reading manner.format verdict report × Appends (O.written out.old) (O.written out.new) report) }
+    ensures no_write_failed { OnOk result (O.failures out.new ≡ O.failures out.old) }
+    ensures output { IfErr result (LeavesAt O.written O.failures out.old out.new) }
+{
+    let verdict = graph.verdict();
+    let _head = analyser.head();
+    match write_judged(alloc, analyser, graph, judged, manner.format, out) {
+        Ok(()) => Ok(verdict),
+        Err(ReportFault::Memory) => Err(JudgeFault::Memory),
+        Err(ReportFault::Write) => Err(JudgeFault::Write),
+    }
+}
+
+/// Writes the report of a recording, and gives the verdict that it says.
+#[tactic(auto, using(crate::proofs::UnwrittenLemmas::leaves_as_it_was))]
+fn report<O: Output>(
+    alloc: Global,
+    lists: &Lists,
+    analyser: &Analyser,
+    graph: &Graph,
+    manner: Manner,
+    out: &mut O,
+) -> Result<Verdict, JudgeFault>
+    requires reading { analyser.now.reading ≡ manner.reading }
+    requires closed { IsClosed analyser.now.recording }
+    requires graph { IsGraphOf analyser.now.reading analyser.now.groups analyser.now.recording graph.now }
+    ensures written { IfOk result (λ verdict. (report : List ℕ) × IsJudgedReport manner.reading manner.format verdict report × Appends (O.written out.old) (O.written out.new) report) }
+    ensures no_write_failed { OnOk result (O.failures out.new ≡ O.failures out.old) }
+    ensures output { IfErr result (LeavesAt O.written O.failures out.old out.new) }
+{
+    let recording = &lists.recording;
+    let findings = reported_findings(alloc, recording, manner.choice, graph.findings())?;
+    let left = left_of(alloc, recording)?;
+    let format = manner.format;
+    let lines = lines_in(alloc, lists, analyser, graph, findings.as_slice(), format)?;
+    let judged = Judged {
+        findings: findings.as_slice(),
+        left: left.as_slice(),
+        lines: lines.as_slice(),
+    };
+    write_report(alloc, analyser, graph, &judged, manner, out)
+}
+
+/// Judges the journals of a run, and writes the report of their recording.
+#[tactic(auto, using(crate::proofs::UnwrittenLemmas::leaves_as_it_was))]
+pub fn judge<J: Journals, O: Output>(
+    alloc: Global,
+    journals: &J,
+    manner: Manner,
+    wait: &impl Wait,
+    out: &mut O,
+) -> Result<Verdict, JudgeFault>
+    ensures written { IfOk result (λ verdict. (report : List ℕ) × IsJudgedReport manner.reading manner.format verdict report × Appends (O.written out.old) (O.written out.new) report) }
+    ensures no_write_failed { OnOk result (O.failures out.new ≡ O.failures out.old) }
+    ensures output { IfErr result (LeavesAt O.written O.failures out.old out.new) }
+{
+    let mut lists = lists_of(alloc, journals, manner, wait)?;
+    let analyser = analyser_of(alloc, &mut lists, manner.reading)?;
+    let graph = graph_of(alloc, &analyser)?;
+    report(alloc, &lists, &analyser, &graph, manner, out)
+}

@@ -1,0 +1,176 @@
+//! The entries of all ranks, taken by turns, and their records handed to what judges them.
+
+ghost use Rattle.std.specs.Prelude.{◌≡◌, ◌<◌, length, IfErr};
+ghost use Rattle.judging.specs.inner.Unwritten.{IsUnwritten, KeepsRanks};
+
+use crate::judge::JudgeFault;
+use closing::recording::Recording;
+use gather::fault::{RankFault, Refusal};
+use moves::analyser::{Analyser, OfferFault};
+use mpicall::record::Record;
+use std::alloc::{AllocError, Global};
+
+/// How many entries of a rank are taken before those of the next.
+const ENTRIES_A_TURN: u16 = 64;
+
+/// By rank and place of each record the number of its entry's line in the journal, where that is wanted.
+#[derive(Drop)]
+pub(crate) struct LineTable {
+    is_wanted: bool,
+    lines: Vec<Vec<u32>>,
+}
+
+impl LineTable {
+    pub(crate) fn new(alloc: Global, ranks: u16, is_wanted: bool) -> Result<LineTable, AllocError> {
+        let mut lines = Vec::new(alloc);
+        for _ in 0..ranks {
+            lines.push(Vec::new(alloc))?;
+        }
+        Ok(LineTable { is_wanted, lines })
+    }
+
+    /// The next records of a rank, so many, are of one entry.
+    fn note(&mut self, rank: u16, line: u32, count: usize) -> Result<(), AllocError> {
+        if !self.is_wanted {
+            return Ok(());
+        }
+        if let Some(lines) = self.lines.get_mut(usize::from(rank)) {
+            for _ in 0..count {
+                lines.push(line)?;
+            }
+        }
+        Ok(())
+    }
+
+    /// The line of the record at a place.
+    pub(crate) fn line(&self, rank: u16, place: u32) -> u32 {
+        let Some(lines) = self.lines.get(usize::from(rank)) else {
+            return 0;
+        };
+        match lines.get(place as usize) {
+            Some(line) => *line,
+            None => 0,
+        }
+    }
+}
+
+/// A recording whose lists are made, and the lines of their records.
+#[derive(Drop)]
+pub(crate) struct Lists {
+    pub recording: Recording,
+    pub table: LineTable,
+}
+
+/// How many ranks an analyser has.
+fn ranks_of(analyser: &Analyser) -> u16
+    ensures { result ≡ length analyser.now.recording }
+{
+    analyser.head().ranks()
+}
+
+/// Offers a record of a rank.
+#[tactic(auto, using(crate::proofs::TurnLemmas::turn_steps))]
+fn offer(analyser: &mut Analyser, rank: u16, record: &Record) -> Result<(), JudgeFault>
+    requires { rank < length analyser.old.recording }
+    ensures kept { KeepsRanks analyser.old analyser.new }
+    ensures fault { IfErr result IsUnwritten }
+{
+    match analyser.offer(rank, record) {
+        Ok(()) => Ok(()),
+        Err(OfferFault::Refused(fault)) => Err(JudgeFault::Refused(Refusal {
+            rank,
+            call: analyser.accepted(rank).unwrap_or(0),
+            fault: RankFault::OfCall(fault),
+        })),
+        Err(OfferFault::Memory) => Err(JudgeFault::Memory),
+    }
+}
+
+/// Offers some records of a rank.
+#[tactic(auto, using(crate::proofs::TurnLemmas::turn_steps))]
+fn offer_all(analyser: &mut Analyser, rank: u16, records: &[Record]) -> Result<(), JudgeFault>
+    requires { rank < length analyser.old.recording }
+    ensures kept { KeepsRanks analyser.old analyser.new }
+    ensures fault { IfErr result IsUnwritten }
+{
+    for record in records {
+        offer(analyser, rank, record)?;
+    }
+    Ok(())
+}
+
+impl Lists {
+    /// Hands the records of a rank's last entry on.
+    #[tactic(auto, using(crate::proofs::TurnLemmas::turn_steps))]
+    fn hand_on(&mut self, rank: u16, analyser: &mut Analyser) -> Result<(), JudgeFault>
+        requires { rank < length analyser.old.recording }
+        ensures kept { KeepsRanks analyser.old analyser.new }
+        ensures fault { IfErr result IsUnwritten }
+    {
+        let records = self.recording.records(rank);
+        self.table
+            .note(rank, self.recording.line(rank), records.len())?;
+        offer_all(analyser, rank, records)?;
+        self.recording.forget_records(rank);
+        Ok(())
+    }
+
+    /// Takes some entries of a rank.
+    #[tactic(auto, using(crate::proofs::TurnLemmas::turn_steps))]
+    fn take_a_turn(&mut self, rank: u16, analyser: &mut Analyser) -> Result<(), JudgeFault>
+        requires { rank < length analyser.old.recording }
+        ensures kept { KeepsRanks analyser.old analyser.new }
+        ensures fault { IfErr result IsUnwritten }
+    {
+        for _ in 0..ENTRIES_A_TURN {
+            self.hand_on(rank, analyser)?;
+            if self.recording.is_over(rank) {
+                return Ok(());
+            }
+            self.recording.step(rank)?;
+        }
+        self.hand_on(rank, analyser)
+    }
+
+    /// Takes a turn of a rank, unless its list has ended; says whether it has then.
+    #[tactic(auto, using(crate::proofs::TurnLemmas::turn_steps))]
+    fn take_next(&mut self, rank: u16, analyser: &mut Analyser) -> Result<bool, JudgeFault>
+        requires { rank < length analyser.old.recording }
+        ensures kept { KeepsRanks analyser.old analyser.new }
+        ensures fault { IfErr result IsUnwritten }
+    {
+        if self.recording.is_over(rank) && self.recording.records(rank).is_empty() {
+            return Ok(true);
+        }
+        self.take_a_turn(rank, analyser)?;
+        Ok(self.recording.is_over(rank))
+    }
+
+    /// Takes a turn of each rank; says whether all lists have ended.
+    #[tactic(auto, using(crate::proofs::TurnLemmas::turn_steps))]
+    fn take_a_round(&mut self, analyser: &mut Analyser) -> Result<bool, JudgeFault>
+        ensures kept { KeepsRanks analyser.old analyser.new }
+        ensures fault { IfErr result IsUnwritten }
+    {
+        let mut are_over = true;
+        for rank in 0..ranks_of(analyser) {
+            let is_over = self.take_next(rank, analyser)?;
+            are_over = are_over && is_over;
+        }
+        Ok(are_over)
+    }
+
+    /// Takes the entries of all ranks. An entry has a line, and a journal fewer than there are turns.
+    #[tactic(auto, using(crate::proofs::TurnLemmas::turn_steps))]
+    pub(crate) fn take_all(&mut self, analyser: &mut Analyser) -> Result<(), JudgeFault>
+        ensures kept { KeepsRanks analyser.old analyser.new }
+        ensures fault { IfErr result IsUnwritten }
+    {
+        for _ in 0..u32::MAX {
+            if self.take_a_round(analyser)? {
+                return Ok(());
+            }
+        }
+        Ok(())
+    }
+}

@@ -1,0 +1,87 @@
+-- The report of journals by its parts.
+use Rattle.moves.specs.declared.reading.Reading.{Reading}
+use Rattle.std.proofs.Common.{◌≡◌, ℕ, true, false, List, [], ◌∷◌, ◌++◌, map, ap, ◌∙◌, append_assoc}
+use Rattle.std.specs.Prelude.{codes}
+use Rattle.mpicall.specs.Spelling.{line_feed}
+use Rattle.mpigroup.specs.Groups.{Groups}
+use Rattle.callnotes.specs.Recordings.{Lists}
+use Rattle.serde_json.specs.Data.{Data, string, array, Members, member, no_members}
+use Rattle.serde_json.specs.View.{items_of}
+use Rattle.serde_json.specs.Written.{compact_text, members_text}
+use Rattle.findings.specs.declared.finding.Finding.{Finding}
+use Rattle.waitgraph.specs.Causes.{CauseView}
+use Rattle.waitgraph.specs.Stuck.{stuck_of}
+use Rattle.waitgraph.specs.declared.verdict.Verdict.{Verdict}
+use Rattle.reports.specs.inner.ArrayTexts.{values_text, elements_text, key_text}
+use Rattle.reports.specs.JsonReport.{each, cause_data, finding_data, rank_data}
+use Rattle.reports.specs.Judged.{judged_data, judged_json, left_data, line_data}
+use Rattle.reports.specs.TextReport.{verdict_text}
+use Rattle.reports.specs.declared.judged.LeftAt.{LeftAt}
+use Rattle.reports.specs.declared.judged.LineAt.{LineAt}
+use Rattle.reports.proofs.ArrayLemmas.{array_member, verdict_member, behind_key}
+
+-- a member whose value is an array, after another such
+array_after : (key : List ℕ) (values : List Data) (rest : Members) (more : List ℕ) →
+    93 ∷ (members_text true rest ++ line_feed ∷ []) ≡ more →
+    93 ∷ (members_text true (member key (array (items_of values)) rest) ++ line_feed ∷ []) ≡ key_text (codes "],") key (codes ":[") ++ (values_text false values ++ more)
+array_after key values rest more same =
+    ap (λ (text : List ℕ). 93 ∷ text) (array_member key values rest (line_feed ∷ []))
+    ∙ ap (λ (text : List ℕ). codes "]," ++ (compact_text (string key) ++ 58 ∷ 91 ∷ (values_text false values ++ text))) same
+    ∙ behind_key (codes "],") key (codes ":[") (values_text false values ++ more)
+
+-- the report by its parts
+pub judged_parts : (reading : Reading) (groups : Groups) (recording : Lists) (verdict : Verdict) (causes : List CauseView) (findings : List Finding) (left : List LeftAt) (lines : List LineAt) →
+    judged_json reading groups recording verdict causes findings left lines
+    ≡ key_text (codes "{") (codes "causes") (codes ":") ++ (compact_text (each cause_data causes)
+    ++ (key_text (codes ",") (codes "findings") (codes ":[") ++ (elements_text finding_data findings
+    ++ (key_text (codes "],") (codes "left") (codes ":[") ++ (elements_text left_data left
+    ++ (key_text (codes "],") (codes "lines") (codes ":[") ++ (elements_text line_data lines
+    ++ (key_text (codes "],") (codes "ranks") (codes ":[") ++ (elements_text (rank_data reading groups recording) (stuck_of reading groups recording)
+    ++ (key_text (codes "],") (codes "verdict") (codes ":") ++ (compact_text (string (verdict_text verdict)) ++ codes "}\n")))))))))))
+unfolding judged_json judged_data
+judged_parts reading groups recording verdict causes found left called =
+    let why = compact_text (each cause_data causes) in
+    let ends = compact_text (string (verdict_text verdict)) ++ codes "}\n" in
+    let said = member (codes "verdict") (string (verdict_text verdict)) no_members in
+    let ranks = member (codes "ranks") (each (rank_data reading groups recording) (stuck_of reading groups recording)) said in
+    let lines = member (codes "lines") (each line_data called) ranks in
+    let lefts = member (codes "left") (each left_data left) lines in
+    let findings = member (codes "findings") (each finding_data found) lefts in
+    let last_more = key_text (codes "],") (codes "verdict") (codes ":") ++ ends in
+    let ranks_more = key_text (codes "],") (codes "ranks") (codes ":[") ++ (elements_text (rank_data reading groups recording) (stuck_of reading groups recording) ++ last_more) in
+    let lines_more = key_text (codes "],") (codes "lines") (codes ":[") ++ (elements_text line_data called ++ ranks_more) in
+    let left_more = key_text (codes "],") (codes "left") (codes ":[") ++ (elements_text left_data left ++ lines_more) in
+    let last : 93 ∷ (members_text true said ++ line_feed ∷ []) ≡ last_more =
+    ap (λ (text : List ℕ). 93 ∷ text) (verdict_member (verdict_text verdict))
+    ∙ behind_key (codes "],") (codes "verdict") (codes ":") ends in
+    let with_ranks : 93 ∷ (members_text true ranks ++ line_feed ∷ []) ≡ ranks_more =
+    array_after (codes "ranks") (map (rank_data reading groups recording) (stuck_of reading groups recording)) said last_more last in
+    let with_lines : 93 ∷ (members_text true lines ++ line_feed ∷ []) ≡ lines_more =
+    array_after (codes "lines") (map line_data called) ranks ranks_more with_ranks in
+    let with_left : 93 ∷ (members_text true lefts ++ line_feed ∷ []) ≡ left_more =
+    array_after (codes "left") (map left_data left) lines lines_more with_lines in
+    let second : members_text true findings ++ line_feed ∷ [] ≡ key_text (codes ",") (codes "findings") (codes ":[") ++ (elements_text finding_data found ++ left_more) =
+    array_member (codes "findings") (map finding_data found) lefts (line_feed ∷ [])
+    ∙ ap (λ (text : List ℕ). codes "," ++ (compact_text (string (codes "findings")) ++ 58 ∷ 91 ∷ (elements_text finding_data found ++ text))) with_left
+    ∙ behind_key (codes ",") (codes "findings") (codes ":[") (elements_text finding_data found ++ left_more) in
+    ap (λ (text : List ℕ). 123 ∷ text)
+    (append_assoc (compact_text (string (codes "causes"))) (58 ∷ (why ++ members_text true findings)) (line_feed ∷ [])
+    ∙ ap (λ (text : List ℕ). compact_text (string (codes "causes")) ++ 58 ∷ text)
+    (append_assoc why (members_text true findings) (line_feed ∷ [])
+    ∙ ap (λ (text : List ℕ). why ++ text) second))
+    ∙ behind_key (codes "{") (codes "causes") (codes ":") (why ++ (key_text (codes ",") (codes "findings") (codes ":[") ++ (elements_text finding_data found ++ left_more)))
+
+-- thirteen texts, put after one another
+pub thirteen : (a b c d e f g h i j k l m : List ℕ) → ((((((((((((a ++ b) ++ c) ++ d) ++ e) ++ f) ++ g) ++ h) ++ i) ++ j) ++ k) ++ l) ++ m) ≡ (a ++ (b ++ (c ++ (d ++ (e ++ (f ++ (g ++ (h ++ (i ++ (j ++ (k ++ (l ++ m))))))))))))
+thirteen a b c d e f g h i j k l m =
+    append_assoc ((((((((((a ++ b) ++ c) ++ d) ++ e) ++ f) ++ g) ++ h) ++ i) ++ j) ++ k) l m
+    ∙ append_assoc (((((((((a ++ b) ++ c) ++ d) ++ e) ++ f) ++ g) ++ h) ++ i) ++ j) k (l ++ m)
+    ∙ append_assoc ((((((((a ++ b) ++ c) ++ d) ++ e) ++ f) ++ g) ++ h) ++ i) j (k ++ (l ++ m))
+    ∙ append_assoc (((((((a ++ b) ++ c) ++ d) ++ e) ++ f) ++ g) ++ h) i (j ++ (k ++ (l ++ m)))
+    ∙ append_assoc ((((((a ++ b) ++ c) ++ d) ++ e) ++ f) ++ g) h (i ++ (j ++ (k ++ (l ++ m))))
+    ∙ append_assoc (((((a ++ b) ++ c) ++ d) ++ e) ++ f) g (h ++ (i ++ (j ++ (k ++ (l ++ m)))))
+    ∙ append_assoc ((((a ++ b) ++ c) ++ d) ++ e) f (g ++ (h ++ (i ++ (j ++ (k ++ (l ++ m))))))
+    ∙ append_assoc (((a ++ b) ++ c) ++ d) e (f ++ (g ++ (h ++ (i ++ (j ++ (k ++ (l ++ m)))))))
+    ∙ append_assoc ((a ++ b) ++ c) d (e ++ (f ++ (g ++ (h ++ (i ++ (j ++ (k ++ (l ++ m))))))))
+    ∙ append_assoc (a ++ b) c (d ++ (e ++ (f ++ (g ++ (h ++ (i ++ (j ++ (k ++ (l ++ m)))))))))
+    ∙ append_assoc a b (c ++ (d ++ (e ++ (f ++ (g ++ (h ++ (i ++ (j ++ (k ++ (l ++ m))))))))))

@@ -1,0 +1,8 @@
+use Rattle.std.proofs.Common.{◌≡◌, ◌++◌, string_bytes, take}
+use Rattle.reports.specs.inner.ArrayTexts.{elements_text}
+use Rattle.reports.specs.Judged.{left_data}
+use Rattle.reports.proofs.json.judged.push_left.Given as goal
+
+-- the elements so far
+abbrev pub invariant-loop-index : goal.invariant-loop-index
+invariant-loop-index l = string_bytes l.text ≡ string_bytes l.fn.text ++ elements_text left_data (take l.index l.left)
