@@ -1,4 +1,5 @@
 -- What contracts see of a collector, and what a step with one rank's feed does.
+use Rattle.mpicall.specs.Names.{Rank}
 use Rattle.std.specs.Prelude.{◌≡◌, ℕ, Bool, false, Option, List, length, map}
 use Rattle.logbook.specs.Pages.{Book}
 use Rattle.moves.specs.Stands.{stands_of}
@@ -25,14 +26,14 @@ abbrev pub kept : Collector → Kept
 kept collector = collector.ledger
 
 -- the items received from a rank, and those that are known to be left on its feed
-abbrev pub received_from : Collector → ℕ → List Item
+abbrev pub received_from : Collector → Rank → List Item
 received_from collector rank = received_in collector.takers.items rank
 
-abbrev pub left_from : Collector → ℕ → List Item
+abbrev pub left_from : Collector → Rank → List Item
 left_from collector rank = left_in collector.takers.items rank
 
 -- a step with a rank's feed: what it takes is entered, by the definition of `Enters`
-pub record Steps (rank : ℕ) (old : Collector) (answer : Stepped) (new : Collector) : Type 0 where
+pub record Steps (rank : Rank) (old : Collector) (answer : Stepped) (new : Collector) : Type 0 where
   pub found : Took
   pub takes : Takes rank found old.takers.items new.takers.items
   pub enters : Enters rank found (kept old) answer (kept new)
@@ -42,7 +43,8 @@ pub record Steps (rank : ℕ) (old : Collector) (answer : Stepped) (new : Collec
 pub record KeepsWhatCame (collector : Collector) : Type 0 where
   pub one_a_rank : length (kept collector).recording ≡ length (rings collector)
   pub one_fault_a_rank : length (kept collector).faults ≡ length (rings collector)
-  pub collected : (kept collector).wanted ≡ false → (rank : ℕ) → IsKeptIn rank (received_from collector rank) (kept collector)
+  pub collected : (kept collector).wanted ≡ false → (rank : Rank) →
+      IsKeptIn rank (received_from collector rank) (kept collector)
 
 -- all was received of the ranks that have a receipt, and this is the lowest rank without one
 pub record IsFinished (collector : Collector) (receipts : List (Option Receipt)) (missing : Option ℕ) : Type 0 where
@@ -78,8 +80,8 @@ PublishesRuns collector = ArePassed (kept collector).reading (kept collector).gr
 pub record TakesNothing (old new : Collector) : Type 0 where
   pub names : rings new ≡ rings old
   pub same : kept new ≡ kept old
-  pub received : (rank : ℕ) → received_from new rank ≡ received_from old rank
-  pub left : (rank : ℕ) → left_from new rank ≡ left_from old rank
+  pub received : (rank : Rank) → received_from new rank ≡ received_from old rank
+  pub left : (rank : Rank) → left_from new rank ≡ left_from old rank
 
 -- nothing was published, and watches are shown what they were shown
 pub record PublishesNothing (old new : Collector) : Type 0 where

@@ -1,4 +1,5 @@
 -- The receipts of the ranks' feeds, what they hold, and what is received of it.
+use Rattle.mpicall.specs.Names.{Rank}
 use Rattle.std.specs.Prelude.{◌≡◌, ⊤, ℕ, ◌+◌, true, Option, Some, None, IfSome, unwrap_or, List, [], ◌∷◌, slice_get}
 use Rattle.mpicall.specs.Trace.{Trace}
 use Rattle.mpicall.specs.declared.fault.SourceFault.TheVariants.{NoFinalize}
@@ -20,7 +21,7 @@ AreReceiptsOf (name ∷ names) (receipt ∷ receipts) = IfSome receipt (λ r. re
 AreReceiptsOf names receipts = ⊥
 
 -- the lowest rank, from `rank` on, without a receipt
-abbrev pub missing_from : ℕ → List (Option Receipt) → Option ℕ
+abbrev pub missing_from : Rank → List (Option Receipt) → Option Rank
 missing_from rank [] = None
 missing_from rank (None ∷ receipts) = Some rank
 missing_from rank (Some receipt ∷ receipts) = missing_from (rank + 1) receipts

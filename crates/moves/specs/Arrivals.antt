@@ -1,10 +1,11 @@
 -- Arrivals: records of many ranks as they are read, in any mix. Those are kept that have no fault. How
 -- records are read is this project's own; MPI says nothing of it.
+use Rattle.mpicall.specs.Names.{Rank}
 use Rattle.moves.specs.declared.reading.Reading.{Reading}
 use Rattle.std.specs.Prelude.{◌≡◌, ℕ, ◌==◌, is_none, List, [], ◌∷◌, ◌++◌, replicate, if◌then◌else◌}
 use Rattle.mpicall.specs.declared.call.Call.{Call}
 use Rattle.mpigroup.specs.Groups.{Groups, ranks_of}
-use Rattle.callnotes.specs.Recordings.{Lists, calls_of, appended}
+use Rattle.callstore.specs.Recordings.{Lists, calls_of, appended}
 use Rattle.pairing.specs.Faults.{fault_of, IsLawful}
 use Rattle.moves.specs.Stands.{stands_of}
 
@@ -33,7 +34,7 @@ abbrev pub IsKeptOn : Groups → Lists → Lists → Arrival → Type 0
 IsKeptOn groups old new arrival = (arrivals : List Arrival) → old ≡ kept_of groups arrivals → new ≡ kept_of groups (arrivals ++ arrival ∷ [])
 
 -- the calls of one rank among the arrivals, in their order
-abbrev pub calls_by : ℕ → List Arrival → List Call
+abbrev pub calls_by : Rank → List Arrival → List Call
 calls_by rank [] = []
 calls_by rank (arrival ∷ rest) = if arrival.0 == rank then arrival.1 ∷ calls_by rank rest else calls_by rank rest
 
@@ -45,7 +46,7 @@ KeptIsLawful = (groups : Groups) (arrivals : List Arrival) → IsLawful groups (
 -- same order in both, the two mixes give one recording.
 abbrev pub MixesAreKeptAlike : Type 0
 MixesAreKeptAlike =
-    (groups : Groups) (a b : List Arrival) → ((rank : ℕ) → calls_by rank a ≡ calls_by rank b) →
+    (groups : Groups) (a b : List Arrival) → ((rank : Rank) → calls_by rank a ≡ calls_by rank b) →
     kept_of groups a ≡ kept_of groups b
 
 -- Law: however the ranks' records are mixed, the ranks come to stand alike. If each rank's calls arrive in

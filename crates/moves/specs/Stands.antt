@@ -1,12 +1,13 @@
 -- Where the ranks of a run come to stand by one of this project's readings of MPI, and what that tells of
 -- every run.
+use Rattle.mpicall.specs.Names.{Rank}
 use Rattle.moves.specs.declared.reading.Reading.{Reading}
 use Rattle.std.specs.Prelude.{◌≡◌, ℕ, ◌≤◌, Bool, true, false, nat_lt, Some, List, length, map, slice_get, slice_index}
 use Rattle.std.specs.Option.{option_map_or}
 use Rattle.mpicall.specs.Ending.{ends_list}
 use Rattle.mpicall.specs.declared.call.Call.{Call}
 use Rattle.mpigroup.specs.Groups.{Groups}
-use Rattle.callnotes.specs.Recordings.{Lists, calls_of, GoesOn}
+use Rattle.callstore.specs.Recordings.{Lists, calls_of, GoesOn}
 use Rattle.moves.specs.Runs.{State, IsRun, run_end, IsMaximal, IsTheEnd, StandsNoLater, total, lowest_run}
 use Rattle.moves.specs.Readings.{is_no_laxer}
 use Rattle.moves.specs.Needs.{can_move}
@@ -32,7 +33,7 @@ abbrev pub stands_of : Reading → Groups → Lists → State
 stands_of reading groups recording = end_over recording (lowest_run_over reading groups recording)
 
 -- in a state, the rank's present call is the one that ends its list
-abbrev pub is_at_end : Lists → State → ℕ → Bool
+abbrev pub is_at_end : Lists → State → Rank → Bool
 is_at_end recording stands rank = option_map_or ends_list (slice_get (calls_of recording rank) (slice_index stands rank)) false
 
 -- Law: over every recording, the run that always moves the lowest rank is maximal, and every maximal run
@@ -53,7 +54,7 @@ NoRunBringsAStuckRankToItsEnd =
 -- Law: a rank that is at its end at the stands is brought there by every maximal run.
 abbrev pub EveryMaximalRunBringsTheOthers : Type 0
 EveryMaximalRunBringsTheOthers =
-    (reading : Reading) (groups : Groups) (recording : Lists) (rank : ℕ) (states : List State) →
+    (reading : Reading) (groups : Groups) (recording : Lists) (rank : Rank) (states : List State) →
     IsMaximal (can_move reading groups recording) (length recording) states →
     is_at_end recording (stands_of reading groups recording) rank ≡ true →
     is_at_end recording (end_over recording states) rank ≡ true
@@ -72,7 +73,7 @@ NoCallBehindTheEndIsReached =
     slice_index (end_over recording states) rank ≤ place
 
 -- the rank stands earlier in the first state
-abbrev pub stands_earlier : State → State → ℕ → Bool
+abbrev pub stands_earlier : State → State → Rank → Bool
 stands_earlier s t rank = nat_lt (slice_index s rank) (slice_index t rank)
 
 -- Law: under a reading that is no laxer no rank comes to stand later.

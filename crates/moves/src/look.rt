@@ -6,8 +6,8 @@
 
 ghost use Rattle.std.specs.Prelude.{◌≡◌, ◌<◌, Some, true, nat_lt, length, slice_get, slice_index};
 ghost use Rattle.std.specs.List.{list_all};
-ghost use Rattle.callnotes.specs.Limits.{most_calls};
-ghost use Rattle.callnotes.specs.Recordings.{calls_of};
+ghost use Rattle.callstore.specs.Limits.{most_calls};
+ghost use Rattle.callstore.specs.Recordings.{calls_of};
 ghost use Rattle.moves.specs.Needs.{half_needs, probe_needs, is_met};
 ghost use Rattle.moves.specs.inner.Waiting.{message_needs, open_wave};
 ghost use Rattle.moves.specs.inner.Positions.{IsCallAt, KnowWaves, OperationTells, RequestTells, RequestsTell, CallTells, RankTells};
@@ -16,10 +16,10 @@ use crate::need::is_reached;
 use crate::progress::Progress;
 use crate::reading::sends_freely;
 use crate::world::{Positions, World};
-use callnotes::call_ref::CallRef;
-use callnotes::envelope::Half;
-use callnotes::often::{COLL, IRECV, ISEND, RECV, SEND, WAIT, WAITALL};
-use mpicall::does::Does;
+use callstore::call_ref::CallRef;
+use callstore::envelope::Half;
+use callstore::hot::{COLL, IRECV, ISEND, RECV, SEND, WAIT, WAITALL};
+use mpicall::effect::Effect;
 use pairing::pairs::Pairs;
 
 /// A call, by its rank and its place.
@@ -80,8 +80,8 @@ fn open_wave(pairs: &Pairs, progress: &Progress, at: At, call: &CallRef<'_>) -> 
     requires { slice_get (calls_of pairs.now.recording at.0) at.1 ≡ Some call.now }
     ensures { result ≡ open_wave pairs.now.groups pairs.now.recording progress.now at.0 at.1 }
 {
-    match call.does() {
-        Does::Joins { .. } => progress.open_wave(pairs, at.0, at.1),
+    match call.effect() {
+        Effect::Joins { .. } => progress.open_wave(pairs, at.0, at.1),
         _ => None,
     }
 }
@@ -124,7 +124,7 @@ fn look_at_operation_of<const KIND: u8>(
     requires call { IsCallAt world.now at call }
     ensures { OperationTells world.now positions.now at result }
 {
-    if call.kind_no() == KIND {
+    if call.hot_kind() == KIND {
         look_at_operation(world, positions, at, &call)
     } else {
         look_at_any_operation(world, positions, at, call)
@@ -140,7 +140,7 @@ fn look_at_start(world: &World, positions: &Positions, rank: u16, start: u32) ->
     let Some(call) = world.pairs.call(rank, start) else {
         return Look::Moves;
     };
-    match call.kind_no() {
+    match call.hot_kind() {
         ISEND => look_at_operation_of::<ISEND>(world, positions, (rank, start), call),
         IRECV => look_at_operation_of::<IRECV>(world, positions, (rank, start), call),
         _ => look_at_any_operation(world, positions, (rank, start), call),
@@ -202,7 +202,7 @@ fn look_at_call_of<const KIND: u8>(
     requires call { IsCallAt world.now at call }
     ensures { CallTells world.now positions.now at call.entry result }
 {
-    if call.kind_no() != KIND {
+    if call.hot_kind() != KIND {
         return look_at_any_call(world, positions, at, call);
     }
     if call.starts().is_some() {
@@ -222,7 +222,7 @@ fn look_at_call(world: &World, positions: &Positions, at: At, call: CallRef<'_>)
     ensures { CallTells world.now positions.now at call.entry result }
 {
     // Not by_kind!: functions for starts that are never called would be second callers of those for a started request.
-    match call.kind_no() {
+    match call.hot_kind() {
         ISEND | IRECV if call.starts().is_some() => Look::Moves,
         SEND => look_at_call_of::<SEND>(world, positions, at, call),
         RECV => look_at_call_of::<RECV>(world, positions, at, call),

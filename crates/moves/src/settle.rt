@@ -5,10 +5,10 @@
 //! the worklist.
 
 ghost use Rattle.std.specs.Prelude.{◌≡◌, ◌<◌, ◌≤◌, true, false, None, length, slice_get, slice_index, IfSome};
-ghost use Rattle.callnotes.specs.Recordings.{calls_of};
-ghost use Rattle.callnotes.specs.Limits.{most_calls};
+ghost use Rattle.callstore.specs.Recordings.{calls_of};
+ghost use Rattle.callstore.specs.Limits.{most_calls};
 ghost use Rattle.pairing.specs.Partners.{partner_of};
-ghost use Rattle.callnotes.specs.declared.envelope.Half.{Half as HalfValue};
+ghost use Rattle.callstore.specs.declared.envelope.Half.{Half as HalfValue};
 ghost use Rattle.moves.specs.Runs.{moved};
 ghost use Rattle.moves.specs.inner.Waiting.{comm_list, sent_to, sees, prober_of, woken_partner, woken_prober, woken_peers, woken_comm};
 ghost use Rattle.moves.specs.inner.Positions.{AreKept, AreReached, AreSettled, GoOn, HaveArrival, HaveInHand, HaveWoken, left_to_do};
@@ -16,10 +16,10 @@ ghost use Rattle.moves.specs.inner.Positions.{AreKept, AreReached, AreSettled, G
 use crate::look::{Look, look_at};
 use crate::waiters::Waiters;
 use crate::world::{Positions, World};
-use callnotes::by_kind;
-use callnotes::envelope::Half;
-use callnotes::often::NONE;
-use mpicall::does::Does;
+use callstore::by_kind;
+use callstore::envelope::Half;
+use callstore::hot::NONE;
+use mpicall::effect::Effect;
 use pairing::pairs::Pairs;
 
 /// Moves the rank on by one.
@@ -94,7 +94,7 @@ fn exchanges(pairs: &Pairs, rank: u16, place: u32) -> bool
     ensures sent { result ≡ false → sent_to pairs.now.groups pairs.now.recording rank place ≡ None }
 {
     match pairs.call(rank, place) {
-        Some(call) => matches!(call.does(), Does::Exchanges { .. }),
+        Some(call) => matches!(call.effect(), Effect::PointToPoint { .. }),
         None => false,
     }
 }
@@ -152,7 +152,7 @@ fn reach_any(world: &World, positions: &mut Positions, rank: u16, place: u32)
 #[inline(always)]
 fn kind_at(pairs: &Pairs, rank: u16, place: u32) -> u8 {
     match pairs.call(rank, place) {
-        Some(call) => call.kind_no(),
+        Some(call) => call.hot_kind(),
         None => NONE,
     }
 }

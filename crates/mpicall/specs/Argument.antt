@@ -1,12 +1,13 @@
 -- The arguments of a call, each of which is one field of its line: how it is spelled, its range, and what
 -- a field says that is read as an argument of some form.
+use Rattle.mpicall.specs.Names.{Rank, Comm, Request, Tag}
 use Rattle.std.specs.Prelude.{ℕ, ◌-◌, ℤ, pos, negsuc, Bool, true, nat_le, Option, Some, None, is_some, option_map, if◌then◌else◌, List, [], ◌∷◌, codes}
 use Rattle.std.specs.Fmt.{decimal, signed_decimal}
 use Rattle.std.specs.Str.{bytes_eq}
 use Rattle.mpicall.specs.Number.{number_up_to, signed_of}
 use Rattle.mpicall.specs.declared.limits.TheConstants.{GREATEST_COMM, GREATEST_RANK, GREATEST_TAG, GREATEST_REQUEST, GREATEST_BYTES, GREATEST_COLOUR, GREATEST_KEY}
 use Rattle.mpicall.specs.declared.call.Peer.{Peer}
-use Rattle.mpicall.specs.declared.call.Peer.TheVariants.{Rank, Null}
+use Rattle.mpicall.specs.declared.call.Peer.TheVariants as peer
 
 -- a number with the greatest that may stand in its place, a peer, a colour or none, a key, and the new
 -- communicator of a split or none
@@ -17,13 +18,13 @@ pub data Argument : Type 0 where
   Key : ℤ → Argument
   New : Option ℕ → Argument
 
-abbrev pub comm_argument : ℕ → Argument
+abbrev pub comm_argument : Comm → Argument
 comm_argument comm = Number GREATEST_COMM comm
 
-abbrev pub tag_argument : ℕ → Argument
+abbrev pub tag_argument : Tag → Argument
 tag_argument tag = Number GREATEST_TAG tag
 
-abbrev pub request_argument : ℕ → Argument
+abbrev pub request_argument : Request → Argument
 request_argument req = Number GREATEST_REQUEST req
 
 abbrev pub bytes_argument : ℕ → Argument
@@ -34,7 +35,7 @@ abbrev pub bytes_arguments : Option ℕ → List Argument
 bytes_arguments None = []
 bytes_arguments (Some bytes) = bytes_argument bytes ∷ []
 
-abbrev pub root_argument : ℕ → Argument
+abbrev pub root_argument : Rank → Argument
 root_argument root = Number GREATEST_RANK root
 
 -- the index of one of `count` requests, from 0
@@ -48,8 +49,8 @@ number_or text (Some n) = decimal n
 
 -- the field of a peer
 abbrev pub peer_field : Peer → List ℕ
-peer_field (Rank rank) = decimal rank
-peer_field Null = codes "null"
+peer_field (peer.Rank rank) = decimal rank
+peer_field peer.Null = codes "null"
 
 -- the field of an argument
 abbrev pub spell : Argument → List ℕ
@@ -64,8 +65,8 @@ none_or_up_to greatest None = true
 none_or_up_to greatest (Some n) = nat_le n greatest
 
 abbrev pub peer_in_range : Peer → Bool
-peer_in_range (Rank rank) = nat_le rank GREATEST_RANK
-peer_in_range Null = true
+peer_in_range (peer.Rank rank) = nat_le rank GREATEST_RANK
+peer_in_range peer.Null = true
 
 -- keys are the signed numbers of 32 bits
 abbrev pub key_in_range : ℤ → Bool
@@ -109,7 +110,8 @@ read_number_or text greatest field =
     if bytes_eq field text then Some None else option_map Some (number_up_to greatest field)
 
 abbrev pub read_peer : List ℕ → Option Peer
-read_peer field = if bytes_eq field (codes "null") then Some Null else option_map Rank (number_up_to GREATEST_RANK field)
+read_peer field = if bytes_eq field (codes "null") then Some peer.Null
+    else option_map peer.Rank (number_up_to GREATEST_RANK field)
 
 -- the argument of a form that a field spells; None where the field isn't in that form or its range
 abbrev pub read_argument : Form → List ℕ → Option Argument

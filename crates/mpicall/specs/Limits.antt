@@ -1,4 +1,5 @@
 -- The ranges of a call's fields. A record is a call all of whose fields lie in them.
+use Rattle.mpicall.specs.Names.{Request}
 use Rattle.std.specs.Prelude.{ℕ, Bool, true, ◌&&◌, nat_le, Option, is_none, List, length}
 use Rattle.mpicall.specs.declared.call.Mode.{Mode}
 use Rattle.mpicall.specs.declared.call.Mode.TheVariants.{Standard}
@@ -10,7 +11,7 @@ use Rattle.mpicall.specs.declared.call.Call.{Call}
 use Rattle.mpicall.specs.declared.call.Call.TheVariants.{Send, Isend, Waitall, Waitany}
 
 -- one wait names so many requests
-abbrev pub few_enough : List ℕ → Bool
+abbrev pub few_enough : List Request → Bool
 few_enough reqs = nat_le 1 (length reqs) && nat_le (length reqs) MOST_REQUESTS
 
 -- a standard send alone may tell its bytes

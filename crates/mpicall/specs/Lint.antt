@@ -1,4 +1,5 @@
 -- What is told of a source that is read to its end.
+use Rattle.mpicall.specs.Names.{Place}
 use Rattle.std.specs.Prelude.{◌≡◌, ℕ, ◌-◌, ◌^◌, ◌≤◌, min, Option, Some, None, Result, Ok, Err, List, length, ⊤}
 use Rattle.mpicall.specs.Source.{IsCutOff}
 use Rattle.mpicall.specs.Trace.{Trace}
@@ -26,7 +27,7 @@ TellsTrace (Some trace) (Ok count) = (trace.end ≡ Sealed) × (count ≡ capped
 TellsTrace (Some trace) (Err told) = EndsWith trace told.call told.fault
 
 -- the place of a read that failed is the number of the records of what came
-abbrev pub IsCutAt : {I : Type 0} → (I → Option (List ℕ)) → Source I → Source I → ℕ → Type 0
+abbrev pub IsCutAt : {I : Type 0} → (I → Option (List ℕ)) → Source I → Source I → Place → Type 0
 IsCutAt left old new place = (calls : List Call) × (place ≡ capped (length calls)) × IsCutOff left old new calls
 
 -- the last answer of the source

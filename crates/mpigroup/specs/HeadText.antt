@@ -2,6 +2,7 @@
 -- the ordered group of communicator 1, 2 and so on, as ranks of the world. Communicator 0 is the world,
 -- whose group is the ranks in order. The fault of a head is the first fault of its first line that has
 -- one.
+use Rattle.mpicall.specs.Names.{Rank}
 use Rattle.std.specs.Prelude.{ℕ, ◌+◌, Bool, false, ◌&&◌, ◌||◌, not, ◌==◌, nat_le, nat_lt, Result, Ok, Err, if◌then◌else◌, List, [], ◌∷◌, length, map, drop, codes}
 use Rattle.std.specs.List.{list_all, list_any, range_with_len}
 use Rattle.std.specs.Str.{bytes_eq}
@@ -37,11 +38,11 @@ has_twice [] = false
 has_twice (x ∷ xs) = list_any (λ y. y == x) xs || has_twice xs
 
 -- some ranks of the run, none of them twice
-abbrev pub is_group : ℕ → List ℕ → Bool
+abbrev pub is_group : ℕ → List Rank → Bool
 is_group ranks members = nat_le 1 (length members) && list_all (λ member. nat_lt member ranks) members && not (has_twice members)
 
 -- the members, if they may be a group
-abbrev pub checked_group : ℕ → List ℕ → Result (List ℕ) HeadFaultKind
+abbrev pub checked_group : ℕ → List Rank → Result (List ℕ) HeadFaultKind
 checked_group ranks members = if is_group ranks members then Ok members else Err Group
 
 -- the fields are `comm` and canonical numbers, which may be none
@@ -70,7 +71,7 @@ at_line number (Ok value) = Ok value
 at_line number (Err kind) = Err (fault_on_line number kind)
 
 -- one more group in front
-abbrev pub put_front : List ℕ → Result Groups HeadFault → Result Groups HeadFault
+abbrev pub put_front : List Rank → Result Groups HeadFault → Result Groups HeadFault
 put_front group (Ok groups) = Ok (group ∷ groups)
 put_front group (Err fault) = Err fault
 

@@ -1,6 +1,7 @@
 -- The groups that a split of a communicator makes (MPI 4.0, section 7.4.2): one for each colour that a
 -- member of the old group gives. A new group has the members that give its colour, in the order of the
 -- keys that they give, and where the keys are equal in the order of their ranks in the old group.
+use Rattle.mpicall.specs.Names.{Rank}
 use Rattle.std.specs.Prelude.{ℕ, ℤ, ◌+◌, ◌==◌, Option, Some, None, if◌then◌else◌, List, [], ◌∷◌, map, filter}
 use Rattle.std.specs.List.{dedup}
 use Rattle.std.specs.Ordering.{nat_cmp, int_cmp, ordering_then, is_lt}
@@ -12,7 +13,7 @@ abbrev pub Choices : Type 0
 Choices = List (Option ℕ × ℤ)
 
 -- the members that give a colour, of those from one rank on
-abbrev pub members_from : ℕ → Choices → List Member
+abbrev pub members_from : Rank → Choices → List Member
 members_from rank [] = []
 members_from rank ((Some colour, key) ∷ choices) =
     record { colour = colour; key = key; rank = rank } ∷ members_from (rank + 1) choices
@@ -41,7 +42,7 @@ abbrev pub ranks_with : ℕ → List Member → List ℕ
 ranks_with colour members = map (λ member. member.rank) (filter (λ member. member.colour == colour) members)
 
 -- the new group of one colour, as ranks in the old group
-abbrev pub colour_group : Choices → ℕ → List ℕ
+abbrev pub colour_group : Choices → ℕ → List Rank
 colour_group choices colour = ranks_with colour (members_in_order choices)
 
 -- the colours of some members in their order, each once

@@ -3,7 +3,7 @@ use Rattle.std.proofs.Common.{◌≡◌, ℕ, zero, suc, ◌<◌, true, Option, 
 use Rattle.std.specs.List.{list_all}
 use Rattle.std.proofs.lemmas.List.{length-map}
 use Rattle.std.proofs.lemmas.Bool.{false≢true}
-use Rattle.callnotes.specs.Requests.{started_in, is_active}
+use Rattle.callstore.specs.Requests.{started_in, is_active}
 use Rattle.pairing.specs.inner.Starts.{known_front}
 use Rattle.mpicall.specs.declared.call.Call.{Call}
 

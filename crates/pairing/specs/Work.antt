@@ -1,24 +1,25 @@
 -- What is done in the arena of the halves that have no partner yet.
+use Rattle.mpicall.specs.Names.{Rank}
 use Rattle.std.specs.Prelude.{ℕ, ◌+◌, if◌then◌else◌, is_some, List, [], ◌∷◌}
 use Rattle.arenalist.specs.Arena.{counted}
 use Rattle.mpicall.specs.declared.call.Call.{Call}
 use Rattle.mpigroup.specs.Groups.{Groups}
-use Rattle.callnotes.specs.declared.envelope.Half.TheVariants.{Send as SendHalf, Recv as RecvHalf}
-use Rattle.callnotes.specs.Envelopes.{envelope_of}
-use Rattle.callnotes.specs.Recordings.{Lists}
+use Rattle.callstore.specs.declared.envelope.Half.TheVariants.{Send as SendHalf, Recv as RecvHalf}
+use Rattle.callstore.specs.Envelopes.{envelope_of}
+use Rattle.callstore.specs.Recordings.{Lists}
 
 -- how many halves of messages a call has
-abbrev pub count_halves : Groups → ℕ → Call → ℕ
+abbrev pub count_halves : Groups → Rank → Call → ℕ
 count_halves groups rank call =
     (if is_some (envelope_of groups rank SendHalf call) then 1 else 0) + (if is_some (envelope_of groups rank RecvHalf call) then 1 else 0)
 
 -- how many a rank's calls have
-abbrev pub halves_in : Groups → ℕ → List Call → ℕ
+abbrev pub halves_in : Groups → Rank → List Call → ℕ
 halves_in groups rank [] = 0
 halves_in groups rank (call ∷ calls) = count_halves groups rank call + halves_in groups rank calls
 
 -- how many the lists have, where the first has the rank `rank`
-abbrev pub halves_from : Groups → ℕ → Lists → ℕ
+abbrev pub halves_from : Groups → Rank → Lists → ℕ
 halves_from groups rank [] = 0
 halves_from groups rank (calls ∷ lists) = halves_in groups rank calls + halves_from groups (rank + 1) lists
 

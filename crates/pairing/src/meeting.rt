@@ -2,15 +2,15 @@
 
 ghost use Rattle.std.specs.Prelude.{◌≡◌, ◌+◌, ◌≤◌, ◌<◌, Some, option_map, IfSome, is_some};
 ghost use Rattle.arenalist.specs.Arena.{counted};
-ghost use Rattle.callnotes.specs.Envelopes.{other_half, rank_of_half};
-ghost use Rattle.callnotes.specs.Notes.{partnered};
-ghost use Rattle.callnotes.specs.inner.Notes.{recording_of};
+ghost use Rattle.callstore.specs.Envelopes.{other_half, rank_of_half};
+ghost use Rattle.callstore.specs.Notes.{partnered};
+ghost use Rattle.callstore.specs.inner.Notes.{recording_of};
 ghost use Rattle.pairing.specs.inner.Matched.{Filing, filed_on, filed_halves, worked_if, worked, HasNumber, ArePaired, IsNext};
-ghost use Rattle.callnotes.specs.declared.envelope.Half.TheVariants.{Send as SendHalf, Recv as RecvHalf};
+ghost use Rattle.callstore.specs.declared.envelope.Half.TheVariants.{Send as SendHalf, Recv as RecvHalf};
 
-use crate::matches::{Halves, Matches, Numbered};
-use callnotes::envelope::{Half, rank_of_half};
-use callnotes::notes::Notes;
+use crate::matches::{Halves, Matches, NumberedEnvelope};
+use callstore::envelope::{Half, rank_of_half};
+use callstore::notes::Notes;
 use mpigroup::head::Head;
 
 /// Notes with a half of the rank's call, and with the half that it met, where the other stands.
@@ -21,7 +21,7 @@ fn note_partners(
     rank: u16,
     place: u32,
     half: Half,
-    own: &Numbered,
+    own: &NumberedEnvelope,
     there: u32,
 )
     ensures recording { recording_of notes.new.lists ≡ recording_of notes.old.lists }
@@ -43,7 +43,7 @@ fn meet_own(
     rank: u16,
     place: u32,
     half: Half,
-    own: &Numbered,
+    own: &NumberedEnvelope,
 )
     requires number { HasNumber matches.old own.now }
     requires room { 0 < matches.old.spare }
@@ -69,7 +69,7 @@ fn meet_half(
     rank: u16,
     place: u32,
     half: Half,
-    own: &Option<Numbered>,
+    own: &Option<NumberedEnvelope>,
 )
     requires number { IfSome own.now (HasNumber matches.old) }
     requires room { 0 < matches.old.spare }

@@ -5,23 +5,23 @@
 
 ghost use Rattle.std.specs.Prelude.{◌≡◌, ◌≢◌, ◌<◌, ◌≤◌, ℕ, [], ◌∷◌, length, replicate, slice_get, option_map, None, Err, IfOk, IfErr, IfNone, IfSome, OnOk, OnErr, false, true};
 ghost use Rattle.mpigroup.specs.Groups.{ranks_of};
-ghost use Rattle.callnotes.specs.Limits.{most_calls};
-ghost use Rattle.callnotes.specs.Recordings.{Lists, calls_of, appended, is_ended, has_end};
+ghost use Rattle.callstore.specs.Limits.{most_calls};
+ghost use Rattle.callstore.specs.Recordings.{Lists, calls_of, appended, is_ended, has_end};
 ghost use Rattle.pairing.specs.Partners.{partner_of, EachIsReceived, HasUnreceived};
 ghost use Rattle.pairing.specs.Probed.{probed_of, HasProbe, NoneIsProbed};
 ghost use Rattle.pairing.specs.inner.Probed.{seen_from};
-ghost use Rattle.callnotes.specs.Often.{kind_no};
+ghost use Rattle.callstore.specs.Hot.{hot_kind};
 ghost use Rattle.pairing.specs.inner.Seated.{IsProbing};
-ghost use Rattle.callnotes.specs.Communicators.{NoneIsMade, HasMade};
-ghost use Rattle.callnotes.specs.Requests.{started_in, started_of, waits_for, HasActive};
+ghost use Rattle.callstore.specs.Communicators.{NoneIsMade, HasMade};
+ghost use Rattle.callstore.specs.Requests.{started_in, started_of, waits_for, HasActive};
 ghost use Rattle.pairing.specs.inner.Joined.{IsListFor};
-ghost use Rattle.callnotes.specs.Waves.{wave_of, member_of};
+ghost use Rattle.callstore.specs.Waves.{wave_of, member_of};
 ghost use Rattle.pairing.specs.Faults.{fault_of, waits_for_active, IsLawful};
 ghost use Rattle.pairing.specs.Pairs.{with_call, joined_at, added_at, TellsFault, completed_of};
 ghost use Rattle.pairing.specs.inner.Kept.{AreNoted, ArePartnered};
 ghost use Rattle.pairing.specs.Work.{work_of};
-ghost use Rattle.callnotes.specs.Notes.{notes_of, HasRoom};
-ghost use Rattle.callnotes.specs.inner.Notes.{recording_of};
+ghost use Rattle.callstore.specs.Notes.{notes_of, HasRoom};
+ghost use Rattle.callstore.specs.inner.Notes.{recording_of};
 ghost use Rattle.pairing.specs.inner.Tables.{AreTables, HaveRoom, GoOnBy, IsKept};
 ghost use Rattle.pairing.specs.declared.added.PairFault.TheVariants.{Refused};
 
@@ -32,13 +32,13 @@ use crate::meeting::meet_halves;
 use crate::probes::received_by;
 use crate::probing::Probing;
 use crate::tables::{Room, Tables};
-use callnotes::by_kind;
-use callnotes::call_ref::CallRef;
-use callnotes::envelope::{Envelope, Half, rank_of_half};
-use callnotes::next_call::NextCall;
-use callnotes::notes::Notes;
-use callnotes::often::{ANY, kind_no};
-use callnotes::request::waits_for;
+use callstore::by_kind;
+use callstore::call_ref::CallRef;
+use callstore::envelope::{Envelope, Half, rank_of_half};
+use callstore::hot::{ANY, hot_kind};
+use callstore::next_call::NextCall;
+use callstore::notes::Notes;
+use callstore::request::waits_for;
 use mpicall::limits::MOST_REQUESTS;
 use mpicall::record::Record;
 use mpigroup::head::Head;
@@ -69,7 +69,7 @@ impl Drop for Pairs {
 
 impl Model for Pairs {
     ghost use Rattle.pairing.specs.inner.Seated.{IsProbing};
-    ghost use Rattle.callnotes.specs.inner.Notes.{recording_of};
+    ghost use Rattle.callstore.specs.inner.Notes.{recording_of};
     ghost use Rattle.pairing.specs.Pairs.{Paired};
     ghost use Rattle.pairing.specs.inner.Tables.{IsKept};
 
@@ -112,7 +112,7 @@ fn next_fault(
     let is_over = is_over(notes, rank);
     first_fault(
         head,
-        &tables.held,
+        &tables.made_comms,
         &tables.active,
         rank,
         count,
@@ -164,7 +164,7 @@ fn note_wait_for_one(
     // For the proof: the clauses name the head.
     let _head = head;
     match tables.active.start_of(rank, req) {
-        Some(start) => notes.note(rank, call.record(), tables.beside(list), &[start]),
+        Some(start) => notes.note(rank, call.record(), tables.cached(list), &[start]),
         None => unreachable!(),
     }
 }
@@ -188,12 +188,12 @@ fn note_wait(
 {
     // For the proof: the clauses name the head.
     let _head = head;
-    let beside = tables.beside(list);
+    let cached = tables.cached(list);
     let mut starts = [0; MOST_REQUESTS];
     let count = tables
         .active
         .starts_of(rank, waits_for(call.as_call()), &mut starts);
-    notes.note(rank, call, beside, &starts[..count]);
+    notes.note(rank, call, cached, &starts[..count]);
 }
 
 /// Notes the rank's next call, whose wave has that list, with what the tables of the calls before it say of it.
@@ -215,7 +215,7 @@ fn note_call(
     ensures { GoOnBy notes.old.lists notes.new.lists rank call.now }
 {
     match call.waits_for() {
-        [] => notes.note(rank, call.record(), tables.beside(list), &[]),
+        [] => notes.note(rank, call.record(), tables.cached(list), &[]),
         [req] => note_wait_for_one(head, notes, tables, rank, call, *req, list),
         _ => note_wait(head, notes, tables, rank, call.record(), list),
     }
@@ -383,7 +383,7 @@ impl Pairs {
         place: u32,
         call: &Record,
     ) -> Result<(), PairFault>
-        requires kind { KIND ≢ 0 → kind_no call.now ≡ KIND }
+        requires kind { KIND ≢ 0 → hot_kind call.now ≡ KIND }
         requires is_rank { rank < length self.old.recording }
         requires is_next { place ≡ length (calls_of self.old.recording rank) }
         ensures ok { OnOk result (self.new ≡ with_call self.old rank call.now) }
@@ -393,7 +393,7 @@ impl Pairs {
     {
         // For the proof: the ranks are few, so the calls are, and each probe's seat has a number of 32 bits.
         let _ranks = self.head.ranks();
-        if KIND != ANY && kind_no(call.as_call()) != KIND {
+        if KIND != ANY && hot_kind(call.as_call()) != KIND {
             unreachable!();
         }
         let call = &NextCall::of(call);
@@ -433,7 +433,7 @@ impl Pairs {
         ensures err { OnErr result (self.new ≡ self.old) }
     {
         by_kind!(
-            kind_no(call.as_call()),
+            hot_kind(call.as_call()),
             self.admit_kind(rank, place, call),
             _ => self.admit_kind::<ANY>(rank, place, call)
         )
@@ -595,7 +595,7 @@ impl Pairs {
         ensures none { result ≡ false → NoneIsMade self.now.recording }
         ensures some { result ≡ true → HasMade self.now.recording }
     {
-        self.tables.held.has_made()
+        self.tables.made_comms.has_made()
     }
 
     /// How much was done in the arena of the halves that have no partner yet: 1 for each half of a message, which

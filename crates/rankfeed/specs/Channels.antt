@@ -1,4 +1,5 @@
 -- What contracts see of a feed over a channel, of its taker and of its receipt.
+use Rattle.mpicall.specs.Names.{Rank}
 use Rattle.std.specs.Prelude.{◌≡◌, ℕ, List}
 use Rattle.mpicall.specs.declared.call.Call.{Call}
 use Rattle.crossbeam_channel.specs.Claims.{view}
@@ -34,11 +35,11 @@ abbrev pub IsReceiptFor : Taker → Receipt → Type 0
 IsReceiptFor taker receipt = (receipt.rank ≡ taker.rank) × (sends_on receipt.sender ≡ receives_on taker.receiver)
 
 -- the rank whose records are put
-abbrev pub feed_rank : Feed → ℕ
+abbrev pub feed_rank : Feed → Rank
 feed_rank feed = feed.rank
 
 -- the rank whose records are taken
-abbrev pub taker_rank : Taker → ℕ
+abbrev pub taker_rank : Taker → Rank
 taker_rank taker = taker.rank
 
 -- how many items the feed has room for

@@ -1,8 +1,9 @@
 -- What contracts see of a wait graph.
+use Rattle.mpicall.specs.Names.{Rank}
 use Rattle.moves.specs.declared.reading.Reading.{Reading}
 use Rattle.std.specs.Prelude.{◌≡◌, ℕ, Bool, List}
 use Rattle.mpigroup.specs.Groups.{Groups}
-use Rattle.callnotes.specs.Recordings.{Lists}
+use Rattle.callstore.specs.Recordings.{Lists}
 use Rattle.waitgraph.specs.Causes.{CauseView, causes_of}
 use Rattle.waitgraph.specs.Held.{held_of, is_some_left_open}
 use Rattle.waitgraph.specs.Waits.{Waits, needs_in}
@@ -13,8 +14,8 @@ use Rattle.findings.specs.declared.finding.Finding.{Finding}
 -- the stuck ranks, the held ones, whether some list was left open, the unmet needs of each rank, the causes and the
 -- findings
 pub record GraphView : Type 0 where
-  pub stuck : List ℕ
-  pub held : List ℕ
+  pub stuck : List Rank
+  pub held : List Rank
   pub left_open : Bool
   pub waits : Waits
   pub causes : List CauseView
@@ -25,6 +26,6 @@ pub record IsGraphOf (reading : Reading) (groups : Groups) (recording : Lists) (
   pub stuck : graph.stuck ≡ stuck_of reading groups recording
   pub held : graph.held ≡ held_of reading groups recording
   pub left_open : graph.left_open ≡ is_some_left_open recording
-  pub unmet : (rank : ℕ) → needs_in graph.waits rank ≡ unmet_of reading groups recording rank
+  pub unmet : (rank : Rank) → needs_in graph.waits rank ≡ unmet_of reading groups recording rank
   pub causes : graph.causes ≡ causes_of reading groups recording
   pub findings : graph.findings ≡ findings_of groups recording

@@ -1,11 +1,12 @@
 -- Over recordings: lists that were left open, where the ranks of a run stand, and the held ranks.
+use Rattle.mpicall.specs.Names.{Rank}
 use Rattle.moves.specs.declared.reading.Reading.{Reading}
 use Rattle.std.specs.Prelude.{ℕ, Bool, Option, Some, List, length, map, slice_get, slice_index}
 use Rattle.std.specs.List.{filter, list_any, range_with_len}
 use Rattle.mpicall.specs.declared.call.Call.{Call}
 use Rattle.mpicall.specs.declared.call.Call.TheVariants.{Finalize, Open}
 use Rattle.mpigroup.specs.Groups.{Groups}
-use Rattle.callnotes.specs.Recordings.{Lists, calls_of}
+use Rattle.callstore.specs.Recordings.{Lists, calls_of}
 use Rattle.moves.specs.Runs.{State}
 use Rattle.moves.specs.Stands.{stands_of}
 use Rattle.pairing.specs.LeftOpen.{is_left_open}
@@ -33,7 +34,7 @@ standing_by (Some Finalize) = AtFinalize
 standing_by (Some Open) = AtOpen
 standing_by _ = Stuck
 
-abbrev pub standing_at : Lists → State → ℕ → Standing
+abbrev pub standing_at : Lists → State → Rank → Standing
 standing_at recording stands rank = standing_by (slice_get (calls_of recording rank) (slice_index stands rank))
 
 -- and each rank
@@ -41,17 +42,17 @@ abbrev pub standings_at : Lists → State → List Standing
 standings_at recording stands = map (standing_at recording stands) (range_with_len 0 (length recording))
 
 -- a rank is held in a state
-abbrev pub is_held_in : Reading → Groups → Lists → State → ℕ → Bool
+abbrev pub is_held_in : Reading → Groups → Lists → State → Rank → Bool
 is_held_in reading groups recording stands = are_held (opened_of recording) (standings_at recording stands) (waits_at reading groups recording stands)
 
 -- the held ranks in a state, the lowest first
-abbrev pub held_at : Reading → Groups → Lists → State → List ℕ
+abbrev pub held_at : Reading → Groups → Lists → State → List Rank
 held_at reading groups recording stands = filter (is_held_in reading groups recording stands) (range_with_len 0 (length recording))
 
 -- a rank is held if it is so at the stands
-abbrev pub is_held : Reading → Groups → Lists → ℕ → Bool
+abbrev pub is_held : Reading → Groups → Lists → Rank → Bool
 is_held reading groups recording = is_held_in reading groups recording (stands_of reading groups recording)
 
 -- the held ranks
-abbrev pub held_of : Reading → Groups → Lists → List ℕ
+abbrev pub held_of : Reading → Groups → Lists → List Rank
 held_of reading groups recording = held_at reading groups recording (stands_of reading groups recording)

@@ -1,10 +1,11 @@
 -- The verdict over a run, by this project's reading of MPI: it can hang exactly if some rank is held, whatever calls
 -- stand in the place of an open (MPI 4.0, section 11.2.2: each process must call MPI_Finalize). Where no list was left
 -- open, a rank is held if it doesn't come to stand at its end.
+use Rattle.mpicall.specs.Names.{Rank}
 use Rattle.moves.specs.declared.reading.Reading.{Reading}
 use Rattle.std.specs.Prelude.{◌≡◌, ◌↔◌, ℕ, ◌<◌, Bool, true, false, List, [], ◌∷◌, length}
 use Rattle.mpigroup.specs.Groups.{Groups}
-use Rattle.callnotes.specs.Recordings.{Lists, IsClosed}
+use Rattle.callstore.specs.Recordings.{Lists, IsClosed}
 use Rattle.waitgraph.specs.Stuck.{is_stuck}
 use Rattle.waitgraph.specs.Held.{held_of, is_held, is_some_left_open}
 use Rattle.waitgraph.specs.declared.verdict.Verdict.{Verdict}
@@ -22,13 +23,13 @@ verdict_of reading groups recording = verdict_by (held_of reading groups recordi
 
 -- some rank is stuck
 pub record SomeRankIsStuck (reading : Reading) (groups : Groups) (recording : Lists) : Type 0 where
-  pub rank : ℕ
+  pub rank : Rank
   pub is_rank : rank < length recording
   pub stays : is_stuck reading groups recording rank ≡ true
 
 -- some rank is held
 pub record SomeRankIsHeld (reading : Reading) (groups : Groups) (recording : Lists) : Type 0 where
-  pub rank : ℕ
+  pub rank : Rank
   pub is_rank : rank < length recording
   pub stays : is_held reading groups recording rank ≡ true
 

@@ -1,9 +1,10 @@
 -- What each rank waits for where it stands: the needs of its present call that aren't met there.
+use Rattle.mpicall.specs.Names.{Rank}
 use Rattle.moves.specs.declared.reading.Reading.{Reading}
-use Rattle.std.specs.Prelude.{ℕ, List, length, map}
+use Rattle.std.specs.Prelude.{List, length, map}
 use Rattle.std.specs.List.{range_with_len}
 use Rattle.mpigroup.specs.Groups.{Groups, or_empty}
-use Rattle.callnotes.specs.Recordings.{Lists}
+use Rattle.callstore.specs.Recordings.{Lists}
 use Rattle.moves.specs.Runs.{State}
 use Rattle.moves.specs.declared.need.Need.{Need}
 use Rattle.waitgraph.specs.Stuck.{unmet_at}
@@ -17,5 +18,5 @@ abbrev pub waits_at : Reading → Groups → Lists → State → Waits
 waits_at reading groups recording stands = map (unmet_at reading groups recording stands) (range_with_len 0 (length recording))
 
 -- the unmet needs of a rank
-abbrev pub needs_in : Waits → ℕ → List Need
+abbrev pub needs_in : Waits → Rank → List Need
 needs_in waits rank = or_empty waits rank

@@ -2,7 +2,7 @@
 
 ghost use Rattle.std.specs.Prelude.{◌≡◌, ◌<◌, ℕ, length, map, IfOk, OnOk};
 ghost use Rattle.std.specs.List.{filter, range_with_len};
-ghost use Rattle.callnotes.specs.Recordings.{IsClosed};
+ghost use Rattle.callstore.specs.Recordings.{IsClosed};
 ghost use Rattle.waitgraph.specs.Stuck.{is_stuck_at, stuck_at, stuck_of, unmet_of};
 ghost use Rattle.waitgraph.specs.Causes.{view_of, walks_in, walks_at, causes_in, causes_of};
 ghost use Rattle.waitgraph.specs.Held.{held_at, held_of, is_some_left_open, opened_of};

@@ -5,14 +5,14 @@ ghost use Rattle.std.specs.List.{filter};
 ghost use Rattle.std.specs.Option.{option_map_or};
 ghost use Rattle.std.specs.Ordering.{is_lt};
 ghost use Rattle.mpigroup.specs.Groups.{group_of};
-ghost use Rattle.callnotes.specs.Recordings.{calls_of};
-ghost use Rattle.callnotes.specs.Requests.{completes};
+ghost use Rattle.callstore.specs.Recordings.{calls_of};
+ghost use Rattle.callstore.specs.Requests.{completes};
 ghost use Rattle.pairing.specs.Pairs.{completed_of};
 ghost use Rattle.moves.specs.Needs.{world_of, half_needs, probe_needs, member_need, wave_needs, operation_needs, operation_needs_at, request_needs, needs_of_call, needs_of};
 ghost use Rattle.waitgraph.specs.Stuck.{comes_before, needs_in_order, is_unmet, unmet_at, UnmetNeedsAreToldInOrder, StuckRanksWaitForStuckRanks};
 
-use callnotes::call_ref::CallRef;
-use callnotes::envelope::{Half, Message};
+use callstore::call_ref::CallRef;
+use callstore::envelope::{Half, Message};
 use moves::need::{Need, is_met, members, stand_of};
 use moves::reading::{Reading, sends_freely};
 use mpigroup::head::Head;

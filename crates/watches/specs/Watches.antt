@@ -1,4 +1,5 @@
 -- What contracts see of a watch, and of what it is told.
+use Rattle.mpicall.specs.Names.{Rank, Place}
 use Rattle.std.specs.Prelude.{◌≡◌, ℕ, ◌<◌, ◌≤◌, List, Option, Some, None, IfSome, slice_get}
 use Rattle.logbook.specs.Pages.{Book}
 use Rattle.watches.specs.Publications.{last_published}
@@ -28,7 +29,7 @@ abbrev pub list_told : Told → Book
 list_told told = book_of told.publication
 
 -- the answer for a rank is its stand in the last of what was seen; none exactly where there is no such rank
-abbrev pub ReadsAt : ℕ → Watch → Option ℕ → Type 0
+abbrev pub ReadsAt : Rank → Watch → Option Place → Type 0
 ReadsAt rank watch (Some stand) = (rank < ranks_watched watch) × IfSome (last_published (seen_by watch)) (λ stands. slice_get stands.places rank ≡ Some stand)
 ReadsAt rank watch None = ranks_watched watch ≤ rank
 

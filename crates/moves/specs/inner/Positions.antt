@@ -1,6 +1,6 @@
 -- What `Waiting` says, of a world (the calls with the reading of their sends) and of the positions of its ranks.
 use Rattle.std.specs.Prelude.{◌≡◌, ◌≤◌, ℕ, Some, slice_get}
-use Rattle.callnotes.specs.Recordings.{calls_of}
+use Rattle.callstore.specs.Recordings.{calls_of}
 use Rattle.mpicall.specs.declared.call.Call.{Call}
 use Rattle.moves.specs.declared.look.Look.{Look}
 use Rattle.moves.specs.declared.world.World.{World}

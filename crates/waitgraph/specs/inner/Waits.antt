@@ -1,7 +1,7 @@
 -- What proofs and private contracts cite, in addition to the definitions of `specs/Waits.antt`.
 use Rattle.moves.specs.declared.reading.Reading.{Reading}
 use Rattle.mpigroup.specs.Groups.{Groups}
-use Rattle.callnotes.specs.Recordings.{Lists}
+use Rattle.callstore.specs.Recordings.{Lists}
 use Rattle.moves.specs.Stands.{stands_of}
 use Rattle.waitgraph.specs.Waits.{Waits, waits_at}
 

@@ -1,9 +1,9 @@
 -- Who has no message wakes nobody by one.
 use Rattle.std.proofs.Common.{◌≡◌, ℕ, None, refl}
 use Rattle.mpigroup.specs.Groups.{Groups}
-use Rattle.callnotes.specs.Recordings.{Lists}
+use Rattle.callstore.specs.Recordings.{Lists}
 use Rattle.pairing.specs.Partners.{partner_of}
-use Rattle.callnotes.specs.declared.envelope.Half.TheVariants.{Send as SendHalf, Recv as RecvHalf}
+use Rattle.callstore.specs.declared.envelope.Half.TheVariants.{Send as SendHalf, Recv as RecvHalf}
 use Rattle.moves.specs.inner.Waiting.{WaitLists, sent_to, woken_peers}
 use Rattle.moves.proofs.settle.wake_peers.Goals as goal
 

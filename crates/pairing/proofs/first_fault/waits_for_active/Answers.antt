@@ -1,6 +1,6 @@
 use Rattle.std.proofs.Common.{◌∙◌, ap, ℕ, List}
 use Rattle.std.specs.List.{list_all}
-use Rattle.callnotes.specs.Requests.{waits_for}
+use Rattle.callstore.specs.Requests.{waits_for}
 use Rattle.pairing.specs.inner.Starts.{has_place}
 use Rattle.pairing.proofs.ActiveLemmas.{all_active}
 use Rattle.pairing.proofs.first_fault.waits_for_active.Goals as goal

@@ -2,9 +2,9 @@
 use Rattle.std.proofs.Common.{◌<◌, ◌∙◌, ap, subst, sym, length, arith}
 use Rattle.pairing.specs.Matched.{halves_of}
 use Rattle.pairing.specs.inner.Matched.{Matching, filed_halves, ArePaired}
-use Rattle.callnotes.specs.Recordings.{calls_of}
-use Rattle.callnotes.specs.inner.Notes.{recording_of}
-use Rattle.callnotes.specs.declared.envelope.Half.TheVariants.{Send as SendHalf, Recv as RecvHalf}
+use Rattle.callstore.specs.Recordings.{calls_of}
+use Rattle.callstore.specs.inner.Notes.{recording_of}
+use Rattle.callstore.specs.declared.envelope.Half.TheVariants.{Send as SendHalf, Recv as RecvHalf}
 use Rattle.pairing.proofs.FaultLemmas.{fault_none}
 use Rattle.pairing.proofs.FiledLemmas.{come_next}
 use Rattle.pairing.proofs.KeptLemmas.{count_noted, ranks_noted, goes_on_as, kept_on, paired_as}
@@ -44,4 +44,4 @@ returns-clause-kept c =
     c.requires.is_rank c.requires.is_next c.requires.kept c.requires.lawful c.note_call.ensures room.send room.recv c.meet_halves.ensures.recording
     (subst (λ (m : Matching). ArePaired groups c.meet_halves.new.notes.lists (filed_halves c.args.room.now.halves c.args.place (halves_of groups recording)) m) (sym c.put.ensures.matches) paired)
     (ap (λ (m : Matching). m.work) c.put.ensures.matches ∙ c.meet_halves.ensures.work)
-    (c.put.ensures.others recording (record { joined = others.joined; held = others.held; active = others.active }) in_recording c.requires.is_next)
+    (c.put.ensures.others recording (record { joined = others.joined; made_comms = others.made_comms; active = others.active }) in_recording c.requires.is_next)

@@ -1,7 +1,7 @@
 -- The wave has the number that is noted with the call.
 use Rattle.std.proofs.Common.{ℕ, Some, sym, ap, ◌∙◌}
 use Rattle.mpicall.specs.declared.call.Call.{Call}
-use Rattle.callnotes.specs.Waves.{joins}
+use Rattle.callstore.specs.Waves.{joins}
 use Rattle.pairing.proofs.KeptLemmas.{wave_noted}
 use Rattle.pairing.proofs.pairs.wave_of.Goals as goal
 

@@ -1,7 +1,7 @@
 use Rattle.std.proofs.Common.{Bool, List, length, ap, ◌∙◌, arith}
 use Rattle.std.proofs.lemmas.List.FromFn.{length-map-range_with_len}
 use Rattle.waitgraph.specs.Causes.{Walks, walks_in, causes_in}
-use Rattle.waitgraph.specs.Loose.{set_of, onward_of}
+use Rattle.waitgraph.specs.Loose.{set_of, hop_of}
 use Rattle.waitgraph.proofs.graph.who_is_held.Goals as goal
 
 pub causes_in-requires : goal.causes_in-requires
@@ -10,7 +10,7 @@ causes_in-requires c =
       arith,
       c.requires.few,
       ap (λ (walks : Walks). length walks) (c.deref-6.ensures.value ∙ c.in_ok-walks.ensures)
-          ∙ length-map-range_with_len (onward_of (set_of c.deref-4.result.now) c.args.standings.now c.args.waits.now) 0 (length c.args.standings.now),
+          ∙ length-map-range_with_len (hop_of (set_of c.deref-4.result.now) c.args.standings.now c.args.waits.now) 0 (length c.args.standings.now),
     )
 
 pub returns-clause-causes : goal.returns-clause-causes

@@ -3,7 +3,7 @@ use Rattle.std.specs.List.{slice_get, filter}
 use Rattle.std.specs.Option.{option_map_or}
 use Rattle.std.proofs.lemmas.List.{take_all}
 use Rattle.std.proofs.lemmas.Option.{slice_get-get_or}
-use Rattle.callnotes.specs.Requests.{completes}
+use Rattle.callstore.specs.Requests.{completes}
 use Rattle.moves.specs.declared.need.Need.{Need}
 use Rattle.moves.specs.Needs.{request_needs, operation_needs_at}
 use Rattle.moves.proofs.WaitLemmas.{start_is}

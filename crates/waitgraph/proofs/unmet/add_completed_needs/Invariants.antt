@@ -1,6 +1,6 @@
 use Rattle.std.proofs.Common.{◌≡◌, ◌++◌, flat_map, take}
 use Rattle.std.specs.List.{filter}
-use Rattle.callnotes.specs.Requests.{completes}
+use Rattle.callstore.specs.Requests.{completes}
 use Rattle.moves.specs.Needs.{request_needs}
 use Rattle.waitgraph.specs.Stuck.{is_unmet}
 use Rattle.waitgraph.proofs.unmet.add_completed_needs.Given as goal

@@ -5,7 +5,7 @@ use Rattle.std.proofs.Math.Logic.{∥∥₁_elim}
 use Rattle.mpigroup.specs.Groups.{Groups}
 use Rattle.moves.specs.Analysed.{Analysed}
 use Rattle.moves.specs.declared.reading.Reading.{Reading}
-use Rattle.callnotes.specs.Recordings.{Lists, IsClosed}
+use Rattle.callstore.specs.Recordings.{Lists, IsClosed}
 use Rattle.waitgraph.specs.Held.{is_held, is_some_left_open}
 use Rattle.waitgraph.specs.Stuck.{is_stuck}
 use Rattle.waitgraph.specs.Verdicts.{verdict_by, verdict_of, SomeRankIsHeld, SomeRankIsStuck}

@@ -1,8 +1,8 @@
 use Rattle.std.proofs.Common.{◌≡◌, ◌∙◌, Option, ℕ, List, take, length, ap, arith, length-take-le}
-use Rattle.callnotes.specs.Recordings.{calls_of}
-use Rattle.callnotes.specs.Requests.{started_in}
+use Rattle.callstore.specs.Recordings.{calls_of}
+use Rattle.callstore.specs.Requests.{started_in}
 use Rattle.pairing.specs.inner.Starts.{known_front, place_in}
-use Rattle.callnotes.proofs.OptionLemmas.{same_map}
+use Rattle.callstore.proofs.OptionLemmas.{same_map}
 use Rattle.pairing.proofs.FrontLemmas.{starts_of_all}
 use Rattle.pairing.proofs.active.Active.starts_of.Goals as goal
 

@@ -2,7 +2,7 @@
 use Rattle.std.proofs.Common.{◌≡◌, ◌≤◌, length, arith}
 use Rattle.mpigroup.specs.Groups.{ranks_of}
 use Rattle.mpigroup.specs.declared.limits.TheConstants.{MOST_RANKS}
-use Rattle.callnotes.specs.inner.Notes.{recording_of}
+use Rattle.callstore.specs.inner.Notes.{recording_of}
 use Rattle.pairing.proofs.CallCountLemmas.{few_seats}
 use Rattle.pairing.proofs.KeptLemmas.{kept_still, ranks_noted}
 use Rattle.pairing.proofs.pairs.Pairs.admit_kind.Goals as goal

@@ -2,7 +2,7 @@ use Rattle.moves.specs.declared.reading.Reading.{Reading}
 use Rattle.std.proofs.Common.{ℕ, List, sym, ap, ◌∙◌}
 use Rattle.std.specs.List.{slice_get}
 use Rattle.mpigroup.specs.Groups.{Groups}
-use Rattle.callnotes.specs.Recordings.{Lists}
+use Rattle.callstore.specs.Recordings.{Lists}
 use Rattle.moves.specs.declared.need.Need.{Need}
 use Rattle.moves.specs.Stands.{stands_of}
 use Rattle.waitgraph.specs.Causes.{causes_in, walks_at}

@@ -1,0 +1,14 @@
+pub mod Limits
+pub mod Recordings
+pub mod Places
+pub mod Envelopes
+pub mod Kinds
+pub mod Hot
+pub mod Requests
+pub mod Waves
+pub mod Communicators
+pub mod CachedMatch
+pub mod Notes
+pub mod Packed
+pub mod Seats
+pub mod inner

@@ -1,0 +1,7 @@
+-- The limits of a recording.
+use Rattle.std.specs.Prelude.{ℕ}
+use Rattle.callstore.specs.declared.limits.TheConstants.{MOST_CALLS}
+
+-- the most calls of a rank, its Finalize counted
+abbrev pub most_calls : ℕ
+most_calls = MOST_CALLS

@@ -1,0 +1,5 @@
+-- What nobody has to believe: these definitions are cited by proofs and private contracts alone.
+pub mod Notes
+pub mod Packed
+pub mod Seats
+pub mod PackedFields

@@ -1,0 +1,142 @@
+//! The noted calls of one rank.
+
+ghost use Rattle.std.specs.Prelude.{◌≡◌, ◌+◌, ◌<◌, ◌≤◌, [], ◌∷◌, ◌++◌, length, slice_get, vec_len, vec_capacity, IfSome, OnOk};
+ghost use Rattle.callstore.specs.Limits.{most_calls};
+ghost use Rattle.callstore.specs.Requests.{waits_for};
+ghost use Rattle.callstore.specs.Notes.{calls_in, partnered_in, AreStarts, Holds};
+ghost use Rattle.callstore.specs.Packed.{noted};
+
+use crate::cached_match::CachedMatch;
+use crate::envelope::Half;
+use crate::growth::more_room;
+use crate::note::Note;
+use crate::packed::Entry;
+use crate::packing::{listed, listed_starts, pack};
+use mpicall::record::Record;
+use std::alloc::{AllocError, Global};
+use std::marker::Model;
+
+/// So many calls fill a block.
+const ENTRIES_A_BLOCK: usize = 4096;
+
+/// Puts the numbers after others, for which there is room.
+fn push_all(to: &mut Vec<u32>, numbers: &[u32])
+    requires { vec_len to.old + length numbers.now ≤ vec_capacity to.old }
+    ensures { to.new.items ≡ to.old.items ++ numbers.now }
+{
+    for number in numbers {
+        to.push_reserved(*number);
+    }
+}
+
+/// The noted calls of a rank, in its order. Contracts see each call with what is kept with it, and for
+/// how many more there is room.
+pub(crate) struct RankNotes {
+    entries: Vec<Entry>,
+    // The places that started the requests of waits for several.
+    starts: Vec<u32>,
+}
+
+// By hand: a derived drop is proved again at each exit of a function that owns one.
+impl Drop for RankNotes {
+    fn drop(self) {
+        let RankNotes {
+            entries: _,
+            starts: _,
+        } = self;
+    }
+}
+
+impl Model for RankNotes {
+    ghost use Rattle.std.specs.Prelude.{◌-◌, map, vec_len, vec_capacity};
+    ghost use Rattle.callstore.specs.inner.Notes.{NotedList};
+    ghost use Rattle.callstore.specs.inner.Packed.{AreStored, noted_of};
+
+    ghost Value = { NotedList };
+
+    ghost view = { λ r. record {
+      calls = map (noted_of r.entries.items r.starts.items) r.entries.items;
+      room = record {
+        calls = vec_capacity r.entries - vec_len r.entries;
+        starts = vec_capacity r.starts - vec_len r.starts;
+      };
+    } };
+
+    ghost invariant = { λ r. AreStored r.entries.items r.starts.items };
+}
+
+impl RankNotes {
+    /// No calls yet. This takes no memory.
+    pub(crate) fn new(alloc: Global) -> RankNotes
+        ensures { result.calls ≡ [] }
+    {
+        RankNotes {
+            entries: Vec::new(alloc),
+            starts: Vec::new(alloc),
+        }
+    }
+
+    /// How many calls were noted.
+    #[inline(always)]
+    pub(crate) fn count(&self) -> usize
+        ensures value { result ≡ length self.now.calls }
+        ensures most { result ≤ most_calls }
+    {
+        self.entries.len()
+    }
+
+    /// Makes all room that noting the call takes.
+    #[inline(always)]
+    pub(crate) fn reserve(&mut self, call: &Record) -> Result<(), AllocError>
+        ensures calls { self.new.calls ≡ self.old.calls }
+        ensures ok { OnOk result (Holds self.new.room call.now) }
+    {
+        self.entries
+            .reserve(more_room(self.entries.len(), ENTRIES_A_BLOCK))?;
+        self.starts.reserve(listed(call.as_call()).len())?;
+        Ok(())
+    }
+
+    /// Notes the rank's next call, with what is kept with it and the places that started the requests which
+    /// it names.
+    #[inline(always)]
+    pub(crate) fn note(&mut self, call: &Record, cached: CachedMatch, starts: &[u32])
+        requires room { Holds self.old.room call.now }
+        requires starts { AreStarts (calls_in self.old.calls) call.now starts.now }
+        requires few { length self.old.calls < most_calls }
+        ensures { self.new.calls ≡ self.old.calls ++ noted call.now cached starts.now ∷ [] }
+    {
+        let call = call.as_call();
+        let packed = pack(call, self.starts.len() as u32, starts);
+        push_all(&mut self.starts, listed_starts(call, starts));
+        self.entries.push_reserved(Entry {
+            call: packed,
+            cached,
+        });
+    }
+
+    /// Keeps the place of a half's partner with the call at the place, if one stands there.
+    #[inline(always)]
+    pub(crate) fn set_partner(&mut self, place: u32, half: Half, there: u32)
+        ensures { self.new.calls ≡ partnered_in self.old.calls place half there }
+    {
+        if (place as usize) < self.entries.len() {
+            let entry = &mut self.entries[place as usize];
+            entry.cached = entry.cached.with_partner(half, there);
+        }
+    }
+
+    /// The noted call at a place; None where there is none.
+    #[inline(always)]
+    pub(crate) fn get(&self, place: u32) -> Option<Note<'_>>
+        ensures value { result ≡ slice_get self.now.calls place }
+        ensures starts { IfSome result (λ note. length note.starts ≡ length (waits_for note.call)) }
+    {
+        match self.entries.get(place as usize) {
+            Some(entry) => {
+                Some(Note::of(entry, self.entries.as_slice(), self.starts.as_slice()))
+            }
+            None => None,
+        }
+    }
+}

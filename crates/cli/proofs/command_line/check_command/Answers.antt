@@ -1,0 +1,31 @@
+use Rattle.std.proofs.Common.{rules, ap, ap₂, codes, true, ◌≡◌, ◌∙◌}
+use Rattle.std.proofs.lemmas.Result.{IfOk-weaker}
+use Rattle.clap.specs.Simple.{App, app_of, app_of_fields, on_top, with_rule, new_app}
+use Rattle.cli.specs.CommandLine.{capacity_rule, head_rule, json_rule, traces_rule}
+use Rattle.cli.proofs.AskedLemmas.{no_global_added}
+use Rattle.cli.proofs.command_line.check_command.Goals as goal
+
+abbrev with_version : App → App
+with_version = on_top (λ s. record s { has_version = true })
+
+pub returns-clause-app : goal.returns-clause-app
+returns-clause-app c =
+    let base : app_of c.version.result ≡ with_version (new_app (codes "check")) =
+    ap app_of_fields c.version.ensures ∙ ap with_version (ap app_of_fields c.after_help.ensures ∙ (ap app_of_fields c.override_usage.ensures ∙ (ap app_of_fields c.long_about.ensures ∙ (ap app_of_fields c.about.ensures ∙ c.new.ensures.app)))) in
+    let one : app_of c.in_ok-arg.field-0 ≡ with_rule (with_version (new_app (codes "check"))) head_rule =
+    c.in_ok-arg.ensures.shape c.head_argument.ensures.local ∙ ap₂ with_rule base c.head_argument.ensures.rule in
+    let two : app_of c.in_ok-arg-2.field-0 ≡ with_rule (with_rule (with_version (new_app (codes "check"))) head_rule) traces_rule =
+    c.in_ok-arg-2.ensures.shape c.traces_argument.ensures.local ∙ ap₂ with_rule one c.traces_argument.ensures.rule in
+    let three : app_of c.in_ok-arg-3.field-0 ≡ with_rule (with_rule (with_rule (with_version (new_app (codes "check"))) head_rule) traces_rule) json_rule =
+    c.in_ok-arg-3.ensures.shape c.json_argument.ensures.local ∙ ap₂ with_rule two c.json_argument.ensures.rule in
+    let four : app_of c.in_ok-arg-4.field-0 ≡ with_rule (with_rule (with_rule (with_rule (with_version (new_app (codes "check"))) head_rule) traces_rule) json_rule) capacity_rule =
+    c.in_ok-arg-4.ensures.shape c.capacity_argument.ensures.local ∙ ap₂ with_rule three c.capacity_argument.ensures.rule in
+    IfOk-weaker c.arg-5.result _ _ (λ command adds. adds.shape c.eager_argument.ensures.local ∙ ap₂ with_rule four c.eager_argument.ensures.rule) c.arg-5.ensures
+
+pub returns-clause-local : goal.returns-clause-local
+returns-clause-local c =
+    let one = no_global_added _ _ _ c.in_ok-arg.ensures (search rules) c.head_argument.ensures.local in
+    let two = no_global_added _ _ _ c.in_ok-arg-2.ensures one c.traces_argument.ensures.local in
+    let three = no_global_added _ _ _ c.in_ok-arg-3.ensures two c.json_argument.ensures.local in
+    let four = no_global_added _ _ _ c.in_ok-arg-4.ensures three c.capacity_argument.ensures.local in
+    IfOk-weaker c.arg-5.result _ _ (λ command adds. no_global_added _ _ _ adds four c.eager_argument.ensures.local) c.arg-5.ensures

@@ -1,0 +1,102 @@
+-- How the program ends, by what its words ask for: its status, and what is written on the two outputs.
+use Rattle.std.specs.Prelude.{◌≡◌, ◌⊎◌, ℕ, true, false, Option, Some, List, map, string_bytes}
+use Rattle.clap.specs.Walk.{Text}
+use Rattle.waitgraph.specs.declared.verdict.Verdict.{Verdict}
+use Rattle.cli.specs.CommandLine.{Answers}
+use Rattle.cli.specs.Faults.{status_of_fault}
+use Rattle.cli.specs.FaultTexts.{line_of_fault}
+use Rattle.cli.specs.Outputs.{Written, Nothing, Whole, Broken, Becomes, lint_report}
+use Rattle.cli.specs.Lints.{IsCountOf, IsFaultOfLint}
+use Rattle.cli.specs.Statuses.{status_of_verdict}
+use Rattle.cli.specs.Texts.{IsFaultOfCheck, IsReportOf, IsVerdictOfTexts}
+use Rattle.report.specs.declared.write.Format.{Format}
+use Rattle.moves.specs.declared.reading.Reading.{Reading}
+use Rattle.cli.specs.declared.fault.Fault.{Fault as FaultOf}
+use Rattle.cli.specs.declared.fault.Fault.TheVariants.{Memory, Write}
+use Rattle.cli.specs.declared.status.Status.{Status}
+use Rattle.cli.specs.declared.status.Status.TheVariants.{Free, Refused, Usage}
+use Rattle.cli.specs.declared.command_line.CommandLine.{CommandLine}
+use Rattle.cli.specs.declared.command_line.CommandLine.TheVariants.{Check, Lint, Said, NoMemory}
+
+-- the verdict is that of the texts of the files by the reading, where all of these are known
+abbrev pub IsVerdictWhereTold : Reading → Option Text → List (Option Text) → Verdict → Type 0
+IsVerdictWhereTold reading head files verdict =
+    (text : Text) (texts : List Text) → head ≡ Some text → files ≡ map Some texts → IsVerdictOfTexts reading text texts verdict
+
+-- a run was checked: its report is on standard output alone, in its format; report and verdict are those of
+-- the files' texts, and the status is that of the verdict
+pub record EndsInReport (reading : Reading) (format : Format) (head : Option Text) (files : List (Option Text)) (status : Status) (out err : Written) : Type 0 where
+  pub verdict : Verdict
+  pub report : Text
+  pub is_report : IsReportOf reading format head files verdict report
+  pub is_verdict : IsVerdictWhereTold reading head files verdict
+  pub status_is : status ≡ status_of_verdict verdict
+  pub output : out ≡ Whole report
+  pub errors : err ≡ Nothing
+
+-- a trace was read alone: the number of its calls is on standard output alone
+pub record EndsInCount (text : Option Text) (status : Status) (out err : Written) : Type 0 where
+  pub count : ℕ
+  pub is_count : IsCountOf text count
+  pub status_is : status ≡ Free
+  pub output : out ≡ Whole (lint_report count)
+  pub errors : err ≡ Nothing
+
+-- the text was written, whole unless a write failed
+abbrev pub IsTried : Text → Written → Type 0
+IsTried text written = (written ≡ Whole text) ⊎ (written ≡ Broken text)
+
+-- a text was asked for, and is on standard output alone; or the words were wrong, which standard error says
+-- alone
+abbrev pub EndsInText : Text → Status → Written → Written → Type 0
+EndsInText text status out err = (status ≡ Free) × (out ≡ Whole text) × (err ≡ Nothing)
+
+abbrev pub EndsInUsage : Text → Status → Written → Written → Type 0
+EndsInUsage text status out err = (status ≡ Usage) × (out ≡ Nothing) × IsTried text err
+
+-- standard output at a fault that isn't reported there: only a write that failed left anything there
+abbrev pub IsLeftAt : FaultOf → Written → Type 0
+IsLeftAt Write out = (text : Text) × (out ≡ Broken text)
+IsLeftAt fault out = out ≡ Nothing
+
+-- with this status the line of a fault is written: a refusal's on standard output alone, any other's on
+-- standard error
+abbrev pub TellsLine : Status → FaultOf → Written → Written → Type 0
+TellsLine Refused fault out err = (out ≡ Whole (line_of_fault fault)) × (err ≡ Nothing)
+TellsLine _ fault out err = IsLeftAt fault out × IsTried (line_of_fault fault) err
+
+-- a fault was reported, by its status and its line
+abbrev pub EndsInFault : FaultOf → Status → Written → Written → Type 0
+EndsInFault fault status out err = (status ≡ status_of_fault fault) × TellsLine status fault out err
+
+-- what the words ask for was done, and reported
+abbrev pub IsDone : (Text → Option Text) → CommandLine → Status → Written → Written → Type 0
+IsDone told (Check head files reading format capacity) = EndsInReport reading format (told head.now) (map (λ file. told file.now) files.items)
+IsDone told (Lint file) = EndsInCount (told file.now)
+IsDone told (Said text false) = EndsInText (string_bytes text)
+IsDone told (Said text true) = EndsInUsage (string_bytes text)
+IsDone told NoMemory = λ status out err. ⊥
+
+-- the faults with which that may end
+abbrev pub IsFaultOf : (Text → Option Text) → CommandLine → FaultOf → Type 0
+IsFaultOf told (Check head files reading format capacity) fault = IsFaultOfCheck told head.now files.items fault
+IsFaultOf told (Lint file) fault = IsFaultOfLint told file.now fault
+IsFaultOf told (Said text is_error) fault = (fault ≡ Write) × (is_error ≡ false)
+IsFaultOf told NoMemory fault = fault ≡ Memory
+
+-- what the words ask for was done, or a fault was reported
+abbrev pub EndsBy : (Text → Option Text) → CommandLine → Status → Written → Written → Type 0
+EndsBy told words status out err = IsDone told words status out err ⊎ ((fault : FaultOf) × IsFaultOf told words fault × EndsInFault fault status out err)
+
+-- standard output and standard error, each by what was written to it and how many writes failed, and as it was
+-- and as it is; and the texts of files, where they are known
+module _ {O E : Type 0} (written : O → Option Text) (failures : O → ℕ) (written_errors : E → Option Text) (failed_errors : E → ℕ) (told : Text → Option Text) (old new : O) (old_errors new_errors : E) where
+  -- the words ask for something, and the program ends by that
+  pub record Ends (words : List Text) (status : Status) : Type 0 where
+    pub asked : CommandLine
+    pub answers : Answers words asked
+    pub out : Written
+    pub err : Written
+    pub by : EndsBy told asked status out err
+    pub output : Becomes written failures old new out
+    pub errors : Becomes written_errors failed_errors old_errors new_errors err

@@ -1,0 +1,15 @@
+pub mod Numbers
+pub mod Capacities
+pub mod Limits
+pub mod CommandLine
+pub mod Statuses
+pub mod Faults
+pub mod FaultTexts
+pub mod Outputs
+pub mod ExitContract
+pub mod Texts
+pub mod Argv
+pub mod Lints
+pub mod MemoryFiles
+pub mod HeadToHead
+pub mod inner

@@ -1,0 +1,384 @@
+//! The words of the command line.
+
+ghost use Rattle.std.specs.Prelude.{◌≡◌, false, IfOk, map, option_and_then, option_map};
+ghost use Rattle.clap.specs.Matches.{found_of};
+ghost use Rattle.clap.specs.Simple.{app_of, subcommand_rows_of};
+ghost use Rattle.clap.specs.Values.{kind_of};
+ghost use Rattle.clap.specs.Walk.{rows_of, rule_of};
+ghost use Rattle.clap.specs.declared.builder.command.Command.TheViews.{out-Command as fields_of};
+ghost use Rattle.clap.specs.declared.error.kind.ErrorKind.TheVariants.{OutOfMemory};
+ghost use Rattle.cli.specs.CommandLine.{Answers, LintTrace, capacity_of, capacity_rule, check, check_of, eager_rule, format_of, head_rule, is_text, json_rule, lint, lint_of, program, run_of, task_of, trace_rule, traces_rule};
+ghost use Rattle.cli.specs.inner.CommandLine.{Names, Says, SaysError};
+
+use crate::capacity::{Capacity, LEAST, MOST};
+use crate::limit::read_reading;
+use clap::builder::ValueParser;
+use clap::error::ErrorKind;
+use clap::{Arg, ArgAction, ArgMatches, Command, Error};
+use moves::reading::Reading;
+use mpicall::limits::GREATEST_BYTES;
+use report::write::Format;
+use std::alloc::{AllocError, Global};
+
+/// What the words ask for.
+#[derive(Debug, Drop)]
+pub enum CommandLine<'a> {
+    /// To check a run, by the path of its head and those of its traces, at least one, in rank order, and by a
+    /// reading, to report it in a format, and to let so many records of a rank wait to be judged.
+    Check {
+        head: &'a str,
+        files: Vec<&'a str>,
+        reading: Reading,
+        format: Format,
+        capacity: Capacity,
+    },
+    /// To read one trace alone, by its path.
+    Lint {
+        file: &'a str,
+    },
+    /// To show a text: the help or the version, or what is wrong with the words.
+    Said {
+        text: String,
+        is_error: bool,
+    },
+    /// There was no memory to read the words.
+    NoMemory,
+}
+
+const VERSION: &str = "1.0.0";
+
+const ABOUT: &str =
+    "Reads the recorded MPI calls of a parallel run, one trace a rank, and says whether the run can hang";
+
+const CHECK_ABOUT: &str =
+    "Reads the head of a run and its traces, and says whether the run can hang";
+
+const CHECK_LONG_ABOUT: &str = "\
+Reads the head of a run and its traces, and says whether the run can hang. A FOLDER has them as the files
+head, r0, r1 and so on; `mpiwait FOLDER` is short for `mpiwait check FOLDER`.
+
+Lines of the report:
+  verdict free|hang|unfinished
+      hang: some rank can't come to its end, whatever way the run goes
+      unfinished: no rank is known to hang, but some trace ends with `open`: its rank was cut off
+  rank R at I CALL waits rank K (call J|none)
+      rank R is stuck at its call I until rank K comes to its call J; none: rank K has no such call
+  cycle R ..
+      these ranks wait for one another: each for the next, the last for the first
+  missing R K
+      rank R waits for a call that rank K doesn't have
+  finding kind|root|unreceived|request|group ..
+      what else is wrong: calls or roots of one collective that differ, a message that isn't received,
+      a request that isn't waited for, a new communicator with another group than its call gives it
+docs/FORMATS.md explains each.";
+
+const TRACES_HELP: &str = "\
+The traces of the ranks, one file a rank, in rank order. All are open at once: where `fault open`
+names a file that is there, `ulimit -n` lets a process have too few open files";
+
+const LINT_ABOUT: &str = "Reads one trace alone, and says whether it is in its format";
+
+const AFTER: &str = "\
+Examples:
+  mpiwait run                           checks the run in the folder `run`: its files head, r0, r1, ..
+  mpiwait check --json run              reports it as one JSON value
+  mpiwait check run/head run/r0 run/r1  names its files, in rank order
+  mpiwait lint run/r0                   reads one trace alone
+
+Exit status:
+  0  no hang; or the trace is in its format; or help or the version was asked for
+  1  hang
+  2  refused: the head or a trace isn't in its format, or a call can't be as recorded
+  3  usage: the words, or the number of files
+  4  fault: a file, the memory or the output
+  5  unfinished: no rank is known to hang, but some trace ends with `open`";
+
+/// How the program is called, as its help shows it.
+const PROGRAM_USAGE: &str = "\
+mpiwait <COMMAND>
+       mpiwait <FOLDER>";
+
+/// How `check` is called.
+const CHECK_USAGE: &str = "\
+mpiwait check [OPTIONS] <HEAD> <FILE>...
+       mpiwait check [OPTIONS] <FOLDER>";
+
+const USAGE: &str =
+    "usage: mpiwait check [OPTIONS] HEAD FILE.. or mpiwait check [OPTIONS] FOLDER or mpiwait lint FILE\n";
+
+/// What clap knows of the head.
+fn head_argument<'a>(alloc: Global) -> Arg<'a>
+    ensures rule { rule_of result ≡ head_rule }
+    ensures local { result.global ≡ false }
+{
+    Arg::new(alloc, "HEAD")
+        .required(true)
+        .help("The head of the run: its ranks and their communicators")
+}
+
+/// What clap knows of the traces.
+fn traces_argument<'a>(alloc: Global) -> Arg<'a>
+    ensures rule { rule_of result ≡ traces_rule }
+    ensures local { result.global ≡ false }
+{
+    Arg::new(alloc, "FILE")
+        .required(true)
+        .num_args(1..)
+        .help("The traces of the ranks, one file a rank, in rank order")
+        .long_help(TRACES_HELP)
+}
+
+/// What clap knows of the flag for JSON.
+fn json_argument<'a>(alloc: Global) -> Arg<'a>
+    ensures rule { rule_of result ≡ json_rule }
+    ensures local { result.global ≡ false }
+{
+    Arg::new(alloc, "json")
+        .long("json")
+        .action(ArgAction::SetTrue)
+        .help("Writes the report as one JSON value")
+}
+
+/// What clap knows of the number of records that may wait.
+fn capacity_argument<'a>(alloc: Global) -> Arg<'a>
+    ensures rule { rule_of result ≡ capacity_rule }
+    ensures local { result.global ≡ false }
+{
+    Arg::new(alloc, "capacity")
+        .long("capacity")
+        .value_name("N")
+        .default_value("64")
+        .value_parser(ValueParser::unsigned(u64::from(LEAST), u64::from(MOST)))
+        .help("How many records of a rank may be read ahead of the checking, 1 to 1024")
+}
+
+/// What clap knows of the eager limit.
+fn eager_argument<'a>(alloc: Global) -> Arg<'a>
+    ensures rule { rule_of result ≡ eager_rule }
+    ensures local { result.global ≡ false }
+{
+    Arg::new(alloc, "eager")
+        .long("eager")
+        .value_name("N")
+        .value_parser(ValueParser::unsigned(0, u64::from(GREATEST_BYTES)))
+        .help("Takes standard sends of at most N recorded bytes as buffered, 0 to 2147483647")
+}
+
+/// What clap knows of one trace.
+fn trace_argument<'a>(alloc: Global) -> Arg<'a>
+    ensures rule { rule_of result ≡ trace_rule }
+    ensures local { result.global ≡ false }
+{
+    Arg::new(alloc, "FILE")
+        .required(true)
+        .help("The trace of one rank")
+}
+
+/// What clap knows of `check`.
+fn check_command<'a>(alloc: Global) -> Result<Command<'a>, AllocError>
+    ensures app { IfOk result (λ command. app_of command ≡ check) }
+    ensures local { IfOk result (λ command. (fields_of command).has_globals ≡ false) }
+{
+    Command::new(alloc, "check")
+        .about(CHECK_ABOUT)
+        .long_about(CHECK_LONG_ABOUT)
+        .override_usage(CHECK_USAGE)
+        .after_help(AFTER)
+        .version(VERSION)
+        .arg(head_argument(alloc))?
+        .arg(traces_argument(alloc))?
+        .arg(json_argument(alloc))?
+        .arg(capacity_argument(alloc))?
+        .arg(eager_argument(alloc))
+}
+
+/// What clap knows of `lint`.
+fn lint_command<'a>(alloc: Global) -> Result<Command<'a>, AllocError>
+    ensures app { IfOk result (λ command. app_of command ≡ lint) }
+    ensures local { IfOk result (λ command. (fields_of command).has_globals ≡ false) }
+{
+    Command::new(alloc, "lint")
+        .about(LINT_ABOUT)
+        .after_help(AFTER)
+        .version(VERSION)
+        .arg(trace_argument(alloc))
+}
+
+/// What clap knows of the program.
+fn program_command<'a>(alloc: Global) -> Result<Command<'a>, AllocError>
+    ensures { IfOk result (λ command. app_of command ≡ program) }
+{
+    let check = check_command(alloc)?;
+    let lint = lint_command(alloc)?;
+    Command::new(alloc, "mpiwait")
+        .about(ABOUT)
+        .override_usage(PROGRAM_USAGE)
+        .after_help(AFTER)
+        .version(VERSION)
+        .no_binary_name(true)
+        .subcommand_required(true)
+        .disable_help_subcommand(true)
+        .bin_name("mpiwait")?
+        .subcommand(check)?
+        .subcommand(lint)
+}
+
+/// A text as the answer; without memory for it, that.
+fn say<'a>(alloc: Global, text: &str, is_error: bool) -> CommandLine<'a>
+    ensures { Says text.now is_error result }
+{
+    match String::from_str(alloc, text) {
+        Ok(text) => CommandLine::Said { text, is_error },
+        Err(_) => CommandLine::NoMemory,
+    }
+}
+
+/// Whether clap answers with its help or with the version.
+fn is_text(kind: ErrorKind) -> bool
+    ensures { result ≡ is_text kind }
+{
+    matches!(kind, ErrorKind::DisplayHelp | ErrorKind::DisplayVersion)
+}
+
+/// What clap says instead of an answer.
+fn say_error<'a>(alloc: Global, error: Error) -> CommandLine<'a>
+    ensures says { SaysError (kind_of error) result }
+    ensures memory { kind_of error ≡ OutOfMemory → result ≡ CommandLine.NoMemory }
+{
+    if error.kind() == ErrorKind::OutOfMemory {
+        return CommandLine::NoMemory;
+    }
+    match error.to_string(alloc) {
+        Ok(text) => CommandLine::Said {
+            text,
+            is_error: !is_text(error.kind()),
+        },
+        Err(_) => CommandLine::NoMemory,
+    }
+}
+
+/// The run that these paths name.
+#[tactic(auto, using(crate::proofs::AskedLemmas::asked_steps))]
+fn run_named<'a>(
+    alloc: Global,
+    head: Option<&'a str>,
+    files: Option<&[&'a str]>,
+    reading: Option<Reading>,
+    format: Format,
+    capacity: Option<Capacity>,
+) -> CommandLine<'a>
+    ensures { Names (run_of (option_map (λ path. path.now) head.entry) (option_map (λ paths. map (λ path. path.now) paths.now) files.entry) reading format capacity) result }
+{
+    let Some(head) = head else {
+        return say(alloc, USAGE, true);
+    };
+    let Some(files) = files else {
+        return say(alloc, USAGE, true);
+    };
+    if files.is_empty() {
+        return say(alloc, USAGE, true);
+    }
+    let Some(reading) = reading else {
+        return say(alloc, USAGE, true);
+    };
+    let Some(capacity) = capacity else {
+        return say(alloc, USAGE, true);
+    };
+    match Vec::from_slice(alloc, files) {
+        Ok(files) => CommandLine::Check {
+            head,
+            files,
+            reading,
+            format,
+            capacity,
+        },
+        Err(_) => CommandLine::NoMemory,
+    }
+}
+
+/// The format that a flag asks for.
+fn format_of(flag: Option<&str>) -> Format
+    ensures { result ≡ format_of (option_map (λ value. value.now) flag.entry) }
+{
+    match flag {
+        Some(value) if value == "true" => Format::Json,
+        _ => Format::Text,
+    }
+}
+
+/// The number of records that an option names.
+fn capacity_of(number: Option<&str>) -> Option<Capacity>
+    ensures { result ≡ capacity_of (option_map (λ text. text.now) number.entry) }
+{
+    Capacity::read(number?)
+}
+
+/// The run that the words after `check` name.
+fn check_of<'a>(alloc: Global, matches: &ArgMatches<'a>) -> CommandLine<'a>
+    ensures { Names (check_of (rows_of (found_of matches.now))) result }
+{
+    run_named(
+        alloc,
+        matches.get_str("HEAD"),
+        matches.get_strs("FILE"),
+        read_reading(matches.get_str("eager")),
+        format_of(matches.get_str("json")),
+        capacity_of(matches.get_str("capacity")),
+    )
+}
+
+/// The trace that this path names.
+#[tactic(auto, using(crate::proofs::AskedLemmas::asked_steps))]
+fn trace_named<'a>(alloc: Global, file: Option<&'a str>) -> CommandLine<'a>
+    ensures { Names (option_map LintTrace (option_map (λ path. path.now) file.entry)) result }
+{
+    match file {
+        Some(file) => CommandLine::Lint { file },
+        None => say(alloc, USAGE, true),
+    }
+}
+
+/// The trace that the words after `lint` name.
+fn lint_of<'a>(alloc: Global, matches: &ArgMatches<'a>) -> CommandLine<'a>
+    ensures { Names (lint_of (rows_of (found_of matches.now))) result }
+{
+    trace_named(alloc, matches.get_str("FILE"))
+}
+
+/// The task of a command and of the words after it.
+#[tactic(auto, using(crate::proofs::AskedLemmas::asked_steps))]
+fn task_of<'a>(alloc: Global, name: &str, matches: &ArgMatches<'a>) -> CommandLine<'a>
+    ensures { Names (task_of name.now (rows_of (found_of matches.now))) result }
+{
+    if name == "check" {
+        check_of(alloc, matches)
+    } else if name == "lint" {
+        lint_of(alloc, matches)
+    } else {
+        say(alloc, USAGE, true)
+    }
+}
+
+/// What the words that clap takes ask for.
+#[tactic(auto, using(crate::proofs::AskedLemmas::asked_steps))]
+fn asked<'a>(alloc: Global, matches: &ArgMatches<'a>) -> CommandLine<'a>
+    ensures { Names (option_and_then (λ found. task_of found.0 found.1) (subcommand_rows_of matches.now)) result }
+{
+    match matches.subcommand() {
+        Some((name, found)) => task_of(alloc, name, found),
+        None => say(alloc, USAGE, true),
+    }
+}
+
+/// What the words after the program's name ask for.
+pub fn parse<'a>(alloc: Global, words: &'a [&'a str]) -> CommandLine<'a>
+    ensures { Answers (map (λ word. word.now) words.now) result }
+{
+    let Ok(command) = program_command(alloc) else {
+        return CommandLine::NoMemory;
+    };
+    match command.try_get_matches_from(words) {
+        Ok(matches) => asked(alloc, &matches),
+        Err(error) => say_error(alloc, error),
+    }
+}

@@ -1,0 +1,38 @@
+//! Files in memory, whose texts are known.
+
+ghost use Rattle.cli.specs.MemoryFiles.{text_on};
+
+use crate::opener::Opener;
+use mpicall::memory::MemoryInput;
+
+/// A file in memory.
+#[derive(Clone, Copy)]
+pub struct MemoryFile<'a> {
+    pub path: &'a str,
+    pub text: &'a [u8],
+}
+
+/// Files in memory. Of those with one path the first is found.
+#[derive(Clone, Copy)]
+pub struct MemoryFiles<'a> {
+    pub files: &'a [MemoryFile<'a>],
+}
+
+impl<'a> Opener for MemoryFiles<'a> {
+    type In = MemoryInput<'a>;
+
+    ghost told = { λ shelf path. text_on shelf.files.now path };
+
+    fn open_input(&self, path: &str) -> Option<MemoryInput<'a>> {
+        for file in self.files {
+            if file.path == path {
+                return Some(MemoryInput::new(file.text));
+            }
+        }
+        None
+    }
+
+    fn waits(&self, _path: &str) -> bool {
+        false
+    }
+}

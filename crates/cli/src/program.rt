@@ -1,0 +1,206 @@
+//! The whole program, over any files and outputs.
+
+ghost use Rattle.std.specs.Prelude.{◌≡◌, map};
+ghost use Rattle.cli.specs.inner.Answer.{Complains, IsAnswered, Refuses, Shows, TellsFaultLine};
+ghost use Rattle.cli.specs.ExitContract.{Ends, EndsInCount, EndsInReport, IsDone, IsFaultOf};
+ghost use Rattle.cli.specs.FaultTexts.{line_of_fault};
+ghost use Rattle.cli.specs.Faults.{status_of_fault};
+ghost use Rattle.cli.specs.Lints.{IsFaultOfLint};
+ghost use Rattle.cli.specs.Outputs.{Tries};
+ghost use Rattle.cli.specs.Statuses.{status_of_verdict};
+ghost use Rattle.cli.specs.Texts.{IsFaultOfCheck};
+
+use crate::capacity::Capacity;
+use crate::check::check;
+use crate::command_line::{CommandLine, parse};
+use crate::fault::Fault;
+use crate::lint::lint_file;
+use crate::opener::Opener;
+use crate::status::Status;
+use moves::reading::Reading;
+use mpicall::device::{Output, write_all};
+use report::write::Format;
+use std::alloc::Global;
+use std::sync::Wait;
+use std::thread::Threads;
+use waitgraph::verdict::Verdict;
+
+/// What goes to standard error: what clap says of wrong words, or a fault.
+#[derive(Debug, Drop)]
+enum Complaint<'a> {
+    Usage(String),
+    Fault(Fault<'a>),
+}
+
+/// The status of a verdict.
+fn status_of(verdict: Verdict) -> Status
+    ensures { result ≡ status_of_verdict verdict }
+{
+    match verdict {
+        Verdict::Free => Status::Free,
+        Verdict::Hang => Status::Hang,
+        Verdict::Unfinished => Status::Unfinished,
+    }
+}
+
+/// Writes a text that was asked for.
+fn show<'a, O: Output>(text: &str, status: Status, out: &mut O) -> Result<Status, Complaint<'a>>
+    ensures { Shows O.written O.failures out.old out.new text.now status result }
+{
+    match write_all(out, text.as_bytes()) {
+        Ok(()) => Ok(status),
+        Err(_) => Err(Complaint::Fault(Fault::Write)),
+    }
+}
+
+/// Writes a fault of the texts on standard output; each other one is a complaint.
+fn refuse<'a, O: Output>(
+    alloc: Global,
+    fault: Fault<'a>,
+    out: &mut O,
+) -> Result<Status, Complaint<'a>>
+    ensures { Refuses O.written O.failures out.old out.new fault.entry result }
+{
+    if fault.status() != Status::Refused {
+        return Err(Complaint::Fault(fault));
+    }
+    match format!(in alloc; "{fault}\n") {
+        Ok(line) => show(&line, Status::Refused, out),
+        Err(_) => Err(Complaint::Fault(Fault::Memory)),
+    }
+}
+
+/// Checks a run.
+fn answer_check<'a, P: Opener, O: Output, R: Threads + Wait + Sync>(
+    alloc: Global,
+    head: &'a str,
+    files: &[&'a str],
+    reading: Reading,
+    format: Format,
+    capacity: Capacity,
+    opener: &P,
+    rt: &R,
+    out: &mut O,
+) -> Result<Status, Complaint<'a>>
+    ensures { let told = P.told opener.now in
+        IsAnswered O.written O.failures (EndsInReport reading format (told head.now) (map (λ file. told file.now) files.now)) (IsFaultOfCheck told head.now files.now) out.old out.new result }
+{
+    match check(
+        alloc, head, files, reading, format, capacity, opener, rt, out,
+    ) {
+        Ok(verdict) => Ok(status_of(verdict)),
+        Err(fault) => refuse(alloc, fault, out),
+    }
+}
+
+/// Reads one trace alone.
+fn answer_lint<'a, P: Opener, O: Output>(
+    alloc: Global,
+    file: &'a str,
+    opener: &P,
+    wait: &impl Wait,
+    out: &mut O,
+) -> Result<Status, Complaint<'a>>
+    ensures { let told = P.told opener.now in
+        IsAnswered O.written O.failures (EndsInCount (told file.now)) (IsFaultOfLint told file.now) out.old out.new result }
+{
+    match lint_file(alloc, file, opener, wait, out) {
+        Ok(_) => Ok(Status::Free),
+        Err(fault) => refuse(alloc, fault, out),
+    }
+}
+
+/// Does what the words ask for, and gives the exit status where that goes with standard output.
+fn answer<'a, P: Opener, O: Output, R: Threads + Wait + Sync>(
+    alloc: Global,
+    words: CommandLine<'a>,
+    opener: &P,
+    rt: &R,
+    out: &mut O,
+) -> Result<Status, Complaint<'a>>
+    ensures { IsAnswered O.written O.failures (IsDone (P.told opener.now) words.entry) (IsFaultOf (P.told opener.now) words.entry) out.old out.new result }
+{
+    match words {
+        CommandLine::Check {
+            head,
+            files,
+            reading,
+            format,
+            capacity,
+        } => answer_check(
+            alloc, head, &files, reading, format, capacity, opener, rt, out,
+        ),
+        CommandLine::Lint { file } => answer_lint(alloc, file, opener, rt, out),
+        CommandLine::Said {
+            text,
+            is_error: false,
+        } => show(&text, Status::Free, out),
+        CommandLine::Said {
+            text,
+            is_error: true,
+        } => Err(Complaint::Usage(text)),
+        CommandLine::NoMemory => Err(Complaint::Fault(Fault::Memory)),
+    }
+}
+
+/// Writes a text on standard error. Where that fails there is nothing left to do.
+pub(crate) fn write_error<E: Output>(text: &str, err: &mut E)
+    ensures { Tries E.written E.failures err.old err.new text.now }
+{
+    let _ = write_all(err, text.as_bytes());
+}
+
+/// Writes the line of a fault to standard error, and gives the exit status.
+fn tell<E: Output>(fault: Fault<'_>, line: &str, err: &mut E) -> Status
+    requires { line.now ≡ line_of_fault fault }
+    ensures status { result ≡ status_of_fault fault.entry }
+    ensures told { Tries E.written E.failures err.old err.new (line_of_fault fault.entry) }
+{
+    write_error(line, err);
+    fault.status()
+}
+
+/// The same, also where there is no memory for the line: that is reported then. The line of a failed write
+/// takes none, so it says what became of the other output.
+fn tell_fault<E: Output>(alloc: Global, fault: Fault<'_>, err: &mut E) -> Status
+    ensures { TellsFaultLine E.written E.failures err.old err.new fault.entry result }
+{
+    if fault == Fault::Write {
+        return tell(fault, "fault write\n", err);
+    }
+    match format!(in alloc; "{fault}\n") {
+        Ok(line) => tell(fault, &line, err),
+        Err(_) => tell(Fault::Memory, "fault memory\n", err),
+    }
+}
+
+/// Writes a complaint to standard error, and gives the exit status.
+fn complain<E: Output>(alloc: Global, complaint: Complaint<'_>, err: &mut E) -> Status
+    ensures { Complains E.written E.failures err.old err.new complaint.entry result }
+{
+    match complaint {
+        Complaint::Usage(text) => {
+            write_error(&text, err);
+            Status::Usage
+        }
+        Complaint::Fault(fault) => tell_fault(alloc, fault, err),
+    }
+}
+
+/// Does what the words after the program's name ask for, over the opener's files, and gives the exit
+/// status. A trace may have no end, so it may wait.
+pub fn program<P: Opener, O: Output, E: Output, R: Threads + Wait + Sync>(
+    alloc: Global,
+    words: &[&str],
+    opener: &P,
+    rt: &R,
+    out: &mut O,
+    err: &mut E,
+) -> Status
+    ensures { Ends O.written O.failures E.written E.failures (P.told opener.now) out.old out.new err.old err.new (map (λ word. word.now) words.now) result }
+{
+    match answer(alloc, parse(alloc, words), opener, rt, out) {
+        Ok(status) => status,
+        Err(complaint) => complain(alloc, complaint, err),
+    }
+}

@@ -1,4 +1,0 @@
-use Rattle.command.proofs.given.status_on.Goals as goal
-
-pub returns-clause-ended : goal.returns-clause-ended
-returns-clause-ended g c = (_, c.program.ensures)

@@ -1,0 +1,252 @@
+-- What the ranks' answers say of a run over the traces that their sources tell.
+use Rattle.moves.specs.declared.reading.Reading.{Reading}
+use Rattle.std.proofs.Common.{◌≡◌, ◌↔◌, ℕ, ◌+◌, ◌<◌, List, [], ◌∷◌, length, map, sym, ap, ◌∙◌, refl, arith, zero, suc, Option, Some, None, IfSome, slice_get, subst, option_and_then, Result, Ok, Err, IfOk, IfErr, OnOk}
+use Rattle.std.specs.Io.KnownBytes.{Appends}
+use Rattle.mpicall.specs.Device.{AppendsBeginning}
+use Rattle.mpicall.specs.Trace.{Trace}
+use Rattle.mpicall.specs.Source.{coming}
+use Rattle.mpicall.specs.declared.call.Call.{Call}
+use Rattle.mpicall.specs.declared.source.Source.{Source}
+use Rattle.mpigroup.specs.Groups.{Groups, ranks_of}
+use Rattle.callstore.specs.Recordings.{Lists, calls_of, IsClosed}
+use Rattle.std.proofs.lemmas.Bool.{not-true, not_from_false}
+use Rattle.std.proofs.lemmas.Option.{slice_get_within}
+use Rattle.moves.specs.Stands.{lowest_run_over, stands_of, is_at_end}
+use Rattle.waitgraph.specs.Verdicts.{verdict_of, SomeRankIsHeld, SomeRankIsStuck}
+use Rattle.waitgraph.specs.declared.verdict.Verdict.{Verdict}
+use Rattle.waitgraph.specs.declared.verdict.Verdict.TheVariants.{Hang}
+use Rattle.waitgraph.proofs.VerdictLemmas.{hang_tells_of_a_held_rank, hang_tells_of_a_stuck_rank}
+use Rattle.moves.proofs.StandLemmas.{no_run_brings_a_stuck_rank_to_its_end, every_maximal_run_ends_at_the_stands}
+use Rattle.gather.specs.Outcomes.{fault_of_rank, refusal_or, refusal_from, refusal_of, recording_of_traces, SomeRankCannotEnd}
+use Rattle.driver.specs.VerdictContract.{Tells, IsVerdictOver, RefusesOver}
+use Rattle.driver.specs.inner.Ranks.{told_by, AcceptsAll, AcceptsRank, LeavesRunReport, RefusesRun, IsRefusalOf}
+use Rattle.driver.proofs.HeldLemmas.{found_at, lowest_refusal}
+use Rattle.driver.proofs.ToldLemmas.{read_of_told, to_come_is_read}
+use Rattle.driver.specs.Runs.{RefusesFeeds, StopsWhereAllowed}
+use Rattle.driver.specs.inner.Runs.{of_close}
+use Rattle.gather.specs.declared.outcome.CloseFault.{CloseFault}
+use Rattle.gather.specs.declared.outcome.CloseFault.TheVariants as close
+use Rattle.driver.specs.OutputContract.{IsReportOver, LeavesOutput, WritesReport}
+use Rattle.report.specs.Reports.{report_of}
+use Rattle.report.specs.declared.write.Format.{Format}
+use Rattle.gather.specs.declared.fault.Refusal.{Refusal}
+use Rattle.gather.specs.declared.fault.RunFault.{RunFault}
+use Rattle.gather.specs.declared.fault.RunFault.TheVariants.{Memory, Unproved, Refused, Write}
+
+-- what is told of each place of a list
+told_at : {A B : Type 0} (f : A → Option B) (xs : List A) (ys : List B) (place : ℕ) → map f xs ≡ map Some ys → option_and_then f (slice_get xs place) ≡ slice_get ys place
+told_at f [] [] place e = refl
+told_at f (x ∷ xs) (y ∷ ys) (suc place) e = told_at f xs ys place cc
+told_at f xs ys place e = cc
+
+same_length : {A B : Type 0} (f : A → Option B) (xs : List A) (ys : List B) → map f xs ≡ map Some ys → length xs ≡ length ys
+same_length f [] [] e = refl
+same_length f (x ∷ xs) (y ∷ ys) e = ap suc (same_length f xs ys cc)
+same_length f xs ys e = cc
+
+-- no rank of some traces has a fault
+none_from : (groups : Groups) (first : ℕ) (traces : List Trace) → ((k : ℕ) (trace : Trace) → slice_get traces k ≡ Some trace → fault_of_rank groups (first + k) trace ≡ None) → refusal_from groups first traces ≡ None
+none_from groups first [] none = refl
+none_from groups first (trace ∷ traces) none =
+    let here : fault_of_rank groups first trace ≡ None = let e : first + 0 ≡ first = omega arith in subst (λ (n : ℕ). fault_of_rank groups n trace ≡ None) e (none 0 trace refl) in
+    let behind : refusal_from groups (first + 1) traces ≡ None =
+    none_from groups (first + 1) traces (λ k t at. let e : first + suc k ≡ first + 1 + k = omega arith in subst (λ (n : ℕ). fault_of_rank groups n t ≡ None) e (none (suc k) t at)) in
+    ap (λ f. refusal_or first f (refusal_from groups (first + 1) traces)) here ∙ behind
+
+-- the refusal, at this rank
+abbrev refusal_at : ℕ → Refusal → Option Refusal
+refusal_at rank refusal = Some (record { rank = rank; call = refusal.call; fault = refusal.fault })
+
+-- the lowest rank with a fault is the one that is told
+told_from : (groups : Groups) (first : ℕ) (traces : List Trace) (place : ℕ) (trace : Trace) (refusal : Refusal) → first + place ≡ refusal.rank → slice_get traces place ≡ Some trace → ((k : ℕ) (t : Trace) → k < place → slice_get traces k ≡ Some t → fault_of_rank groups (first + k) t ≡ None) → fault_of_rank groups refusal.rank trace ≡ Some (refusal.call, refusal.fault) → refusal_from groups first traces ≡ Some refusal
+told_from groups first [] zero trace refusal e at none is = cc
+told_from groups first [] (suc place) trace refusal e at none is = cc
+told_from groups first (t ∷ traces) zero trace refusal e at none is =
+    let rank : refusal.rank ≡ first = omega arith in
+    let here : t ≡ trace = cc in
+    let fault : fault_of_rank groups first t ≡ Some (refusal.call, refusal.fault) =
+    ap (fault_of_rank groups first) here ∙ subst (λ (n : ℕ). fault_of_rank groups n trace ≡ Some (refusal.call, refusal.fault)) rank is in
+    ap (λ f. refusal_or first f (refusal_from groups (first + 1) traces)) fault ∙ ap (λ (n : ℕ). refusal_at n refusal) (sym rank)
+told_from groups first (t ∷ traces) (suc place) trace refusal e at none is =
+    let here : fault_of_rank groups first t ≡ None = let e0 : first + 0 ≡ first = omega arith in subst (λ (n : ℕ). fault_of_rank groups n t ≡ None) e0 (none 0 t (omega arith) refl) in
+    let behind : refusal_from groups (first + 1) traces ≡ Some refusal =
+    told_from groups (first + 1) traces place trace refusal (omega arith) at
+    (λ k s below found. let e1 : first + suc k ≡ first + 1 + k = omega arith in subst (λ (n : ℕ). fault_of_rank groups n s ≡ None) e1 (none (suc k) s (omega arith) found)) is in
+    ap (λ f. refusal_or first f (refusal_from groups (first + 1) traces)) here ∙ behind
+
+-- lists that have each trace's records are those of the traces
+same_lists : (lists : Lists) (traces : List Trace) → length lists ≡ length traces → ((k : ℕ) (trace : Trace) → slice_get traces k ≡ Some trace → calls_of lists k ≡ trace.records) → lists ≡ recording_of_traces traces
+same_lists [] [] e same = refl
+same_lists (l ∷ lists) (t ∷ traces) e same =
+    let here : l ≡ t.records = same 0 t refl in
+    let behind : lists ≡ recording_of_traces traces = same_lists lists traces (omega arith) (λ k s at. same (suc k) s at) in
+    cc
+same_lists lists traces e same = cc
+
+-- a rank that is stuck comes to its end in no run, and one that does so in none is stuck
+cannot_end : (reading : Reading) (groups : Groups) (lists : Lists) → SomeRankIsStuck reading groups lists ↔ SomeRankCannotEnd reading groups lists
+cannot_end reading groups lists = (
+  λ stuck. record {
+    rank = stuck.rank;
+    is_rank = stuck.is_rank;
+    in_no_run = λ states is_run.
+        no_run_brings_a_stuck_rank_to_its_end reading groups lists stuck.rank states is_run
+        (not-true (is_at_end lists (stands_of reading groups lists) stuck.rank) stuck.stays);
+  },
+  λ cannot. record {
+    rank = cannot.rank;
+    is_rank = cannot.is_rank;
+    stays = not_from_false (is_at_end lists (stands_of reading groups lists) cannot.rank)
+        (cannot.in_no_run (lowest_run_over reading groups lists) (every_maximal_run_ends_at_the_stands reading groups lists).0.is_run);
+  },
+)
+
+accepted_at : (groups : Groups) (rank : ℕ) (told : Option Trace) (trace : Trace) (calls : List Call) → AcceptsRank groups rank told calls → told ≡ Some trace → (calls ≡ trace.records) × (fault_of_rank groups rank trace ≡ None)
+accepted_at groups rank None trace calls a e = cc
+accepted_at groups rank (Some t) trace calls a e = let same : t ≡ trace = cc in subst (λ (s : Trace). (calls ≡ s.records) × (fault_of_rank groups rank s ≡ None)) same a
+
+each_accepted : {I : Type 0} (left : I → Option (List ℕ)) (groups : Groups) (sources : List (Source I)) (lists : Lists) (traces : List Trace) → length sources ≡ ranks_of groups → AcceptsAll groups (told_by left sources) lists → Tells left sources traces → (k : ℕ) (trace : Trace) → slice_get traces k ≡ Some trace → (calls_of lists k ≡ trace.records) × (fault_of_rank groups k trace ≡ None)
+each_accepted left groups sources lists traces one all tells k trace at =
+    let count : length sources ≡ length traces = same_length (coming left) sources traces (read_of_told left sources traces tells) in
+    let ranks = all.one_a_rank in
+    accepted_at groups k _ trace _ (all.accepted k (omega (arith, slice_get_within traces k trace at))) (told_at (coming left) sources traces k (read_of_told left sources traces tells) ∙ at)
+
+-- the recording is that of the traces
+lists_are : {I : Type 0} (left : I → Option (List ℕ)) (groups : Groups) (sources : List (Source I)) (lists : Lists) (traces : List Trace) → length sources ≡ ranks_of groups → AcceptsAll groups (told_by left sources) lists → Tells left sources traces → lists ≡ recording_of_traces traces
+lists_are left groups sources lists traces one all tells =
+    let count : length sources ≡ length traces = same_length (coming left) sources traces (read_of_told left sources traces tells) in
+    let ranks = all.one_a_rank in
+    same_lists lists traces (omega arith) (λ k trace at. (each_accepted left groups sources lists traces one all tells k trace at).0)
+
+accepted_over : {I : Type 0} (left : I → Option (List ℕ)) (groups : Groups) (sources : List (Source I)) (lists : Lists) (traces : List Trace) → length sources ≡ ranks_of groups → AcceptsAll groups (told_by left sources) lists → Tells left sources traces → refusal_of groups traces ≡ None
+accepted_over left groups sources lists traces one all tells =
+    let each = each_accepted left groups sources lists traces one all tells in
+    none_from groups 0 traces (λ k trace at. let e : k ≡ 0 + k = omega arith in subst (λ (n : ℕ). fault_of_rank groups n trace ≡ None) e (each k trace at).1)
+
+verdict_over : {I : Type 0} (left : I → Option (List ℕ)) (reading : Reading) (groups : Groups) (sources : List (Source I)) (lists : Lists) (verdict : Verdict) (traces : List Trace) → length sources ≡ ranks_of groups → AcceptsAll groups (told_by left sources) lists → verdict ≡ verdict_of reading groups lists → Tells left sources traces → IsVerdictOver reading groups traces verdict
+verdict_over left reading groups sources lists verdict traces one all value tells =
+    let same : lists ≡ recording_of_traces traces = lists_are left groups sources lists traces one all tells in
+    let of_traces : verdict ≡ verdict_of reading groups (recording_of_traces traces) = value ∙ ap (verdict_of reading groups) same in
+    let cannot = cannot_end reading groups (recording_of_traces traces) in
+    let stuck = hang_tells_of_a_stuck_rank reading groups (recording_of_traces traces) (subst IsClosed same all.closed) in
+    record {
+      value = of_traces;
+      stands = (every_maximal_run_ends_at_the_stands reading groups (recording_of_traces traces)).1;
+      hang = subst (λ (v : Verdict). (v ≡ Hang) ↔ SomeRankIsHeld reading groups (recording_of_traces traces)) (sym of_traces) (hang_tells_of_a_held_rank reading groups (recording_of_traces traces));
+      closed = λ none.
+          subst (λ (v : Verdict). (v ≡ Hang) ↔ SomeRankCannotEnd reading groups (recording_of_traces traces)) (sym of_traces)
+          (λ is. cannot.0 ((stuck none).0 is), λ in_no_run. (stuck none).1 (cannot.1 in_no_run));
+    }
+
+-- the report of the recording is that of the run
+pub report_over : {I : Type 0} (left : I → Option (List ℕ)) (reading : Reading) (groups : Groups) (sources : List (Source I)) (lists : Lists) (format : Format) (verdict : Verdict) → length sources ≡ ranks_of groups → AcceptsAll groups (told_by left sources) lists → verdict ≡ verdict_of reading groups lists → IsReportOver left sources reading groups format verdict (report_of format reading groups lists)
+report_over left reading groups sources lists format verdict one all value = record {
+  recording = lists;
+  one_a_rank = all.one_a_rank;
+  closed = all.closed;
+  accepted = λ rank source trace at is. accepted_at groups rank (told_by left sources rank) trace (calls_of lists rank)
+      (let within = slice_get_within sources rank source at in all.accepted rank (omega (arith, within, one, all.one_a_rank)))
+      (ap (option_and_then (coming left)) at ∙ to_come_is_read left source trace is);
+  of_traces = λ traces tells. lists_are left groups sources lists traces one all tells;
+  report_is = refl;
+  verdict_is = value;
+}
+
+no_fault_at : (groups : Groups) (rank : ℕ) (told : Option Trace) (trace : Trace) → IfSome told (λ t. fault_of_rank groups rank t ≡ None) → told ≡ Some trace → fault_of_rank groups rank trace ≡ None
+no_fault_at groups rank None trace h e = cc
+no_fault_at groups rank (Some t) trace h e = let same : t ≡ trace = cc in subst (λ (s : Trace). fault_of_rank groups rank s ≡ None) same h
+
+refusal_told : (groups : Groups) (refusal : Refusal) (told : Option Trace) (trace : Trace) → IfSome told (λ t. IsRefusalOf groups refusal.rank t refusal) → told ≡ Some trace → IsRefusalOf groups refusal.rank trace refusal
+refusal_told groups refusal None trace h e = cc
+refusal_told groups refusal (Some t) trace h e = let same : t ≡ trace = cc in subst (λ (s : Trace). IsRefusalOf groups refusal.rank s refusal) same h
+
+pub refused_over : {I : Type 0} (left : I → Option (List ℕ)) (groups : Groups) (sources : List (Source I)) (fault : RunFault) (traces : List Trace) → length sources ≡ ranks_of groups → RefusesRun groups (told_by left sources) fault → Tells left sources traces → RefusesOver groups traces fault
+refused_over left groups sources (Refused refusal) traces one refuses tells =
+    let count : length sources ≡ length traces = same_length (coming left) sources traces (read_of_told left sources traces tells) in
+    let within : refusal.rank < length traces = omega (arith, refuses.is_rank) in
+    let there = found_at traces refusal.rank within in
+    let lower : (k : ℕ) (trace : Trace) → k < refusal.rank → slice_get traces k ≡ Some trace → fault_of_rank groups k trace ≡ None =
+    λ k trace below at. no_fault_at groups k _ trace (refuses.lowest k below) (told_at (coming left) sources traces k (read_of_told left sources traces tells) ∙ at) in
+    record {
+      is_rank = within;
+      lowest = lower;
+      its_own = λ own. told_from groups 0 traces refusal.rank there.0 refusal (omega arith) there.1
+          (λ k trace below at. let e : k ≡ 0 + k = omega arith in subst (λ (n : ℕ). fault_of_rank groups n trace ≡ None) e (lower k trace below at))
+          (refusal_told groups refusal _ there.0 refuses.its_own (told_at (coming left) sources traces refusal.rank (read_of_told left sources traces tells) ∙ there.1) own);
+    }
+refused_over left groups sources fault traces one refuses tells = tt
+
+-- a run that has an answer has no fault
+pub run_accepted : {I : Type 0} (left : I → Option (List ℕ)) (groups : Groups) (sources : List (Source I)) (lists : Lists) (answer : Result Verdict RunFault) → length sources ≡ ranks_of groups → AcceptsAll groups (told_by left sources) lists → OnOk answer ((traces : List Trace) → Tells left sources traces → refusal_of groups traces ≡ None)
+run_accepted left groups sources lists (Err fault) one all = tt
+run_accepted left groups sources lists (Ok verdict) one all = λ traces tells. accepted_over left groups sources lists traces one all tells
+
+-- the answer of a report is that of the run
+pub run_verdict : {I : Type 0} (left : I → Option (List ℕ)) (reading known : Reading) (groups told : Groups) (sources : List (Source I)) (lists : Lists) (answer : Result Verdict RunFault) → length sources ≡ ranks_of groups → known ≡ reading → told ≡ groups → AcceptsAll groups (told_by left sources) lists → IfOk answer (λ verdict. verdict ≡ verdict_of known told lists) → IfOk answer (λ verdict. (traces : List Trace) → Tells left sources traces → IsVerdictOver reading groups traces verdict)
+run_verdict left reading known groups told sources lists (Err fault) one alike same all value = tt
+run_verdict left reading known groups told sources lists (Ok verdict) one alike same all value = λ traces tells.
+    let of_run : verdict ≡ verdict_of reading groups lists =
+    subst (λ (gs : Groups). verdict ≡ verdict_of reading gs lists) same (subst (λ (r : Reading). verdict ≡ verdict_of r told lists) alike value) in
+    verdict_over left reading groups sources lists verdict traces one all of_run tells
+
+pub run_written : {I O : Type 0} (left : I → Option (List ℕ)) (written : O → Option (List ℕ)) (failures : O → ℕ) (reading known : Reading) (groups told : Groups) (sources : List (Source I)) (lists : Lists) (format : Format) (old new : O) (answer : Result Verdict RunFault) → length sources ≡ ranks_of groups → known ≡ reading → told ≡ groups → AcceptsAll groups (told_by left sources) lists → IfOk answer (λ verdict. verdict ≡ verdict_of known told lists) → OnOk answer (Appends (written old) (written new) (report_of format known told lists)) → IfOk answer (WritesReport left written failures sources reading groups format old new)
+run_written left written failures reading known groups told sources lists format old new (Err fault) one alike same all value report = tt
+run_written left written failures reading known groups told sources lists format old new (Ok verdict) one alike same all value report =
+    let both : (verdict ≡ verdict_of reading groups lists) × Appends (written old) (written new) (report_of format reading groups lists) =
+    subst (λ (gs : Groups). (verdict ≡ verdict_of reading gs lists) × Appends (written old) (written new) (report_of format reading gs lists)) same
+    (subst (λ (r : Reading). (verdict ≡ verdict_of r told lists) × Appends (written old) (written new) (report_of format r told lists)) alike (value, report)) in (
+      report_of format reading groups lists,
+      report_over left reading groups sources lists format verdict one all both.0,
+      both.1,
+    )
+
+pub run_output : {I O : Type 0} (left : I → Option (List ℕ)) (written : O → Option (List ℕ)) (failures : O → ℕ) (reading known : Reading) (groups told : Groups) (sources : List (Source I)) (lists : Lists) (format : Format) (old new : O) (answer : Result Verdict RunFault) → length sources ≡ ranks_of groups → known ≡ reading → told ≡ groups → AcceptsAll groups (told_by left sources) lists → IfErr answer (LeavesRunReport written failures old new (report_of format known told lists)) → IfErr answer (LeavesOutput left written failures sources reading groups format old new)
+run_output left written failures reading known groups told sources lists format old new (Ok verdict) one alike same all leaves = tt
+run_output left written failures reading known groups told sources lists format old new (Err Memory) one alike same all leaves = leaves
+run_output left written failures reading known groups told sources lists format old new (Err (Unproved rank)) one alike same all leaves = absurd leaves
+run_output left written failures reading known groups told sources lists format old new (Err (Refused refusal)) one alike same all leaves = absurd leaves
+run_output left written failures reading known groups told sources lists format old new (Err Write) one alike same all leaves = (
+  (
+    verdict_of reading groups lists,
+    report_of format reading groups lists,
+    report_over left reading groups sources lists format (verdict_of reading groups lists) one all refl,
+    subst (λ (gs : Groups). AppendsBeginning (written old) (written new) (report_of format reading gs lists)) same
+        (subst (λ (r : Reading). AppendsBeginning (written old) (written new) (report_of format r told lists)) alike leaves.0),
+  ),
+  leaves.1,
+)
+
+-- a report that fails refuses no rank
+pub report_refuses : {O : Type 0} (written : O → Option (List ℕ)) (failures : O → ℕ) (old new : O) (report : List ℕ) (groups : Groups) (traces : List Trace) (fault : RunFault) → LeavesRunReport written failures old new report fault → RefusesOver groups traces fault
+report_refuses written failures old new report groups traces (Unproved rank) leaves = absurd leaves
+report_refuses written failures old new report groups traces (Refused refusal) leaves = absurd leaves
+report_refuses written failures old new report groups traces fault leaves = tt
+
+-- a report that fails is no refusal of the ranks' feeds
+pub report_feeds : {O I : Type 0} (written : O → Option (List ℕ)) (failures : O → ℕ) (old new : O) (report : List ℕ) (left : I → Option (List ℕ)) (may_stop : ℕ → ℕ → Type 0) (sources : List (Source I)) (groups : Groups) (answer : Result Verdict RunFault) → IfErr answer (LeavesRunReport written failures old new report) → IfErr answer (RefusesFeeds left may_stop sources groups)
+report_feeds written failures old new report left may_stop sources groups (Err (Unproved rank)) leaves = absurd leaves
+report_feeds written failures old new report left may_stop sources groups (Err (Refused refusal)) leaves = absurd leaves
+report_feeds written failures old new report left may_stop sources groups answer leaves = tt
+
+pub report_stops : {O : Type 0} (written : O → Option (List ℕ)) (failures : O → ℕ) (old new : O) (report : List ℕ) (may_stop : ℕ → ℕ → Type 0) (answer : Result Verdict RunFault) → IfErr answer (LeavesRunReport written failures old new report) → IfErr answer (StopsWhereAllowed may_stop)
+report_stops written failures old new report may_stop (Err (Unproved rank)) leaves = absurd leaves
+report_stops written failures old new report may_stop (Err (Refused refusal)) leaves = absurd leaves
+report_stops written failures old new report may_stop answer leaves = tt
+
+-- a refusal of the ranks' feeds is one over the traces that their sources tell
+feeds_refuse : {I : Type 0} (left : I → Option (List ℕ)) (may_stop : ℕ → ℕ → Type 0) (groups : Groups) (sources : List (Source I)) (fault : CloseFault) → length sources ≡ ranks_of groups → RefusesFeeds left may_stop sources groups (of_close fault) → RefusesRun groups (told_by left sources) (of_close fault)
+feeds_refuse left may_stop groups sources close.Memory one refuses = tt
+feeds_refuse left may_stop groups sources (close.Unproved rank) one refuses = tt
+feeds_refuse left may_stop groups sources (close.Refused refusal) one refuses = lowest_refusal left may_stop sources groups refusal one refuses
+
+pub close_refuses : {I : Type 0} (left : I → Option (List ℕ)) (may_stop : ℕ → ℕ → Type 0) (groups : Groups) (sources : List (Source I)) (fault : CloseFault) (told : RunFault) → told ≡ of_close fault → length sources ≡ ranks_of groups → RefusesFeeds left may_stop sources groups (of_close fault) → (traces : List Trace) → Tells left sources traces → RefusesOver groups traces told
+close_refuses left may_stop groups sources fault told is one refuses traces tells =
+    rw is (refused_over left groups sources (of_close fault) traces one (feeds_refuse left may_stop groups sources fault one refuses) tells)
+
+close_leaves : {I O : Type 0} (left : I → Option (List ℕ)) (written : O → Option (List ℕ)) (failures : O → ℕ) (reading : Reading) (groups : Groups) (sources : List (Source I)) (format : Format) (out : O) (fault : CloseFault) → LeavesOutput left written failures sources reading groups format out out (of_close fault)
+close_leaves left written failures reading groups sources format out close.Memory = refl
+close_leaves left written failures reading groups sources format out (close.Unproved rank) = refl
+close_leaves left written failures reading groups sources format out (close.Refused refusal) = refl
+
+pub close_output : {I O : Type 0} (left : I → Option (List ℕ)) (written : O → Option (List ℕ)) (failures : O → ℕ) (reading : Reading) (groups : Groups) (sources : List (Source I)) (format : Format) (out : O) (fault : CloseFault) (told : RunFault) → told ≡ of_close fault → LeavesOutput left written failures sources reading groups format out out told
+close_output left written failures reading groups sources format out fault told is = rw is (close_leaves left written failures reading groups sources format out fault)

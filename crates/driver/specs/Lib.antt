@@ -1,0 +1,6 @@
+pub mod VerdictContract
+pub mod OutputContract
+pub mod Threads
+pub mod Along
+pub mod Runs
+pub mod inner

@@ -1,0 +1,19 @@
+use Rattle.std.proofs.Common.{◌++◌, nat_lt, string_bytes, ap, ◌∙◌, arith}
+use Rattle.serde_json.specs.Data.{Data}
+use Rattle.serde_json.specs.Written.{comma_if, compact_text, has_float}
+use Rattle.report.specs.JsonReport.{rank_data}
+use Rattle.report.proofs.ArrayLemmas.{one_written}
+use Rattle.report.proofs.JsonLemmas.{no_float_rank}
+use Rattle.report.proofs.json.rank.push_ranks.Goals as goal
+
+pub push_element-requires : goal.push_element-requires
+push_element-requires c =
+    ap has_float c.in_ok-value.ensures ∙ no_float_rank c.args.analyser.now.reading c.args.analyser.now.groups c.args.analyser.now.recording _
+
+pub loop-index-preserved : goal.loop-index-preserved
+loop-index-preserved c =
+    one_written (rank_data c.args.analyser.now.reading c.args.analyser.now.groups c.args.analyser.now.recording) c.stuck-stuck.result.now c.loop-index.index _
+    (string_bytes c.args.text.now) (string_bytes c.loop-index.text) (string_bytes c.push_element.new.text)
+    c.loop-index.invariant
+    (c.in_ok-push_element.ensures ∙ ap (λ (value : Data). string_bytes c.loop-index.text ++ (comma_if (nat_lt 0 c.loop-index.index) ++ compact_text value)) c.in_ok-value.ensures)
+    (omega (arith, c.loop-index-test.true))

@@ -1,0 +1,24 @@
+//! The report of a run that was recorded whole, as text or as JSON.
+//!
+//! What it promises, as contracts that are proved, by definitions of `specs/`:
+//!
+//! - `write::write_report` writes exactly the report of a recording, as text or as JSON (`TextReport`,
+//!   `JsonReport`, `Reports`): the verdict, who waits for whom where the ranks stand, the causes and the
+//!   findings, as the crates `waitgraph` and `findings` define them.
+//! - Where a write fails, what was written before is a prefix of that report. Lack of memory is
+//!   answered for JSON alone, and then nothing was written.
+//!
+//! `finding::push_finding` has the one text of a finding (`FindingTexts`).
+//!
+//! What only proofs and private contracts cite is in `specs/inner/`, and nobody has to believe it.
+//!
+//! ```text
+//! let graph = Graph::of(alloc, &analyser)?;
+//! write_report(alloc, &analyser, &graph, Format::Text, &mut output)?;
+//! ```
+#![tactic(auto)]
+
+pub mod finding;
+mod json;
+mod stand;
+pub mod write;

@@ -1,7 +1,0 @@
--- The session is the same.
-use Rattle.runs.specs.inner.Runs.{IsSameSession}
-use Rattle.runs.proofs.sweep.take_all.Given as goal
-
-abbrev pub invariant-loop : goal.invariant-loop
-invariant-loop g l =
-    (goal.iterator-loop g).can_next l.iterator' × (goal.iterator-loop g).is_finite l.iterator' × IsSameSession l.fn.collector l.collector
