@@ -9,6 +9,8 @@ ghost use Rattle.command.specs.declared.fault.Fault.TheVariants.{Memory};
 
 use crate::status::Status;
 use gather::fault::{RankFault, Refusal, RunFault};
+use journals::fault::JournalFault;
+use judging::read::ReadFault;
 use mpicall::fault::SourceFault;
 use mpicall::lint::LintFault;
 use mpigroup::fault::HeadFault;
@@ -20,6 +22,11 @@ use std::fmt;
 #[derive(Clone, Copy, Debug, PartialEq, Eq)]
 pub enum Fault<'a> {
     Open(&'a str),
+    /// The journal of a rank in this folder.
+    OpenJournal { folder: &'a str, rank: u16 },
+    RefusedJournal { rank: u16, fault: JournalFault },
+    FailedJournal { rank: u16, line: u64 },
+    Make(&'a str),
     ReadHead,
     Head(HeadFault),
     FileCount { ranks: u16, files: usize },
@@ -38,6 +45,14 @@ impl fmt::Display for Fault<'_> {
     fn fmt<W: fmt::Write>(&self, f: &mut fmt::Formatter<W>) -> fmt::Result {
         match *self {
             Fault::Open(path) => write!(f, "fault open {path}"),
+            Fault::OpenJournal { folder, rank } => {
+                write!(f, "fault open {folder}/journal{rank}")
+            }
+            Fault::RefusedJournal { rank, fault } => write!(f, "refused rank {rank} {fault}"),
+            Fault::FailedJournal { rank, line } => {
+                write!(f, "fault rank {rank} line {line} E2 read failed")
+            }
+            Fault::Make(path) => write!(f, "fault make {path}"),
             Fault::ReadHead => write!(f, "fault read head"),
             Fault::Head(fault) => write!(f, "refused head {fault}"),
             Fault::FileCount { ranks, files } => {
@@ -56,15 +71,33 @@ impl fmt::Display for Fault<'_> {
 
 impl Error for Fault<'_> {}
 
+impl<'a> Fault<'a> {
+    /// The fault of the journals in a folder.
+    pub(crate) fn of_journals(folder: &'a str, fault: ReadFault) -> Fault<'a> {
+        match fault {
+            ReadFault::Open(rank) => Fault::OpenJournal { folder, rank },
+            ReadFault::Refused { rank, fault } => Fault::RefusedJournal { rank, fault },
+            ReadFault::ReadFailed { rank, line } => Fault::FailedJournal { rank, line },
+            ReadFault::Memory => Fault::Memory,
+        }
+    }
+}
+
 impl Fault<'_> {
     /// The exit status of the fault.
     pub fn status(&self) -> Status
         ensures { result ≡ status_of_fault self.now }
     {
         match self {
-            Fault::Head(_) | Fault::Refused(_) | Fault::LintRefused(_) => Status::Refused,
+            Fault::Head(_)
+            | Fault::Refused(_)
+            | Fault::LintRefused(_)
+            | Fault::RefusedJournal { .. } => Status::Refused,
             Fault::FileCount { .. } => Status::Usage,
             Fault::Open(_)
+            | Fault::OpenJournal { .. }
+            | Fault::FailedJournal { .. }
+            | Fault::Make(_)
             | Fault::ReadHead
             | Fault::Failed(_)
             | Fault::LintFailed(_)

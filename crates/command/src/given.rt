@@ -10,7 +10,7 @@ ghost use Rattle.command.specs.Statuses.{code_of};
 ghost use Rattle.command.specs.declared.given.WordsFault.TheVariants.{NoMemory};
 
 use crate::folder::with_files;
-use crate::opener::Opener;
+use crate::opener::{Maker, Opener};
 use crate::program::{program, write_error};
 use crate::status::Status;
 use mpicall::device::Output;
@@ -110,7 +110,7 @@ fn status_on<G, P, O, E, R>(
 ) -> Result<Status, WordsFault>
 where
     G: Env + AllocGlobal,
-    P: Opener,
+    P: Opener + Maker,
     O: Output,
     E: Output,
     R: Threads + Wait + Sync,
@@ -127,7 +127,7 @@ where
 pub fn run<G, P, O, E, R>(given: &G, opener: &P, rt: &R, out: &mut O, err: &mut E) -> Ended
 where
     G: Env + AllocGlobal,
-    P: Opener,
+    P: Opener + Maker,
     O: Output,
     E: Output,
     R: Threads + Wait + Sync,

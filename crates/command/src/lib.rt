@@ -20,6 +20,7 @@ pub mod fault;
 mod folder;
 pub mod given;
 pub mod head_to_head;
+mod journals;
 pub mod limit;
 mod lint;
 mod number;

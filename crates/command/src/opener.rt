@@ -3,8 +3,9 @@
 ghost use Rattle.std.specs.Prelude.{◌≡◌, ℕ, false, ⊤, Option, None, List, IfNone, IfSome};
 
 use mpicall::counted::Counted;
-use mpicall::device::Input;
+use mpicall::device::{Input, Output};
 use std::fs;
+use std::fs::OpenOptions;
 use std::rt::Files;
 
 /// What opens the inputs that paths name: `told` is the text of the file with a path, where the opener
@@ -38,6 +39,22 @@ pub trait Opener {
     fn is_there(&self, _path: &str) -> bool {
         false
     }
+
+    /// Whether something stands under a path, a link that leads nowhere too.
+    fn is_named(&self, _path: &str) -> bool {
+        false
+    }
+}
+
+/// What makes folders, and files in them.
+pub trait Maker {
+    type Out: Output + Drop;
+
+    /// Makes a folder, where nothing stands under its path; says whether that was done.
+    fn make_folder(&self, path: &str) -> bool;
+
+    /// A file that is made, where nothing stands under its path; None where it can't be made.
+    fn create_output(&self, path: &str) -> Option<Self::Out>;
 }
 
 /// The files of the machine. What they hold isn't known.
@@ -76,5 +93,26 @@ where
 
     fn is_there(&self, path: &str) -> bool {
         fs::metadata(self.0, path).is_ok()
+    }
+
+    fn is_named(&self, path: &str) -> bool {
+        fs::symlink_metadata(self.0, path).is_ok()
+    }
+}
+
+impl<R: Files> Maker for Disk<'_, R> {
+    type Out = Counted<R::File>;
+
+    fn make_folder(&self, path: &str) -> bool {
+        fs::create_dir(self.0, path).is_ok()
+    }
+
+    fn create_output(&self, path: &str) -> Option<Counted<R::File>> {
+        let mut options = OpenOptions::new();
+        options.write(true).create_new(true);
+        match options.open(self.0, path) {
+            Ok(file) => Some(Counted::new(file)),
+            Err(_) => None,
+        }
     }
 }

@@ -13,10 +13,14 @@ ghost use Rattle.command.specs.Texts.{IsFaultOfCheck};
 use crate::capacity::Capacity;
 use crate::check::check;
 use crate::fault::Fault;
+use crate::journals::{JournalFolder, RecordingFolder};
 use crate::lint::lint_file;
-use crate::opener::Opener;
+use crate::opener::{Maker, Opener};
 use crate::status::Status;
 use crate::words::{Words, parse};
+use closing::choice::Choice;
+use judging::close::{CloseFault, close};
+use judging::judge::{JudgeFault, Manner, judge};
 use moves::reading::Reading;
 use mpicall::device::{Output, write_all};
 use reports::report::Format;
@@ -110,8 +114,74 @@ fn answer_lint<'a, P: Opener, O: Output>(
     }
 }
 
+/// Why journals in a folder weren't judged.
+fn fault_of_judge<'a>(folder: &'a str, fault: JudgeFault) -> Fault<'a> {
+    match fault {
+        JudgeFault::Read(fault) => Fault::of_journals(folder, fault),
+        JudgeFault::Refused(refusal) => Fault::Refused(refusal),
+        JudgeFault::Memory => Fault::Memory,
+        JudgeFault::Write => Fault::Write,
+    }
+}
+
+/// Judges the journals in a folder.
+fn answer_judge<'a, P: Opener, O: Output>(
+    alloc: Global,
+    folder: &'a str,
+    manner: Manner,
+    opener: &P,
+    wait: &impl Wait,
+    out: &mut O,
+) -> Result<Status, Complaint<'a>> {
+    let journals = JournalFolder {
+        alloc,
+        opener,
+        path: folder,
+    };
+    match judge(alloc, &journals, manner, wait, out) {
+        Ok(verdict) => Ok(status_of(verdict)),
+        Err(fault) => refuse(alloc, fault_of_judge(folder, fault), out),
+    }
+}
+
+/// Why the recording of journals in a folder wasn't written.
+fn fault_of_close<'a>(folder: &'a str, path: &'a str, fault: CloseFault) -> Fault<'a> {
+    match fault {
+        CloseFault::Read(fault) => Fault::of_journals(folder, fault),
+        CloseFault::Make => Fault::Make(path),
+        CloseFault::Write => Fault::Write,
+        CloseFault::Memory => Fault::Memory,
+    }
+}
+
+/// Writes the recording of the journals in a folder into another one.
+fn answer_close<'a, P: Opener + Maker, O: Output>(
+    alloc: Global,
+    folder: &'a str,
+    path: &'a str,
+    choice: Choice,
+    opener: &P,
+    wait: &impl Wait,
+    out: &mut O,
+) -> Result<Status, Complaint<'a>> {
+    let journals = JournalFolder {
+        alloc,
+        opener,
+        path: folder,
+    };
+    let made = RecordingFolder {
+        alloc,
+        maker: opener,
+        path,
+    };
+    match close(alloc, &journals, choice, &made, wait) {
+        Ok(()) => Ok(Status::Free),
+        Err(fault) => refuse(alloc, fault_of_close(folder, path, fault), out),
+    }
+}
+
 /// Does what the words ask for, and gives the exit status where that goes with standard output.
-fn answer<'a, P: Opener, O: Output, R: Threads + Wait + Sync>(
+fn answer<'a, P: Opener + Maker, O: Output, R: Threads + Wait + Sync>(
     alloc: Global,
     words: Words<'a>,
     opener: &P,
@@ -131,6 +201,12 @@ fn answer<'a, P: Opener, O: Output, R: Threads + Wait + Sync>(
             alloc, head, &files, reading, format, capacity, opener, rt, out,
         ),
         Words::Lint { file } => answer_lint(alloc, file, opener, rt, out),
+        Words::Judge { folder, manner } => answer_judge(alloc, folder, manner, opener, rt, out),
+        Words::Close {
+            folder,
+            out: path,
+            choice,
+        } => answer_close(alloc, folder, path, choice, opener, rt, out),
         Words::Said {
             text,
             is_error: false,
@@ -189,7 +265,7 @@ fn complain<E: Output>(alloc: Global, complaint: Complaint<'_>, err: &mut E) -> 
 
 /// Does what the words after the program's name ask for, over the opener's files, and gives the exit
 /// status. A trace may have no end, so it may wait.
-pub fn program<P: Opener, O: Output, E: Output, R: Threads + Wait + Sync>(
+pub fn program<P: Opener + Maker, O: Output, E: Output, R: Threads + Wait + Sync>(
     alloc: Global,
     words: &[&str],
     opener: &P,

@@ -2,8 +2,8 @@
 
 ghost use Rattle.command.specs.Shelves.{text_on};
 
-use crate::opener::Opener;
-use mpicall::memory::MemoryInput;
+use crate::opener::{Maker, Opener};
+use mpicall::memory::{MemoryInput, MemoryOutput};
 
 /// A file in memory.
 #[derive(Clone, Copy)]
@@ -34,5 +34,18 @@ impl<'a> Opener for Shelf<'a> {
 
     fn waits(&self, _path: &str) -> bool {
         false
+    }
+}
+
+/// No files are made in memory.
+impl Maker for Shelf<'_> {
+    type Out = MemoryOutput;
+
+    fn make_folder(&self, _path: &str) -> bool {
+        false
+    }
+
+    fn create_output(&self, _path: &str) -> Option<MemoryOutput> {
+        None
     }
 }

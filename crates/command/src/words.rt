@@ -15,6 +15,8 @@ use crate::limit::read_reading;
 use clap::builder::ValueParser;
 use clap::error::ErrorKind;
 use clap::{Arg, ArgAction, ArgMatches, Command, Error};
+use closing::choice::{Calls, Choice, Tests};
+use judging::judge::Manner;
 use moves::reading::Reading;
 use mpicall::limits::GREATEST_BYTES;
 use reports::report::Format;
@@ -35,6 +37,17 @@ pub enum Words<'a> {
     /// To read one trace alone, by its path.
     Lint {
         file: &'a str,
+    },
+    /// To judge the journals in a folder.
+    Judge {
+        folder: &'a str,
+        manner: Manner,
+    },
+    /// To write the recording of the journals in a folder into another one, which is made.
+    Close {
+        folder: &'a str,
+        out: &'a str,
+        choice: Choice,
     },
     /// To show a text: the help or the version, or what is wrong with the words.
     Said {
@@ -204,12 +217,80 @@ fn lint_command<'a>(alloc: Global) -> Result<Command<'a>, AllocError>
         .arg(trace_argument(alloc))
 }
 
+/// What clap knows of what a test that completed a send stands for.
+fn tests_argument<'a>(alloc: Global) -> Arg<'a> {
+    Arg::new(alloc, "tests")
+        .long("tests")
+        .value_name("HOW")
+        .default_value("wait")
+        .value_parser(ValueParser::from(TESTS.as_slice()))
+        .help("Takes a test that completed a send as a wait, or has the rank pass it")
+}
+
+/// What clap knows of what a call that came back stands for.
+fn calls_argument<'a>(alloc: Global) -> Arg<'a> {
+    Arg::new(alloc, "calls")
+        .long("calls")
+        .value_name("HOW")
+        .default_value("strict")
+        .value_parser(ValueParser::from(CALLS.as_slice()))
+        .help("Judges whether the run can hang, or where its ranks stand since it went so far")
+}
+
+const TESTS: [&str; 2] = ["wait", "pass"];
+
+const CALLS: [&str; 2] = ["strict", "went"];
+
+const JUDGE_ABOUT: &str =
+    "Reads the journals of a run, one a rank, and says whether the run can hang";
+
+const CLOSE_ABOUT: &str = "Reads the journals of a run, and writes its head and its traces";
+
+fn folder_argument<'a>(alloc: Global) -> Arg<'a> {
+    Arg::new(alloc, "FOLDER")
+        .required(true)
+        .help("The folder of the journals: journal0, journal1 and so on")
+}
+
+fn out_argument<'a>(alloc: Global) -> Arg<'a> {
+    Arg::new(alloc, "OUT")
+        .required(true)
+        .help("The folder that is made, for head, r0, r1 and so on")
+}
+
+/// What clap knows of `judge`.
+fn judge_command<'a>(alloc: Global) -> Result<Command<'a>, AllocError> {
+    Command::new(alloc, "judge")
+        .about(JUDGE_ABOUT)
+        .after_help(AFTER)
+        .version(VERSION)
+        .arg(folder_argument(alloc))?
+        .arg(json_argument(alloc))?
+        .arg(eager_argument(alloc))?
+        .arg(tests_argument(alloc))?
+        .arg(calls_argument(alloc))
+}
+
+/// What clap knows of `close`.
+fn close_command<'a>(alloc: Global) -> Result<Command<'a>, AllocError> {
+    Command::new(alloc, "close")
+        .about(CLOSE_ABOUT)
+        .after_help(AFTER)
+        .version(VERSION)
+        .arg(folder_argument(alloc))?
+        .arg(out_argument(alloc))?
+        .arg(tests_argument(alloc))?
+        .arg(calls_argument(alloc))
+}
+
 /// What clap knows of the program.
 fn program_command<'a>(alloc: Global) -> Result<Command<'a>, AllocError>
     ensures { IfOk result (λ command. app_of command ≡ program) }
 {
     let check = check_command(alloc)?;
     let lint = lint_command(alloc)?;
+    let judge = judge_command(alloc)?;
+    let close = close_command(alloc)?;
     Command::new(alloc, "mpiwait")
         .about(ABOUT)
         .override_usage(PROGRAM_USAGE)
@@ -220,7 +301,9 @@ fn program_command<'a>(alloc: Global) -> Result<Command<'a>, AllocError>
         .disable_help_subcommand(true)
         .bin_name("mpiwait")?
         .subcommand(check)?
-        .subcommand(lint)
+        .subcommand(lint)?
+        .subcommand(judge)?
+        .subcommand(close)
 }
 
 /// A text as the answer; without memory for it, that.
@@ -345,6 +428,51 @@ fn lint_of<'a>(alloc: Global, matches: &ArgMatches<'a>) -> Words<'a>
     trace_named(alloc, matches.get_str("FILE"))
 }
 
+fn choice_of(tests: Option<&str>, calls: Option<&str>) -> Choice {
+    let tests = match tests {
+        Some(word) if word == "pass" => Tests::Pass,
+        _ => Tests::Wait,
+    };
+    let calls = match calls {
+        Some(word) if word == "went" => Calls::Went,
+        _ => Calls::Strict,
+    };
+    Choice { tests, calls }
+}
+
+/// The journals that the words after `judge` name.
+fn judge_of<'a>(alloc: Global, matches: &ArgMatches<'a>) -> Words<'a> {
+    let choice = choice_of(matches.get_str("tests"), matches.get_str("calls"));
+    let format = format_of(matches.get_str("json"));
+    match (
+        matches.get_str("FOLDER"),
+        read_reading(matches.get_str("eager")),
+    ) {
+        (Some(folder), Some(reading)) => Words::Judge {
+            folder,
+            manner: Manner {
+                choice,
+                reading,
+                format,
+            },
+        },
+        _ => say(alloc, USAGE, true),
+    }
+}
+
+/// The journals and the folder that the words after `close` name.
+fn close_of<'a>(alloc: Global, matches: &ArgMatches<'a>) -> Words<'a> {
+    let choice = choice_of(matches.get_str("tests"), matches.get_str("calls"));
+    match (matches.get_str("FOLDER"), matches.get_str("OUT")) {
+        (Some(folder), Some(out)) => Words::Close {
+            folder,
+            out,
+            choice,
+        },
+        _ => say(alloc, USAGE, true),
+    }
+}
+
 /// The task of a command and of the words after it.
 #[tactic(auto, using(crate::proofs::AskedLemmas::asked_steps))]
 fn task_of<'a>(alloc: Global, name: &str, matches: &ArgMatches<'a>) -> Words<'a>
@@ -354,6 +482,10 @@ fn task_of<'a>(alloc: Global, name: &str, matches: &ArgMatches<'a>) -> Words<'a>
         check_of(alloc, matches)
     } else if name == "lint" {
         lint_of(alloc, matches)
+    } else if name == "judge" {
+        judge_of(alloc, matches)
+    } else if name == "close" {
+        close_of(alloc, matches)
     } else {
         say(alloc, USAGE, true)
     }

@@ -11,7 +11,9 @@ ghost use Rattle.reports.specs.TextReport.{verdict_text};
 use crate::json::cause::causes_value;
 use crate::json::element::{push_key, push_value};
 use crate::json::finding::push_findings;
+use crate::json::judged::{push_left, push_lines};
 use crate::json::rank::push_ranks;
+use crate::judged::Judged;
 use crate::report::text::verdict_text;
 use moves::analyser::Analyser;
 use serde_json::json;
@@ -23,6 +25,7 @@ use waitgraph::verdict::Verdict;
 mod cause;
 mod element;
 mod finding;
+mod judged;
 mod need;
 mod rank;
 
@@ -58,6 +61,30 @@ pub(crate) fn json_text(
     push_causes(alloc, &mut text, graph.causes())?;
     push_key(alloc, &mut text, ",", "findings", ":[")?;
     push_findings(alloc, &mut text, graph.findings())?;
+    push_key(alloc, &mut text, "],", "ranks", ":[")?;
+    push_ranks(alloc, &mut text, analyser, graph)?;
+    push_key(alloc, &mut text, "],", "verdict", ":")?;
+    push_verdict(alloc, &mut text, graph.verdict())?;
+    text.push_str("}\n")?;
+    Ok(text)
+}
+
+/// The JSON report of the recording of journals.
+pub(crate) fn judged_json_text(
+    alloc: Global,
+    analyser: &Analyser,
+    graph: &Graph,
+    judged: &Judged<'_>,
+) -> Result<String, AllocError> {
+    let mut text = String::new(alloc);
+    push_key(alloc, &mut text, "{", "causes", ":")?;
+    push_causes(alloc, &mut text, graph.causes())?;
+    push_key(alloc, &mut text, ",", "findings", ":[")?;
+    push_findings(alloc, &mut text, judged.findings)?;
+    push_key(alloc, &mut text, "],", "left", ":[")?;
+    push_left(alloc, &mut text, judged.left)?;
+    push_key(alloc, &mut text, "],", "lines", ":[")?;
+    push_lines(alloc, &mut text, judged.lines)?;
     push_key(alloc, &mut text, "],", "ranks", ":[")?;
     push_ranks(alloc, &mut text, analyser, graph)?;
     push_key(alloc, &mut text, "],", "verdict", ":")?;

@@ -20,5 +20,6 @@
 
 pub mod finding;
 mod json;
+pub mod judged;
 pub mod report;
 mod stand;

@@ -3,9 +3,10 @@
 ghost use Rattle.std.specs.Prelude.{◌≡◌, None};
 
 use crate::row::Row;
-use command::opener::Opener;
+use command::opener::{Maker, Opener};
 use mpicall::counted::Counted;
 use mpicall::fails_at::FailsAt;
+use mpicall::memory::MemoryOutput;
 use std::sync::atomic::{AtomicBool, Ordering};
 use std::{io, thread};
 
@@ -146,5 +147,22 @@ impl<'a> Opener for RowShelf<'a> {
 
     fn is_there(&self, path: &str) -> bool {
         self.text(path).is_some()
+    }
+
+    fn is_named(&self, path: &str) -> bool {
+        self.text(path).is_some()
+    }
+}
+
+/// No folder is made in memory.
+impl Maker for RowShelf<'_> {
+    type Out = MemoryOutput;
+
+    fn make_folder(&self, _path: &str) -> bool {
+        false
+    }
+
+    fn create_output(&self, _path: &str) -> Option<MemoryOutput> {
+        None
     }
 }

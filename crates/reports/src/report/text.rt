@@ -12,6 +12,7 @@ ghost use Rattle.findings.specs.Places.{call_at};
 ghost use Rattle.reports.specs.TextReport.{cause_line, finding_line, need_fields, rank_lines, text_report, unmet_line, verdict_line, verdict_text};
 
 use crate::finding::push_finding;
+use crate::judged::{Judged, LeftAt};
 use crate::report::printer::{Printer, ROOM_BYTES};
 use crate::stand::stand_of;
 use findings::finding::Finding;
@@ -275,5 +276,39 @@ pub(crate) fn write_text<O: Output>(
     write_ranks(&mut printer, out, analyser, graph, graph.stuck());
     write_causes(&mut printer, out, graph.causes());
     write_findings(&mut printer, out, graph.findings());
+    printer.finish(out)
+}
+
+// ---- What journals say besides ----
+
+/// Adds the line of a list that ended before its end.
+fn push_left(page: &mut Page, left: &LeftAt) {
+    page.push_str("left");
+    page.push_number(u32::from(left.rank));
+    page.push_number(left.line);
+    page.push_field(left.why);
+    page.push_str("\n");
+}
+
+fn write_left<O: Output>(printer: &mut Printer, out: &mut O, left: &[LeftAt]) {
+    for one in left {
+        printer.make_room(out);
+        push_left(&mut printer.page, one);
+    }
+}
+
+/// Writes the report of the recording of journals as text.
+pub(crate) fn write_judged_text<O: Output>(
+    analyser: &Analyser,
+    graph: &Graph,
+    judged: &Judged<'_>,
+    out: &mut O,
+) -> Result<(), DeviceFault> {
+    let mut printer = Printer::new();
+    push_verdict(&mut printer.page, graph.verdict());
+    write_ranks(&mut printer, out, analyser, graph, graph.stuck());
+    write_causes(&mut printer, out, graph.causes());
+    write_findings(&mut printer, out, judged.findings);
+    write_left(&mut printer, out, judged.left);
     printer.finish(out)
 }

@@ -1,0 +1,45 @@
+//! Closing: the recording that the journals of a run are by definition.
+//!
+//! `recording::Recording` makes it from journals that were read: the communicators of the head at once, and then the
+//! list of each rank entry by entry, so that no list is ever there as a whole. `Recording::step` takes the
+//! next entry of a rank, and `Recording::records` has its records until they are handed on.
+//!
+//! What each module keeps, and the definitions that it is to be proved against:
+//!
+//! | module | what it keeps | definitions |
+//! |---|---|---|
+//! | `called` | what a call line says, by its word | `Called` |
+//! | `keys` | each key and each group once, by a place; two are the same exactly if their places are | `Keys` |
+//! | `held` | what a rank has after some lines, with places of keys | `Held` |
+//! | `survey` | the keys that ranks got, which of them are named, and those that calls which never came back made | `Made` |
+//! | `numbers` | the numbers of the head, and the preface | `Numbers` |
+//! | `last` | the reports of an entry, and whether the last call came back | `Entries` |
+//! | `outcomes`, `message` | what is reported of requests; messages, and what can't be | `Reported`, `Endings` |
+//! | `list` | the records of a rank so far, and its active requests with their numbers | `Steps` |
+//! | `walk` | one rank: what stands for its entries, and where and why its list ends | `Entry`, `Endings`, `Recording` |
+//!
+//! Each line is looked at twice: for the communicators of all ranks, and for the records of its own rank.
+//!
+//! What is proved so far: `called` says of each line what `Called` says, and `message` what can be, as
+//! `Reported` has it. Not yet: all of `keys`, `held`, `survey`, `numbers`, `list`, `walk` and `recording`. Rows
+//! and random runs beside a second program say that these are right.
+//!
+//! Nobody has to believe `inner`.
+#![tactic(auto)]
+
+mod called;
+pub mod choice;
+mod held;
+mod keys;
+mod last;
+mod list;
+mod message;
+pub mod numbers;
+mod outcomes;
+mod places;
+pub mod recording;
+mod standing;
+mod stop;
+mod survey;
+pub mod walk;
+pub mod why;

@@ -1,0 +1,99 @@
+//! Which requests of a journal stand in the trace, and as what.
+
+ghost use Rattle.std.specs.Prelude.{◌≡◌, ◌==◌, ◌++◌, [], ◌∷◌, ℕ, OnOk, nat_eq, option_map, if◌then◌else◌};
+ghost use Rattle.closing.specs.inner.Outcomes.{is_gone, is_settled, message_by, outcome_at};
+ghost use Rattle.closing.specs.inner.Standings.{id_in, ids_in};
+ghost use Rattle.closing.specs.inner.Views.{message_view};
+
+use crate::message::Message;
+use crate::outcomes::Outcomes;
+use journals::field::Field;
+use journals::lines::Lines;
+use std::alloc::{AllocError, Global};
+use std::collections::HashMap;
+
+/// What is reported of requests, and the messages that started matched receives take.
+#[derive(Drop)]
+pub(crate) struct Standing {
+    outcomes: Outcomes,
+    matched: HashMap<u32, u32>,
+}
+
+impl Standing {
+    pub(crate) fn of(alloc: Global, lines: &Lines) -> Result<Standing, AllocError> {
+        Ok(Standing {
+            outcomes: Outcomes::of(alloc, lines)?,
+            matched: HashMap::new(alloc),
+        })
+    }
+
+    /// That of a rank without a journal.
+    pub(crate) fn empty(alloc: Global) -> Standing {
+        Standing {
+            outcomes: Outcomes::empty(alloc),
+            matched: HashMap::new(alloc),
+        }
+    }
+
+    /// A started matched receive takes a message.
+    pub(crate) fn take_matched(&mut self, request: u32, message: u32) -> Result<(), AllocError>
+        ensures outcomes { self.new.outcomes ≡ self.old.outcomes }
+        ensures matched { OnOk result ((other : ℕ) → id_in self.new other ≡ (if request == other then message else id_in self.old other)) }
+    {
+        self.matched.insert(request, message)?;
+        Ok(())
+    }
+
+    /// The message with which a request completed, where that is reported.
+    pub(crate) fn message(&self, lines: &Lines, request: u32) -> Option<Message>
+        ensures { option_map message_view result ≡ message_by lines.now (outcome_at self.now.outcomes request) }
+    {
+        self.outcomes.message(lines, request)
+    }
+
+    pub(crate) fn is_gone(&self, request: u32) -> bool
+        ensures { result ≡ is_gone (outcome_at self.now.outcomes request) }
+    {
+        self.outcomes.is_gone(request)
+    }
+
+    pub(crate) fn is_settled(&self, request: u32) -> bool
+        ensures { result ≡ is_settled (outcome_at self.now.outcomes request) }
+    {
+        self.outcomes.is_settled(request)
+    }
+
+    /// What a request is in the trace: itself, or the message that it receives.
+    pub(crate) fn id_of(&self, request: u32) -> u32
+        ensures { result ≡ id_in self.now request }
+    {
+        match self.matched.get(&request) {
+            Some(message) => *message,
+            None => request,
+        }
+    }
+
+    /// Adds what a request is in the trace at the end of a list, unless it was cancelled.
+    fn push_id(&self, field: Field, into: &mut Vec<u32>) -> Result<(), AllocError>
+        ensures { OnOk result (into.new.items ≡ into.old.items ++ ids_in self.now (field ∷ [])) }
+    {
+        if let Field::Natural(request) = field {
+            if !self.is_gone(request) {
+                into.push(self.id_of(request))?;
+            }
+        }
+        Ok(())
+    }
+
+    /// Puts what some requests are in the trace into a list, but those that were cancelled.
+    #[tactic(auto, using(crate::proofs::StandingLemmas::ids_step))]
+    pub(crate) fn find(&self, requests: &[Field], into: &mut Vec<u32>) -> Result<(), AllocError>
+        ensures { OnOk result (into.new.items ≡ ids_in self.now requests.now) }
+    {
+        into.clear();
+        for field in requests {
+            self.push_id(*field, into)?;
+        }
+        Ok(())
+    }
+}

@@ -1,0 +1,393 @@
+//! The list of a rank, made entry by entry of its journal.
+
+use crate::called::{Called, read_call};
+use crate::choice::{Calls, Choice};
+use crate::held::Held;
+use crate::keys::Wave;
+use crate::last::{LastCall, Reports, last_call, reports_from};
+use crate::list::List;
+use crate::message::{Message, message_in};
+use crate::numbers::{Communicators, Named};
+use crate::standing::Standing;
+use crate::stop::Stop;
+use crate::walk::message::Halves;
+use crate::why::Why;
+use journals::field::Field;
+use journals::journal::Journal;
+use journals::lines::Lines;
+use journals::word::{CallWord, ReportWord, Word};
+use mpicall::call::Call;
+use mpicall::record::Record;
+use std::alloc::{AllocError, Global};
+
+mod collective;
+mod made;
+mod message;
+mod wait;
+
+/// At which line, and why, the list of a rank ends before its end. The header is line 1; 0 is none.
+#[derive(Clone, Copy, PartialEq, Eq)]
+pub struct Left {
+    pub line: u32,
+    pub why: Why,
+}
+
+/// An entry: what it is on, and what is reported of it.
+#[derive(Clone, Copy)]
+struct At<'a> {
+    /// The communicator that it is on, or makes of a group.
+    named: Option<Named>,
+    /// Its wave, and the key of what its call made.
+    wave: Option<Wave>,
+    made: Option<u32>,
+    /// As it went, it stands for what it started alone.
+    is_past: bool,
+    got: Option<Message>,
+    chose: Option<&'a [Field]>,
+}
+
+impl At<'_> {
+    /// How many members the communicator has.
+    fn size(&self) -> u32 {
+        match self.named {
+            Some(named) => named.size,
+            None => 0,
+        }
+    }
+
+    /// The number of the communicator, where what the call names can be.
+    fn number_if(&self, can_be: bool) -> Result<u16, Stop> {
+        if !can_be {
+            return Err(Stop::Left(Why::CannotBe));
+        }
+        match self.named {
+            Some(
+                Named {
+                    number: Some(number),
+                    ..
+                },
+            ) => Ok(number),
+            _ => Err(Stop::Left(Why::NoNumber)),
+        }
+    }
+}
+
+/// A call line, by its place, and what is reported of it.
+#[derive(Clone, Copy)]
+struct Entry {
+    place: u32,
+    word: CallWord,
+    reports: Reports,
+}
+
+/// What stands of a rank so far.
+#[derive(Drop)]
+pub struct Walk {
+    rank: u16,
+    choice: Choice,
+    last: Option<LastCall>,
+    held: Held,
+    list: List,
+    requests: Standing,
+    /// The sends that tests completed, which are waited for at the end.
+    late: Vec<u32>,
+    /// The requests of the entry, and those of them that it completed.
+    ids: Vec<u32>,
+    wanted: Vec<u32>,
+    /// The next line of the journal, by its place.
+    next: u32,
+    /// The number of the entry's line.
+    line: u32,
+    is_over: bool,
+    left: Option<Left>,
+}
+
+/// The number of a line in the journal, by its place after the header.
+fn line_number(place: u32) -> u32 {
+    place.saturating_add(2)
+}
+
+/// Why a call ends the list whatever is reported of it.
+fn breaks_off(it: &Called<'_>) -> Option<Why> {
+    match it {
+        Called::Stops => Some(Why::Stopped),
+        Called::Aborts => Some(Why::Aborted),
+        Called::Fills => Some(Why::Full),
+        _ => None,
+    }
+}
+
+fn is_end(it: &Called<'_>) -> bool {
+    matches!(it, Called::Finalizes | Called::Exits)
+}
+
+/// The fields of a line, where there is one.
+fn fields_if(lines: &Lines, line: Option<u32>) -> Option<&[Field]> {
+    Some(lines.fields(line?))
+}
+
+/// The same; none where there is no line.
+fn fields_at(lines: &Lines, line: Option<u32>) -> &[Field] {
+    fields_if(lines, line).unwrap_or(&[])
+}
+
+impl Walk {
+    /// The list of a rank with its preface alone. A rank without a journal has no more.
+    pub(crate) fn new(
+        alloc: Global,
+        rank: u16,
+        choice: Choice,
+        run: &mut Communicators,
+        journal: Option<&Journal>,
+    ) -> Result<Walk, AllocError> {
+        let alone = run.keys.put_alone(u32::from(rank))?;
+        let mut walk = Walk {
+            rank,
+            choice,
+            last: None,
+            held: Held::first(alloc, alone)?,
+            list: List::new(alloc),
+            requests: Standing::empty(alloc),
+            late: Vec::new(alloc),
+            ids: Vec::new(alloc),
+            wanted: Vec::new(alloc),
+            next: 0,
+            line: 0,
+            is_over: false,
+            left: None,
+        };
+        walk.put_preface(run)?;
+        match journal {
+            Some(journal) => walk.begin(alloc, run, journal)?,
+            None => walk.leave(Why::NoJournal)?,
+        }
+        Ok(walk)
+    }
+
+    /// A preface has fewer lines than a list may have.
+    fn put_preface(&mut self, run: &Communicators) -> Result<(), AllocError> {
+        for line in 0..run.preface.count() {
+            self.list.put(run.preface.split(line, self.rank))?;
+        }
+        Ok(())
+    }
+
+    /// Takes what is reported before the first call line.
+    fn begin(
+        &mut self,
+        alloc: Global,
+        run: &mut Communicators,
+        journal: &Journal,
+    ) -> Result<(), AllocError> {
+        self.requests = Standing::of(alloc, &journal.lines)?;
+        self.last = last_call(&journal.lines, journal.header.is_outside());
+        let reports = reports_from(&journal.lines, 0);
+        self.take_reports(run, &journal.lines, 0, reports.end)?;
+        self.next = reports.end;
+        Ok(())
+    }
+
+    /// Ends the list before its end.
+    fn leave(&mut self, why: Why) -> Result<(), AllocError> {
+        self.left = Some(Left {
+            line: self.line,
+            why,
+        });
+        self.finish(Call::Open)
+    }
+
+    fn finish(&mut self, end: Call) -> Result<(), AllocError> {
+        self.is_over = true;
+        self.list.put(end)
+    }
+
+    // ---- What there is of the list ----
+
+    /// The records that weren't handed on yet, all of one entry.
+    pub(crate) fn records(&self) -> &[Record] {
+        self.list.records()
+    }
+
+    /// Those records were handed on.
+    pub(crate) fn forget_records(&mut self) {
+        self.list.forget_records();
+    }
+
+    /// The number of the line of their entry; 0 in the preface.
+    pub(crate) fn line(&self) -> u32 {
+        self.line
+    }
+
+    pub(crate) fn is_over(&self) -> bool {
+        self.is_over
+    }
+
+    pub(crate) fn left(&self) -> Option<Left> {
+        self.left
+    }
+
+    /// The place of the record that starts a request which no line completes.
+    pub(crate) fn start_of(&self, request: u32) -> Option<u32> {
+        Some(self.list.active(self.requests.id_of(request))?.place)
+    }
+
+    // ---- Entries ----
+
+    /// Takes the reports at some places, and answers the key of the communicator that the call before them
+    /// made.
+    fn take_reports(
+        &mut self,
+        run: &mut Communicators,
+        lines: &Lines,
+        start: u32,
+        end: u32,
+    ) -> Result<Option<u32>, AllocError> {
+        let mut made = None;
+        for line in start..end {
+            if let Some(Word::Report(word)) = lines.word(line) {
+                let key = self
+                    .held
+                    .take_report(&mut run.keys, word, lines.fields(line))?;
+                if word == ReportWord::Comm {
+                    made = key;
+                }
+            }
+        }
+        Ok(made)
+    }
+
+    /// Takes the next entry; at the journal's end the list is left open.
+    pub(crate) fn step(
+        &mut self,
+        run: &mut Communicators,
+        lines: &Lines,
+    ) -> Result<(), AllocError> {
+        let Some(Word::Call(word)) = lines.word(self.next) else {
+            self.line = 0;
+            return self.finish(Call::Open);
+        };
+        let entry = Entry {
+            place: self.next,
+            word,
+            reports: reports_from(lines, self.next.saturating_add(1)),
+        };
+        self.line = line_number(entry.place);
+        self.next = entry.reports.end;
+        match self.take_entry(run, lines, &entry) {
+            Ok(()) => Ok(()),
+            Err(Stop::Left(why)) => self.leave(why),
+            Err(Stop::Memory) => Err(AllocError),
+        }
+    }
+
+    /// Takes an entry.
+    fn take_entry(
+        &mut self,
+        run: &mut Communicators,
+        lines: &Lines,
+        entry: &Entry,
+    ) -> Result<(), Stop> {
+        let it = read_call(entry.word, lines.fields(entry.place));
+        if let Some(why) = breaks_off(&it) {
+            return Err(Stop::Left(why));
+        }
+        if is_end(&it) {
+            return self.finish_list();
+        }
+        if entry.reports.has_failed {
+            return Err(Stop::Left(Why::Failed));
+        }
+        let at = self.at(run, lines, entry, &it)?;
+        self.take(run, lines, &at, &it)
+    }
+
+    /// Where the call of an entry stands. It, and what is reported of it, are taken.
+    fn at<'a>(
+        &mut self,
+        run: &mut Communicators,
+        lines: &'a Lines,
+        entry: &Entry,
+        it: &Called<'_>,
+    ) -> Result<At<'a>, AllocError> {
+        let on = self.held.key_on(it);
+        let wave = self.held.take_call(&mut run.keys, it, on)?;
+        let key = self.held.own().or(on);
+        let start = entry.place.saturating_add(1);
+        let reported = self.take_reports(run, lines, start, entry.reports.end)?;
+        Ok(At {
+            named: run.named_if(key),
+            wave,
+            made: reported.or(self.inferred(run, it, entry.place)),
+            is_past: self.is_past(entry.place),
+            got: message_in(fields_at(lines, entry.reports.got)),
+            chose: fields_if(lines, entry.reports.chose),
+        })
+    }
+
+    /// Whether the call came back.
+    fn came_back(&self, place: u32) -> bool {
+        match self.last {
+            Some(last) => last.line != place || last.came_back,
+            None => true,
+        }
+    }
+
+    /// Whether the call stands for what it started alone.
+    fn is_past(&self, place: u32) -> bool {
+        self.choice.calls == Calls::Went && self.came_back(place)
+    }
+
+    /// What a call that never came back made, by what other ranks report of theirs.
+    fn inferred(&self, run: &Communicators, it: &Called<'_>, place: u32) -> Option<u32> {
+        if it.may_give() && !self.came_back(place) {
+            run.inferred(self.rank)
+        } else {
+            None
+        }
+    }
+
+    /// Ends the list where the rank's calls end, after the waits for the sends that tests completed.
+    fn finish_list(&mut self) -> Result<(), Stop> {
+        self.list.waits_for(self.late.as_slice())?;
+        self.finish(Call::Finalize)?;
+        Ok(())
+    }
+
+    /// Puts the lines of an entry, or answers why the list ends at it.
+    fn take(
+        &mut self,
+        run: &Communicators,
+        lines: &Lines,
+        at: &At<'_>,
+        it: &Called<'_>,
+    ) -> Result<(), Stop> {
+        match it {
+            Called::Sends(mode, sent) => self.sends(at, *mode, sent),
+            Called::StartsSend(own, mode, sent) => self.starts_send(at, *own, *mode, sent),
+            Called::Receives(awaited) => self.receives(at, awaited),
+            Called::StartsReceive(own, awaited) => self.starts_receive(lines, at, *own, awaited),
+            Called::Exchanges(sent, awaited) => self.exchanges(at, sent, awaited),
+            Called::StartsExchange(own, other, sent, awaited) => {
+                let halves = Halves {
+                    own: *own,
+                    other: *other,
+                    sent: *sent,
+                    awaited: *awaited,
+                };
+                self.starts_exchange(lines, at, &halves)
+            }
+            Called::Probes(awaited) => self.probes(at, awaited),
+            Called::ProbesMatching(own, awaited) => self.probes_matching(at, *own, awaited),
+            Called::Collects(collective, _, root) => self.collects(at, *collective, *root),
+            Called::StartsCollective(own, collective, _, root) => {
+                self.starts_collective(at, *own, *collective, *root)
+            }
+            Called::StartsDuplicate(own, _) => self.starts_duplicate(at, *own),
+            Called::MakesOfGroup(_) => self.makes_of_group(at),
+            Called::Duplicates(_) | Called::Splits(..) | Called::Makes(_) => {
+                self.makes(run, at, it)
+            }
+            _ => self.take_wait(at, it),
+        }
+    }
+}

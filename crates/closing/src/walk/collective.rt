@@ -1,0 +1,77 @@
+//! Entries that call or start collectives.
+
+use super::{At, Walk};
+use crate::list::Start;
+use crate::message::{root_can_be, root_of};
+use crate::stop::Stop;
+use mpicall::call::{Call, Kind};
+use mpicall::word::Collective;
+
+/// What a collective is in the trace.
+fn kind_of(collective: Collective, root: Option<i32>) -> Kind {
+    match collective {
+        Collective::Barrier => Kind::Barrier,
+        Collective::Bcast => Kind::Bcast(root_of(root)),
+        Collective::Gather => Kind::Gather(root_of(root)),
+        Collective::Scatter => Kind::Scatter(root_of(root)),
+        Collective::Reduce => Kind::Reduce(root_of(root)),
+        Collective::Allgather => Kind::Allgather,
+        Collective::Alltoall => Kind::Alltoall,
+        Collective::Allreduce => Kind::Allreduce,
+        Collective::Scan => Kind::Scan,
+        Collective::Exscan => Kind::Exscan,
+    }
+}
+
+impl Walk {
+    /// Puts a collective, or its start where it came back and stands for that.
+    fn collects_as(&mut self, at: &At<'_>, comm: u16, kind: Kind) -> Result<(), Stop> {
+        if at.is_past {
+            return self.list.starts_unnamed(Start::Collective { comm, kind });
+        }
+        self.list.does(Call::Coll { comm, kind })
+    }
+
+    pub(super) fn collects(
+        &mut self,
+        at: &At<'_>,
+        collective: Collective,
+        root: Option<i32>,
+    ) -> Result<(), Stop> {
+        let comm = at.number_if(root_can_be(at.size(), collective, root))?;
+        self.collects_as(at, comm, kind_of(collective, root))
+    }
+
+    pub(super) fn starts_collective(
+        &mut self,
+        at: &At<'_>,
+        own: u32,
+        collective: Collective,
+        root: Option<i32>,
+    ) -> Result<(), Stop> {
+        let comm = at.number_if(root_can_be(at.size(), collective, root))?;
+        self.starts_unless_gone(
+            own,
+            Start::Collective {
+                comm,
+                kind: kind_of(collective, root),
+            },
+        )
+    }
+
+    pub(super) fn starts_duplicate(&mut self, at: &At<'_>, own: u32) -> Result<(), Stop> {
+        let comm = at.number_if(true)?;
+        self.starts_unless_gone(
+            own,
+            Start::Collective {
+                comm,
+                kind: Kind::Barrier,
+            },
+        )
+    }
+
+    pub(super) fn makes_of_group(&mut self, at: &At<'_>) -> Result<(), Stop> {
+        let comm = at.number_if(true)?;
+        self.collects_as(at, comm, Kind::Barrier)
+    }
+}

@@ -1,0 +1,63 @@
+//! The journals of a run in a folder, and the files of their recording.
+
+use crate::opener::{Maker, Opener};
+use judging::close::Folder;
+use judging::read::Journals;
+use std::alloc::{AllocError, Global};
+
+/// The journals in a folder: of each rank the file `journal` with its number.
+#[derive(Drop)]
+pub(crate) struct JournalFolder<'a, P> {
+    pub alloc: Global,
+    pub opener: &'a P,
+    pub path: &'a str,
+}
+
+impl<P> JournalFolder<'_, P> {
+    fn path_of(&self, rank: u16) -> Result<String, AllocError> {
+        let path = self.path;
+        format!(in self.alloc; "{path}/journal{rank}")
+    }
+}
+
+impl<P: Opener> Journals for JournalFolder<'_, P> {
+    type In = P::In;
+
+    fn is_there(&self, rank: u16) -> Result<bool, AllocError> {
+        let path = self.path_of(rank)?;
+        Ok(self.opener.is_named(path.as_str()))
+    }
+
+    fn open(&self, rank: u16) -> Result<Option<P::In>, AllocError> {
+        let path = self.path_of(rank)?;
+        Ok(self.opener.open_input(path.as_str()))
+    }
+}
+
+/// The folder of a recording: `head`, and of each rank `r` with its number.
+#[derive(Drop)]
+pub(crate) struct RecordingFolder<'a, P> {
+    pub alloc: Global,
+    pub maker: &'a P,
+    pub path: &'a str,
+}
+
+impl<P: Maker> Folder for RecordingFolder<'_, P> {
+    type Out = P::Out;
+
+    fn make(&self) -> bool {
+        self.maker.make_folder(self.path)
+    }
+
+    fn head(&self) -> Result<Option<P::Out>, AllocError> {
+        let path = self.path;
+        let path = format!(in self.alloc; "{path}/head")?;
+        Ok(self.maker.create_output(path.as_str()))
+    }
+
+    fn trace(&self, rank: u16) -> Result<Option<P::Out>, AllocError> {
+        let path = self.path;
+        let path = format!(in self.alloc; "{path}/r{rank}")?;
+        Ok(self.maker.create_output(path.as_str()))
+    }
+}
