@@ -9,6 +9,10 @@ mod channels;
 #[cfg(test)]
 mod feeds;
 #[cfg(test)]
+mod journal_faults;
+#[cfg(test)]
+mod journal_texts;
+#[cfg(test)]
 mod linked_lists;
 #[cfg(test)]
 mod ranges;

@@ -1,0 +1,27 @@
+pub mod WindowLemmas
+pub mod FeedLemmas
+pub mod TextLemmas
+pub mod WholeLemmas
+pub mod ReaderLemmas
+pub mod LineLemmas
+pub mod PushLemmas
+pub mod PackingLemmas
+mod Rows
+pub mod NoteTableLemmas
+pub mod NoteSteps
+pub mod Tests
+pub mod GroupLemmas
+pub mod EntryLemmas
+pub mod UseLemmas
+pub mod LineForms
+pub mod CallNotes
+pub mod ReportNotes
+pub mod CommLemmas
+pub mod GroupFields
+pub mod AdmitLemmas
+pub mod RightGroups
+pub mod KnowsLemmas
+pub mod Assembly
+pub mod JournalLemmas
+pub mod ReadLines
+pub mod PassLemmas

@@ -1,0 +1,11 @@
+-- The bytes after the first ones.
+use Rattle.std.proofs.Common.{arith, ◌∙◌, ap, drop, sym, length}
+use Rattle.journals.proofs.WindowLemmas.{dropped, window_length}
+use Rattle.journals.proofs.line_window.Window.drop_front.Goals as goal
+
+pub returns : goal.returns
+returns c =
+    let i = c.self.inside in
+    let told = c.self.told in
+    let held = ap length (sym c.self.view_is) ∙ window_length i.start i.end i.buffer c.self.invariant.0 (omega arith) in
+    dropped i.start i.end c.args.count i.buffer (omega arith) ∙ ap (drop c.args.count) c.self.view_is

@@ -1,0 +1,15 @@
+pub mod Codes
+pub mod Text
+pub mod Inputs
+pub mod Words
+pub mod Fields
+pub mod Lines
+pub mod Taking
+pub mod Header
+pub mod Headers
+pub mod Entries
+pub mod Known
+pub mod Faults
+pub mod Journal
+pub mod Reading
+pub mod inner

@@ -1,0 +1,201 @@
+//! What a line says: its word and its fields.
+//!
+//! A line is cut at single spaces twice: first to count its fields and to find a site, which decide whether
+//! the word can have so many, and then to read each by its form, straight to the end of the list of all
+//! fields.
+
+ghost use Rattle.std.specs.Prelude.{◌≡◌, ◌≤◌, ◌<◌, ◌-◌, ◌&&◌, true, if◌then◌else◌, length};
+ghost use Rattle.std.specs.Option.{option_copied};
+ghost use Rattle.journals.specs.Words.{forms_of, is_call};
+ghost use Rattle.journals.specs.Lines.{begins_with_at, last_field, is_site, fields_of, line_of};
+ghost use Rattle.journals.specs.inner.Taking.{fields_after_word, is_stopped, line_after_word, PutsFields, ReadsLine};
+ghost use Rattle.journals.specs.declared.line.LineFault.TheVariants.{Memory};
+
+use crate::fault::JournalFaultKind;
+use crate::field::{Field, read_field, read_positive};
+use crate::form::{form_at, takes_count};
+use crate::limits::MOST_LINE_BYTES;
+use crate::word::{CallWord, Word, word_of};
+use mpicall::fields::Fields;
+use std::alloc::{AllocError, AllocFailed};
+
+/// Why no line was taken.
+#[derive(Clone, Copy, PartialEq, Eq)]
+pub enum LineFault {
+    /// What is wrong with it.
+    Journal(JournalFaultKind),
+    /// There was no memory for what it says.
+    Memory,
+}
+
+impl From<AllocError> for LineFault {
+    ghost from_gives = { λ _ fault. fault ≡ Memory };
+
+    fn from(_fault: AllocError) -> LineFault {
+        LineFault::Memory
+    }
+}
+
+impl<T: Drop> From<AllocFailed<T>> for LineFault {
+    ghost from_gives = { λ _ fault. fault ≡ Memory };
+
+    fn from(_fault: AllocFailed<T>) -> LineFault {
+        LineFault::Memory
+    }
+}
+
+/// How many fields there are, and the last one.
+#[derive(Clone, Copy)]
+struct Tail<'a> {
+    count: usize,
+    last: Option<&'a [u8]>,
+}
+
+fn tail_of(mut fields: Fields<'_>) -> Tail<'_>
+    requires { length fields ≤ MOST_LINE_BYTES }
+    ensures count { result.count ≡ length fields.entry }
+    ensures last { option_copied result.last ≡ last_field fields.entry }
+{
+    let mut tail = Tail {
+        count: 0,
+        last: None,
+    };
+    while let Some(field) = fields.next_field() {
+        tail = Tail {
+            count: tail.count + 1,
+            last: Some(field),
+        };
+    }
+    tail
+}
+
+/// Whether a call line's last field is its site.
+fn has_site(word: Word, last: Option<&[u8]>) -> bool
+    ensures { result ≡ (is_call word && begins_with_at (option_copied last.entry)) }
+{
+    match (word, last) {
+        (Word::Call(_), Some([first, ..])) => *first == b'@',
+        _ => false,
+    }
+}
+
+/// Whether a field is a site in its form and range.
+fn is_site(field: Option<&[u8]>) -> bool
+    ensures { result ≡ is_site (option_copied field.entry) }
+{
+    match field {
+        Some([_, digits @ ..]) => read_positive(digits).is_some(),
+        _ => false,
+    }
+}
+
+/// Whether the site is in its form and range, if there is one.
+fn site_fits(has_site: bool, last: Option<&[u8]>) -> bool
+    ensures { result ≡ (if has_site then is_site (option_copied last.entry) else true) }
+{
+    if has_site { is_site(last) } else { true }
+}
+
+/// How many fields there are without the site.
+fn count_without(count: usize, has_site: bool) -> usize
+    ensures { result ≡ (if has_site then count - 1 else count) }
+{
+    if has_site {
+        count.saturating_sub(1)
+    } else {
+        count
+    }
+}
+
+/// The fields after the first one of a line.
+fn after_word(line: &[u8]) -> Fields<'_>
+    requires { length line.now < MOST_LINE_BYTES }
+    ensures value { result ≡ fields_after_word line.now }
+    ensures short { length result ≤ MOST_LINE_BYTES }
+{
+    let mut fields = Fields::of(line);
+    let _ = fields.next_field();
+    fields
+}
+
+/// Reads `count` fields by the forms of a word, and puts them at the end of a list.
+fn push_fields(
+    ranks: u32,
+    word: Word,
+    mut fields: Fields<'_>,
+    count: usize,
+    into: &mut Vec<Field>,
+) -> Result<(), LineFault>
+    requires some { 1 ≤ ranks }
+    requires all { count ≤ length fields }
+    requires fits { length (forms_of word count) ≡ count }
+    ensures { PutsFields (fields_of ranks (forms_of word count) fields.entry)
+        into.old.items into.new.items result }
+{
+    for place in 0..count {
+        let Some(form) = form_at(word, place) else {
+            return Err(LineFault::Journal(JournalFaultKind::FieldForm));
+        };
+        let Some(text) = fields.next_field() else {
+            return Err(LineFault::Journal(JournalFaultKind::FieldForm));
+        };
+        let Some(field) = read_field(ranks, form, text) else {
+            return Err(LineFault::Journal(JournalFaultKind::FieldForm));
+        };
+        into.push(field)?;
+    }
+    Ok(())
+}
+
+/// Reads the fields after a word, and puts them at the end of a list; answers the word.
+fn push_after_word(
+    ranks: u32,
+    word: Word,
+    line: &[u8],
+    into: &mut Vec<Field>,
+) -> Result<Word, LineFault>
+    requires some { 1 ≤ ranks }
+    requires short { length line.now < MOST_LINE_BYTES }
+    ensures { ReadsLine (line_after_word ranks word (fields_after_word line.now))
+        into.old.items into.new.items result }
+{
+    let tail = tail_of(after_word(line));
+    let has_site = has_site(word, tail.last);
+    let count = count_without(tail.count, has_site);
+    if !takes_count(word, count) {
+        return Err(LineFault::Journal(JournalFaultKind::FieldCount));
+    }
+    if !site_fits(has_site, tail.last) {
+        return Err(LineFault::Journal(JournalFaultKind::FieldForm));
+    }
+    match push_fields(ranks, word, after_word(line), count, into) {
+        Ok(()) => Ok(word),
+        Err(fault) => Err(fault),
+    }
+}
+
+/// Whether what follows a word says nothing.
+fn is_stopped(word: Word) -> bool
+    ensures { result ≡ is_stopped word }
+{
+    matches!(word, Word::Call(CallWord::Stopped))
+}
+
+/// Reads a line, without its line feed, of a run of so many ranks: its word, and its fields, which are put at
+/// the end of a list.
+pub(crate) fn read_line(ranks: u32, line: &[u8], into: &mut Vec<Field>) -> Result<Word, LineFault>
+    requires some { 1 ≤ ranks }
+    requires short { length line.now < MOST_LINE_BYTES }
+    ensures { ReadsLine (line_of ranks line.now) into.old.items into.new.items result }
+{
+    let Some(text) = Fields::of(line).next_field() else {
+        return Err(LineFault::Journal(JournalFaultKind::UnknownWord));
+    };
+    let Some(word) = word_of(text) else {
+        return Err(LineFault::Journal(JournalFaultKind::UnknownWord));
+    };
+    if is_stopped(word) {
+        return Ok(word);
+    }
+    push_after_word(ranks, word, line, into)
+}

@@ -1,0 +1,129 @@
+//! The lines of a journal, packed.
+//!
+//! A line has 8 bytes, and its fields stay together in one list of all fields, 8 bytes each. A line with a
+//! fault may leave fields there that no line has.
+
+ghost use Rattle.std.specs.Prelude.{◌≡◌, ◌<◌, ◌≤◌, [], length};
+ghost use Rattle.journals.specs.Lines.{line_of};
+ghost use Rattle.journals.specs.Taking.{word_at, fields_at};
+ghost use Rattle.journals.specs.inner.Taking.{TakesLine};
+
+use crate::field::Field;
+use crate::limits::MOST_LINE_BYTES;
+use crate::line::{LineFault, read_line};
+use crate::word::Word;
+use std::alloc::Global;
+use std::marker::Model;
+
+/// The most lines of a journal that are held, and the most fields; more are out of memory.
+const MOST: usize = 0xffff_ffff;
+
+/// A line that was read: its place among all, and its word.
+#[derive(Clone, Copy)]
+pub(crate) struct Taken {
+    pub line: u32,
+    pub word: Word,
+}
+
+/// A line: its word, and which of the list of all fields are its own.
+#[derive(Clone, Copy)]
+struct PackedLine {
+    start: u32,
+    count: u16,
+    word: Word,
+}
+
+/// The lines of a journal after its header; contracts see their list.
+#[derive(Drop)]
+pub struct Lines {
+    lines: Vec<PackedLine>,
+    fields: Vec<Field>,
+}
+
+impl Model for Lines {
+    ghost use Rattle.std.specs.Prelude.{List};
+    ghost use Rattle.journals.specs.Lines.{Line};
+    ghost use Rattle.journals.specs.inner.Packing.{lines_in, HasFields};
+
+    ghost Value = { List Line };
+
+    ghost view = { λ l. lines_in l.fields.items l.lines.items };
+
+    ghost invariant = { λ l. HasFields l.fields.items l.lines.items };
+}
+
+impl Lines {
+    pub(crate) fn new(alloc: Global) -> Lines
+        ensures { result ≡ [] }
+    {
+        Lines {
+            lines: Vec::new(alloc),
+            fields: Vec::new(alloc),
+        }
+    }
+
+    /// Gives up the room that the lists have for more.
+    pub(crate) fn shrink(&mut self)
+        ensures { self.new ≡ self.old }
+    {
+        self.lines.shrink_to_fit();
+        self.fields.shrink_to_fit();
+    }
+
+    /// How many lines there are.
+    pub fn count(&self) -> usize
+        ensures { result ≡ length self.now }
+    {
+        self.lines.len()
+    }
+
+    /// The word of a line; None beyond the last one.
+    pub fn word(&self, line: u32) -> Option<Word>
+        ensures { result ≡ word_at self.now line }
+    {
+        Some(self.lines.get(line as usize)?.word)
+    }
+
+    /// The fields of a line; none beyond the last one.
+    pub fn fields(&self, line: u32) -> &[Field]
+        ensures { result.now ≡ fields_at self.now line }
+    {
+        let Some(packed) = self.lines.get(line as usize) else {
+            return &[];
+        };
+        let start = packed.start as usize;
+        match self.fields.get(start..start + usize::from(packed.count)) {
+            Some(fields) => fields,
+            None => &[],
+        }
+    }
+
+    /// Reads a line, without its line feed, of a run of so many ranks, and puts it after the others; answers
+    /// its place.
+    pub(crate) fn read(&mut self, ranks: u32, line: &[u8]) -> Result<Taken, LineFault>
+        requires some { 1 ≤ ranks }
+        requires short { length line.now < MOST_LINE_BYTES }
+        ensures { TakesLine (line_of ranks line.now) self.old self.new result }
+    {
+        let start = self.fields.len();
+        let word = match read_line(ranks, line, &mut self.fields) {
+            Ok(word) => word,
+            Err(fault) => return Err(fault),
+        };
+        let place = self.lines.len();
+        let count = self.fields.len().saturating_sub(start);
+        if place >= MOST || start >= MOST || count > MOST_LINE_BYTES {
+            return Err(LineFault::Memory);
+        }
+        let packed = PackedLine {
+            start: start as u32,
+            count: count as u16,
+            word,
+        };
+        self.lines.push(packed)?;
+        Ok(Taken {
+            line: place as u32,
+            word,
+        })
+    }
+}

@@ -1,0 +1,201 @@
+//! What is known of a request or a message.
+//!
+//! A note has places of lines in it, not lists: the call that completed it, and the last that named it. So a
+//! number that a line names twice is found without a search, and a failed call can be taken back.
+
+ghost use Rattle.std.specs.Prelude.{◌≡◌, not, ◌||◌, ◌&&◌};
+ghost use Rattle.journals.specs.Known.{has_wildcard, receive_in, is_wildcard, duplicated_in};
+ghost use Rattle.journals.specs.inner.Notes.{request_note, message_note, called_note, is_callable, reported_note, is_now, undone_note};
+ghost use Rattle.journals.specs.declared.word.Word.TheVariants.{Call};
+
+use crate::field::Field;
+use crate::last::completes_all;
+use crate::word::{CallWord, ReportWord};
+
+/// What the lines so far say of a request or a message.
+#[derive(Clone, Copy)]
+pub(crate) struct Note {
+    pub is_message: bool,
+    /// It is that of a receive with a wildcard.
+    pub awaits_any: bool,
+    /// A cancel names it.
+    pub is_cancelled: bool,
+    /// Its message, or what came of its cancel, was reported.
+    pub has_outcome: bool,
+    /// The communicator that its nonblocking duplicate made was reported.
+    pub is_brought: bool,
+    /// The communicator that it duplicates.
+    pub parent: Option<u32>,
+    /// The call line that completed it.
+    pub completed: Option<u32>,
+    /// The last call line, and the last report, that names it.
+    pub called: u32,
+    pub reported: Option<u32>,
+}
+
+/// Whether a receive with this source and tag has a wildcard; one from nobody has none.
+fn has_wildcard(source: Field, tag: Field) -> bool
+    ensures { result ≡ has_wildcard (source, tag) }
+{
+    match source {
+        Field::Null => false,
+        Field::Any => true,
+        Field::Natural(_) | Field::Signed(_) | Field::Undefined => matches!(tag, Field::Any),
+    }
+}
+
+fn is_received(fields: &[Field], number: u32) -> bool
+    ensures { result ≡ is_wildcard (receive_in number (Call CallWord.Irecv) fields.now) }
+{
+    match fields {
+        [Field::Natural(request), _, source, tag] => {
+            *request == number && has_wildcard(*source, *tag)
+        }
+        _ => false,
+    }
+}
+
+fn is_exchanged(fields: &[Field], number: u32) -> bool
+    ensures { result ≡ is_wildcard (receive_in number (Call CallWord.Isendrecv) fields.now) }
+{
+    match fields {
+        [_, Field::Natural(request), _, _, _, source, tag, ..] => {
+            *request == number && has_wildcard(*source, *tag)
+        }
+        _ => false,
+    }
+}
+
+/// Whether the request that a call line numbers is that of a receive with a wildcard.
+fn awaits_any(word: CallWord, fields: &[Field], number: u32) -> bool
+    ensures { result ≡ is_wildcard (receive_in number (Call word) fields.now) }
+{
+    match word {
+        CallWord::Irecv => is_received(fields, number),
+        CallWord::Isendrecv => is_exchanged(fields, number),
+        _ => false,
+    }
+}
+
+fn duplicated_in(fields: &[Field], number: u32) -> Option<u32>
+    ensures { result ≡ duplicated_in number (Call CallWord.CommIdup) fields.now }
+{
+    match fields {
+        [Field::Natural(request), Field::Natural(comm)] => {
+            if *request == number {
+                Some(*comm)
+            } else {
+                None
+            }
+        }
+        _ => None,
+    }
+}
+
+/// The communicator that a call line duplicates by a request.
+fn parent_of(word: CallWord, fields: &[Field], number: u32) -> Option<u32>
+    ensures { result ≡ duplicated_in number (Call word) fields.now }
+{
+    match word {
+        CallWord::CommIdup => duplicated_in(fields, number),
+        _ => None,
+    }
+}
+
+impl Note {
+    /// What a call line says of a request that it numbers.
+    pub(crate) fn of_request(word: CallWord, fields: &[Field], line: u32, number: u32) -> Note
+        ensures { result ≡ request_note word fields.now line number }
+    {
+        Note {
+            is_message: false,
+            awaits_any: awaits_any(word, fields, number),
+            is_cancelled: false,
+            has_outcome: false,
+            is_brought: false,
+            parent: parent_of(word, fields, number),
+            completed: None,
+            called: line,
+            reported: None,
+        }
+    }
+
+    /// What it says of a message that it numbers.
+    pub(crate) fn of_message(line: u32) -> Note
+        ensures { result ≡ message_note line }
+    {
+        Note {
+            is_message: true,
+            awaits_any: false,
+            is_cancelled: false,
+            has_outcome: false,
+            is_brought: false,
+            parent: None,
+            completed: None,
+            called: line,
+            reported: None,
+        }
+    }
+
+    /// Whether a call line may name it: it isn't completed, and the line named it nowhere before.
+    pub(crate) fn is_callable(&self, line: u32) -> bool
+        ensures { result ≡ is_callable line self.now }
+    {
+        self.completed.is_none() && self.called != line
+    }
+
+    /// What it is once a call line names it.
+    pub(crate) fn when_called(self, word: CallWord, fields: &[Field], line: u32) -> Note
+        ensures { result ≡ called_note word fields.now line self }
+    {
+        let completed = if completes_all(word, fields) {
+            Some(line)
+        } else {
+            self.completed
+        };
+        Note {
+            called: line,
+            is_cancelled: self.is_cancelled || matches!(word, CallWord::Cancel),
+            completed,
+            ..self
+        }
+    }
+
+    /// Whether the report of this line names it already.
+    pub(crate) fn is_reported(&self, line: u32) -> bool
+        ensures { result ≡ is_now line self.now.reported }
+    {
+        match self.reported {
+            Some(other) => other == line,
+            None => false,
+        }
+    }
+
+    /// What it is once a report names it; `completed` is the call line that completed it by this report.
+    pub(crate) fn when_reported(self, word: ReportWord, line: u32, completed: Option<u32>) -> Note
+        ensures { result ≡ reported_note word line completed self }
+    {
+        let is_outcome = matches!(word, ReportWord::Done | ReportWord::Gone | ReportWord::Kept);
+        Note {
+            reported: Some(line),
+            has_outcome: self.has_outcome || is_outcome,
+            is_brought: self.is_brought || matches!(word, ReportWord::Idup),
+            completed: match completed {
+                Some(call) => Some(call),
+                None => self.completed,
+            },
+            ..self
+        }
+    }
+
+    /// What it is once the call of a line is known to have failed.
+    pub(crate) fn when_undone(self, line: u32) -> Note
+        ensures { result ≡ undone_note line self }
+    {
+        let completed = match self.completed {
+            Some(call) if call != line => Some(call),
+            _ => None,
+        };
+        Note { completed, ..self }
+    }
+}
