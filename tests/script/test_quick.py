@@ -32,7 +32,7 @@ class Quick(unittest.TestCase):
         write(self.top / "tests/sample/test_sample.py", UNIT_TEST.format("1 + 1"))
         write(self.top / "bench/examples", "#!/bin/sh\necho 13 examples\n")
         write(self.top / "bench/believed", "#!/bin/sh\necho 3 definitions\n")
-        for crate in ("rows", "libraryrows"):
+        for crate in ("cli_rows", "api_rows"):
             write(self.top / f"crates/{crate}/stdin", "row one\n")
             write(self.top / f"crates/{crate}/stdout", "1 rows\n")
         self.rt("exit 0")
@@ -61,7 +61,7 @@ class Quick(unittest.TestCase):
     def test_all_passes(self):
         status, out = self.run_quick()
         self.assertEqual(status, 0, out)
-        for text in ("tests/sample/: passed", "rows: passed", "libraryrows: passed", "examples: passed",
+        for text in ("tests/sample/: passed", "cli_rows: passed", "api_rows: passed", "examples: passed",
                      "believed: passed, 0 s: 3 definitions", "not done: proofs"):
             self.assertIn(text, out)
 
@@ -74,7 +74,7 @@ class Quick(unittest.TestCase):
     def test_a_row_is_answered_otherwise(self):
         self.rt("exit 5")
         status, out = self.run_quick()
-        self.assertEqual((status, out.splitlines()[-1]), (1, "failed: rows libraryrows"))
+        self.assertEqual((status, out.splitlines()[-1]), (1, "failed: cli_rows api_rows"))
 
     def test_an_example_is_answered_otherwise(self):
         write(self.top / "bench/examples", "#!/bin/sh\nexit 1\n")

@@ -235,8 +235,8 @@ class Make(unittest.TestCase):
         folder = tempfile.TemporaryDirectory()
         cls.addClassCleanup(folder.cleanup)
         cls.top = Path(folder.name) / "repository"
-        (cls.top / "crates/command/src").mkdir(parents=True)
-        for name in ("mpiwait", "CHANGELOG.md", "crates/command/src/words.rt"):
+        (cls.top / "crates/cli/src").mkdir(parents=True)
+        for name in ("mpiwait", "CHANGELOG.md", "crates/cli/src/command_line.rt"):
             shutil.copy2(TOP / name, cls.top / name)
         for name in ("release", "tools", "docs", "examples"):
             shutil.copytree(TOP / name, cls.top / name, ignore=shutil.ignore_patterns("out", "__pycache__"))
@@ -307,7 +307,7 @@ class Make(unittest.TestCase):
 
 class Version(unittest.TestCase):
     def test_it_is_the_same_everywhere(self):
-        source = (TOP / "crates/command/src/words.rt").read_text()
+        source = (TOP / "crates/cli/src/command_line.rt").read_text()
         version = re.search(r'^const VERSION: &str = "(.*)";$', source, re.M).group(1)
         for name in ("version", "check-version", "lint-version"):
             self.assertEqual((TEXTS / name).read_text().split()[1], version, name)

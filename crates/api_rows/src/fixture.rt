@@ -17,7 +17,7 @@ use crate::texts::{
 use crate::waits::{question_in, tell_findings, tell_of_waits};
 use crate::words::{Numbers, first_word, number_in, numbers_in, short};
 use arenalist::lists::Lists;
-use callnotes::call_ref::CallRef;
+use callstore::call_ref::CallRef;
 use moves::analyser::Analyser;
 use moves::reading::Reading;
 use mpicall::record::Record;
@@ -27,7 +27,7 @@ use std::alloc::{AllocError, Global};
 use std::sync::Wait;
 
 /// The name of a row, the head of its run, its calls as they were offered to an analyser and added to pairs, a text, and lists.
-pub struct Desk {
+pub struct Fixture {
     name: String,
     head: Vec<u8>,
     run: Analyser,
@@ -36,9 +36,9 @@ pub struct Desk {
     lists: Lists<u32>,
 }
 
-impl Drop for Desk {
+impl Drop for Fixture {
     fn drop(self) {
-        let Desk {
+        let Fixture {
             name: _,
             head: _,
             run: _,
@@ -78,16 +78,16 @@ fn set_head(head: &mut Vec<u8>, lines: &str) -> Result<(), AllocError> {
     Ok(())
 }
 
-impl Desk {
+impl Fixture {
     /// One rank, and nothing else.
-    pub fn new(alloc: Global) -> Result<Desk, Fault> {
+    pub fn new(alloc: Global) -> Result<Fixture, Fault> {
         let mut head = Vec::new(alloc);
         if set_head(&mut head, "ranks 1").is_err() {
             return Err(Fault::Memory);
         }
         let run = begin(alloc, &head, Reading::Strict)?;
         match no_pairs(alloc, &head) {
-            Ok(pairs) => Ok(Desk {
+            Ok(pairs) => Ok(Fixture {
                 name: String::new(alloc),
                 head,
                 run,

@@ -61,9 +61,9 @@
 mod answer;
 mod calls;
 mod chains;
-mod desk;
 mod fault;
 mod fields;
+mod fixture;
 mod groups;
 mod mixes;
 mod numbers;
@@ -75,7 +75,7 @@ mod waits;
 mod words;
 
 use answer::Answer;
-use desk::Desk;
+use fixture::Fixture;
 use std::io;
 use std::sync::Wait;
 
@@ -101,13 +101,13 @@ struct Count {
 
 /// Asks what a line asks. Without an answer of its own a line is answered `ok`.
 fn outcome_of_question(
-    desk: &mut Desk,
+    fixture: &mut Fixture,
     answer: &mut Answer,
     line: &str,
     wait: &impl Wait,
 ) -> Outcome {
     let (asked, wanted) = line.rsplit_once(" -> ").unwrap_or((line, "ok"));
-    desk.ask(answer, asked, wait);
+    fixture.ask(answer, asked, wait);
     if answer.is(wanted) {
         Outcome::Told
     } else {
@@ -116,39 +116,39 @@ fn outcome_of_question(
 }
 
 /// Does what a line says that sets something up, if it is such a one.
-fn is_set(desk: &mut Desk, answer: &mut Answer, line: &str) -> bool {
-    line.is_empty() || line.starts_with('#') || desk.set(answer, line)
+fn is_set(fixture: &mut Fixture, answer: &mut Answer, line: &str) -> bool {
+    line.is_empty() || line.starts_with('#') || fixture.set(answer, line)
 }
 
 /// Does what a line says, and puts its answer in place.
-fn outcome_of(desk: &mut Desk, answer: &mut Answer, line: &str, wait: &impl Wait) -> Outcome {
+fn outcome_of(fixture: &mut Fixture, answer: &mut Answer, line: &str, wait: &impl Wait) -> Outcome {
     answer.clear();
     if let Some(name) = line.strip_prefix("row ") {
-        desk.begin(answer, name);
+        fixture.begin(answer, name);
         return Outcome::Row;
     }
-    if is_set(desk, answer, line) {
+    if is_set(fixture, answer, line) {
         return Outcome::Nothing;
     }
-    outcome_of_question(desk, answer, line, wait)
+    outcome_of_question(fixture, answer, line, wait)
 }
 
 /// Does what a line says, counts it, and prints it where it was answered otherwise or went wrong.
 fn take<R: Print + Wait>(
     rt: &R,
-    desk: &mut Desk,
+    fixture: &mut Fixture,
     answer: &mut Answer,
     count: &mut Count,
     line: &str,
 ) -> io::Result<()> {
-    let outcome = outcome_of(desk, answer, line, rt);
+    let outcome = outcome_of(fixture, answer, line, rt);
     match outcome {
         Outcome::Row => count.rows = count.rows.saturating_add(1),
         Outcome::Told => count.answers = count.answers.saturating_add(1),
         Outcome::Nothing | Outcome::Other => {}
     }
     if answer.is_wrong() || matches!(outcome, Outcome::Other) {
-        return println!(rt; "{}: {line}: answered {}", desk.name(), answer.told());
+        return println!(rt; "{}: {line}: answered {}", fixture.name(), answer.told());
     }
     Ok(())
 }
@@ -159,13 +159,13 @@ fn main(rt: HostRuntime) -> io::Result<()> {
         rows: 0,
         answers: 0,
     };
-    let mut desk = match Desk::new(rt.alloc()) {
-        Ok(desk) => desk,
+    let mut fixture = match Fixture::new(rt.alloc()) {
+        Ok(fixture) => fixture,
         Err(fault) => return println!(rt; "the first row: answered {}", fault.text()),
     };
     for line in rt.lines(rt.alloc()) {
         let line = line?;
-        take(&rt, &mut desk, &mut answer, &mut count, line.as_str())?;
+        take(&rt, &mut fixture, &mut answer, &mut count, line.as_str())?;
     }
     println!(rt; "{} rows, {} answers", count.rows, count.answers)
 }

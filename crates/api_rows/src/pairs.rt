@@ -4,7 +4,7 @@ use crate::answer::Answer;
 use crate::calls::{calls_in, record_of};
 use crate::fault::Fault;
 use crate::words::{Numbers, first_word, numbers_in, short};
-use callnotes::envelope::Half;
+use callstore::envelope::Half;
 use mpicall::record::Record;
 use pairing::added::{Added, PairFault};
 use pairing::pairs::Pairs;

@@ -2,7 +2,7 @@
 
 ghost use Rattle.std.specs.Prelude.{◌≡◌, ◌<◌, length, OnOk};
 ghost use Rattle.moves.specs.Readings.{is_no_laxer};
-ghost use Rattle.callnotes.specs.Recordings.{appended};
+ghost use Rattle.callstore.specs.Recordings.{appended};
 
 use crate::answer::Answer;
 use crate::fault::Fault;

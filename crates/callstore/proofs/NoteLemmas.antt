@@ -4,9 +4,9 @@ use Rattle.std.specs.Prelude.{slice_get}
 use Rattle.std.specs.Option.{unwrap_or}
 use Rattle.std.proofs.lemmas.List.{map-set, get_or-map, length-map}
 use Rattle.std.proofs.lemmas.Option.{unwrap_or-slice_get}
-use Rattle.callnotes.specs.declared.envelope.Half.{Half}
-use Rattle.callnotes.specs.Notes.{Noted, NoteRoom, no_room, notes_of, with_note, partnered_in, partnered}
-use Rattle.callnotes.specs.inner.Notes.{NotedList}
+use Rattle.callstore.specs.declared.envelope.Half.{Half}
+use Rattle.callstore.specs.Notes.{Noted, NoteRoom, no_room, notes_of, with_note, partnered_in, partnered}
+use Rattle.callstore.specs.inner.Notes.{NotedList}
 
 -- the rank's room is that of its list
 pub room_set : (lists : List NotedList) (rank : ℕ) (list : NotedList) → rank < length lists → unwrap_or (slice_get (map (λ (it : NotedList). it.room) (set lists rank list)) rank) no_room ≡ list.room

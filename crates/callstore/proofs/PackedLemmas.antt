@@ -11,28 +11,28 @@ use Rattle.mpicall.specs.Spelling.{arguments_of}
 use Rattle.mpicall.specs.declared.limits.TheConstants.{MOST_REQUESTS}
 use Rattle.mpicall.specs.declared.call.Call.{Call}
 use Rattle.mpicall.specs.declared.call.Call.TheVariants as made
-use Rattle.mpicall.specs.inner.Laid.{call_from}
-use Rattle.mpicall.specs.declared.laid.Laid.{Laid}
-use Rattle.mpicall.specs.declared.laid.Laid.TheVariants as laid
+use Rattle.mpicall.specs.inner.CallArgs.{call_from}
+use Rattle.mpicall.specs.declared.call_args.CallArgs.{CallArgs}
+use Rattle.mpicall.specs.declared.call_args.CallArgs.TheVariants as call_args
 use Rattle.mpicall.specs.declared.word.Name.{Name}
 use Rattle.mpicall.specs.declared.word.Name.TheVariants as name
-use Rattle.callnotes.specs.declared.packed.Packed.{Packed}
-use Rattle.callnotes.specs.declared.packed.Packed.TheVariants.{Send, Recv, Wait, Waitall, Waitany, Nothing, Message, Exchange, Copy, Split}
+use Rattle.callstore.specs.declared.packed.Packed.{Packed}
+use Rattle.callstore.specs.declared.packed.Packed.TheVariants.{Send, Recv, Wait, Waitall, Waitany, Nothing, Message, Exchange, Copy, Split}
 use Rattle.mpicall.specs.declared.call.Peer.TheVariants.{Rank, Null}
-use Rattle.callnotes.specs.Often.{kind_no}
-use Rattle.callnotes.specs.declared.packed.Entry.{Entry}
+use Rattle.callstore.specs.Hot.{hot_kind}
+use Rattle.callstore.specs.declared.packed.Entry.{Entry}
 use Rattle.std.specs.Option.{option_map, option_map_or}
 use Rattle.std.specs.List.{slice_get}
 use Rattle.std.proofs.lemmas.Option.{same_Some, slice_get-map, slice_get_within, get_or_from_slice_get}
-use Rattle.callnotes.specs.declared.beside.Beside.{Beside}
-use Rattle.callnotes.specs.declared.envelope.Half.{Half}
-use Rattle.callnotes.specs.Beside.{with_partner}
-use Rattle.callnotes.specs.Limits.{most_calls}
-use Rattle.callnotes.specs.Requests.{starts as starts_of, waits_for, completes as completes_of}
-use Rattle.callnotes.specs.Notes.{Noted, listed, calls_in, note_with, partnered_in, request_among, AreStarts, completed_among}
-use Rattle.callnotes.specs.Packed.{noted}
-use Rattle.callnotes.specs.inner.Packed.{request_of, kind_no_of, request_at, req_at, reqs_at, part, unpack, unpack_starts, end_of, noted_of, StartRequests, IsStored, AreStored, listed_starts}
-use Rattle.callnotes.proofs.OptionLemmas.{same_map}
+use Rattle.callstore.specs.declared.cached_match.CachedMatch.{CachedMatch}
+use Rattle.callstore.specs.declared.envelope.Half.{Half}
+use Rattle.callstore.specs.CachedMatch.{with_partner}
+use Rattle.callstore.specs.Limits.{most_calls}
+use Rattle.callstore.specs.Requests.{starts as starts_of, waits_for, completes as completes_of}
+use Rattle.callstore.specs.Notes.{Noted, listed, calls_in, note_with, partnered_in, request_among, AreStarts, completed_among}
+use Rattle.callstore.specs.Packed.{noted}
+use Rattle.callstore.specs.inner.Packed.{request_of, hot_kind_of, request_at, req_at, reqs_at, part, unpack, unpack_starts, end_of, noted_of, StartRequests, IsStored, AreStored, listed_starts}
+use Rattle.callstore.proofs.OptionLemmas.{same_map}
 
 -- a part of a list stays as the list goes on
 part_more : (xs more : List ℕ) (first count : ℕ) → first + count ≤ length xs → part (xs ++ more) first count ≡ part xs first count
@@ -81,8 +81,8 @@ unpack_more entries entries' starts starts' _ within started = refl
 -- so an entry stands for the same, and is stored
 noted_more : (entries entries' : List Entry) (starts starts' : List ℕ) (entry : Entry) → IsStored entries starts entry → noted_of (entries ++ entries') (starts ++ starts') entry ≡ noted_of entries starts entry
 noted_more entries entries' starts starts' entry stored =
-    ap (λ (call : Call). noted call entry.beside (unpack_starts (starts ++ starts') entry.call)) (unpack_more entries entries' starts starts' entry.call stored.within stored.started)
-    ∙ ap (λ (xs : List ℕ). noted (unpack entries starts entry.call) entry.beside xs) (starts_more starts starts' entry.call stored.within)
+    ap (λ (call : Call). noted call entry.cached (unpack_starts (starts ++ starts') entry.call)) (unpack_more entries entries' starts starts' entry.call stored.within stored.started)
+    ∙ ap (λ (xs : List ℕ). noted (unpack entries starts entry.call) entry.cached xs) (starts_more starts starts' entry.call stored.within)
 
 stored_more : (entries entries' : List Entry) (starts starts' : List ℕ) (entry : Entry) → IsStored entries starts entry → IsStored (entries ++ entries') (starts ++ starts') entry
 stored_more entries entries' starts starts' entry stored = record {
@@ -119,35 +119,35 @@ pub record IsApart (call : Call) : Type 0 where
   pub waits : waits_for call ≡ []
   pub completes : completes_of call ≡ []
   pub among : completed_among call [] ≡ []
-  pub kind : kind_no call ≡ 0
+  pub kind : hot_kind call ≡ 0
 
-pub laid_apart : (it : Laid) (n : Name) → IsApart (call_from n it)
-laid_apart laid.Nothing name.Waitall = record { starts = refl; waits = refl; completes = refl; among = refl; kind = refl }
-laid_apart (laid.Message comm source tag) name.Waitall = record { starts = refl; waits = refl; completes = refl; among = refl; kind = refl }
-laid_apart (laid.Exchange comm dest send_tag source recv_tag bytes) name.Waitall = record { starts = refl; waits = refl; completes = refl; among = refl; kind = refl }
-laid_apart (laid.Copy comm new) name.Waitall = record { starts = refl; waits = refl; completes = refl; among = refl; kind = refl }
-laid_apart (laid.Split comm colour key new) name.Waitall = record { starts = refl; waits = refl; completes = refl; among = refl; kind = refl }
-laid_apart _ _ = record { starts = refl; waits = refl; completes = refl; among = refl; kind = refl }
+pub args_apart : (it : CallArgs) (n : Name) → IsApart (call_from n it)
+args_apart call_args.Nothing name.Waitall = record { starts = refl; waits = refl; completes = refl; among = refl; kind = refl }
+args_apart (call_args.Message comm source tag) name.Waitall = record { starts = refl; waits = refl; completes = refl; among = refl; kind = refl }
+args_apart (call_args.Exchange comm dest send_tag source recv_tag bytes) name.Waitall = record { starts = refl; waits = refl; completes = refl; among = refl; kind = refl }
+args_apart (call_args.Copy comm new) name.Waitall = record { starts = refl; waits = refl; completes = refl; among = refl; kind = refl }
+args_apart (call_args.Split comm colour key new) name.Waitall = record { starts = refl; waits = refl; completes = refl; among = refl; kind = refl }
+args_apart _ _ = record { starts = refl; waits = refl; completes = refl; among = refl; kind = refl }
 
 -- the kind of an entry is that of its call
-pub kind_unpacked : (entries : List Entry) (starts : List ℕ) (packed : Packed) → kind_no (unpack entries starts packed) ≡ kind_no_of packed
+pub kind_unpacked : (entries : List Entry) (starts : List ℕ) (packed : Packed) → hot_kind (unpack entries starts packed) ≡ hot_kind_of packed
 kind_unpacked entries starts (Recv comm (Rank source) tag) = refl
 kind_unpacked entries starts (Recv comm Null tag) = refl
-kind_unpacked entries starts (Nothing name) = (laid_apart laid.Nothing name).kind
-kind_unpacked entries starts (Message name comm source tag) = (laid_apart (laid.Message comm source tag) name).kind
-kind_unpacked entries starts (Exchange name comm dest source send_tag recv_tag bytes) = (laid_apart (laid.Exchange comm dest send_tag source recv_tag bytes) name).kind
-kind_unpacked entries starts (Copy name comm new) = (laid_apart (laid.Copy comm new) name).kind
-kind_unpacked entries starts (Split name comm colour key new) = (laid_apart (laid.Split comm colour key new) name).kind
+kind_unpacked entries starts (Nothing name) = (args_apart call_args.Nothing name).kind
+kind_unpacked entries starts (Message name comm source tag) = (args_apart (call_args.Message comm source tag) name).kind
+kind_unpacked entries starts (Exchange name comm dest source send_tag recv_tag bytes) = (args_apart (call_args.Exchange comm dest send_tag source recv_tag bytes) name).kind
+kind_unpacked entries starts (Copy name comm new) = (args_apart (call_args.Copy comm new) name).kind
+kind_unpacked entries starts (Split name comm colour key new) = (args_apart (call_args.Split comm colour key new) name).kind
 kind_unpacked entries starts _ = refl
 
 -- the request that an entry starts is that of its call
 request_unpacked : (entries : List Entry) (starts : List ℕ) (packed : Packed) → starts_of (unpack entries starts packed) ≡ request_of packed
 request_unpacked entries starts (Send mode comm dest tag bytes) = refl
-request_unpacked entries starts (Nothing name) = (laid_apart laid.Nothing name).starts
-request_unpacked entries starts (Message name comm source tag) = (laid_apart (laid.Message comm source tag) name).starts
-request_unpacked entries starts (Exchange name comm dest source send_tag recv_tag bytes) = (laid_apart (laid.Exchange comm dest send_tag source recv_tag bytes) name).starts
-request_unpacked entries starts (Copy name comm new) = (laid_apart (laid.Copy comm new) name).starts
-request_unpacked entries starts (Split name comm colour key new) = (laid_apart (laid.Split comm colour key new) name).starts
+request_unpacked entries starts (Nothing name) = (args_apart call_args.Nothing name).starts
+request_unpacked entries starts (Message name comm source tag) = (args_apart (call_args.Message comm source tag) name).starts
+request_unpacked entries starts (Exchange name comm dest source send_tag recv_tag bytes) = (args_apart (call_args.Exchange comm dest send_tag source recv_tag bytes) name).starts
+request_unpacked entries starts (Copy name comm new) = (args_apart (call_args.Copy comm new) name).starts
+request_unpacked entries starts (Split name comm colour key new) = (args_apart (call_args.Split comm colour key new) name).starts
 request_unpacked entries starts _ = refl
 
 request_noted : (all : List Entry) (starts : List ℕ) (entries : List Entry) (place : ℕ) → request_among (calls_in (map (noted_of all starts) entries)) place ≡ request_at entries place
@@ -195,10 +195,10 @@ packed_stored entries starts places call entry ranged start is starts_are end = 
 }
 
 -- and is the same call
-pub packed_noted : (entries : List Entry) (starts places : List ℕ) (call : Call) (entry : Entry) → unpack entries (starts ++ listed_starts call places) entry.call ≡ call → unpack_starts (starts ++ listed_starts call places) entry.call ≡ places → noted_of entries (starts ++ listed_starts call places) entry ≡ noted call entry.beside places
+pub packed_noted : (entries : List Entry) (starts places : List ℕ) (call : Call) (entry : Entry) → unpack entries (starts ++ listed_starts call places) entry.call ≡ call → unpack_starts (starts ++ listed_starts call places) entry.call ≡ places → noted_of entries (starts ++ listed_starts call places) entry ≡ noted call entry.cached places
 packed_noted entries starts places call entry is starts_are =
-    ap (λ (it : Call). noted it entry.beside (unpack_starts (starts ++ listed_starts call places) entry.call)) is
-    ∙ ap (λ (xs : List ℕ). noted call entry.beside xs) starts_are
+    ap (λ (it : Call). noted it entry.cached (unpack_starts (starts ++ listed_starts call places) entry.call)) is
+    ∙ ap (λ (xs : List ℕ). noted call entry.cached xs) starts_are
 
 -- a wait for several lists no more starts than it may name requests
 right : (a b : Bool) → (a && b) ≡ true → b ≡ true
@@ -224,12 +224,12 @@ same_maps {Y = Y} f g (x ∷ xs) agree =
     cc
 
 -- what stands with an entry's call is another: all calls stay
-request_beside : (entries : List Entry) (i : ℕ) (old : Entry) (beside : Beside) → slice_get entries i ≡ Some old → (place : ℕ) → request_at (set entries i (record { call = old.call; beside = beside })) place ≡ request_at entries place
-request_beside [] i old beside h place = refl
-request_beside (entry ∷ entries) zero old beside h zero = ap (λ (e : Entry). request_of e.call) (sym (same_Some entry old h))
-request_beside (entry ∷ entries) zero old beside h (suc place) = refl
-request_beside (entry ∷ entries) (suc i) old beside h zero = refl
-request_beside (entry ∷ entries) (suc i) old beside h (suc place) = request_beside entries i old beside h place
+request_cached : (entries : List Entry) (i : ℕ) (old : Entry) (cached : CachedMatch) → slice_get entries i ≡ Some old → (place : ℕ) → request_at (set entries i (record { call = old.call; cached = cached })) place ≡ request_at entries place
+request_cached [] i old cached h place = refl
+request_cached (entry ∷ entries) zero old cached h zero = ap (λ (e : Entry). request_of e.call) (sym (same_Some entry old h))
+request_cached (entry ∷ entries) zero old cached h (suc place) = refl
+request_cached (entry ∷ entries) (suc i) old cached h zero = refl
+request_cached (entry ∷ entries) (suc i) old cached h (suc place) = request_cached entries i old cached h place
 
 module _ (entries entries' : List Entry) (same : (place : ℕ) → request_at entries' place ≡ request_at entries place) where
   reqs_same : (places : List ℕ) → reqs_at entries' places ≡ reqs_at entries places
@@ -242,7 +242,7 @@ module _ (entries entries' : List Entry) (same : (place : ℕ) → request_at en
   unpack_same starts _ = refl
 
   noted_same : (starts : List ℕ) (entry : Entry) → noted_of entries' starts entry ≡ noted_of entries starts entry
-  noted_same starts entry = ap (λ (call : Call). noted call entry.beside (unpack_starts starts entry.call)) (unpack_same starts entry.call)
+  noted_same starts entry = ap (λ (call : Call). noted call entry.cached (unpack_starts starts entry.call)) (unpack_same starts entry.call)
 
   stored_same : (starts : List ℕ) (entry : Entry) → IsStored entries starts entry → IsStored entries' starts entry
   stored_same starts entry stored = record {
@@ -253,25 +253,25 @@ module _ (entries entries' : List Entry) (same : (place : ℕ) → request_at en
   }
 
 -- so all is stored as before, and the notes have another with the one
-stored_as : (entries : List Entry) (starts : List ℕ) (old : Entry) (beside : Beside) → IsStored entries starts old → IsStored entries starts (record { call = old.call; beside = beside })
-stored_as entries starts old beside stored = record { ranged = stored.ranged; within = stored.within; started = stored.started }
+stored_as : (entries : List Entry) (starts : List ℕ) (old : Entry) (cached : CachedMatch) → IsStored entries starts old → IsStored entries starts (record { call = old.call; cached = cached })
+stored_as entries starts old cached stored = record { ranged = stored.ranged; within = stored.within; started = stored.started }
 
-pub stored_beside : (entries : List Entry) (starts : List ℕ) (i : ℕ) (old : Entry) (beside : Beside) → slice_get entries i ≡ Some old → AreStored entries starts → AreStored (set entries i (record { call = old.call; beside = beside })) starts
-stored_beside entries starts i old beside h stored =
-    let entry : Entry = record { call = old.call; beside = beside } in
-    let same = request_beside entries i old beside h in
+pub stored_cached : (entries : List Entry) (starts : List ℕ) (i : ℕ) (old : Entry) (cached : CachedMatch) → slice_get entries i ≡ Some old → AreStored entries starts → AreStored (set entries i (record { call = old.call; cached = cached })) starts
+stored_cached entries starts i old cached h stored =
+    let entry : Entry = record { call = old.call; cached = cached } in
+    let same = request_cached entries i old cached h in
     record {
       each = All-set (IsStored (set entries i entry) starts) entries i entry
-          (stored_same entries (set entries i entry) same starts entry (stored_as entries starts old beside (rw (get_or_from_slice_get entries i old old h) at (All-get_or (IsStored entries starts) entries i old (slice_get_within entries i old h) stored.each))))
+          (stored_same entries (set entries i entry) same starts entry (stored_as entries starts old cached (rw (get_or_from_slice_get entries i old old h) at (All-get_or (IsStored entries starts) entries i old (slice_get_within entries i old h) stored.each))))
           (All-weaker (IsStored entries starts) (IsStored (set entries i entry) starts) (stored_same entries (set entries i entry) same starts) entries stored.each);
       few_starts = omega (arith, stored.few_starts, length-set entries i entry);
       few = omega (arith, stored.few, length-set entries i entry);
     }
 
-pub notes_beside : (entries : List Entry) (starts : List ℕ) (i : ℕ) (old : Entry) (half : Half) (there : ℕ) → slice_get entries i ≡ Some old → map (noted_of (set entries i (record { call = old.call; beside = with_partner half there old.beside })) starts) (set entries i (record { call = old.call; beside = with_partner half there old.beside })) ≡ partnered_in (map (noted_of entries starts) entries) i half there
-notes_beside entries starts i old half there h =
-    let entry : Entry = record { call = old.call; beside = with_partner half there old.beside } in
-    let same = request_beside entries i old (with_partner half there old.beside) h in
+pub notes_cached : (entries : List Entry) (starts : List ℕ) (i : ℕ) (old : Entry) (half : Half) (there : ℕ) → slice_get entries i ≡ Some old → map (noted_of (set entries i (record { call = old.call; cached = with_partner half there old.cached })) starts) (set entries i (record { call = old.call; cached = with_partner half there old.cached })) ≡ partnered_in (map (noted_of entries starts) entries) i half there
+notes_cached entries starts i old half there h =
+    let entry : Entry = record { call = old.call; cached = with_partner half there old.cached } in
+    let same = request_cached entries i old (with_partner half there old.cached) h in
     same_maps (noted_of (set entries i entry) starts) (noted_of entries starts) (set entries i entry) (noted_same entries (set entries i entry) same starts)
     ∙ map-set (noted_of entries starts) entries i entry
     ∙ sym (ap (λ (o : Option Noted). option_map_or (λ note. set (map (noted_of entries starts) entries) i (note_with half there note)) o (map (noted_of entries starts) entries))

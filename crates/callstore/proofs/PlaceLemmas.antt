@@ -3,7 +3,7 @@ use Rattle.std.proofs.Common.{◌≡◌, ℕ, zero, suc, ◌+◌, ◌<◌, Bool,
 use Rattle.std.specs.List.{slice_get}
 use Rattle.std.proofs.lemmas.Option.{none-some, same_Some}
 use Rattle.std.proofs.lemmas.Bool.{cases_Bool}
-use Rattle.callnotes.specs.Places.{places_from}
+use Rattle.callstore.specs.Places.{places_from}
 
 -- The place `p` is the one with number `k` at which the test passes, where the first element has the
 -- place `n`: it is the element `index`, which passes, and `k` elements before it pass.

@@ -2,8 +2,8 @@
 use Rattle.std.proofs.Common.{◌≡◌, ℕ, zero, suc, ◌+◌, ◌≤◌, Bool, true, false, List, [], ◌∷◌, ◌++◌, length, replicate, refl, sym, ap, ◌∙◌, ⊎_elim, arith}
 use Rattle.std.specs.Prelude.{if◌then◌else◌}
 use Rattle.std.proofs.lemmas.Bool.{cases_Bool}
-use Rattle.callnotes.specs.Recordings.{calls_of}
-use Rattle.callnotes.specs.Places.{places_from, places}
+use Rattle.callstore.specs.Recordings.{calls_of}
+use Rattle.callstore.specs.Places.{places_from, places}
 
 -- the places of a list with one more element
 pub places_push : {A : Type 0} (n : ℕ) (test : A → Bool) (xs : List A) (x : A) → test x ≡ true → places_from n test (xs ++ x ∷ []) ≡ places_from n test xs ++ (n + length xs) ∷ []

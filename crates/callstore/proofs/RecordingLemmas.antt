@@ -2,7 +2,7 @@
 use Rattle.std.proofs.Common.{◌≡◌, ◌≢◌, ℕ, ◌<◌, [], ◌∷◌, ◌++◌, length, sym, ◌∙◌, get_or-set_same, get_or-set_other}
 use Rattle.std.proofs.lemmas.Option.{unwrap_or-slice_get}
 use Rattle.mpicall.specs.declared.call.Call.{Call}
-use Rattle.callnotes.specs.Recordings.{Lists, calls_of, appended}
+use Rattle.callstore.specs.Recordings.{Lists, calls_of, appended}
 
 -- the calls of a rank once a call is appended
 pub calls_of-appended : (recording : Lists) (rank : ℕ) (call : Call) → rank < length recording → calls_of (appended recording rank call) rank ≡ calls_of recording rank ++ call ∷ []

@@ -8,11 +8,11 @@ use Rattle.std.proofs.lemmas.Option.{slice_get_within, none-some, same_Some}
 use Rattle.std.proofs.lemmas.Bool.{cases_Bool}
 use Rattle.mpicall.specs.declared.call.Call.{Call}
 use Rattle.mpigroup.proofs.ListLemmas.{get_end}
-use Rattle.callnotes.specs.Places.{places}
-use Rattle.callnotes.specs.Requests.{does_start, does_complete, last_of, unless_completed, started_in}
-use Rattle.callnotes.proofs.OptionLemmas.{and_then_parts}
-use Rattle.callnotes.proofs.PlaceLemmas.{nth_place}
-use Rattle.callnotes.proofs.PlacesLemmas.{places_push, places_push_not}
+use Rattle.callstore.specs.Places.{places}
+use Rattle.callstore.specs.Requests.{does_start, does_complete, last_of, unless_completed, started_in}
+use Rattle.callstore.proofs.OptionLemmas.{and_then_parts}
+use Rattle.callstore.proofs.PlaceLemmas.{nth_place}
+use Rattle.callstore.proofs.PlacesLemmas.{places_push, places_push_not}
 
 -- the last one of a list that one is added to
 last_of-push : (numbers : List ℕ) (number : ℕ) → last_of (numbers ++ number ∷ []) ≡ Some number

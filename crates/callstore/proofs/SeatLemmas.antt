@@ -4,8 +4,8 @@ use Rattle.std.specs.Prelude.{unwrap_or}
 use Rattle.std.specs.List.{slice_get}
 use Rattle.std.proofs.lemmas.List.{map-set, get_or-map, length-map}
 use Rattle.std.proofs.lemmas.Option.{unwrap_or-slice_get}
-use Rattle.callnotes.specs.Seats.{list_in, with_place_in}
-use Rattle.callnotes.specs.inner.Seats.{Listed}
+use Rattle.callstore.specs.Seats.{list_in, with_place_in}
+use Rattle.callstore.specs.inner.Seats.{Listed}
 
 -- the room of a list is that of the list itself
 pub room_set : (lists : List Listed) (i : ℕ) (list : Listed) → i < length lists → unwrap_or (slice_get (map (λ (it : Listed). it.room) (set lists i list)) i) 0 ≡ list.room

@@ -6,26 +6,26 @@ use Rattle.std.proofs.lemmas.List.{take-map, drop-map, length-map}
 use Rattle.std.proofs.lemmas.Option.{slice_get-map, slice_get_past}
 use Rattle.std.proofs.lemmas.List.Folds.{find_at}
 use Rattle.std.proofs.lemmas.Bool.{cases_lt, lt-ltb, le-ltb}
-use Rattle.callnotes.specs.declared.packed.Packed.{Packed}
-use Rattle.callnotes.specs.declared.packed.Packed.TheVariants.{Wait, Waitany, Nothing, Message, Exchange, Copy, Split}
-use Rattle.mpicall.specs.declared.laid.Laid.TheVariants as laid
-use Rattle.callnotes.specs.declared.packed.Entry.{Entry}
-use Rattle.callnotes.specs.Requests.{starts, waits_for, completes, started_in}
-use Rattle.callnotes.specs.Notes.{Noted, request_among, completed_among, completed_starts, start_of}
-use Rattle.callnotes.specs.inner.Packed.{req_at, reqs_at, part, unpack, unpack_starts, noted_of}
-use Rattle.callnotes.proofs.PackedLemmas.{IsApart, laid_apart}
-use Rattle.callnotes.proofs.RequestLemmas.{started}
-use Rattle.callnotes.proofs.OptionLemmas.{is_it}
+use Rattle.callstore.specs.declared.packed.Packed.{Packed}
+use Rattle.callstore.specs.declared.packed.Packed.TheVariants.{Wait, Waitany, Nothing, Message, Exchange, Copy, Split}
+use Rattle.mpicall.specs.declared.call_args.CallArgs.TheVariants as call_args
+use Rattle.callstore.specs.declared.packed.Entry.{Entry}
+use Rattle.callstore.specs.Requests.{starts, waits_for, completes, started_in}
+use Rattle.callstore.specs.Notes.{Noted, request_among, completed_among, completed_starts, start_of}
+use Rattle.callstore.specs.inner.Packed.{req_at, reqs_at, part, unpack, unpack_starts, noted_of}
+use Rattle.callstore.proofs.PackedLemmas.{IsApart, args_apart}
+use Rattle.callstore.proofs.RequestLemmas.{started}
+use Rattle.callstore.proofs.OptionLemmas.{is_it}
 use Rattle.mpicall.specs.declared.call.Call.{Call}
 
 -- a wait names what its starts start
 pub waits_unpacked : (entries : List Entry) (starts : List ℕ) (packed : Packed) → waits_for (unpack entries starts packed) ≡ reqs_at entries (unpack_starts starts packed)
 waits_unpacked entries starts (Wait start) = refl
-waits_unpacked entries starts (Nothing name) = (laid_apart laid.Nothing name).waits
-waits_unpacked entries starts (Message name comm source tag) = (laid_apart (laid.Message comm source tag) name).waits
-waits_unpacked entries starts (Exchange name comm dest source send_tag recv_tag bytes) = (laid_apart (laid.Exchange comm dest send_tag source recv_tag bytes) name).waits
-waits_unpacked entries starts (Copy name comm new) = (laid_apart (laid.Copy comm new) name).waits
-waits_unpacked entries starts (Split name comm colour key new) = (laid_apart (laid.Split comm colour key new) name).waits
+waits_unpacked entries starts (Nothing name) = (args_apart call_args.Nothing name).waits
+waits_unpacked entries starts (Message name comm source tag) = (args_apart (call_args.Message comm source tag) name).waits
+waits_unpacked entries starts (Exchange name comm dest source send_tag recv_tag bytes) = (args_apart (call_args.Exchange comm dest send_tag source recv_tag bytes) name).waits
+waits_unpacked entries starts (Copy name comm new) = (args_apart (call_args.Copy comm new) name).waits
+waits_unpacked entries starts (Split name comm colour key new) = (args_apart (call_args.Split comm colour key new) name).waits
 waits_unpacked entries starts _ = refl
 
 none_completed : {call : Call} (entries : List Entry) → IsApart call → completes call ≡ reqs_at entries (completed_among call [])
@@ -35,12 +35,12 @@ none_completed entries apart = apart.completes ∙ sym (ap (λ (places : List �
 by_starts : (entries : List Entry) (starts : List ℕ) (packed : Packed) → completes (unpack entries starts packed) ≡ reqs_at entries (completed_among (unpack entries starts packed) (unpack_starts starts packed))
 by_starts entries starts (Waitany chosen first count) =
     ap (take 1) (drop-map (req_at entries) chosen (part starts first count)) ∙ take-map (req_at entries) 1 (drop chosen (part starts first count))
-by_starts entries starts (Nothing name) = none_completed entries (laid_apart laid.Nothing name)
-by_starts entries starts (Message name comm source tag) = none_completed entries (laid_apart (laid.Message comm source tag) name)
+by_starts entries starts (Nothing name) = none_completed entries (args_apart call_args.Nothing name)
+by_starts entries starts (Message name comm source tag) = none_completed entries (args_apart (call_args.Message comm source tag) name)
 by_starts entries starts (Exchange name comm dest source send_tag recv_tag bytes) =
-    none_completed entries (laid_apart (laid.Exchange comm dest send_tag source recv_tag bytes) name)
-by_starts entries starts (Copy name comm new) = none_completed entries (laid_apart (laid.Copy comm new) name)
-by_starts entries starts (Split name comm colour key new) = none_completed entries (laid_apart (laid.Split comm colour key new) name)
+    none_completed entries (args_apart (call_args.Exchange comm dest send_tag source recv_tag bytes) name)
+by_starts entries starts (Copy name comm new) = none_completed entries (args_apart (call_args.Copy comm new) name)
+by_starts entries starts (Split name comm colour key new) = none_completed entries (args_apart (call_args.Split comm colour key new) name)
 by_starts entries starts _ = refl
 
 pub completes_at : (entries : List Entry) (starts : List ℕ) (entry : Entry) (note : Noted) (index : ℕ) → noted_of entries starts entry ≡ note → slice_get (completes note.call) index ≡ option_map (req_at entries) (slice_get (completed_starts note) index)

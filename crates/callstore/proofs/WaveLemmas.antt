@@ -8,11 +8,11 @@ use Rattle.std.proofs.lemmas.Option.{same_Some, some_pair_parts, slice_get-get_o
 use Rattle.std.proofs.lemmas.Bool.{eq-eqb}
 use Rattle.mpicall.specs.declared.call.Call.{Call}
 use Rattle.mpigroup.specs.Groups.{Groups, group_of, size_of}
-use Rattle.callnotes.specs.Recordings.{Lists, calls_of}
-use Rattle.callnotes.specs.Places.{count_before}
-use Rattle.callnotes.specs.Waves.{joins, does_join, wave_of, place_in_wave, member_of, is_full, AWaveHasOneCallOfEachRank, TheCallInAWaveJoinsIt, NoOtherCallIsInAWave, WavesStay}
-use Rattle.callnotes.proofs.OptionLemmas.{and_then_parts, map_parts, is_it}
-use Rattle.callnotes.proofs.PlaceLemmas.{nth_place, place_nth, places-append}
+use Rattle.callstore.specs.Recordings.{Lists, calls_of}
+use Rattle.callstore.specs.Places.{count_before}
+use Rattle.callstore.specs.Waves.{joins, does_join, wave_of, place_in_wave, member_of, is_full, AWaveHasOneCallOfEachRank, TheCallInAWaveJoinsIt, NoOtherCallIsInAWave, WavesStay}
+use Rattle.callstore.proofs.OptionLemmas.{and_then_parts, map_parts, is_it}
+use Rattle.callstore.proofs.PlaceLemmas.{nth_place, place_nth, places-append}
 
 -- the test for a number passes where it is the number
 it_is : (comm : ℕ) (o : Option ℕ) → o ≡ Some comm → option_map_or (λ other. eqb other comm) o false ≡ true

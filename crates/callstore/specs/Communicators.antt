@@ -5,25 +5,25 @@ use Rattle.std.specs.Prelude.{◌≡◌, ℕ, ◌==◌, Bool, false, ◌||◌, O
 use Rattle.std.specs.List.{list_any}
 use Rattle.std.specs.Option.{option_map_or}
 use Rattle.mpicall.specs.declared.call.Call.{Call}
-use Rattle.mpicall.specs.Does.{does_of}
-use Rattle.mpicall.specs.declared.does.Does.{Does}
-use Rattle.mpicall.specs.declared.does.Does.TheVariants.{Exchanges, Joins, Alone}
-use Rattle.callnotes.specs.Recordings.{Lists, calls_of}
+use Rattle.mpicall.specs.Effect.{effect_of}
+use Rattle.mpicall.specs.declared.effect.Effect.{Effect}
+use Rattle.mpicall.specs.declared.effect.Effect.TheVariants.{PointToPoint, Joins, Local}
+use Rattle.callstore.specs.Recordings.{Lists, calls_of}
 
 -- the communicator over which the call is made, if it names one
 abbrev pub comm_of : Call → Option Comm
-comm_of call = by_what (does_of call)
+comm_of call = by_what (effect_of call)
   where
-    by_what : Does → Option ℕ
-    by_what (Exchanges comm sent received probed) = Some comm
+    by_what : Effect → Option ℕ
+    by_what (PointToPoint comm sent received probed) = Some comm
     by_what (Joins comm root made) = Some comm
-    by_what Alone = None
+    by_what Local = None
 
 -- the communicator that the call makes for its rank
 abbrev pub makes : Call → Option Comm
-makes call = by_what (does_of call)
+makes call = by_what (effect_of call)
   where
-    by_what : Does → Option ℕ
+    by_what : Effect → Option ℕ
     by_what (Joins comm root made) = made
     by_what _ = None
 

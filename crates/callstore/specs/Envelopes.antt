@@ -6,18 +6,18 @@
 use Rattle.mpicall.specs.Names.{Rank, Comm, Tag}
 use Rattle.std.specs.Prelude.{◌==◌, Bool, false, ◌&&◌, Option, Some, None, option_map, option_and_then}
 use Rattle.std.specs.Option.{option_map_or}
-use Rattle.mpicall.specs.Does.{does_of}
+use Rattle.mpicall.specs.Effect.{effect_of}
 use Rattle.mpicall.specs.declared.call.Peer.{Peer}
 use Rattle.mpicall.specs.declared.call.Peer.TheVariants as peer
-use Rattle.mpicall.specs.declared.does.Side.{Side}
-use Rattle.mpicall.specs.declared.does.Does.{Does}
-use Rattle.mpicall.specs.declared.does.Does.TheVariants.{Exchanges}
+use Rattle.mpicall.specs.declared.effect.Side.{Side}
+use Rattle.mpicall.specs.declared.effect.Effect.{Effect}
+use Rattle.mpicall.specs.declared.effect.Effect.TheVariants.{PointToPoint}
 use Rattle.mpicall.specs.declared.call.Call.{Call}
 use Rattle.mpigroup.specs.Groups.{Groups, world_rank_of, group_rank_of}
-use Rattle.callnotes.specs.declared.envelope.Envelope.{Envelope}
-use Rattle.callnotes.specs.declared.envelope.Half.{Half}
-use Rattle.callnotes.specs.declared.envelope.Half.TheVariants.{Send as SendHalf, Recv as RecvHalf}
-use Rattle.callnotes.specs.declared.envelope.Message.{Message}
+use Rattle.callstore.specs.declared.envelope.Envelope.{Envelope}
+use Rattle.callstore.specs.declared.envelope.Half.{Half}
+use Rattle.callstore.specs.declared.envelope.Half.TheVariants.{Send as SendHalf, Recv as RecvHalf}
+use Rattle.callstore.specs.declared.envelope.Message.{Message}
 
 -- the half that a message's other end has
 abbrev pub other_half : Half → Half
@@ -33,23 +33,23 @@ message comm side = by_peer comm side.peer side.tag
     by_peer comm peer.Null tag = None
 
 -- the message that is sent or received
-abbrev pub message_by : Half → Does → Option Message
-message_by SendHalf (Exchanges comm sent received probed) = option_and_then (message comm) sent
-message_by RecvHalf (Exchanges comm sent received probed) = option_and_then (message comm) received
+abbrev pub message_by : Half → Effect → Option Message
+message_by SendHalf (PointToPoint comm sent received probed) = option_and_then (message comm) sent
+message_by RecvHalf (PointToPoint comm sent received probed) = option_and_then (message comm) received
 message_by _ _ = None
 
 -- the message that a half of a call sends or receives: its communicator, peer and tag. None where the
 -- call has no such half, and where its peer is MPI_PROC_NULL.
 abbrev pub message_of : Half → Call → Option Message
-message_of half call = message_by half (does_of call)
+message_of half call = message_by half (effect_of call)
 
 -- the message that a call probes for; none where it is no probe, and where its source is MPI_PROC_NULL, which
 -- returns at once
 abbrev pub probed_message : Call → Option Message
-probed_message call = probed_by_what (does_of call)
+probed_message call = probed_by_what (effect_of call)
   where
-    probed_by_what : Does → Option Message
-    probed_by_what (Exchanges comm sent received probed) = option_and_then (message comm) probed
+    probed_by_what : Effect → Option Message
+    probed_by_what (PointToPoint comm sent received probed) = option_and_then (message comm) probed
     probed_by_what _ = None
 
 -- the envelope of a message by the half that a member of the communicator's group has of it

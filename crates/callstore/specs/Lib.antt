@@ -3,11 +3,11 @@ pub mod Recordings
 pub mod Places
 pub mod Envelopes
 pub mod Kinds
-pub mod Often
+pub mod Hot
 pub mod Requests
 pub mod Waves
 pub mod Communicators
-pub mod Beside
+pub mod CachedMatch
 pub mod Notes
 pub mod Packed
 pub mod Seats

@@ -1,6 +1,6 @@
 -- The limits of a recording.
 use Rattle.std.specs.Prelude.{ℕ}
-use Rattle.callnotes.specs.declared.limits.TheConstants.{MOST_CALLS}
+use Rattle.callstore.specs.declared.limits.TheConstants.{MOST_CALLS}
 
 -- the most calls of a rank, its Finalize counted
 abbrev pub most_calls : ℕ

@@ -7,16 +7,16 @@ use Rattle.mpicall.specs.declared.call.Call.{Call}
 use Rattle.mpicall.specs.declared.call.Call.TheVariants.{Waitall, Waitany}
 use Rattle.std.specs.Option.{option_map_or}
 use Rattle.mpigroup.specs.Groups.{or_empty}
-use Rattle.callnotes.specs.declared.beside.Beside.{Beside}
-use Rattle.callnotes.specs.declared.envelope.Half.{Half}
-use Rattle.callnotes.specs.Beside.{with_partner}
-use Rattle.callnotes.specs.Requests.{starts, waits_for}
+use Rattle.callstore.specs.declared.cached_match.CachedMatch.{CachedMatch}
+use Rattle.callstore.specs.declared.envelope.Half.{Half}
+use Rattle.callstore.specs.CachedMatch.{with_partner}
+use Rattle.callstore.specs.Requests.{starts, waits_for}
 
 -- a call, what is kept with it, and the places that started the requests which it names: one place
 -- for each request, in its order
 pub record Noted : Type 0 where
   pub call : Call
-  pub beside : Beside
+  pub cached : CachedMatch
   pub starts : List Place
 
 -- how many more calls of a rank can be noted without memory, and how many more starts of waits for several
@@ -44,7 +44,7 @@ calls_in notes = map (λ note. note.call) notes
 
 -- a note with the place of a half's partner
 abbrev pub note_with : Half → Place → Noted → Noted
-note_with half there note = record { call = note.call; beside = with_partner half there note.beside; starts = note.starts }
+note_with half there note = record { call = note.call; cached = with_partner half there note.cached; starts = note.starts }
 
 -- the notes of a rank with the place of a partner with the call at the place, if one stands there
 abbrev pub partnered_in : List Noted → Place → Half → Place → List Noted
@@ -83,8 +83,8 @@ AreStarts calls wait places = map (request_among calls) places ≡ map (λ req. 
 
 -- what stands with the requests that a wait completes, of what stands with those that it names
 abbrev pub completed_among : Call → List ℕ → List ℕ
-completed_among (Waitany chosen reqs) beside = take 1 (drop chosen beside)
-completed_among _ beside = beside
+completed_among (Waitany chosen reqs) cached = take 1 (drop chosen cached)
+completed_among _ cached = cached
 
 -- the places that started the requests which a wait completes
 abbrev pub completed_starts : Noted → List Place

@@ -4,9 +4,9 @@
 use Rattle.mpicall.specs.Names.{Place}
 use Rattle.std.specs.Prelude.{List}
 use Rattle.mpicall.specs.declared.call.Call.{Call}
-use Rattle.callnotes.specs.declared.beside.Beside.{Beside}
-use Rattle.callnotes.specs.Notes.{Noted}
+use Rattle.callstore.specs.declared.cached_match.CachedMatch.{CachedMatch}
+use Rattle.callstore.specs.Notes.{Noted}
 
 -- a call with what is kept with it
-abbrev pub noted : Call → Beside → List Place → Noted
-noted call beside starts = record { call = call; beside = beside; starts = starts }
+abbrev pub noted : Call → CachedMatch → List Place → Noted
+noted call cached starts = record { call = call; cached = cached; starts = starts }

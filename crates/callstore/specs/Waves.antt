@@ -6,18 +6,18 @@ use Rattle.std.specs.Prelude.{◌≡◌, ℕ, ◌==◌, Bool, false, Option, Som
 use Rattle.std.specs.List.{list_all}
 use Rattle.std.specs.Option.{option_map_or}
 use Rattle.mpicall.specs.declared.call.Call.{Call}
-use Rattle.mpicall.specs.Does.{does_of}
-use Rattle.mpicall.specs.declared.does.Does.{Does}
-use Rattle.mpicall.specs.declared.does.Does.TheVariants.{Joins}
+use Rattle.mpicall.specs.Effect.{effect_of}
+use Rattle.mpicall.specs.declared.effect.Effect.{Effect}
+use Rattle.mpicall.specs.declared.effect.Effect.TheVariants.{Joins}
 use Rattle.mpigroup.specs.Groups.{Groups, group_of, world_rank_of}
-use Rattle.callnotes.specs.Recordings.{Lists, calls_of, GoesOn}
-use Rattle.callnotes.specs.Places.{places, count_before}
+use Rattle.callstore.specs.Recordings.{Lists, calls_of, GoesOn}
+use Rattle.callstore.specs.Places.{places, count_before}
 
 -- the communicator whose members all make the call
 abbrev pub joins : Call → Option Comm
-joins call = by_what (does_of call)
+joins call = by_what (effect_of call)
   where
-    by_what : Does → Option ℕ
+    by_what : Effect → Option ℕ
     by_what (Joins comm root made) = Some comm
     by_what _ = None
 

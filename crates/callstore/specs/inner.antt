@@ -2,4 +2,4 @@
 pub mod Notes
 pub mod Packed
 pub mod Seats
-pub mod Slots
+pub mod PackedFields

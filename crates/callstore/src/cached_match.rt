@@ -5,14 +5,14 @@
 //! is read from the call, without its envelope.
 
 ghost use Rattle.std.specs.Prelude.{◌≡◌};
-ghost use Rattle.callnotes.specs.Beside.{partner_in, wave_in, with_partner};
+ghost use Rattle.callstore.specs.CachedMatch.{partner_in, wave_in, with_partner};
 
 use crate::envelope::Half;
 
 /// What is kept with a call: the number of the wave that a collective joins, and the places of the calls
 /// that its halves go with, as far as they came.
 #[derive(Clone, Copy)]
-pub enum Beside {
+pub enum CachedMatch {
     Nothing,
     Wave { number: u32 },
     Sent { to: u32 },
@@ -20,15 +20,16 @@ pub enum Beside {
     Exchanged { to: u32, from: u32 },
 }
 
-impl Beside {
+impl CachedMatch {
     /// The place of the partner that is kept for a half.
     #[inline(always)]
     pub(crate) fn partner(&self, half: Half) -> Option<u32>
         ensures { result ≡ partner_in half self.now }
     {
         match (half, *self) {
-            (Half::Send, Beside::Sent { to } | Beside::Exchanged { to, .. }) => Some(to),
-            (Half::Recv, Beside::Received { from } | Beside::Exchanged { from, .. }) => Some(from),
+            (Half::Send, CachedMatch::Sent { to } | CachedMatch::Exchanged { to, .. }) => Some(to),
+            (Half::Recv, CachedMatch::Received { from } | CachedMatch::Exchanged { from, .. }) =>
+                Some(from),
             _ => None,
         }
     }
@@ -39,25 +40,25 @@ impl Beside {
         ensures { result ≡ wave_in self.now }
     {
         match *self {
-            Beside::Wave { number } => number,
+            CachedMatch::Wave { number } => number,
             _ => 0,
         }
     }
 
     /// The same with the place of a half's partner.
     #[inline(always)]
-    pub(crate) fn with_partner(self, half: Half, there: u32) -> Beside
+    pub(crate) fn with_partner(self, half: Half, there: u32) -> CachedMatch
         ensures { result ≡ with_partner half there self }
     {
         match (half, self) {
-            (Half::Send, Beside::Received { from } | Beside::Exchanged { from, .. }) => {
-                Beside::Exchanged { to: there, from }
+            (Half::Send, CachedMatch::Received { from } | CachedMatch::Exchanged { from, .. }) => {
+                CachedMatch::Exchanged { to: there, from }
             }
-            (Half::Send, _) => Beside::Sent { to: there },
-            (Half::Recv, Beside::Sent { to } | Beside::Exchanged { to, .. }) => {
-                Beside::Exchanged { to, from: there }
+            (Half::Send, _) => CachedMatch::Sent { to: there },
+            (Half::Recv, CachedMatch::Sent { to } | CachedMatch::Exchanged { to, .. }) => {
+                CachedMatch::Exchanged { to, from: there }
             }
-            (Half::Recv, _) => Beside::Received { from: there },
+            (Half::Recv, _) => CachedMatch::Received { from: there },
         }
     }
 }

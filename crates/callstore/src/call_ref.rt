@@ -1,23 +1,23 @@
 //! A call that is kept, seen in its place.
 
 ghost use Rattle.std.specs.Prelude.{◌≡◌, length};
-ghost use Rattle.mpicall.specs.Does.{does_of};
+ghost use Rattle.mpicall.specs.Effect.{effect_of};
 ghost use Rattle.mpicall.specs.Ending.{ends_list};
-ghost use Rattle.callnotes.specs.Envelopes.{message_of, probed_message};
-ghost use Rattle.callnotes.specs.Requests.{starts, completes};
-ghost use Rattle.callnotes.specs.Waves.{joins};
-ghost use Rattle.callnotes.specs.Kinds.{bytes_told, kind_of, mode_of};
-ghost use Rattle.callnotes.specs.Often.{kind_no};
-ghost use Rattle.callnotes.specs.inner.Packed.{IsStored, unpack};
+ghost use Rattle.callstore.specs.Envelopes.{message_of, probed_message};
+ghost use Rattle.callstore.specs.Requests.{starts, completes};
+ghost use Rattle.callstore.specs.Waves.{joins};
+ghost use Rattle.callstore.specs.Kinds.{bytes_told, kind_of, mode_of};
+ghost use Rattle.callstore.specs.Hot.{hot_kind};
+ghost use Rattle.callstore.specs.inner.Packed.{IsStored, unpack};
 
 use crate::envelope::{Half, Message, message_by, probed_by};
+use crate::hot::{ANY, COLL, IRECV, ISEND, RECV, SEND, WAIT, WAITALL};
 use crate::note::Note;
-use crate::often::{ANY, COLL, IRECV, ISEND, RECV, SEND, WAIT, WAITALL};
 use crate::packed::{Entry, Packed};
 use crate::packing::unpack;
 use crate::wave::joined_by;
 use mpicall::call::{Kind, Mode, Peer};
-use mpicall::does::Does;
+use mpicall::effect::Effect;
 use mpicall::record::Record;
 use mpicall::word::Name;
 use std::marker::Model;
@@ -32,7 +32,7 @@ pub struct CallRef<'a> {
 
 impl<'a> Model for CallRef<'a> {
     ghost use Rattle.mpicall.specs.declared.call.Call.{Call};
-    ghost use Rattle.callnotes.specs.inner.Packed.{IsStored, unpack};
+    ghost use Rattle.callstore.specs.inner.Packed.{IsStored, unpack};
 
     ghost Value = { Call };
 
@@ -72,10 +72,10 @@ impl<'a> CallRef<'a> {
 
     /// What the call does over its communicator.
     #[inline(always)]
-    pub fn does(&self) -> Does
-        ensures { result ≡ does_of self.now }
+    pub fn effect(&self) -> Effect
+        ensures { result ≡ effect_of self.now }
     {
-        self.entry.call.does()
+        self.entry.call.effect()
     }
 
     /// The message that a half of the call sends or receives. None where the call has no such half, and
@@ -84,7 +84,7 @@ impl<'a> CallRef<'a> {
     pub fn message(&self, half: Half) -> Option<Message>
         ensures { result ≡ message_of half self.now }
     {
-        message_by(half, &self.does())
+        message_by(half, &self.effect())
     }
 
     /// The message that the call probes for. None where it is no probe, and where its source is
@@ -93,7 +93,7 @@ impl<'a> CallRef<'a> {
     pub fn probed(&self) -> Option<Message>
         ensures { result ≡ probed_message self.now }
     {
-        probed_by(&self.does())
+        probed_by(&self.effect())
     }
 
     /// The mode of a call that sends, blocking or not; None for every other call, MPI_Sendrecv too.
@@ -139,8 +139,8 @@ impl<'a> CallRef<'a> {
     /// The number of the call's kind.
     #[inline(always)]
     #[tactic(auto, using(crate::proofs::PackedLemmas::kind_unpacked))]
-    pub fn kind_no(&self) -> u8
-        ensures { result ≡ kind_no self.now }
+    pub fn hot_kind(&self) -> u8
+        ensures { result ≡ hot_kind self.now }
     {
         match self.entry.call {
             Packed::Send { .. } => SEND,
@@ -172,7 +172,7 @@ impl<'a> CallRef<'a> {
     {
         match self.entry.call {
             Packed::Coll { comm, .. } | Packed::Icoll { comm, .. } => Some(comm),
-            _ => joined_by(&self.does()),
+            _ => joined_by(&self.effect()),
         }
     }
 

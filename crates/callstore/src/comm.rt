@@ -1,20 +1,20 @@
 //! Which communicators a rank holds.
 
 ghost use Rattle.std.specs.Prelude.{◌≡◌};
-ghost use Rattle.mpicall.specs.Does.{does_of};
+ghost use Rattle.mpicall.specs.Effect.{effect_of};
 ghost use Rattle.mpicall.specs.declared.call.Call.{Call as CallValue};
-ghost use Rattle.callnotes.specs.Communicators.{makes};
+ghost use Rattle.callstore.specs.Communicators.{makes};
 
 use mpicall::call::Call;
-use mpicall::does::Does;
+use mpicall::effect::Effect;
 
 /// The communicator that a call which does this makes for its rank, if it makes one.
 #[inline(always)]
-pub(crate) fn made_by(does: &Does) -> Option<u16>
-    ensures { (call : CallValue) → does_of call ≡ does.now → result ≡ makes call }
+pub(crate) fn made_by(effect: &Effect) -> Option<u16>
+    ensures { (call : CallValue) → effect_of call ≡ effect.now → result ≡ makes call }
 {
-    match *does {
-        Does::Joins { made, .. } => made,
+    match *effect {
+        Effect::Joins { made, .. } => made,
         _ => None,
     }
 }
@@ -23,5 +23,5 @@ pub(crate) fn made_by(does: &Does) -> Option<u16>
 pub fn makes(call: &Call) -> Option<u16>
     ensures { result ≡ makes call.now }
 {
-    made_by(&call.does())
+    made_by(&call.effect())
 }

@@ -4,12 +4,12 @@ ghost use Rattle.std.specs.Prelude.{◌≡◌, ◌+◌, ◌*◌, ◌^◌, Some};
 ghost use Rattle.std.specs.Hash as fed;
 ghost use Rattle.std.specs.Cmp.Rules.{hashing};
 ghost use Rattle.std.proofs.Common.{rules};
-ghost use Rattle.mpicall.specs.Does.{does_of};
+ghost use Rattle.mpicall.specs.Effect.{effect_of};
 ghost use Rattle.mpicall.specs.declared.call.Call.{Call as CallValue};
-ghost use Rattle.callnotes.specs.Envelopes.{other_half, message, message_by, message_of, probed_message, envelope_by, envelope_of, rank_of_half};
+ghost use Rattle.callstore.specs.Envelopes.{other_half, message, message_by, message_of, probed_message, envelope_by, envelope_of, rank_of_half};
 
 use mpicall::call::{Call, Peer};
-use mpicall::does::{Does, Side};
+use mpicall::effect::{Effect, Side};
 use mpicall::record::Record;
 use mpigroup::head::Head;
 use std::hash::{Hash, Hasher};
@@ -83,13 +83,13 @@ pub(crate) fn message_with(comm: u16, side: Side) -> Option<Message>
 
 /// The message that a half of what a call does sends or receives.
 #[inline(always)]
-pub(crate) fn message_by(half: Half, does: &Does) -> Option<Message>
-    ensures { result ≡ message_by half does.now }
+pub(crate) fn message_by(half: Half, effect: &Effect) -> Option<Message>
+    ensures { result ≡ message_by half effect.now }
 {
-    match (half, *does) {
+    match (half, *effect) {
         (
             Half::Send,
-            Does::Exchanges {
+            Effect::PointToPoint {
                 comm,
                 sent: Some(side),
                 ..
@@ -97,7 +97,7 @@ pub(crate) fn message_by(half: Half, does: &Does) -> Option<Message>
         )
         | (
             Half::Recv,
-            Does::Exchanges {
+            Effect::PointToPoint {
                 comm,
                 received: Some(side),
                 ..
@@ -112,16 +112,16 @@ pub(crate) fn message_by(half: Half, does: &Does) -> Option<Message>
 pub fn message_of(half: Half, call: &Call) -> Option<Message>
     ensures { result ≡ message_of half call.now }
 {
-    message_by(half, &call.does())
+    message_by(half, &call.effect())
 }
 
 /// The message that a call which does this probes for.
 #[inline(always)]
-pub(crate) fn probed_by(does: &Does) -> Option<Message>
-    ensures { (call : CallValue) → does_of call ≡ does.now → result ≡ probed_message call }
+pub(crate) fn probed_by(effect: &Effect) -> Option<Message>
+    ensures { (call : CallValue) → effect_of call ≡ effect.now → result ≡ probed_message call }
 {
-    match *does {
-        Does::Exchanges {
+    match *effect {
+        Effect::PointToPoint {
             comm,
             probed: Some(side),
             ..
@@ -154,10 +154,10 @@ pub fn envelope_by(half: Half, message: Message, own: u16) -> Envelope
 
 /// The envelope of the message that a half of what the rank's call does sends or receives.
 #[inline(always)]
-pub(crate) fn envelope_in(head: &Head, rank: u16, half: Half, does: &Does) -> Option<Envelope>
-    ensures { (call : CallValue) → does_of call ≡ does.now → result ≡ envelope_of head.now rank half call }
+pub(crate) fn envelope_in(head: &Head, rank: u16, half: Half, effect: &Effect) -> Option<Envelope>
+    ensures { (call : CallValue) → effect_of call ≡ effect.now → result ≡ envelope_of head.now rank half call }
 {
-    let message = message_by(half, does)?;
+    let message = message_by(half, effect)?;
     let own = head.group_rank(message.comm, rank)?;
     Some(envelope_by(half, message, own))
 }
@@ -167,7 +167,7 @@ pub(crate) fn envelope_in(head: &Head, rank: u16, half: Half, does: &Does) -> Op
 pub fn envelope_of(head: &Head, rank: u16, half: Half, call: &Record) -> Option<Envelope>
     ensures { result ≡ envelope_of head.now rank half call.now }
 {
-    envelope_in(head, rank, half, &call.as_call().does())
+    envelope_in(head, rank, half, &call.as_call().effect())
 }
 
 /// The rank of the world whose calls have that half of the envelope's messages, if there is one.

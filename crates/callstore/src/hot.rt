@@ -10,7 +10,7 @@
 //! (`unreachable!`) is forgotten before looks are built, so looks ask for it.
 
 ghost use Rattle.std.specs.Prelude.{◌≡◌};
-ghost use Rattle.callnotes.specs.Often.{kind_no};
+ghost use Rattle.callstore.specs.Hot.{hot_kind};
 
 use mpicall::call::{Call, Peer};
 
@@ -36,8 +36,8 @@ pub const NONE: u8 = 8;
 
 /// The number of the call's kind; that of any call where its kind has no path of its own.
 #[inline(always)]
-pub fn kind_no(call: &Call) -> u8
-    ensures { result ≡ kind_no call.now }
+pub fn hot_kind(call: &Call) -> u8
+    ensures { result ≡ hot_kind call.now }
 {
     match call {
         Call::Send { .. } => SEND,
@@ -61,13 +61,13 @@ pub fn kind_no(call: &Call) -> u8
 macro_rules! by_kind {
     ($kind:expr, $($path:ident).+($($word:expr),+), $($others:tt)+) => {
         match $kind {
-            $crate::often::SEND => $($path).+::<{ $crate::often::SEND }>($($word),+),
-            $crate::often::RECV => $($path).+::<{ $crate::often::RECV }>($($word),+),
-            $crate::often::ISEND => $($path).+::<{ $crate::often::ISEND }>($($word),+),
-            $crate::often::IRECV => $($path).+::<{ $crate::often::IRECV }>($($word),+),
-            $crate::often::COLL => $($path).+::<{ $crate::often::COLL }>($($word),+),
-            $crate::often::WAIT => $($path).+::<{ $crate::often::WAIT }>($($word),+),
-            $crate::often::WAITALL => $($path).+::<{ $crate::often::WAITALL }>($($word),+),
+            $crate::hot::SEND => $($path).+::<{ $crate::hot::SEND }>($($word),+),
+            $crate::hot::RECV => $($path).+::<{ $crate::hot::RECV }>($($word),+),
+            $crate::hot::ISEND => $($path).+::<{ $crate::hot::ISEND }>($($word),+),
+            $crate::hot::IRECV => $($path).+::<{ $crate::hot::IRECV }>($($word),+),
+            $crate::hot::COLL => $($path).+::<{ $crate::hot::COLL }>($($word),+),
+            $crate::hot::WAIT => $($path).+::<{ $crate::hot::WAIT }>($($word),+),
+            $crate::hot::WAITALL => $($path).+::<{ $crate::hot::WAITALL }>($($word),+),
             $($others)+
         }
     };

@@ -14,8 +14,8 @@
 //! - Laws of waves, each on a function that does nothing: a wave has at most one call of each rank, and waves stay as
 //!   a recording goes on.
 //!
-//! The definitions stand in `specs/`, to be read in the order of docs/DEFINITIONS.md. `Beside`, `Notes`,
-//! `Often`, `Packed` and `Seats` say how calls are kept and which path they take; no contract of a crate
+//! The definitions stand in `specs/`, to be read in the order of docs/DEFINITIONS.md. `CachedMatch`, `Notes`,
+//! `Hot`, `Packed` and `Seats` say how calls are kept and which path they take; no contract of a crate
 //! above whose caller is a user of the library cites them. What only proofs and private contracts cite is in
 //! `specs/inner/`, and nobody has to believe it.
 //!
@@ -25,25 +25,25 @@
 //! ```text
 //! let mut notes = Notes::new(alloc, 2)?;
 //! notes.reserve(0, &isend)?;
-//! notes.note(0, &isend, Beside::Nothing, &[]);            // rank 0: isend 7 0 1 5
+//! notes.note(0, &isend, CachedMatch::Nothing, &[]);            // rank 0: isend 7 0 1 5
 //! notes.get(0, 0)?.message(Half::Send)                    // communicator 0, peer 1, tag 5
 //! ```
 #![tactic(auto)]
 
-pub mod beside;
+pub mod cached_match;
 pub mod call_ref;
 pub mod comm;
 pub mod envelope;
 mod growth;
+pub mod hot;
 pub mod limits;
 pub mod next_call;
 pub mod note;
 pub mod notes;
-pub mod often;
 mod packed;
+mod packed_fields;
 mod packing;
 pub mod place_lists;
 mod rank_notes;
 pub mod request;
-mod slots;
 pub mod wave;

@@ -1,19 +1,19 @@
 //! The next call of a rank, while it is put in.
 
 ghost use Rattle.std.specs.Prelude.{◌≡◌, ◌≤◌, length};
-ghost use Rattle.mpicall.specs.Does.{does_of};
+ghost use Rattle.mpicall.specs.Effect.{effect_of};
 ghost use Rattle.mpicall.specs.declared.limits.TheConstants.{MOST_REQUESTS};
-ghost use Rattle.callnotes.specs.Communicators.{makes, comm_of};
-ghost use Rattle.callnotes.specs.Envelopes.{envelope_of, probed_message};
-ghost use Rattle.callnotes.specs.Requests.{starts, waits_for, completes};
-ghost use Rattle.callnotes.specs.Waves.{joins};
+ghost use Rattle.callstore.specs.Communicators.{makes, comm_of};
+ghost use Rattle.callstore.specs.Envelopes.{envelope_of, probed_message};
+ghost use Rattle.callstore.specs.Requests.{starts, waits_for, completes};
+ghost use Rattle.callstore.specs.Waves.{joins};
 
 use crate::comm::made_by;
 use crate::envelope::{Envelope, Half, Message, envelope_in, probed_by};
 use crate::request::{completes, starts, waits_for};
 use crate::wave::joined_by;
 use mpicall::call::Call;
-use mpicall::does::Does;
+use mpicall::effect::Effect;
 use mpicall::record::Record;
 use mpigroup::head::Head;
 use std::marker::Model;
@@ -23,7 +23,7 @@ use std::marker::Model;
 #[derive(Drop)]
 pub struct NextCall<'a> {
     record: &'a Record,
-    does: Does,
+    effect: Effect,
     started: Option<u32>,
     named: &'a [u32],
     completed: &'a [u32],
@@ -31,16 +31,16 @@ pub struct NextCall<'a> {
 
 impl<'a> Model for NextCall<'a> {
     ghost use Rattle.std.specs.Prelude.{◌≡◌, ◌≤◌, length};
-    ghost use Rattle.mpicall.specs.Does.{does_of};
+    ghost use Rattle.mpicall.specs.Effect.{effect_of};
     ghost use Rattle.mpicall.specs.declared.call.Call.{Call};
     ghost use Rattle.mpicall.specs.declared.limits.TheConstants.{MOST_REQUESTS};
-    ghost use Rattle.callnotes.specs.Requests.{starts, waits_for, completes};
+    ghost use Rattle.callstore.specs.Requests.{starts, waits_for, completes};
 
     ghost Value = { Call };
 
     ghost view = { λ n. n.record.now };
 
-    ghost invariant = { λ n. (n.does ≡ does_of n.record.now) × ((n.started ≡ starts n.record.now) × ((n.named.now ≡ waits_for n.record.now) × ((length n.named.now ≤ MOST_REQUESTS) × (n.completed.now ≡ completes n.record.now)))) };
+    ghost invariant = { λ n. (n.effect ≡ effect_of n.record.now) × ((n.started ≡ starts n.record.now) × ((n.named.now ≡ waits_for n.record.now) × ((length n.named.now ≤ MOST_REQUESTS) × (n.completed.now ≡ completes n.record.now)))) };
 }
 
 impl<'a> NextCall<'a> {
@@ -52,7 +52,7 @@ impl<'a> NextCall<'a> {
         let own = call.as_call();
         NextCall {
             record: call,
-            does: own.does(),
+            effect: own.effect(),
             started: starts(own),
             named: waits_for(own),
             completed: completes(own),
@@ -77,10 +77,10 @@ impl<'a> NextCall<'a> {
 
     /// What the call does.
     #[inline(always)]
-    pub fn does(&self) -> &Does
-        ensures { result.now ≡ does_of self.now }
+    pub fn effect(&self) -> &Effect
+        ensures { result.now ≡ effect_of self.now }
     {
-        &self.does
+        &self.effect
     }
 
     /// The request that the call starts, if it starts one.
@@ -113,9 +113,9 @@ impl<'a> NextCall<'a> {
     pub fn comm(&self) -> Option<u16>
         ensures { result ≡ comm_of self.now }
     {
-        match self.does {
-            Does::Exchanges { comm, .. } | Does::Joins { comm, .. } => Some(comm),
-            Does::Alone => None,
+        match self.effect {
+            Effect::PointToPoint { comm, .. } | Effect::Joins { comm, .. } => Some(comm),
+            Effect::Local => None,
         }
     }
 
@@ -124,7 +124,7 @@ impl<'a> NextCall<'a> {
     pub fn joins(&self) -> Option<u16>
         ensures { result ≡ joins self.now }
     {
-        joined_by(&self.does)
+        joined_by(&self.effect)
     }
 
     /// The communicator that the call makes for its rank, if it makes one.
@@ -132,7 +132,7 @@ impl<'a> NextCall<'a> {
     pub fn makes(&self) -> Option<u16>
         ensures { result ≡ makes self.now }
     {
-        made_by(&self.does)
+        made_by(&self.effect)
     }
 
     /// The message that the call probes for.
@@ -140,7 +140,7 @@ impl<'a> NextCall<'a> {
     pub fn probed(&self) -> Option<Message>
         ensures { result ≡ probed_message self.now }
     {
-        probed_by(&self.does)
+        probed_by(&self.effect)
     }
 
     /// The envelope of the message that a half of the rank's call sends or receives. None where the call
@@ -149,6 +149,6 @@ impl<'a> NextCall<'a> {
     pub fn envelope(&self, head: &Head, rank: u16, half: Half) -> Option<Envelope>
         ensures { result ≡ envelope_of head.now rank half self.now }
     {
-        envelope_in(head, rank, half, &self.does)
+        envelope_in(head, rank, half, &self.effect)
     }
 }

@@ -1,10 +1,10 @@
 //! A noted call, with what is kept with it.
 
 ghost use Rattle.std.specs.Prelude.{◌≡◌, ◌==◌, length, slice_get, find};
-ghost use Rattle.callnotes.specs.Beside.{partner_in, wave_in};
-ghost use Rattle.callnotes.specs.Requests.{completes};
-ghost use Rattle.callnotes.specs.Notes.{completed_starts, start_of};
-ghost use Rattle.callnotes.specs.inner.Packed.{IsStored, req_at, noted_of};
+ghost use Rattle.callstore.specs.CachedMatch.{partner_in, wave_in};
+ghost use Rattle.callstore.specs.Requests.{completes};
+ghost use Rattle.callstore.specs.Notes.{completed_starts, start_of};
+ghost use Rattle.callstore.specs.inner.Packed.{IsStored, req_at, noted_of};
 
 use crate::call_ref::CallRef;
 use crate::envelope::Half;
@@ -30,8 +30,8 @@ pub struct Note<'a> {
 }
 
 impl<'a> Model for Note<'a> {
-    ghost use Rattle.callnotes.specs.Notes.{Noted};
-    ghost use Rattle.callnotes.specs.inner.Packed.{IsStored, noted_of};
+    ghost use Rattle.callstore.specs.Notes.{Noted};
+    ghost use Rattle.callstore.specs.inner.Packed.{IsStored, noted_of};
 
     ghost Value = { Noted };
 
@@ -65,17 +65,17 @@ impl<'a> Note<'a> {
     /// The place of a half's partner that is kept with the call.
     #[inline(always)]
     pub fn partner(&self, half: Half) -> Option<u32>
-        ensures { result ≡ partner_in half self.now.beside }
+        ensures { result ≡ partner_in half self.now.cached }
     {
-        self.entry.beside.partner(half)
+        self.entry.cached.partner(half)
     }
 
     /// How many collectives of its communicator its rank made before, where the call is one.
     #[inline(always)]
     pub fn joined(&self) -> u32
-        ensures { result ≡ wave_in self.now.beside }
+        ensures { result ≡ wave_in self.now.cached }
     {
-        self.entry.beside.wave()
+        self.entry.cached.wave()
     }
 
     /// The places that started the requests which the call names, in its order; none where it is no wait.

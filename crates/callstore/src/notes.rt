@@ -1,12 +1,12 @@
 //! The noted calls of all ranks.
 
 ghost use Rattle.std.specs.Prelude.{◌≡◌, ◌<◌, ◌≤◌, [], length, replicate, slice_get, IfOk, IfSome, OnOk};
-ghost use Rattle.callnotes.specs.Limits.{most_calls};
-ghost use Rattle.callnotes.specs.Requests.{waits_for};
-ghost use Rattle.callnotes.specs.Notes.{notes_of, with_note, partnered, calls_in, AreStarts, HasRoom};
-ghost use Rattle.callnotes.specs.Packed.{noted};
+ghost use Rattle.callstore.specs.Limits.{most_calls};
+ghost use Rattle.callstore.specs.Requests.{waits_for};
+ghost use Rattle.callstore.specs.Notes.{notes_of, with_note, partnered, calls_in, AreStarts, HasRoom};
+ghost use Rattle.callstore.specs.Packed.{noted};
 
-use crate::beside::Beside;
+use crate::cached_match::CachedMatch;
 use crate::envelope::Half;
 use crate::note::Note;
 use crate::rank_notes::RankNotes;
@@ -29,7 +29,7 @@ impl Drop for Notes {
 
 impl Model for Notes {
     ghost use Rattle.std.specs.Prelude.{◌<◌, ◌^◌, length, map};
-    ghost use Rattle.callnotes.specs.Notes.{Notebook};
+    ghost use Rattle.callstore.specs.Notes.{Notebook};
 
     ghost Value = { Notebook };
 
@@ -87,15 +87,15 @@ impl Notes {
     /// Notes the rank's next call, with what is kept with it and the places that started the requests which
     /// it names: one for each, in its order. This takes no memory.
     #[inline(always)]
-    pub fn note(&mut self, rank: u16, call: &Record, beside: Beside, starts: &[u32])
+    pub fn note(&mut self, rank: u16, call: &Record, cached: CachedMatch, starts: &[u32])
         requires is_rank { rank < length self.old.lists }
         requires room { HasRoom self.old rank call.now }
         requires starts { AreStarts (calls_in (notes_of self.old.lists rank)) call.now starts.now }
         requires few { length (notes_of self.old.lists rank) < most_calls }
-        ensures { self.new.lists ≡ with_note self.old.lists rank (noted call.now beside starts.now) }
+        ensures { self.new.lists ≡ with_note self.old.lists rank (noted call.now cached starts.now) }
     {
         let list = &mut self.lists[usize::from(rank)];
-        list.note(call, beside, starts);
+        list.note(call, cached, starts);
     }
 
     /// Keeps the place of a half's partner with the rank's call at the place, if one stands there.

@@ -6,16 +6,16 @@
 
 ghost use Rattle.std.specs.Prelude.{◌≡◌, List, ℕ, unwrap_or};
 ghost use Rattle.mpicall.specs.declared.call.Call.TheVariants.{Finalize};
-ghost use Rattle.mpicall.specs.Does.{does_of};
-ghost use Rattle.callnotes.specs.Requests.{starts};
-ghost use Rattle.callnotes.specs.inner.Packed.{request_of, plain_of, unpack};
-ghost use Rattle.callnotes.specs.declared.packed.Entry.{Entry};
+ghost use Rattle.mpicall.specs.Effect.{effect_of};
+ghost use Rattle.callstore.specs.Requests.{starts};
+ghost use Rattle.callstore.specs.inner.Packed.{request_of, plain_of, unpack};
+ghost use Rattle.callstore.specs.declared.packed.Entry.{Entry};
 
-use crate::beside::Beside;
-use crate::slots::{PackedBytes, PackedPeer};
+use crate::cached_match::CachedMatch;
+use crate::packed_fields::{PackedBytes, PackedPeer};
 use mpicall::call::{Call, Kind, Mode};
-use mpicall::does::Does;
-use mpicall::laid::Laid;
+use mpicall::call_args::CallArgs;
+use mpicall::effect::Effect;
 use mpicall::word::{Name, root_of};
 use std::mem::size_of;
 
@@ -108,7 +108,7 @@ pub(crate) enum Packed {
 #[derive(Clone, Copy)]
 pub(crate) struct Entry {
     pub call: Packed,
-    pub beside: Beside,
+    pub cached: CachedMatch,
 }
 
 const _: () = prove!(size_of::<Entry>() <= 32);
@@ -120,13 +120,13 @@ impl Packed {
         ensures { result ≡ plain_of self.now }
     {
         let call = match *self {
-            Packed::Nothing { name } => name.call(Laid::Nothing),
+            Packed::Nothing { name } => name.call(CallArgs::Nothing),
             Packed::Message {
                 name,
                 comm,
                 source,
                 tag,
-            } => name.call(Laid::Message {
+            } => name.call(CallArgs::Message {
                 comm,
                 source: source.peer(),
                 tag,
@@ -139,7 +139,7 @@ impl Packed {
                 send_tag,
                 recv_tag,
                 bytes,
-            } => name.call(Laid::Exchange {
+            } => name.call(CallArgs::Exchange {
                 comm,
                 dest: dest.peer(),
                 send_tag,
@@ -147,14 +147,14 @@ impl Packed {
                 recv_tag,
                 bytes: bytes.bytes(),
             }),
-            Packed::Copy { name, comm, new } => name.call(Laid::Copy { comm, new }),
+            Packed::Copy { name, comm, new } => name.call(CallArgs::Copy { comm, new }),
             Packed::Split {
                 name,
                 comm,
                 colour,
                 key,
                 new,
-            } => name.call(Laid::Split {
+            } => name.call(CallArgs::Split {
                 comm,
                 colour,
                 key,
@@ -166,19 +166,19 @@ impl Packed {
     }
 
     /// What a call of a name does over its communicator; nothing for every other call.
-    fn plain_does(&self) -> Does
-        ensures { result ≡ does_of (unwrap_or (plain_of self.now) Finalize) }
+    fn plain_does(&self) -> Effect
+        ensures { result ≡ effect_of (unwrap_or (plain_of self.now) Finalize) }
     {
         match self.plain() {
-            Some(call) => call.does(),
-            None => Does::Alone,
+            Some(call) => call.effect(),
+            None => Effect::Local,
         }
     }
 
     /// What the call does over its communicator.
     #[inline(always)]
-    pub(crate) fn does(&self) -> Does
-        ensures { (entries : List Entry) (starts : List ℕ) → result ≡ does_of (unpack entries starts self.now) }
+    pub(crate) fn effect(&self) -> Effect
+        ensures { (entries : List Entry) (starts : List ℕ) → result ≡ effect_of (unpack entries starts self.now) }
     {
         match *self {
             Packed::Send {
@@ -192,35 +192,35 @@ impl Packed {
                 dest,
                 tag,
                 ..
-            } => Does::sends(comm, dest.peer(), tag),
+            } => Effect::sends(comm, dest.peer(), tag),
             Packed::Recv { comm, source, tag }
             | Packed::Irecv {
                 comm,
                 source,
                 tag,
                 ..
-            } => Does::receives(comm, source.peer(), tag),
-            Packed::Coll { comm, kind } | Packed::Icoll { comm, kind, .. } => Does::Joins {
+            } => Effect::receives(comm, source.peer(), tag),
+            Packed::Coll { comm, kind } | Packed::Icoll { comm, kind, .. } => Effect::Joins {
                 comm,
                 root: root_of(kind),
                 made: None,
             },
-            Packed::Wait { .. } | Packed::Waitall { .. } | Packed::Waitany { .. } => Does::Alone,
+            Packed::Wait { .. } | Packed::Waitall { .. } | Packed::Waitany { .. } => Effect::Local,
             // Taken apart and put together, so that what the other arms answer needs no place in memory.
             _ => match self.plain_does() {
-                Does::Exchanges {
+                Effect::PointToPoint {
                     comm,
                     sent,
                     received,
                     probed,
-                } => Does::Exchanges {
+                } => Effect::PointToPoint {
                     comm,
                     sent,
                     received,
                     probed,
                 },
-                Does::Joins { comm, root, made } => Does::Joins { comm, root, made },
-                Does::Alone => Does::Alone,
+                Effect::Joins { comm, root, made } => Effect::Joins { comm, root, made },
+                Effect::Local => Effect::Local,
             },
         }
     }

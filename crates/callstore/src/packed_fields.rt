@@ -2,7 +2,7 @@
 //! and the bytes themselves.
 
 ghost use Rattle.std.specs.Prelude.{◌≡◌, ◌<◌, IfSome};
-ghost use Rattle.callnotes.specs.inner.Slots.{no_rank, no_bytes, FitsPeer};
+ghost use Rattle.callstore.specs.inner.PackedFields.{no_rank, no_bytes, FitsPeer};
 
 use mpicall::call::Peer;
 use std::marker::Model;
@@ -15,7 +15,7 @@ pub(crate) struct PackedPeer {
 
 impl Model for PackedPeer {
     ghost use Rattle.mpicall.specs.declared.call.Peer.{Peer};
-    ghost use Rattle.callnotes.specs.inner.Slots.{peer_at, rank_of};
+    ghost use Rattle.callstore.specs.inner.PackedFields.{peer_at, rank_of};
 
     ghost Value = { Peer };
 
@@ -58,7 +58,7 @@ pub(crate) struct PackedBytes {
 
 impl Model for PackedBytes {
     ghost use Rattle.std.specs.Prelude.{Option, ℕ};
-    ghost use Rattle.callnotes.specs.inner.Slots.{bytes_at, count_of};
+    ghost use Rattle.callstore.specs.inner.PackedFields.{bytes_at, count_of};
 
     ghost Value = { Option ℕ };
 

@@ -3,18 +3,18 @@
 ghost use Rattle.std.specs.Prelude.{◌≡◌, ◌+◌, ◌≤◌, [], ◌++◌, List, ℕ, length, IsTrue};
 ghost use Rattle.std.specs.List.{list_all};
 ghost use Rattle.mpicall.specs.Argument.{is_in_range};
-ghost use Rattle.mpicall.specs.Laid.{laid_arguments};
-ghost use Rattle.mpicall.specs.inner.Laid.{call_from};
+ghost use Rattle.mpicall.specs.CallArgs.{args_in_line};
+ghost use Rattle.mpicall.specs.inner.CallArgs.{call_from};
 ghost use Rattle.mpicall.specs.Limits.{few_enough, names_enough, in_ranges};
-ghost use Rattle.callnotes.specs.Requests.{waits_for};
-ghost use Rattle.callnotes.specs.Notes.{listed};
-ghost use Rattle.callnotes.specs.inner.Packed.{request_at, req_at, reqs_at, part, unpack, unpack_starts, end_of, listed_starts};
-ghost use Rattle.callnotes.specs.declared.packed.Entry.{Entry};
+ghost use Rattle.callstore.specs.Requests.{waits_for};
+ghost use Rattle.callstore.specs.Notes.{listed};
+ghost use Rattle.callstore.specs.inner.Packed.{request_at, req_at, reqs_at, part, unpack, unpack_starts, end_of, listed_starts};
+ghost use Rattle.callstore.specs.declared.packed.Entry.{Entry};
 
 use crate::packed::{Entry, Packed};
-use crate::slots::{PackedBytes, PackedPeer};
+use crate::packed_fields::{PackedBytes, PackedPeer};
 use mpicall::call::Call;
-use mpicall::laid::Laid;
+use mpicall::call_args::CallArgs;
 use mpicall::limits::MOST_REQUESTS;
 use mpicall::reqs::Reqs;
 use mpicall::word::Name;
@@ -51,21 +51,21 @@ fn count(reqs: &Reqs) -> u8
 }
 
 /// A name and what follows it, packed.
-fn pack_laid(name: Name, laid: Laid) -> Packed
-    requires { IsTrue (list_all is_in_range (laid_arguments laid)) }
-    ensures call { (entries : List Entry) (starts : List ℕ) → unpack entries starts result ≡ call_from name laid }
+fn pack_args(name: Name, call_args: CallArgs) -> Packed
+    requires { IsTrue (list_all is_in_range (args_in_line call_args)) }
+    ensures call { (entries : List Entry) (starts : List ℕ) → unpack entries starts result ≡ call_from name call_args }
     ensures starts { (starts : List ℕ) → unpack_starts starts result ≡ [] }
     ensures end { end_of result ≡ 0 }
 {
-    match laid {
-        Laid::Nothing => Packed::Nothing { name },
-        Laid::Message { comm, source, tag } => Packed::Message {
+    match call_args {
+        CallArgs::Nothing => Packed::Nothing { name },
+        CallArgs::Message { comm, source, tag } => Packed::Message {
             name,
             comm,
             source: PackedPeer::of(source),
             tag,
         },
-        Laid::Exchange {
+        CallArgs::Exchange {
             comm,
             dest,
             send_tag,
@@ -81,8 +81,8 @@ fn pack_laid(name: Name, laid: Laid) -> Packed
             recv_tag,
             bytes: PackedBytes::of(bytes),
         },
-        Laid::Copy { comm, new } => Packed::Copy { name, comm, new },
-        Laid::Split {
+        CallArgs::Copy { comm, new } => Packed::Copy { name, comm, new },
+        CallArgs::Split {
             comm,
             colour,
             key,
@@ -165,8 +165,8 @@ pub(crate) fn pack(call: &Call, first: u32, starts: &[u32]) -> Packed
             first,
             count: count(reqs),
         },
-        _ => match call.laid() {
-            Some((name, laid)) => pack_laid(name, laid),
+        _ => match call.call_args() {
+            Some((name, call_args)) => pack_args(name, call_args),
             None => Packed::Nothing {
                 name: Name::Finalize,
             },

@@ -1,7 +1,7 @@
 //! Lists of places by numbers.
 
 ghost use Rattle.std.specs.Prelude.{◌≡◌, ◌<◌, [], ◌∷◌, ◌++◌, length, replicate, slice_get, IfOk, OnErr, OnOk};
-ghost use Rattle.callnotes.specs.Seats.{list_in, with_place_in, HasRoomIn};
+ghost use Rattle.callstore.specs.Seats.{list_in, with_place_in, HasRoomIn};
 
 use crate::growth::more_room;
 use std::alloc::{AllocError, Global};
@@ -19,7 +19,7 @@ struct PlaceList {
 impl Model for PlaceList {
     ghost use Rattle.std.specs.Prelude.{length};
     ghost use Rattle.std.specs.Vec.{vec_capacity};
-    ghost use Rattle.callnotes.specs.inner.Seats.{Listed};
+    ghost use Rattle.callstore.specs.inner.Seats.{Listed};
 
     ghost Value = { Listed };
 
@@ -80,7 +80,7 @@ pub struct PlaceLists {
 
 impl Model for PlaceLists {
     ghost use Rattle.std.specs.Prelude.{map};
-    ghost use Rattle.callnotes.specs.Seats.{Seats};
+    ghost use Rattle.callstore.specs.Seats.{Seats};
 
     ghost Value = { Seats };
 

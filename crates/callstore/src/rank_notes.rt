@@ -1,12 +1,12 @@
 //! The noted calls of one rank.
 
 ghost use Rattle.std.specs.Prelude.{◌≡◌, ◌+◌, ◌<◌, ◌≤◌, [], ◌∷◌, ◌++◌, length, slice_get, vec_len, vec_capacity, IfSome, OnOk};
-ghost use Rattle.callnotes.specs.Limits.{most_calls};
-ghost use Rattle.callnotes.specs.Requests.{waits_for};
-ghost use Rattle.callnotes.specs.Notes.{calls_in, partnered_in, AreStarts, Holds};
-ghost use Rattle.callnotes.specs.Packed.{noted};
+ghost use Rattle.callstore.specs.Limits.{most_calls};
+ghost use Rattle.callstore.specs.Requests.{waits_for};
+ghost use Rattle.callstore.specs.Notes.{calls_in, partnered_in, AreStarts, Holds};
+ghost use Rattle.callstore.specs.Packed.{noted};
 
-use crate::beside::Beside;
+use crate::cached_match::CachedMatch;
 use crate::envelope::Half;
 use crate::growth::more_room;
 use crate::note::Note;
@@ -49,8 +49,8 @@ impl Drop for RankNotes {
 
 impl Model for RankNotes {
     ghost use Rattle.std.specs.Prelude.{◌-◌, map, vec_len, vec_capacity};
-    ghost use Rattle.callnotes.specs.inner.Notes.{NotedList};
-    ghost use Rattle.callnotes.specs.inner.Packed.{AreStored, noted_of};
+    ghost use Rattle.callstore.specs.inner.Notes.{NotedList};
+    ghost use Rattle.callstore.specs.inner.Packed.{AreStored, noted_of};
 
     ghost Value = { NotedList };
 
@@ -100,18 +100,18 @@ impl RankNotes {
     /// Notes the rank's next call, with what is kept with it and the places that started the requests which
     /// it names.
     #[inline(always)]
-    pub(crate) fn note(&mut self, call: &Record, beside: Beside, starts: &[u32])
+    pub(crate) fn note(&mut self, call: &Record, cached: CachedMatch, starts: &[u32])
         requires room { Holds self.old.room call.now }
         requires starts { AreStarts (calls_in self.old.calls) call.now starts.now }
         requires few { length self.old.calls < most_calls }
-        ensures { self.new.calls ≡ self.old.calls ++ noted call.now beside starts.now ∷ [] }
+        ensures { self.new.calls ≡ self.old.calls ++ noted call.now cached starts.now ∷ [] }
     {
         let call = call.as_call();
         let packed = pack(call, self.starts.len() as u32, starts);
         push_all(&mut self.starts, listed_starts(call, starts));
         self.entries.push_reserved(Entry {
             call: packed,
-            beside,
+            cached,
         });
     }
 
@@ -122,7 +122,7 @@ impl RankNotes {
     {
         if (place as usize) < self.entries.len() {
             let entry = &mut self.entries[place as usize];
-            entry.beside = entry.beside.with_partner(half, there);
+            entry.cached = entry.cached.with_partner(half, there);
         }
     }
 

@@ -2,7 +2,7 @@
 
 ghost use Rattle.std.specs.Prelude.{◌≡◌, ◌≤◌, length};
 ghost use Rattle.mpicall.specs.declared.limits.TheConstants.{MOST_REQUESTS};
-ghost use Rattle.callnotes.specs.Requests.{starts, waits_for, completes, is_among};
+ghost use Rattle.callstore.specs.Requests.{starts, waits_for, completes, is_among};
 
 use mpicall::call::Call;
 use std::slice::from_ref;

@@ -1,20 +1,20 @@
 //! Waves: which calls of the members of a communicator belong together.
 
 ghost use Rattle.std.specs.Prelude.{◌≡◌};
-ghost use Rattle.mpicall.specs.Does.{does_of};
+ghost use Rattle.mpicall.specs.Effect.{effect_of};
 ghost use Rattle.mpicall.specs.declared.call.Call.{Call as CallValue};
-ghost use Rattle.callnotes.specs.Waves.{joins, AWaveHasOneCallOfEachRank, TheCallInAWaveJoinsIt, NoOtherCallIsInAWave, WavesStay};
+ghost use Rattle.callstore.specs.Waves.{joins, AWaveHasOneCallOfEachRank, TheCallInAWaveJoinsIt, NoOtherCallIsInAWave, WavesStay};
 
 use mpicall::call::Call;
-use mpicall::does::Does;
+use mpicall::effect::Effect;
 
 /// The communicator whose members all make a call that does this, if there is one.
 #[inline(always)]
-pub(crate) fn joined_by(does: &Does) -> Option<u16>
-    ensures { (call : CallValue) → does_of call ≡ does.now → result ≡ joins call }
+pub(crate) fn joined_by(effect: &Effect) -> Option<u16>
+    ensures { (call : CallValue) → effect_of call ≡ effect.now → result ≡ joins call }
 {
-    match *does {
-        Does::Joins { comm, .. } => Some(comm),
+    match *effect {
+        Effect::Joins { comm, .. } => Some(comm),
         _ => None,
     }
 }
@@ -23,7 +23,7 @@ pub(crate) fn joined_by(does: &Does) -> Option<u16>
 pub fn joins(call: &Call) -> Option<u16>
     ensures { result ≡ joins call.now }
 {
-    joined_by(&call.does())
+    joined_by(&call.effect())
 }
 
 /// A wave has at most one call of each rank: two calls of a rank in one wave are one call.

@@ -13,14 +13,14 @@ use Rattle.clap.specs.Kinds.{HasKind}
 use Rattle.clap.specs.Values.{kind_of}
 use Rattle.clap.specs.declared.error.Error.{Error}
 use Rattle.clap.specs.declared.error.kind.ErrorKind.TheVariants.{OutOfMemory}
-use Rattle.command.specs.declared.options.Options.{Options}
-use Rattle.command.specs.declared.words.Words.{Words}
-use Rattle.command.specs.declared.words.Words.TheVariants.{Check, Lint, Judge, Close, Said, NoMemory}
+use Rattle.cli.specs.declared.options.Options.{Options}
+use Rattle.cli.specs.declared.command_line.CommandLine.{CommandLine}
+use Rattle.cli.specs.declared.command_line.CommandLine.TheVariants.{Check, Lint, Judge, Close, Said, NoMemory}
 use Rattle.closing.specs.declared.choice.Choice.{Choice}
-use Rattle.command.specs.Asked.{Answers, CheckRun, Task, closing_of, judging_of, program, run_of, task_in, task_of, with_rules}
-use Rattle.command.specs.inner.Asked.{Names, Says, SaysError}
+use Rattle.cli.specs.CommandLine.{Answers, CheckRun, Task, closing_of, judging_of, program, run_of, task_in, task_of, with_rules}
+use Rattle.cli.specs.inner.CommandLine.{Names, Says, SaysError}
 
-pub said_where_none : (task : Option Task) (text : Text) (said : Words) → task ≡ None → Says text true said → Names task said
+pub said_where_none : (task : Option Task) (text : Text) (said : CommandLine) → task ≡ None → Says text true said → Names task said
 said_where_none task text (Check head files options) none says = absurd says
 said_where_none task text (Lint file) none says = absurd says
 said_where_none task text (Judge folder manner) none says = absurd says
@@ -86,7 +86,7 @@ pub program_is_free : is_simple_and_free program ≡ true
 unfolding program
 program_is_free = refl
 
-pub answers_named : (words : List Text) (found : Option (Text × List Row)) (asked : Words) → found ≡ subcommand_of program words → fault_of program words ≡ [] → Names (option_and_then (λ rows. task_of rows.0 rows.1) found) asked → Answers words asked
+pub answers_named : (words : List Text) (found : Option (Text × List Row)) (asked : CommandLine) → found ≡ subcommand_of program words → fault_of program words ≡ [] → Names (option_and_then (λ rows. task_of rows.0 rows.1) found) asked → Answers words asked
 unfolding task_in
 answers_named words found (Check head files options) is taken names = (taken, sym (ap (option_and_then (λ (rows : Text × List Row). task_of rows.0 rows.1)) is) ∙ names)
 answers_named words found (Lint file) is taken names = (taken, sym (ap (option_and_then (λ (rows : Text × List Row). task_of rows.0 rows.1)) is) ∙ names)
@@ -96,7 +96,7 @@ answers_named words found (Said text false) is taken names = let e : false ≡ t
 answers_named words found (Said text true) is taken names = inr (taken, sym (ap (option_and_then (λ (rows : Text × List Row). task_of rows.0 rows.1)) is) ∙ names.0)
 answers_named words found NoMemory is taken names = tt
 
-pub answers_error : (words : List Text) (error : Error) (asked : Words) → HasKind (fault_of program words) error → SaysError (kind_of error) asked → (kind_of error ≡ OutOfMemory → asked ≡ NoMemory) → Answers words asked
+pub answers_error : (words : List Text) (error : Error) (asked : CommandLine) → HasKind (fault_of program words) error → SaysError (kind_of error) asked → (kind_of error ≡ OutOfMemory → asked ≡ NoMemory) → Answers words asked
 answers_error words error (Check head files options) has says memory = absurd says
 answers_error words error (Lint file) has says memory = absurd says
 answers_error words error (Judge folder manner) has says memory = absurd says

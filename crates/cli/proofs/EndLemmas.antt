@@ -1,21 +1,21 @@
 -- How the end of the program follows from the ends of its parts.
 use Rattle.std.proofs.Common.{◌≡◌, ◌≢◌, ◌⊎◌, ◌∙◌, ℕ, Option, Result, Ok, Err, List, refl, sym, ap, subst, false, inl, inr, Global, String, string_bytes}
 use Rattle.clap.specs.Walk.{Text}
-use Rattle.command.specs.inner.Answer.{Complains, IsAnswered, IsOfError, Refuses, Shows}
-use Rattle.command.specs.Asked.{Answers}
-use Rattle.command.specs.Ends.{Ends, IsDone, IsFaultOf, IsLeftAt, IsTried, TellsLine}
-use Rattle.command.specs.Faults.{status_of_fault}
-use Rattle.command.specs.FaultTexts.{line_of_fault}
-use Rattle.command.specs.Outputs.{Written, Nothing, Whole, Broken, Becomes, FailsToWrite, Tries, Writes}
-use Rattle.command.specs.inner.Outputs.{LeavesAtFault}
-use Rattle.command.specs.declared.fault.Fault.{Fault}
-use Rattle.command.specs.declared.fault.Fault.TheVariants.{Memory, Write}
-use Rattle.command.specs.declared.program.Complaint.{Complaint}
-use Rattle.command.specs.declared.program.Complaint.TheVariants as complaint
-use Rattle.command.specs.declared.status.Status.{Status}
-use Rattle.command.specs.declared.status.Status.TheVariants as status
-use Rattle.command.specs.declared.words.Words.{Words}
-use Rattle.command.specs.declared.words.Words.TheVariants.{Check, Lint, Judge, Close, Said, NoMemory}
+use Rattle.cli.specs.inner.Answer.{Complains, IsAnswered, IsOfError, Refuses, Shows}
+use Rattle.cli.specs.CommandLine.{Answers}
+use Rattle.cli.specs.ExitContract.{Ends, IsDone, IsFaultOf, IsLeftAt, IsTried, TellsLine}
+use Rattle.cli.specs.Faults.{status_of_fault}
+use Rattle.cli.specs.FaultTexts.{line_of_fault}
+use Rattle.cli.specs.Outputs.{Written, Nothing, Whole, Broken, Becomes, FailsToWrite, Tries, Writes}
+use Rattle.cli.specs.inner.Outputs.{LeavesAtFault}
+use Rattle.cli.specs.declared.fault.Fault.{Fault}
+use Rattle.cli.specs.declared.fault.Fault.TheVariants.{Memory, Write}
+use Rattle.cli.specs.declared.program.Complaint.{Complaint}
+use Rattle.cli.specs.declared.program.Complaint.TheVariants as complaint
+use Rattle.cli.specs.declared.status.Status.{Status}
+use Rattle.cli.specs.declared.status.Status.TheVariants as status
+use Rattle.cli.specs.declared.command_line.CommandLine.{CommandLine}
+use Rattle.cli.specs.declared.command_line.CommandLine.TheVariants.{Check, Lint, Judge, Close, Said, NoMemory}
 
 -- with the status of standard error a fault's line is told there
 tells_line : (ended : Status) (fault : Fault) (out err : Written) → IsOfError ended → IsLeftAt fault out → IsTried (line_of_fault fault) err → TellsLine ended fault out err
@@ -24,7 +24,7 @@ tells_line status.Fault fault out err wants left tried = (left, tried)
 tells_line ended fault out err wants left tried = absurd wants
 
 -- where memory is wanted for a fault's line, that may be told of the same words
-memory_may_be : (told : Text → Option Text) (asked : Words) (fault : Fault) → IsFaultOf told asked fault → fault ≢ Write → IsFaultOf told asked Memory
+memory_may_be : (told : Text → Option Text) (asked : CommandLine) (fault : Fault) → IsFaultOf told asked fault → fault ≢ Write → IsFaultOf told asked Memory
 memory_may_be told (Check head files options) fault is_fault other = tt
 memory_may_be told (Lint file) fault is_fault other = tt
 memory_may_be told (Judge folder manner) fault is_fault other = tt
@@ -89,7 +89,7 @@ shown written failures told old new text (Err (complaint.Fault fault)) shows = (
 
 -- the end of the program
 module _ {O E : Type 0} (written : O → Option Text) (failures : O → ℕ) (written_errors : E → Option Text) (failed_errors : E → ℕ) (told : Text → Option Text) (old new : O) where
-  pub ends_at_once : (errors errors_after : E) (words : List Text) (asked : Words) (ended : Status) → Answers words asked → IsAnswered written failures (IsDone told asked) (IsFaultOf told asked) old new (Ok ended) → errors_after ≡ errors → Ends written failures written_errors failed_errors told old new errors errors_after words ended
+  pub ends_at_once : (errors errors_after : E) (words : List Text) (asked : CommandLine) (ended : Status) → Answers words asked → IsAnswered written failures (IsDone told asked) (IsFaultOf told asked) old new (Ok ended) → errors_after ≡ errors → Ends written failures written_errors failed_errors told old new errors errors_after words ended
   ends_at_once errors errors_after words asked ended answers is same = record {
     asked = asked;
     answers = answers;
@@ -100,7 +100,7 @@ module _ {O E : Type 0} (written : O → Option Text) (failures : O → ℕ) (wr
     errors = same;
   }
 
-  ends_in_fault : (errors errors_after : E) (words : List Text) (asked : Words) (ended : Status) (fault : Fault) → Answers words asked → IsOfError (status_of_fault fault) → IsFaultOf told asked fault → LeavesAtFault written failures old new fault → ended ≡ status_of_fault fault → Tries written_errors failed_errors errors errors_after (line_of_fault fault) →
+  ends_in_fault : (errors errors_after : E) (words : List Text) (asked : CommandLine) (ended : Status) (fault : Fault) → Answers words asked → IsOfError (status_of_fault fault) → IsFaultOf told asked fault → LeavesAtFault written failures old new fault → ended ≡ status_of_fault fault → Tries written_errors failed_errors errors errors_after (line_of_fault fault) →
       Ends written failures written_errors failed_errors told old new errors errors_after words ended
   ends_in_fault errors errors_after words asked ended fault answers wants is_fault left is tries =
       let out = of_left written failures old new fault left in
@@ -115,7 +115,7 @@ module _ {O E : Type 0} (written : O → Option Text) (failures : O → ℕ) (wr
         errors = err.1;
       }
 
-  pub ends_in_complaint : (errors errors_after : E) (words : List Text) (asked : Words) (ended : Status) (complaint : Complaint) → Answers words asked → IsAnswered written failures (IsDone told asked) (IsFaultOf told asked) old new (Err complaint) → Complains written_errors failed_errors errors errors_after complaint ended → Ends written failures written_errors failed_errors told old new errors errors_after words ended
+  pub ends_in_complaint : (errors errors_after : E) (words : List Text) (asked : CommandLine) (ended : Status) (complaint : Complaint) → Answers words asked → IsAnswered written failures (IsDone told asked) (IsFaultOf told asked) old new (Err complaint) → Complains written_errors failed_errors errors errors_after complaint ended → Ends written failures written_errors failed_errors told old new errors errors_after words ended
   ends_in_complaint errors errors_after words asked ended (complaint.Usage said) answers is complains =
       let err = of_tries written_errors failed_errors errors errors_after _ complains.1 in
       record {

@@ -3,7 +3,7 @@ use Rattle.std.proofs.Common.{◌≡◌, ℕ, ◌≤◌, List, ◌++◌, length,
 use Rattle.std.specs.Io.KnownBytes.{Keeps, prepend_known, Consumes, IsAtEnd}
 use Rattle.std.proofs.Math.Seq.{take-append_seam}
 use Rattle.std.proofs.lemmas.List.{take_all}
-use Rattle.command.specs.inner.Front.{IsFrontOf, deciding_bytes}
+use Rattle.cli.specs.inner.Front.{IsFrontOf, deciding_bytes}
 
 pub grows : (start old new : Option (List ℕ)) (front now given : List ℕ) → Keeps start (prepend_known front old) → Consumes old new given → now ≡ front ++ given → Keeps start (prepend_known now new)
 grows None old new front now given k c e = tt

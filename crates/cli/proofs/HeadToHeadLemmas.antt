@@ -1,7 +1,7 @@
 -- Two ranks that send to each other before either receives: what the words ask for, what the texts of the files say,
 -- and what comes of it.
 use Rattle.waitgraph.specs.declared.verdict.Verdict.{Verdict}
-use Rattle.reports.specs.declared.report.Format.{Format}
+use Rattle.report.specs.declared.write.Format.{Format}
 use Rattle.moves.specs.declared.reading.Reading.{Reading}
 use Rattle.std.proofs.Common.{◌≡◌, ◌≢◌, ◌∙◌, ℕ, Bool, true, false, Option, Some, None, Ok, Err, IfSome, List, [], ◌∷◌, ap, codes, inl, inr, length, map, refl, subst, sym, Bor}
 use Rattle.std.proofs.lemmas.List.{length-map}
@@ -13,7 +13,7 @@ use Rattle.clap.specs.Takes.{flags_pass, walk_passes}
 use Rattle.clap.specs.Walk.{Text, bundle_met, walked}
 use Rattle.mpicall.specs.Line.{fault_of_fields, fault_of_line}
 use Rattle.mpicall.specs.Number.{is_canonical, number_up_to}
-use Rattle.mpicall.specs.Reading.{call_of_fields, record_of_line}
+use Rattle.mpicall.specs.Parsing.{call_of_fields, record_of_line}
 use Rattle.mpicall.specs.Trace.{Trace, trace_of}
 use Rattle.mpicall.specs.declared.fault.Ending.TheVariants.{Sealed}
 use Rattle.mpicall.specs.Word.{collective_of, operation_of, word_of}
@@ -24,8 +24,8 @@ use Rattle.mpicall.specs.declared.call.Peer.TheVariants.{Rank}
 use Rattle.mpigroup.specs.Groups.{Groups, ranks_of}
 use Rattle.mpigroup.specs.HeadText.{ranks_of_fields, read_head}
 use Rattle.pairing.specs.Faults.{fault_of as fault_of_call}
-use Rattle.callnotes.specs.Recordings.{Lists}
-use Rattle.command.specs.declared.options.Options.{Options}
+use Rattle.callstore.specs.Recordings.{Lists}
+use Rattle.cli.specs.declared.options.Options.{Options}
 use Rattle.moves.specs.declared.reading.Reading.TheVariants.{Strict}
 use Rattle.findings.specs.Findings.{kind_found, kinds_of, root_found, roots_of, unreceived_at, unreceived_of, lost_at, lost_requests, group_at, wrong_groups_of, findings_of}
 use Rattle.waitgraph.specs.Stuck.{unmet_at}
@@ -34,24 +34,24 @@ use Rattle.waitgraph.specs.inner.Verdicts.{verdict_of}
 use Rattle.waitgraph.proofs.CauseLemmas.{causes_found}
 use Rattle.waitgraph.proofs.VerdictLemmas.{verdict_found}
 use Rattle.waitgraph.specs.declared.verdict.Verdict.TheVariants.{Hang}
-use Rattle.reports.specs.Reports.{report_of}
-use Rattle.reports.specs.TextReport.{text_report}
-use Rattle.reports.specs.declared.report.Format.TheVariants as format
-use Rattle.gather.specs.Answers.{fault_of_rank, recording_of_traces, refusal_of}
-use Rattle.command.proofs.TraceLemmas.{hold_read}
-use Rattle.command.specs.Asked.{Answers, CheckRun, CloseJournals, JudgeJournals, LintTrace, Task, program, task_in}
-use Rattle.command.specs.Ends.{Ends, EndsBy, EndsInReport}
-use Rattle.command.specs.Faults.{status_of_fault}
-use Rattle.command.specs.HeadToHead.{report}
-use Rattle.command.specs.Outputs.{Written, Becomes, Writes}
-use Rattle.command.specs.Statuses.{status_of_verdict}
-use Rattle.command.specs.Texts.{IsFaultOfCheck, IsHeadOf}
-use Rattle.command.specs.declared.fault.Fault.{Fault}
-use Rattle.command.specs.declared.fault.Fault.TheVariants.{RefusedJournal, Head, FileCount, Refused, LintRefused}
-use Rattle.command.specs.declared.status.Status.{Status}
-use Rattle.command.specs.declared.status.Status.TheVariants as status
-use Rattle.command.specs.declared.words.Words.{Words}
-use Rattle.command.specs.declared.words.Words.TheVariants.{Check, Lint, Judge, Close, Said, NoMemory}
+use Rattle.report.specs.Reports.{report_of}
+use Rattle.report.specs.TextReport.{text_report}
+use Rattle.report.specs.declared.write.Format.TheVariants as format
+use Rattle.gather.specs.Outcomes.{fault_of_rank, recording_of_traces, refusal_of}
+use Rattle.cli.proofs.TraceLemmas.{hold_read}
+use Rattle.cli.specs.CommandLine.{Answers, CheckRun, CloseJournals, JudgeJournals, LintTrace, Task, program, task_in}
+use Rattle.cli.specs.ExitContract.{Ends, EndsBy, EndsInReport}
+use Rattle.cli.specs.Faults.{status_of_fault}
+use Rattle.cli.specs.HeadToHead.{report}
+use Rattle.cli.specs.Outputs.{Written, Becomes, Writes}
+use Rattle.cli.specs.Statuses.{status_of_verdict}
+use Rattle.cli.specs.Texts.{IsFaultOfCheck, IsHeadOf}
+use Rattle.cli.specs.declared.fault.Fault.{Fault}
+use Rattle.cli.specs.declared.fault.Fault.TheVariants.{RefusedJournal, Head, FileCount, Refused, LintRefused}
+use Rattle.cli.specs.declared.status.Status.{Status}
+use Rattle.cli.specs.declared.status.Status.TheVariants as status
+use Rattle.cli.specs.declared.command_line.CommandLine.{CommandLine}
+use Rattle.cli.specs.declared.command_line.CommandLine.TheVariants.{Check, Lint, Judge, Close, Said, NoMemory}
 
 abbrev pub words : List Text
 words = codes "check" ∷ codes "head" ∷ codes "r0" ∷ codes "r1" ∷ []
@@ -222,7 +222,7 @@ module _ (told : Text → Option Text) (is_head : told (codes "head") ≡ Some h
           errors = subst (Becomes written_errors failed_errors old_errors new_errors) ends.errors errors;
         }
 
-    of_asked : (asked : Words) (out err : Written) → Answers words asked → EndsBy told asked ended out err → Becomes written failures old new out → Becomes written_errors failed_errors old_errors new_errors err → ended ≢ status.Fault → Hangs written failures old new old_errors new_errors ended
+    of_asked : (asked : CommandLine) (out err : Written) → Answers words asked → EndsBy told asked ended out err → Becomes written failures old new out → Becomes written_errors failed_errors old_errors new_errors err → ended ≢ status.Fault → Hangs written failures old new old_errors new_errors ended
     of_asked (Check path files its) out err answers (inl done) output errors other =
         let e : Some (CheckRun path.now (map (λ file. file.now) files.items) its) ≡ Some task = sym answers.1 ∙ asks in
         of_report path.now files.items its out err (ap head_in e) (ap files_in e) (ap options_in e) done output errors

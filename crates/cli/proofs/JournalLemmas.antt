@@ -4,11 +4,11 @@ use Rattle.clap.specs.Walk.{Text}
 use Rattle.judging.specs.Judging.{LeavesAt}
 use Rattle.judging.specs.declared.judge.JudgeFault.{JudgeFault}
 use Rattle.judging.specs.declared.judge.JudgeFault.TheVariants as judged
-use Rattle.command.specs.Journals.{IsFaultOfJournals, IsFaultOfJudge, IsFaultOfClose}
-use Rattle.command.specs.inner.Journals.{IsWriteAs}
-use Rattle.command.specs.inner.Outputs.{LeavesAtFault}
-use Rattle.command.specs.declared.fault.Fault.{Fault}
-use Rattle.command.specs.declared.fault.Fault.TheVariants.{OpenJournal, RefusedJournal, FailedJournal, Make, Head, Refused, Memory, Unproved, Write, WriteFile}
+use Rattle.cli.specs.Journals.{IsFaultOfJournals, IsFaultOfJudge, IsFaultOfClose}
+use Rattle.cli.specs.inner.Journals.{IsWriteAs}
+use Rattle.cli.specs.inner.Outputs.{LeavesAtFault}
+use Rattle.cli.specs.declared.fault.Fault.{Fault}
+use Rattle.cli.specs.declared.fault.Fault.TheVariants.{OpenJournal, RefusedJournal, FailedJournal, Make, Head, Refused, Memory, Unproved, Write, WriteFile}
 
 -- no fault of reading journals is one of writing
 pub no_write : (folder : Text) (fault : Fault) → IsFaultOfJournals folder fault → fault ≢ Write

@@ -4,12 +4,12 @@ use Rattle.mpicall.specs.Lines.{lines_of}
 use Rattle.mpicall.specs.Trace.{Trace, IsTraceOf, trace_of}
 use Rattle.mpicall.specs.Lint.{TellsTrace}
 use Rattle.mpicall.specs.declared.lint.LintFault.{LintFault}
-use Rattle.command.proofs.TraceLemmas.{trace_read}
-use Rattle.command.specs.Faults.{of_lint}
-use Rattle.command.specs.Lints.{IsCountOf, IsTraceFault, IsFaultOfTrace}
-use Rattle.command.specs.declared.fault.Fault.{Fault}
-use Rattle.command.specs.declared.fault.Fault.TheVariants.{LintRefused, LintFailed}
-use Rattle.runs.specs.Told.{is_from_outside}
+use Rattle.cli.proofs.TraceLemmas.{trace_read}
+use Rattle.cli.specs.Faults.{of_lint}
+use Rattle.cli.specs.Lints.{IsCountOf, IsTraceFault, IsFaultOfTrace}
+use Rattle.cli.specs.declared.fault.Fault.{Fault}
+use Rattle.cli.specs.declared.fault.Fault.TheVariants.{LintRefused, LintFailed}
+use Rattle.driver.specs.VerdictContract.{is_from_outside}
 use Rattle.gather.specs.declared.fault.RankFault.TheVariants.{OfSource}
 
 told_is : (told : Option (List ℕ)) (known : Option Trace) (answer : Result ℕ LintFault) → known ≡ option_map trace_of told → TellsTrace known answer → IfSome told (λ text. (trace : Trace) → IsTraceOf (lines_of text) trace → TellsTrace (Some trace) answer)

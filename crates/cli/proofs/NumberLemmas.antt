@@ -5,7 +5,7 @@ use Rattle.std.specs.Str.Parse.{IsNumeral, ParsesUnsigned, digits_value, without
 use Rattle.clap.specs.ValueTests.{accepts}
 use Rattle.clap.specs.declared.builder.value_parser.ValueParser.TheVariants.{Unsigned}
 use Rattle.clap.proofs.ValueTestLemmas.{accepts-Accepts, Accepts-accepts}
-use Rattle.command.specs.Numbers.{number_within}
+use Rattle.cli.specs.Numbers.{number_within}
 
 by_test : (least most : ℕ) (word : List ℕ) (taken : Bool) → accepts false (Unsigned least most) word ≡ taken → number_within least most word ≡ (if taken then Some (digits_value 10 (without_leading_plus word)) else None)
 by_test least most word taken is = ap (λ (b : Bool). if b then Some (digits_value 10 (without_leading_plus word)) else None) is

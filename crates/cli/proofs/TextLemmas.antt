@@ -1,8 +1,8 @@
 -- How the answers over a check's sources follow for the texts of its files.
-use Rattle.command.specs.declared.options.Options.{Options}
+use Rattle.cli.specs.declared.options.Options.{Options}
 use Rattle.moves.specs.declared.reading.Reading.{Reading}
-use Rattle.reports.specs.declared.report.Format.{Format}
-use Rattle.command.specs.inner.Outputs.{LeavesAtFault}
+use Rattle.report.specs.declared.write.Format.{Format}
+use Rattle.cli.specs.inner.Outputs.{LeavesAtFault}
 use Rattle.std.proofs.Common.{◌≡◌, ◌<◌, ℕ, length, Option, Some, None, List, [], ◌∷◌, map, option_map, ap, ◌∙◌, sym, refl, subst, arith, Result, Ok, Err, IfSome, take, Bool, true, false, if◌then◌else◌, Bor}
 use Rattle.mpicall.specs.Trace.{Trace, trace_of}
 use Rattle.mpicall.specs.declared.source.Source.{Source}
@@ -11,22 +11,22 @@ use Rattle.mpigroup.proofs.FrontLemmas.{read_head-front}
 use Rattle.mpigroup.specs.Groups.{Groups}
 use Rattle.mpigroup.specs.HeadText.{read_head}
 use Rattle.mpigroup.specs.declared.fault.HeadFault.{HeadFault}
-use Rattle.runs.specs.Runs.{RefusesFeeds, StopsWhereAllowed}
-use Rattle.runs.specs.Told.{RefusesOver, Tells, is_from_outside}
-use Rattle.runs.specs.Written.{IsReportOver, LeavesOutput}
-use Rattle.runs.proofs.HeldLemmas.{lowest_refusal}
+use Rattle.driver.specs.Runs.{RefusesFeeds, StopsWhereAllowed}
+use Rattle.driver.specs.VerdictContract.{RefusesOver, Tells, is_from_outside}
+use Rattle.driver.specs.OutputContract.{IsReportOver, LeavesOutput}
+use Rattle.driver.proofs.HeldLemmas.{lowest_refusal}
 use Rattle.gather.specs.declared.fault.Refusal.{Refusal}
 use Rattle.gather.specs.declared.fault.RunFault.{RunFault}
 use Rattle.gather.specs.declared.fault.RunFault.TheVariants as run
-use Rattle.command.specs.Faults.{of_run}
+use Rattle.cli.specs.Faults.{of_run}
 use Rattle.mpicall.specs.Source.{coming}
-use Rattle.runs.proofs.ToldLemmas.{told_of_read}
-use Rattle.command.proofs.TraceLemmas.{traces_read}
-use Rattle.command.specs.Texts.{AreTracesOf, IsCounted, IsFaultOfCheck, IsHeadOf, IsRefusalOfRun, IsReportOf}
-use Rattle.command.specs.inner.Texts.{IsFaultOfFront, IsFaultOfHead}
-use Rattle.command.specs.declared.fault.Fault.{Fault}
-use Rattle.command.specs.declared.fault.Fault.TheVariants.{Head, Refused, Failed, Memory}
-use Rattle.command.specs.inner.Front.{IsFrontOf, deciding_bytes}
+use Rattle.driver.proofs.ToldLemmas.{told_of_read}
+use Rattle.cli.proofs.TraceLemmas.{traces_read}
+use Rattle.cli.specs.Texts.{AreTracesOf, IsCounted, IsFaultOfCheck, IsHeadOf, IsRefusalOfRun, IsReportOf}
+use Rattle.cli.specs.inner.Texts.{IsFaultOfFront, IsFaultOfHead}
+use Rattle.cli.specs.declared.fault.Fault.{Fault}
+use Rattle.cli.specs.declared.fault.Fault.TheVariants.{Head, Refused, Failed, Memory}
+use Rattle.cli.specs.inner.Front.{IsFrontOf, deciding_bytes}
 
 abbrev Text : Type 0
 Text = List ℕ

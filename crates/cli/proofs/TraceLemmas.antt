@@ -3,7 +3,7 @@ use Rattle.std.proofs.Common.{◌≡◌, ℕ, List, [], ◌∷◌, map, ap, ◌�
 use Rattle.mpicall.specs.Lines.{lines_of}
 use Rattle.mpicall.specs.Trace.{Trace, IsTraceOf, trace_of}
 use Rattle.mpicall.proofs.OneTraceLemmas.{one_trace}
-use Rattle.command.specs.Texts.{AreTracesOf}
+use Rattle.cli.specs.Texts.{AreTracesOf}
 
 pub trace_read : (text : List ℕ) (trace : Trace) → IsTraceOf (lines_of text) trace → trace ≡ trace_of text
 unfolding trace_of

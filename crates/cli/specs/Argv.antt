@@ -1,13 +1,13 @@
 -- The end of the process: the status that it hands on, and what is on the two outputs then.
 use Rattle.std.specs.Prelude.{◌≡◌, ◌⊎◌, ℕ, Option, List, codes}
 use Rattle.clap.specs.Walk.{Text}
-use Rattle.command.specs.Ends.{Ends}
-use Rattle.command.specs.Outputs.{Tries}
-use Rattle.command.specs.declared.given.Ended.{Ended}
-use Rattle.command.specs.declared.given.WordsFault.{WordsFault}
-use Rattle.command.specs.declared.given.WordsFault.TheVariants.{NoText, NoMemory}
-use Rattle.command.specs.declared.status.Status.{Status}
-use Rattle.command.specs.declared.status.Status.TheVariants.{Usage, Fault}
+use Rattle.cli.specs.ExitContract.{Ends}
+use Rattle.cli.specs.Outputs.{Tries}
+use Rattle.cli.specs.declared.argv.Ended.{Ended}
+use Rattle.cli.specs.declared.argv.WordsFault.{WordsFault}
+use Rattle.cli.specs.declared.argv.WordsFault.TheVariants.{NoText, NoMemory}
+use Rattle.cli.specs.declared.status.Status.{Status}
+use Rattle.cli.specs.declared.status.Status.TheVariants.{Usage, Fault}
 
 abbrev pub status_in : Ended → Status
 status_in ended = ended.status

@@ -3,7 +3,7 @@ use Rattle.std.specs.Prelude.{ℕ, Option}
 use Rattle.clap.specs.Walk.{Text}
 use Rattle.clap.specs.declared.builder.value_parser.ValueParser.{ValueParser}
 use Rattle.clap.specs.declared.builder.value_parser.ValueParser.TheVariants.{Unsigned}
-use Rattle.command.specs.Numbers.{number_within}
+use Rattle.cli.specs.Numbers.{number_within}
 
 -- what clap takes for such a number
 abbrev pub capacity_parser : ValueParser

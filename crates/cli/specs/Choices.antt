@@ -9,9 +9,9 @@ use Rattle.closing.specs.declared.choice.Tests.{Tests}
 use Rattle.closing.specs.declared.choice.Tests.TheVariants.{Wait, Pass}
 use Rattle.judging.specs.declared.judge.Manner.{Manner}
 use Rattle.moves.specs.declared.reading.Reading.{Reading}
-use Rattle.reports.specs.declared.report.Format.{Format}
-use Rattle.command.specs.Limits.{reading_in}
-use Rattle.command.specs.Options.{json_rule, eager_rule, format_of}
+use Rattle.report.specs.declared.write.Format.{Format}
+use Rattle.cli.specs.Limits.{reading_in}
+use Rattle.cli.specs.Options.{json_rule, eager_rule, format_of}
 
 -- options with a word, which is this one where it isn't given
 abbrev pub tests_rule : Rule

@@ -10,11 +10,11 @@ use Rattle.clap.specs.declared.error.kind.ErrorKind.{ErrorKind}
 use Rattle.clap.specs.declared.error.kind.ErrorKind.TheVariants.{DisplayHelp, DisplayVersion}
 use Rattle.closing.specs.declared.choice.Choice.{Choice}
 use Rattle.judging.specs.declared.judge.Manner.{Manner}
-use Rattle.command.specs.Choices.{choice_of, choice_rules, manner_of, manner_rules}
-use Rattle.command.specs.Options.{option_rules, options_of}
-use Rattle.command.specs.declared.options.Options.{Options}
-use Rattle.command.specs.declared.words.Words.{Words}
-use Rattle.command.specs.declared.words.Words.TheVariants.{Check, Lint, Judge, Close, Said, NoMemory}
+use Rattle.cli.specs.Choices.{choice_of, choice_rules, manner_of, manner_rules}
+use Rattle.cli.specs.Options.{option_rules, options_of}
+use Rattle.cli.specs.declared.options.Options.{Options}
+use Rattle.cli.specs.declared.command_line.CommandLine.{CommandLine}
+use Rattle.cli.specs.declared.command_line.CommandLine.TheVariants.{Check, Lint, Judge, Close, Said, NoMemory}
 
 -- a head, and traces of which there is one at least
 abbrev pub head_rule : Rule
@@ -143,7 +143,7 @@ SaysRightly words true = AreWrong words
 SaysRightly words false = AsksForText words
 
 -- the answer has the task for which the words ask, or a text where they ask for none
-abbrev pub Answers : List Text → Words → Type 0
+abbrev pub Answers : List Text → CommandLine → Type 0
 Answers words (Check head files options) = Asks words (CheckRun head.now (map (λ file. file.now) files.items) options)
 Answers words (Lint file) = Asks words (LintTrace file.now)
 Answers words (Judge folder manner) = Asks words (JudgeJournals folder.now manner)

@@ -2,23 +2,23 @@
 use Rattle.std.specs.Prelude.{◌≡◌, ◌⊎◌, ℕ, true, false, Option, Some, List, map, string_bytes}
 use Rattle.clap.specs.Walk.{Text}
 use Rattle.waitgraph.specs.declared.verdict.Verdict.{Verdict}
-use Rattle.command.specs.Asked.{Answers}
-use Rattle.command.specs.Faults.{status_of_fault}
-use Rattle.command.specs.FaultTexts.{line_of_fault}
-use Rattle.command.specs.Outputs.{Written, Nothing, Whole, Broken, Becomes, lint_report}
-use Rattle.command.specs.Journals.{IsFaultOfClose, IsFaultOfJudge}
-use Rattle.command.specs.Lints.{IsCountOf, IsFaultOfLint}
-use Rattle.command.specs.Statuses.{status_of_verdict}
-use Rattle.command.specs.Texts.{IsFaultOfCheck, IsReportOf, IsVerdictOfTexts}
+use Rattle.cli.specs.CommandLine.{Answers}
+use Rattle.cli.specs.Faults.{status_of_fault}
+use Rattle.cli.specs.FaultTexts.{line_of_fault}
+use Rattle.cli.specs.Outputs.{Written, Nothing, Whole, Broken, Becomes, lint_report}
+use Rattle.cli.specs.Journals.{IsFaultOfClose, IsFaultOfJudge}
+use Rattle.cli.specs.Lints.{IsCountOf, IsFaultOfLint}
+use Rattle.cli.specs.Statuses.{status_of_verdict}
+use Rattle.cli.specs.Texts.{IsFaultOfCheck, IsReportOf, IsVerdictOfTexts}
 use Rattle.judging.specs.Judging.{IsJudgedReport}
 use Rattle.judging.specs.declared.judge.Manner.{Manner}
-use Rattle.command.specs.declared.options.Options.{Options}
-use Rattle.command.specs.declared.fault.Fault.{Fault as FaultOf}
-use Rattle.command.specs.declared.fault.Fault.TheVariants.{Memory, Write}
-use Rattle.command.specs.declared.status.Status.{Status}
-use Rattle.command.specs.declared.status.Status.TheVariants.{Free, Refused, Usage}
-use Rattle.command.specs.declared.words.Words.{Words}
-use Rattle.command.specs.declared.words.Words.TheVariants.{Check, Lint, Judge, Close, Said, NoMemory}
+use Rattle.cli.specs.declared.options.Options.{Options}
+use Rattle.cli.specs.declared.fault.Fault.{Fault as FaultOf}
+use Rattle.cli.specs.declared.fault.Fault.TheVariants.{Memory, Write}
+use Rattle.cli.specs.declared.status.Status.{Status}
+use Rattle.cli.specs.declared.status.Status.TheVariants.{Free, Refused, Usage}
+use Rattle.cli.specs.declared.command_line.CommandLine.{CommandLine}
+use Rattle.cli.specs.declared.command_line.CommandLine.TheVariants.{Check, Lint, Judge, Close, Said, NoMemory}
 
 -- the verdict is that of the texts of the files by the options' reading, where all of these are known
 abbrev pub IsVerdictWhereTold : Options → Option Text → List (Option Text) → Verdict → Type 0
@@ -86,7 +86,7 @@ abbrev pub EndsInFault : FaultOf → Status → Written → Written → Type 0
 EndsInFault fault status out err = (status ≡ status_of_fault fault) × TellsLine status fault out err
 
 -- what the words ask for was done, and reported
-abbrev pub IsDone : (Text → Option Text) → Words → Status → Written → Written → Type 0
+abbrev pub IsDone : (Text → Option Text) → CommandLine → Status → Written → Written → Type 0
 IsDone told (Check head files options) = EndsInReport options (told head.now) (map (λ file. told file.now) files.items)
 IsDone told (Lint file) = EndsInCount (told file.now)
 IsDone told (Judge folder manner) = EndsInJudged manner
@@ -96,7 +96,7 @@ IsDone told (Said text true) = EndsInUsage (string_bytes text)
 IsDone told NoMemory = λ status out err. ⊥
 
 -- the faults with which that may end
-abbrev pub IsFaultOf : (Text → Option Text) → Words → FaultOf → Type 0
+abbrev pub IsFaultOf : (Text → Option Text) → CommandLine → FaultOf → Type 0
 IsFaultOf told (Check head files options) fault = IsFaultOfCheck told head.now files.items fault
 IsFaultOf told (Lint file) fault = IsFaultOfLint told file.now fault
 IsFaultOf told (Judge folder manner) fault = IsFaultOfJudge folder.now fault
@@ -105,7 +105,7 @@ IsFaultOf told (Said text is_error) fault = (fault ≡ Write) × (is_error ≡ f
 IsFaultOf told NoMemory fault = fault ≡ Memory
 
 -- what the words ask for was done, or a fault was reported
-abbrev pub EndsBy : (Text → Option Text) → Words → Status → Written → Written → Type 0
+abbrev pub EndsBy : (Text → Option Text) → CommandLine → Status → Written → Written → Type 0
 EndsBy told words status out err = IsDone told words status out err ⊎ ((fault : FaultOf) × IsFaultOf told words fault × EndsInFault fault status out err)
 
 -- standard output and standard error, each by what was written to it and how many writes failed, and as it was
@@ -113,7 +113,7 @@ EndsBy told words status out err = IsDone told words status out err ⊎ ((fault 
 module _ {O E : Type 0} (written : O → Option Text) (failures : O → ℕ) (written_errors : E → Option Text) (failed_errors : E → ℕ) (told : Text → Option Text) (old new : O) (old_errors new_errors : E) where
   -- the words ask for something, and the program ends by that
   pub record Ends (words : List Text) (status : Status) : Type 0 where
-    pub asked : Words
+    pub asked : CommandLine
     pub answers : Answers words asked
     pub out : Written
     pub err : Written

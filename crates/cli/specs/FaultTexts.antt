@@ -4,8 +4,8 @@ use Rattle.std.specs.Fmt.{decimal}
 use Rattle.mpicall.specs.Codes.{text_of_lint}
 use Rattle.mpigroup.specs.Codes.{text_of_head}
 use Rattle.gather.specs.Codes.{text_of_refusal}
-use Rattle.command.specs.declared.fault.Fault.{Fault}
-use Rattle.command.specs.declared.fault.Fault.TheVariants.{Open, OpenJournal, RefusedJournal, FailedJournal, Make, ReadHead, Head, FileCount, Refused, Failed, LintRefused, LintFailed, Memory, Unproved, Write, WriteFile}
+use Rattle.cli.specs.declared.fault.Fault.{Fault}
+use Rattle.cli.specs.declared.fault.Fault.TheVariants.{Open, OpenJournal, RefusedJournal, FailedJournal, Make, ReadHead, Head, FileCount, Refused, Failed, LintRefused, LintFailed, Memory, Unproved, Write, WriteFile}
 use Rattle.journals.specs.Codes.{code_of}
 use Rattle.journals.specs.declared.fault.JournalFault.{JournalFault}
 use Rattle.journals.specs.declared.fault.JournalFaultKind.{JournalFaultKind}

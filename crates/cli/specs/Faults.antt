@@ -5,11 +5,11 @@ use Rattle.gather.specs.declared.fault.RankFault.TheVariants.{OfSource}
 use Rattle.gather.specs.declared.fault.RunFault.{RunFault}
 use Rattle.gather.specs.declared.fault.RunFault.TheVariants as run
 use Rattle.mpicall.specs.declared.lint.LintFault.{LintFault}
-use Rattle.command.specs.declared.fault.Fault.{Fault}
-use Rattle.command.specs.declared.fault.Fault.TheVariants.{RefusedJournal, Head, FileCount, Refused, Failed, LintRefused, LintFailed, Memory, Unproved, Write}
-use Rattle.command.specs.declared.status.Status.{Status}
-use Rattle.command.specs.declared.status.Status.TheVariants as status
-use Rattle.runs.specs.Told.{is_from_outside}
+use Rattle.cli.specs.declared.fault.Fault.{Fault}
+use Rattle.cli.specs.declared.fault.Fault.TheVariants.{RefusedJournal, Head, FileCount, Refused, Failed, LintRefused, LintFailed, Memory, Unproved, Write}
+use Rattle.cli.specs.declared.status.Status.{Status}
+use Rattle.cli.specs.declared.status.Status.TheVariants as status
+use Rattle.driver.specs.VerdictContract.{is_from_outside}
 
 -- a fault of the texts is a refusal, a wrong number of files one of usage, and all else a fault of the machine
 abbrev pub status_of_fault : Fault → Status

@@ -2,8 +2,8 @@
 -- is refused, isn't said here.
 use Rattle.std.specs.Prelude.{◌≡◌, ⊤}
 use Rattle.clap.specs.Walk.{Text}
-use Rattle.command.specs.declared.fault.Fault.{Fault}
-use Rattle.command.specs.declared.fault.Fault.TheVariants.{OpenJournal, RefusedJournal, FailedJournal, Make, Head, Refused, Memory, Unproved, Write, WriteFile}
+use Rattle.cli.specs.declared.fault.Fault.{Fault}
+use Rattle.cli.specs.declared.fault.Fault.TheVariants.{OpenJournal, RefusedJournal, FailedJournal, Make, Head, Refused, Memory, Unproved, Write, WriteFile}
 
 -- the faults of reading the journals in a folder
 abbrev pub IsFaultOfJournals : Text → Fault → Type 0

@@ -7,7 +7,7 @@ use Rattle.moves.specs.declared.reading.Reading.TheVariants.{Strict, Eager}
 use Rattle.clap.specs.Walk.{Text}
 use Rattle.clap.specs.declared.builder.value_parser.ValueParser.{ValueParser}
 use Rattle.clap.specs.declared.builder.value_parser.ValueParser.TheVariants.{Unsigned}
-use Rattle.command.specs.Numbers.{number_within}
+use Rattle.cli.specs.Numbers.{number_within}
 
 -- what clap takes for a limit
 abbrev pub limit_parser : ValueParser

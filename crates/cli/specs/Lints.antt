@@ -5,10 +5,10 @@ use Rattle.mpicall.specs.Trace.{Trace, IsTraceOf}
 use Rattle.mpicall.specs.Lint.{TellsTrace}
 use Rattle.mpicall.specs.declared.lint.LintFault.{LintFault}
 use Rattle.gather.specs.declared.fault.RankFault.TheVariants.{OfSource}
-use Rattle.runs.specs.Told.{is_from_outside}
-use Rattle.command.specs.Texts.{IsUnopened}
-use Rattle.command.specs.declared.fault.Fault.{Fault}
-use Rattle.command.specs.declared.fault.Fault.TheVariants.{Open, LintRefused, LintFailed, Memory, Write}
+use Rattle.driver.specs.VerdictContract.{is_from_outside}
+use Rattle.cli.specs.Texts.{IsUnopened}
+use Rattle.cli.specs.declared.fault.Fault.{Fault}
+use Rattle.cli.specs.declared.fault.Fault.TheVariants.{Open, LintRefused, LintFailed, Memory, Write}
 
 -- the text is a trace without a fault, and has so many calls
 abbrev pub IsCountOf : Option (List ℕ) → ℕ → Type 0

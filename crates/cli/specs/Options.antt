@@ -4,12 +4,12 @@ use Rattle.std.specs.Option.{option_map_or}
 use Rattle.clap.specs.Walk.{Row, Rule, Text, first_of}
 use Rattle.clap.specs.Simple.{new_rule}
 use Rattle.clap.specs.declared.builder.action.ArgAction.TheVariants.{SetTrue}
-use Rattle.reports.specs.declared.report.Format.{Format}
-use Rattle.reports.specs.declared.report.Format.TheVariants as format
+use Rattle.report.specs.declared.write.Format.{Format}
+use Rattle.report.specs.declared.write.Format.TheVariants as format
 use Rattle.moves.specs.declared.reading.Reading.{Reading}
-use Rattle.command.specs.Capacities.{capacity_in, capacity_parser}
-use Rattle.command.specs.Limits.{limit_parser, reading_in}
-use Rattle.command.specs.declared.options.Options.{Options}
+use Rattle.cli.specs.Capacities.{capacity_in, capacity_parser}
+use Rattle.cli.specs.Limits.{limit_parser, reading_in}
+use Rattle.cli.specs.declared.options.Options.{Options}
 
 -- a flag, which clap notes as `true` where it is given
 abbrev pub json_rule : Rule

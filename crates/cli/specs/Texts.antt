@@ -9,15 +9,15 @@ use Rattle.mpigroup.specs.Groups.{Groups, ranks_of}
 use Rattle.mpigroup.specs.HeadText.{read_head}
 use Rattle.waitgraph.specs.declared.verdict.Verdict.{Verdict}
 use Rattle.moves.specs.declared.reading.Reading.{Reading}
-use Rattle.callnotes.specs.Recordings.{Lists, IsClosed}
-use Rattle.reports.specs.Reports.{IsReport}
-use Rattle.command.specs.declared.options.Options.{Options}
-use Rattle.gather.specs.Answers.{recording_of_traces, refusal_of}
+use Rattle.callstore.specs.Recordings.{Lists, IsClosed}
+use Rattle.report.specs.Reports.{IsReport}
+use Rattle.cli.specs.declared.options.Options.{Options}
+use Rattle.gather.specs.Outcomes.{recording_of_traces, refusal_of}
 use Rattle.gather.specs.declared.fault.RankFault.TheVariants.{OfSource}
 use Rattle.gather.specs.declared.fault.Refusal.{Refusal}
-use Rattle.runs.specs.Told.{IsRefusalOver, IsVerdictOver, is_from_outside}
-use Rattle.command.specs.declared.fault.Fault.{Fault}
-use Rattle.command.specs.declared.fault.Fault.TheVariants.{Open, ReadHead, Head, FileCount, Refused, Failed, Memory, Unproved, Write}
+use Rattle.driver.specs.VerdictContract.{IsRefusalOver, IsVerdictOver, is_from_outside}
+use Rattle.cli.specs.declared.fault.Fault.{Fault}
+use Rattle.cli.specs.declared.fault.Fault.TheVariants.{Open, ReadHead, Head, FileCount, Refused, Failed, Memory, Unproved, Write}
 
 -- the head is the one that the text gives, where it is known
 abbrev pub IsHeadOf : Option (List ℕ) → Groups → Type 0

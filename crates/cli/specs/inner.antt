@@ -1,6 +1,6 @@
 -- What nobody has to believe: these definitions are cited by proofs and private contracts alone.
 pub mod Answer
-pub mod Asked
+pub mod CommandLine
 pub mod Front
 pub mod Outputs
 pub mod Texts

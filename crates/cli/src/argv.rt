@@ -5,9 +5,9 @@
 
 ghost use Rattle.std.specs.Prelude.{◌≡◌, IfOk, OnErr, map, string_bytes};
 ghost use Rattle.std.specs.Process.{exit_status};
-ghost use Rattle.command.specs.Given.{EndsBySome, EndsGiven, status_in, status_of_words, text_of_words};
-ghost use Rattle.command.specs.Statuses.{code_of};
-ghost use Rattle.command.specs.declared.given.WordsFault.TheVariants.{NoMemory};
+ghost use Rattle.cli.specs.Argv.{EndsBySome, EndsGiven, status_in, status_of_words, text_of_words};
+ghost use Rattle.cli.specs.Statuses.{code_of};
+ghost use Rattle.cli.specs.declared.argv.WordsFault.TheVariants.{NoMemory};
 
 use crate::folder::with_files;
 use crate::opener::{Maker, Opener};

@@ -1,7 +1,7 @@
 //! How many records of a rank may wait to be judged.
 
 ghost use Rattle.std.specs.Prelude.{◌≡◌, ◌<◌, ◌≤◌};
-ghost use Rattle.command.specs.Capacities.{capacity_in};
+ghost use Rattle.cli.specs.Capacities.{capacity_in};
 
 use crate::number::number_within;
 use std::marker::Model;

@@ -7,8 +7,8 @@ ghost use Rattle.clap.specs.Values.{kind_of};
 ghost use Rattle.clap.specs.Walk.{rows_of, rule_of};
 ghost use Rattle.clap.specs.declared.builder.command.Command.TheViews.{out-Command as fields_of};
 ghost use Rattle.clap.specs.declared.error.kind.ErrorKind.TheVariants.{OutOfMemory};
-ghost use Rattle.command.specs.Asked.{Answers, LintTrace, check, check_of, close, close_of, closing_of, folder_rule, head_rule, is_text, judge, judge_of, judging_of, lint, lint_of, out_rule, program, run_of, task_of, trace_rule, traces_rule};
-ghost use Rattle.command.specs.inner.Asked.{Names, Says, SaysError};
+ghost use Rattle.cli.specs.CommandLine.{Answers, LintTrace, check, check_of, close, close_of, closing_of, folder_rule, head_rule, is_text, judge, judge_of, judging_of, lint, lint_of, out_rule, program, run_of, task_of, trace_rule, traces_rule};
+ghost use Rattle.cli.specs.inner.CommandLine.{Names, Says, SaysError};
 
 use crate::found::{text_of, texts_of};
 use crate::manner::{choice_arguments, choice_of, manner_arguments, manner_of};
@@ -21,7 +21,7 @@ use std::alloc::{AllocError, Global};
 
 /// What the words ask for.
 #[derive(Debug, Drop)]
-pub enum Words<'a> {
+pub enum CommandLine<'a> {
     /// To check a run, by the path of its head and those of its traces, at least one, in rank order.
     Check {
         head: &'a str,
@@ -253,12 +253,12 @@ fn program_command<'a>(alloc: Global) -> Result<Command<'a>, AllocError>
 }
 
 /// A text as the answer; without memory for it, that.
-fn say<'a>(alloc: Global, text: &str, is_error: bool) -> Words<'a>
+fn say<'a>(alloc: Global, text: &str, is_error: bool) -> CommandLine<'a>
     ensures { Says text.now is_error result }
 {
     match String::from_str(alloc, text) {
-        Ok(text) => Words::Said { text, is_error },
-        Err(_) => Words::NoMemory,
+        Ok(text) => CommandLine::Said { text, is_error },
+        Err(_) => CommandLine::NoMemory,
     }
 }
 
@@ -270,19 +270,19 @@ fn is_text(kind: ErrorKind) -> bool
 }
 
 /// What clap says instead of an answer.
-fn say_error<'a>(alloc: Global, error: Error) -> Words<'a>
+fn say_error<'a>(alloc: Global, error: Error) -> CommandLine<'a>
     ensures says { SaysError (kind_of error) result }
-    ensures memory { kind_of error ≡ OutOfMemory → result ≡ Words.NoMemory }
+    ensures memory { kind_of error ≡ OutOfMemory → result ≡ CommandLine.NoMemory }
 {
     if error.kind() == ErrorKind::OutOfMemory {
-        return Words::NoMemory;
+        return CommandLine::NoMemory;
     }
     match error.to_string(alloc) {
-        Ok(text) => Words::Said {
+        Ok(text) => CommandLine::Said {
             text,
             is_error: !is_text(error.kind()),
         },
-        Err(_) => Words::NoMemory,
+        Err(_) => CommandLine::NoMemory,
     }
 }
 
@@ -293,7 +293,7 @@ fn run_named<'a>(
     head: Option<&'a str>,
     files: Option<&[&'a str]>,
     options: Option<Options>,
-) -> Words<'a>
+) -> CommandLine<'a>
     ensures { Names (run_of (option_map (λ path. path.now) head.entry) (option_map (λ paths. map (λ path. path.now) paths.now) files.entry) options) result }
 {
     let Some(head) = head else {
@@ -309,17 +309,17 @@ fn run_named<'a>(
         return say(alloc, USAGE, true);
     };
     match Vec::from_slice(alloc, files) {
-        Ok(files) => Words::Check {
+        Ok(files) => CommandLine::Check {
             head,
             files,
             options,
         },
-        Err(_) => Words::NoMemory,
+        Err(_) => CommandLine::NoMemory,
     }
 }
 
 /// The run that the words after `check` name.
-fn check_of<'a>(alloc: Global, matches: &ArgMatches<'a>) -> Words<'a>
+fn check_of<'a>(alloc: Global, matches: &ArgMatches<'a>) -> CommandLine<'a>
     ensures { Names (check_of (rows_of (found_of matches.now))) result }
 {
     run_named(
@@ -332,17 +332,17 @@ fn check_of<'a>(alloc: Global, matches: &ArgMatches<'a>) -> Words<'a>
 
 /// The trace that this path names.
 #[tactic(auto, using(crate::proofs::AskedLemmas::asked_steps))]
-fn trace_named<'a>(alloc: Global, file: Option<&'a str>) -> Words<'a>
+fn trace_named<'a>(alloc: Global, file: Option<&'a str>) -> CommandLine<'a>
     ensures { Names (option_map LintTrace (option_map (λ path. path.now) file.entry)) result }
 {
     match file {
-        Some(file) => Words::Lint { file },
+        Some(file) => CommandLine::Lint { file },
         None => say(alloc, USAGE, true),
     }
 }
 
 /// The trace that the words after `lint` name.
-fn lint_of<'a>(alloc: Global, matches: &ArgMatches<'a>) -> Words<'a>
+fn lint_of<'a>(alloc: Global, matches: &ArgMatches<'a>) -> CommandLine<'a>
     ensures { Names (lint_of (rows_of (found_of matches.now))) result }
 {
     trace_named(alloc, text_of(matches, "FILE"))
@@ -350,20 +350,20 @@ fn lint_of<'a>(alloc: Global, matches: &ArgMatches<'a>) -> Words<'a>
 
 /// The journals in this folder, to be judged.
 #[tactic(auto, using(crate::proofs::AskedLemmas::asked_steps))]
-fn judging_of<'a>(alloc: Global, folder: Option<&'a str>, manner: Option<Manner>) -> Words<'a>
+fn judging_of<'a>(alloc: Global, folder: Option<&'a str>, manner: Option<Manner>) -> CommandLine<'a>
     ensures { Names (judging_of (option_map (λ path. path.now) folder.entry) manner) result }
 {
     let Some(folder) = folder else {
         return say(alloc, USAGE, true);
     };
     match manner {
-        Some(manner) => Words::Judge { folder, manner },
+        Some(manner) => CommandLine::Judge { folder, manner },
         None => say(alloc, USAGE, true),
     }
 }
 
 /// The journals that the words after `judge` name.
-fn judge_of<'a>(alloc: Global, matches: &ArgMatches<'a>) -> Words<'a>
+fn judge_of<'a>(alloc: Global, matches: &ArgMatches<'a>) -> CommandLine<'a>
     ensures { Names (judge_of (rows_of (found_of matches.now))) result }
 {
     judging_of(alloc, text_of(matches, "FOLDER"), manner_of(matches))
@@ -376,7 +376,7 @@ fn closing_of<'a>(
     folder: Option<&'a str>,
     out: Option<&'a str>,
     choice: Option<Choice>,
-) -> Words<'a>
+) -> CommandLine<'a>
     ensures { Names (closing_of (option_map (λ path. path.now) folder.entry) (option_map (λ path. path.now) out.entry) choice) result }
 {
     let Some(folder) = folder else {
@@ -386,7 +386,7 @@ fn closing_of<'a>(
         return say(alloc, USAGE, true);
     };
     match choice {
-        Some(choice) => Words::Close {
+        Some(choice) => CommandLine::Close {
             folder,
             out,
             choice,
@@ -396,7 +396,7 @@ fn closing_of<'a>(
 }
 
 /// The journals and the folder that the words after `close` name.
-fn close_of<'a>(alloc: Global, matches: &ArgMatches<'a>) -> Words<'a>
+fn close_of<'a>(alloc: Global, matches: &ArgMatches<'a>) -> CommandLine<'a>
     ensures { Names (close_of (rows_of (found_of matches.now))) result }
 {
     closing_of(
@@ -409,7 +409,7 @@ fn close_of<'a>(alloc: Global, matches: &ArgMatches<'a>) -> Words<'a>
 
 /// The task of a command and of the words after it.
 #[tactic(auto, using(crate::proofs::AskedLemmas::asked_steps))]
-fn task_of<'a>(alloc: Global, name: &str, matches: &ArgMatches<'a>) -> Words<'a>
+fn task_of<'a>(alloc: Global, name: &str, matches: &ArgMatches<'a>) -> CommandLine<'a>
     ensures { Names (task_of name.now (rows_of (found_of matches.now))) result }
 {
     if name == "check" {
@@ -427,7 +427,7 @@ fn task_of<'a>(alloc: Global, name: &str, matches: &ArgMatches<'a>) -> Words<'a>
 
 /// What the words that clap takes ask for.
 #[tactic(auto, using(crate::proofs::AskedLemmas::asked_steps))]
-fn asked<'a>(alloc: Global, matches: &ArgMatches<'a>) -> Words<'a>
+fn asked<'a>(alloc: Global, matches: &ArgMatches<'a>) -> CommandLine<'a>
     ensures { Names (option_and_then (λ found. task_of found.0 found.1) (subcommand_rows_of matches.now)) result }
 {
     match matches.subcommand() {
@@ -437,11 +437,11 @@ fn asked<'a>(alloc: Global, matches: &ArgMatches<'a>) -> Words<'a>
 }
 
 /// What the words after the program's name ask for.
-pub fn parse<'a>(alloc: Global, words: &'a [&'a str]) -> Words<'a>
+pub fn parse<'a>(alloc: Global, words: &'a [&'a str]) -> CommandLine<'a>
     ensures { Answers (map (λ word. word.now) words.now) result }
 {
     let Ok(command) = program_command(alloc) else {
-        return Words::NoMemory;
+        return CommandLine::NoMemory;
     };
     match command.try_get_matches_from(words) {
         Ok(matches) => asked(alloc, &matches),

@@ -1,12 +1,12 @@
 //! Why the program has no answer.
 
 ghost use Rattle.std.specs.Prelude.{◌≡◌, Some};
-ghost use Rattle.command.specs.FaultTexts.{journal_words, text_of_fault};
+ghost use Rattle.cli.specs.FaultTexts.{journal_words, text_of_fault};
 ghost use Rattle.gather.specs.declared.fault.RankFault.TheVariants.{OfSource};
-ghost use Rattle.runs.specs.Told.{is_from_outside};
-ghost use Rattle.command.specs.Faults.{of_head, of_lint, of_run, status_of_fault};
-ghost use Rattle.command.specs.Journals.{IsFaultOfJournals};
-ghost use Rattle.command.specs.declared.fault.Fault.TheVariants.{Memory};
+ghost use Rattle.driver.specs.VerdictContract.{is_from_outside};
+ghost use Rattle.cli.specs.Faults.{of_head, of_lint, of_run, status_of_fault};
+ghost use Rattle.cli.specs.Journals.{IsFaultOfJournals};
+ghost use Rattle.cli.specs.declared.fault.Fault.TheVariants.{Memory};
 
 use crate::status::Status;
 use gather::fault::{RankFault, Refusal, RunFault};

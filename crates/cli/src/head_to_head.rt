@@ -2,10 +2,10 @@
 
 ghost use Rattle.std.specs.Prelude.{◌≡◌, ◌≢◌, ◌++◌};
 ghost use Rattle.mpicall.specs.Devices.{bytes_written};
-ghost use Rattle.command.specs.HeadToHead.{report};
+ghost use Rattle.cli.specs.HeadToHead.{report};
 
+use crate::memory_files::{MemoryFile, MemoryFiles};
 use crate::program::program;
-use crate::shelf::{Shelf, Shelved};
 use crate::status::Status;
 use mpicall::memory::MemoryOutput;
 use std::alloc::Global;
@@ -25,20 +25,20 @@ pub fn two_that_send_first<R: Threads + Wait + Sync>(
     ensures errors { result ≢ Status.Fault → err.new ≡ err.old }
 {
     let files = [
-        Shelved {
+        MemoryFile {
             path: "head",
             text: b"ranks 2\n",
         },
-        Shelved {
+        MemoryFile {
             path: "r0",
             text: b"send 0 1 0\nrecv 0 1 0\nfinalize\n",
         },
-        Shelved {
+        MemoryFile {
             path: "r1",
             text: b"send 0 0 0\nrecv 0 0 0\nfinalize\n",
         },
     ];
-    let shelf = Shelf { files: &files };
+    let shelf = MemoryFiles { files: &files };
     let words = ["check", "head", "r0", "r1"];
     program(alloc, &words, &shelf, rt, out, err)
 }

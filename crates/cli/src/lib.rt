@@ -1,34 +1,34 @@
 //! The program `mpiwait` over any words, files and outputs: what its words ask for, the check or the lint that
 //! does it, its texts and its exit statuses.
 //!
-//! - `given::run` runs it on the words of the process, in which a folder is replaced by its files, and gives what
+//! - `argv::run` runs it on the words of the process, in which a folder is replaced by its files, and gives what
 //!   ends the process with the status.
 //! - `program::program` runs it on words that are texts, and gives the status.
 //! - `opener::Opener` is what opens the files that the words name; `opener::Disk` opens those of the machine, and
-//!   `shelf::Shelf` those in memory, whose texts are known.
+//!   `memory_files::MemoryFiles` those in memory, whose texts are known.
 //! - `head_to_head::two_that_send_first` runs it over such files, and says what comes of it.
 //!
 //! What is on both outputs at the end, by the words and by the texts of the files, is the contract of
-//! `program`; that of `given::run` says the same of some words. The definitions are in `specs/`: `Asked` for
-//! the words, `Options` for the options, `Ends` for the end, `Texts` and `Lints` for what a check and a lint answer.
+//! `program`; that of `argv::run` says the same of some words. The definitions are in `specs/`: `CommandLine` for
+//! the words, `Options` for the options, `ExitContract` for the end, `Texts` and `Lints` for what a check and a lint answer.
 //! What only proofs and private contracts cite is in `specs/inner/`, and nobody has to believe it.
 #![tactic(auto)]
 
+pub mod argv;
 pub mod capacity;
 mod check;
+pub mod command_line;
 pub mod fault;
 mod folder;
 mod found;
-pub mod given;
 pub mod head_to_head;
 mod journal_folder;
 pub mod limit;
 mod lint;
 mod manner;
+pub mod memory_files;
 mod number;
 pub mod opener;
 pub mod options;
 pub mod program;
-pub mod shelf;
 pub mod status;
-pub mod words;

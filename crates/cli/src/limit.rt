@@ -1,7 +1,7 @@
 //! The reading that the command line asks for: the strict one, or the one with an eager limit.
 
 ghost use Rattle.std.specs.Prelude.{◌≡◌, option_map};
-ghost use Rattle.command.specs.Limits.{reading_in};
+ghost use Rattle.cli.specs.Limits.{reading_in};
 
 use crate::number::number_within;
 use moves::reading::Reading;

@@ -2,9 +2,9 @@
 
 ghost use Rattle.std.specs.Prelude.{◌≡◌, IfOk, IfErr, OnOk};
 ghost use Rattle.std.specs.Io.KnownBytes.{Appends};
-ghost use Rattle.command.specs.Lints.{IsCountOf, IsFaultOfLint, IsFaultOfTrace};
-ghost use Rattle.command.specs.Outputs.{lint_report};
-ghost use Rattle.command.specs.inner.Outputs.{LeavesAtFault};
+ghost use Rattle.cli.specs.Lints.{IsCountOf, IsFaultOfLint, IsFaultOfTrace};
+ghost use Rattle.cli.specs.Outputs.{lint_report};
+ghost use Rattle.cli.specs.inner.Outputs.{LeavesAtFault};
 
 use crate::fault::Fault;
 use crate::opener::Opener;

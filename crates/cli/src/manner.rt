@@ -3,7 +3,7 @@
 ghost use Rattle.std.specs.Prelude.{◌≡◌, false, All, IfOk, map, option_and_then, option_map};
 ghost use Rattle.clap.specs.Matches.{found_of};
 ghost use Rattle.clap.specs.Walk.{rows_of, rule_of};
-ghost use Rattle.command.specs.Choices.{calls_in, calls_rule, choice_by, choice_of, choice_rules, manner_by, manner_of, manner_rules, tests_in, tests_rule};
+ghost use Rattle.cli.specs.Choices.{calls_in, calls_rule, choice_by, choice_of, choice_rules, manner_by, manner_of, manner_rules, tests_in, tests_rule};
 
 use crate::found::text_of;
 use crate::limit::read_reading;
@@ -12,7 +12,7 @@ use clap::{Arg, ArgMatches};
 use closing::choice::{Calls, Choice, Tests};
 use judging::judge::Manner;
 use moves::reading::Reading;
-use reports::report::Format;
+use report::write::Format;
 use std::alloc::{AllocError, Global};
 
 /// What a test that completed a send means.

@@ -1,24 +1,24 @@
 //! Files in memory, whose texts are known.
 
-ghost use Rattle.command.specs.Shelves.{text_on};
+ghost use Rattle.cli.specs.MemoryFiles.{text_on};
 
 use crate::opener::{Maker, Opener};
 use mpicall::memory::{MemoryInput, MemoryOutput};
 
 /// A file in memory.
 #[derive(Clone, Copy)]
-pub struct Shelved<'a> {
+pub struct MemoryFile<'a> {
     pub path: &'a str,
     pub text: &'a [u8],
 }
 
 /// Files in memory. Of those with one path the first is found.
 #[derive(Clone, Copy)]
-pub struct Shelf<'a> {
-    pub files: &'a [Shelved<'a>],
+pub struct MemoryFiles<'a> {
+    pub files: &'a [MemoryFile<'a>],
 }
 
-impl<'a> Opener for Shelf<'a> {
+impl<'a> Opener for MemoryFiles<'a> {
     type In = MemoryInput<'a>;
 
     ghost told = { λ shelf path. text_on shelf.files.now path };
@@ -38,7 +38,7 @@ impl<'a> Opener for Shelf<'a> {
 }
 
 /// No files are made in memory.
-impl Maker for Shelf<'_> {
+impl Maker for MemoryFiles<'_> {
     type Out = MemoryOutput;
 
     fn make_folder(&self, _path: &str) -> bool {

@@ -1,7 +1,7 @@
 //! Numbers among the words of the command line.
 
 ghost use Rattle.std.specs.Prelude.{◌≡◌, ◌≤◌, IfSome};
-ghost use Rattle.command.specs.Numbers.{number_within};
+ghost use Rattle.cli.specs.Numbers.{number_within};
 
 /// The number from `least` to `most` that a word spells, as clap reads one: digits, also with zeros or a plus
 /// before them. None where the word is no such number.

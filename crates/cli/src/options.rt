@@ -4,7 +4,7 @@
 ghost use Rattle.std.specs.Prelude.{◌≡◌, false, All, IfOk, map, option_map};
 ghost use Rattle.clap.specs.Matches.{found_of};
 ghost use Rattle.clap.specs.Walk.{rows_of, rule_of};
-ghost use Rattle.command.specs.Options.{capacity_of, capacity_rule, eager_rule, format_of, given, json_rule, option_rules, options_of};
+ghost use Rattle.cli.specs.Options.{capacity_of, capacity_rule, eager_rule, format_of, given, json_rule, option_rules, options_of};
 
 use crate::capacity::{Capacity, LEAST, MOST};
 use crate::found::text_of;
@@ -13,7 +13,7 @@ use clap::builder::ValueParser;
 use clap::{Arg, ArgAction, ArgMatches};
 use moves::reading::Reading;
 use mpicall::limits::GREATEST_BYTES;
-use reports::report::Format;
+use report::write::Format;
 use std::alloc::{AllocError, Global};
 
 /// How a check is done.

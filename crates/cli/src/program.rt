@@ -1,25 +1,25 @@
 //! The whole program, over any files and outputs.
 
 ghost use Rattle.std.specs.Prelude.{◌≡◌, ◌≢◌, map};
-ghost use Rattle.command.specs.inner.Answer.{Complains, IsAnswered, Refuses, Shows, TellsFaultLine};
-ghost use Rattle.command.specs.Ends.{Ends, EndsInCount, EndsInFiles, EndsInJudged, EndsInReport, IsDone, IsFaultOf};
-ghost use Rattle.command.specs.FaultTexts.{line_of_fault};
-ghost use Rattle.command.specs.Faults.{status_of_fault};
-ghost use Rattle.command.specs.Journals.{IsFaultOfClose, IsFaultOfJudge};
-ghost use Rattle.command.specs.inner.Journals.{IsWriteAs};
-ghost use Rattle.command.specs.Lints.{IsFaultOfLint};
-ghost use Rattle.command.specs.Outputs.{Tries};
-ghost use Rattle.command.specs.Statuses.{status_of_verdict};
-ghost use Rattle.command.specs.Texts.{IsFaultOfCheck};
+ghost use Rattle.cli.specs.inner.Answer.{Complains, IsAnswered, Refuses, Shows, TellsFaultLine};
+ghost use Rattle.cli.specs.ExitContract.{Ends, EndsInCount, EndsInFiles, EndsInJudged, EndsInReport, IsDone, IsFaultOf};
+ghost use Rattle.cli.specs.FaultTexts.{line_of_fault};
+ghost use Rattle.cli.specs.Faults.{status_of_fault};
+ghost use Rattle.cli.specs.Journals.{IsFaultOfClose, IsFaultOfJudge};
+ghost use Rattle.cli.specs.inner.Journals.{IsWriteAs};
+ghost use Rattle.cli.specs.Lints.{IsFaultOfLint};
+ghost use Rattle.cli.specs.Outputs.{Tries};
+ghost use Rattle.cli.specs.Statuses.{status_of_verdict};
+ghost use Rattle.cli.specs.Texts.{IsFaultOfCheck};
 
 use crate::check::check;
+use crate::command_line::{CommandLine, parse};
 use crate::fault::Fault;
 use crate::journal_folder::{JournalFolder, RecordingFolder};
 use crate::lint::lint_file;
 use crate::opener::{Maker, Opener};
 use crate::options::Options;
 use crate::status::Status;
-use crate::words::{Words, parse};
 use closing::choice::Choice;
 use judging::close::{CloseFault, close};
 use judging::judge::{JudgeFault, Manner, judge};
@@ -180,7 +180,7 @@ fn answer_close<'a, P: Opener + Maker, O: Output>(
 /// Does what the words ask for, and gives the exit status where that goes with standard output.
 fn answer<'a, P: Opener + Maker, O: Output, R: Threads + Wait + Sync>(
     alloc: Global,
-    words: Words<'a>,
+    words: CommandLine<'a>,
     opener: &P,
     rt: &R,
     out: &mut O,
@@ -188,17 +188,17 @@ fn answer<'a, P: Opener + Maker, O: Output, R: Threads + Wait + Sync>(
     ensures { IsAnswered O.written O.failures (IsDone (P.told opener.now) words.entry) (IsFaultOf (P.told opener.now) words.entry) out.old out.new result }
 {
     match words {
-        Words::Check {
+        CommandLine::Check {
             head,
             files,
             options,
         } => answer_check(alloc, head, &files, options, opener, rt, out),
-        Words::Lint { file } => answer_lint(alloc, file, opener, rt, out),
-        Words::Judge { folder, manner } => {
+        CommandLine::Lint { file } => answer_lint(alloc, file, opener, rt, out),
+        CommandLine::Judge { folder, manner } => {
             let judged = JournalFolder::new(alloc, opener, folder);
             answer_judge(&judged, manner, rt, out)
         }
-        Words::Close {
+        CommandLine::Close {
             folder,
             out: path,
             choice,
@@ -207,15 +207,15 @@ fn answer<'a, P: Opener + Maker, O: Output, R: Threads + Wait + Sync>(
             let made = RecordingFolder::new(alloc, opener, path);
             answer_close(&journals, &made, choice, rt, out)
         }
-        Words::Said {
+        CommandLine::Said {
             text,
             is_error: false,
         } => show(&text, Status::Free, out),
-        Words::Said {
+        CommandLine::Said {
             text,
             is_error: true,
         } => Err(Complaint::Usage(text)),
-        Words::NoMemory => Err(Complaint::Fault(Fault::Memory)),
+        CommandLine::NoMemory => Err(Complaint::Fault(Fault::Memory)),
     }
 }
 

@@ -47,12 +47,12 @@ mod arguments;
 mod fault;
 mod named;
 mod outcome;
-mod reading;
+mod parser;
 mod row;
-mod shelf;
+mod row_files;
 
 use outcome::answer_of;
-use reading::{RowReading, Step};
+use parser::{RowParser, Step};
 use row::Row;
 use std::alloc::{AllocError, Global};
 use std::io;
@@ -82,7 +82,7 @@ fn run_row<R: AllocGlobal + Print + Eprint + Threads + Wait + Sync>(
 }
 
 fn main(rt: HostRuntime) -> io::Result<()> {
-    let mut reading = RowReading::new(rt.alloc());
+    let mut reading = RowParser::new(rt.alloc());
     let mut place = 0u64;
     let mut rows = 0u64;
     for line in rt.lines(rt.alloc()) {

@@ -1,6 +1,6 @@
 //! Faults by their codes.
 
-use command::fault::Fault;
+use cli::fault::Fault;
 use gather::fault::{RankFault, Refusal, RunFault};
 use mpicall::fault::{LineFault, SourceFault};
 use mpigroup::fault::{HeadFault, HeadFaultKind};

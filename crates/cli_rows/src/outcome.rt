@@ -3,11 +3,11 @@
 use crate::arguments::Arguments;
 use crate::named::fault_of;
 use crate::row::{Asked, Row, Wanted};
-use crate::shelf::{Meeting, RowShelf};
-use command::capacity::Capacity;
-use command::fault::Fault;
-use command::given::{WordsFault, run};
-use command::words::{Words, parse};
+use crate::row_files::{Meeting, RowFiles};
+use cli::argv::{WordsFault, run};
+use cli::capacity::Capacity;
+use cli::command_line::{CommandLine, parse};
+use cli::fault::Fault;
 use mpicall::fails_at::FailsAt;
 use mpicall::memory::MemoryOutput;
 use std::alloc::{AllocError, Global};
@@ -90,7 +90,7 @@ fn answer_of_program<R: AllocGlobal + Eprint + Threads + Wait + Sync>(
     let mut err = FailsAt::new(MemoryOutput::new(rt.alloc()), devices.failing_error);
     let given = (Arguments(row.words.as_slice()), rt.alloc());
     let meeting = Meeting::new();
-    let shelf = RowShelf {
+    let shelf = RowFiles {
         row,
         meeting: &meeting,
     };
@@ -114,16 +114,16 @@ fn answer_of_number(alloc: Global, number: Option<Capacity>) -> Result<Answer, A
 }
 
 /// How many records of a rank may wait, by what is asked for.
-fn capacity_of(words: &Words<'_>) -> Option<Capacity> {
+fn capacity_of(words: &CommandLine<'_>) -> Option<Capacity> {
     match words {
-        Words::Check { options, .. } => Some(options.capacity),
+        CommandLine::Check { options, .. } => Some(options.capacity),
         _ => None,
     }
 }
 
 /// The same by the words of the program.
 fn answer_of_capacity<'a>(alloc: Global, words: &'a [&'a str]) -> Result<Answer, AllocError> {
-    let asked: Words<'a> = parse(alloc, words);
+    let asked: CommandLine<'a> = parse(alloc, words);
     let number = capacity_of(&asked);
     answer_of_number(alloc, number)
 }

@@ -24,7 +24,7 @@ enum Place {
 
 /// The row that is being read.
 #[derive(Drop)]
-pub struct RowReading {
+pub struct RowParser {
     row: Row,
     is_open: bool,
     place: Place,
@@ -61,10 +61,10 @@ fn push(to: &mut String, text: &str, end: &str) -> Result<(), LineFault> {
     Ok(())
 }
 
-impl RowReading {
+impl RowParser {
     /// Nothing was read.
-    pub fn new(alloc: Global) -> RowReading {
-        RowReading {
+    pub fn new(alloc: Global) -> RowParser {
+        RowParser {
             row: Row::new(alloc),
             is_open: false,
             place: Place::Nowhere,

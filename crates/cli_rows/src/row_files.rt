@@ -3,7 +3,7 @@
 ghost use Rattle.std.specs.Prelude.{◌≡◌, None};
 
 use crate::row::Row;
-use command::opener::{Maker, Opener};
+use cli::opener::{Maker, Opener};
 use mpicall::counted::Counted;
 use mpicall::fails_at::FailsAt;
 use mpicall::memory::MemoryOutput;
@@ -77,12 +77,12 @@ impl<'a> io::Read for Pieces<'a> {
 
 /// The files of a row, and the meeting of two of them.
 #[derive(Drop)]
-pub struct RowShelf<'a> {
+pub struct RowFiles<'a> {
     pub row: &'a Row,
     pub meeting: &'a Meeting,
 }
 
-impl<'a> RowShelf<'a> {
+impl<'a> RowFiles<'a> {
     /// The text of the file that a path names.
     fn text(&self, path: &str) -> Option<&'a [u8]> {
         let row = self.row;
@@ -114,7 +114,7 @@ impl<'a> RowShelf<'a> {
     }
 }
 
-impl<'a> Opener for RowShelf<'a> {
+impl<'a> Opener for RowFiles<'a> {
     type In = FailsAt<Counted<Pieces<'a>>>;
 
     ghost told = { λ _ _. None };
@@ -155,7 +155,7 @@ impl<'a> Opener for RowShelf<'a> {
 }
 
 /// No folder is made in memory.
-impl Maker for RowShelf<'_> {
+impl Maker for RowFiles<'_> {
     type Out = MemoryOutput;
 
     fn make_folder(&self, _path: &str) -> bool {

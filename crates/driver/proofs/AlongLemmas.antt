@@ -1,7 +1,7 @@
 -- Lists side by side, as far as a loop has come.
 use Rattle.std.proofs.Common.{◌≡◌, List, [], ◌∷◌, ◌++◌, length, All, sym, arith}
 use Rattle.std.proofs.lemmas.List.{nil_from_length}
-use Rattle.runs.specs.Along.{Along}
+use Rattle.driver.specs.Along.{Along}
 
 -- the third list is as far as the first two are used, of which these are left
 abbrev pub AlongTo : {A B C : Type 0} → (A → B → C → Type 0) → List A → List B → List C → List A → List B → Type 0

@@ -16,7 +16,7 @@ use Rattle.mpicall.specs.declared.source.Source.{Source}
 use Rattle.mpigroup.specs.Groups.{Groups, ranks_of}
 use Rattle.pairing.specs.Faults.{fault_of}
 use Rattle.pairing.specs.declared.fault.CallFault.{CallFault}
-use Rattle.callnotes.specs.Recordings.{Lists, calls_of, is_ended, IsClosed}
+use Rattle.callstore.specs.Recordings.{Lists, calls_of, is_ended, IsClosed}
 use Rattle.rankfeed.specs.Items.{calls_among, end_mark_of, end_the_list, item_ends_list, last_behind}
 use Rattle.rankfeed.specs.Rings.{FeedName, feed_ring, receipt_ring, sent_by, sent_whole}
 use Rattle.mpicall.specs.declared.fault.Ending.{Ending}
@@ -26,28 +26,28 @@ use Rattle.rankfeed.specs.declared.item.Item.TheVariants.{Entry}
 use Rattle.rankfeed.specs.declared.answer.Unsealed.{Unsealed}
 use Rattle.rankfeed.specs.declared.ring.Feed.{Feed}
 use Rattle.rankfeed.specs.declared.ring.Receipt.{Receipt}
-use Rattle.gather.specs.Answers.{PlacedFault, fault_of_rank, fault_onward, fault_of_end, or_behind, refusal_or, refusal_from, refusal_of, recording_of_traces}
+use Rattle.gather.specs.Outcomes.{PlacedFault, fault_of_rank, fault_onward, fault_of_end, or_behind, refusal_or, refusal_from, refusal_of, recording_of_traces}
 use Rattle.gather.specs.Closes.{Closes}
 use Rattle.gather.specs.inner.Closes.{IsOutcomeOver}
-use Rattle.gather.specs.Fed.{marked, end_behind, mark_of, Begins, EndsAs, StopsAs, IsFed, line_behind}
-use Rattle.runs.specs.inner.Ranks.{told_by, AcceptsAll, AcceptsRank, HasNoFault, IsLowestRefusal, IsRefusalOf}
+use Rattle.gather.specs.FeedContract.{marked, end_behind, mark_of, Begins, EndsAs, StopsAs, IsFed, line_behind}
+use Rattle.driver.specs.inner.Ranks.{told_by, AcceptsAll, AcceptsRank, HasNoFault, IsLowestRefusal, IsRefusalOf}
 use Rattle.gather.specs.Receipts.{trace_of_items, AreReceiptsOf, missing_from, first_missing, traces_held}
 use Rattle.gather.specs.Collected.{Kept, nothing_kept}
 use Rattle.gather.specs.Collectors.{rings, kept}
-use Rattle.runs.proofs.ToldLemmas.{read_is_to_come, to_come_is_read, told_if_whole, whole_if_told}
-use Rattle.runs.specs.Runs.{end_by, AreRead, IsReadAs, IsReadOrNotStarted, IsRefusalOfFeeds, RefusesFeeds, StopsWhereAllowed}
-use Rattle.runs.specs.inner.Runs.{receipt_of, receipt_in, AreFedBy, IsOutcomeOfFeeds, IsSameSession, of_close}
+use Rattle.driver.proofs.ToldLemmas.{read_is_to_come, to_come_is_read, told_if_whole, whole_if_told}
+use Rattle.driver.specs.Runs.{end_by, AreRead, IsReadAs, IsReadOrNotStarted, IsRefusalOfFeeds, RefusesFeeds, StopsWhereAllowed}
+use Rattle.driver.specs.inner.Runs.{receipt_of, receipt_in, AreFedBy, IsOutcomeOfFeeds, IsSameSession, of_close}
 use Rattle.gather.specs.declared.outcome.CloseFault.{CloseFault}
 use Rattle.gather.specs.declared.outcome.CloseFault.TheVariants.{Memory, Unproved, Refused}
 use Rattle.gather.specs.declared.collector.Collector.{Collector}
 use Rattle.gather.specs.Takers.{rank_fed, IsFreshFeed}
-use Rattle.runs.specs.Threads.{IsFedOrNotStarted, AreFedFrom}
-use Rattle.runs.specs.Told.{is_from_outside, IsToCome}
+use Rattle.driver.specs.Threads.{IsFedOrNotStarted, AreFedFrom}
+use Rattle.driver.specs.VerdictContract.{is_from_outside, IsToCome}
 use Rattle.gather.specs.declared.fault.RankFault.{RankFault}
 use Rattle.gather.specs.declared.fault.RankFault.TheVariants.{OfCall, OfSource}
 use Rattle.gather.specs.declared.fault.Refusal.{Refusal}
 use Rattle.moves.specs.Analysed.{Analysed}
-use Rattle.runs.specs.declared.threads.Fed.{Fed}
+use Rattle.driver.specs.declared.threads.FeedResult.{FeedResult}
 use Rattle.gather.proofs.CloseLemmas.{own_none, behind_none, same_end}
 use Rattle.gather.proofs.FedLemmas.{marked_calls, marked_end}
 use Rattle.gather.proofs.CollectedLemmas.{torn_has_fault}
@@ -453,7 +453,7 @@ if_received P (Ok receipt) is = is
 if_received P (Err fault) is = tt
 
 module _ {I : Type 0} (left : I → Option (List ℕ)) (may_stop : ℕ → ℕ → Type 0) where
-  pub receipts_of_feeds : (sources : List (Source I)) (feeds : List Feed) (fed : List Fed) → AreFedFrom left may_stop sources feeds fed → AreReceiptsOf (map feed_ring feeds) (map receipt_of fed)
+  pub receipts_of_feeds : (sources : List (Source I)) (feeds : List Feed) (fed : List FeedResult) → AreFedFrom left may_stop sources feeds fed → AreReceiptsOf (map feed_ring feeds) (map receipt_of fed)
   receipts_of_feeds [] [] [] are = tt
   receipts_of_feeds (s ∷ ss) (f ∷ fs) (x ∷ xs) are = (if_received (λ receipt. receipt_ring receipt ≡ feed_ring f) x.receipt are.0.name, receipts_of_feeds ss fs xs are.1)
   receipts_of_feeds sources feeds fed are = absurd are
@@ -478,7 +478,7 @@ one_more_fed left may_stop first number source sources (Ok receipt) receipts own
   behind present,
 )
 
-pub fed_by_threads : {I : Type 0} (left : I → Option (List ℕ)) (may_stop : ℕ → ℕ → Type 0) (first : ℕ) (sources : List (Source I)) (feeds : List Feed) (fed : List Fed) → AreFedFrom left may_stop sources feeds fed → map rank_fed feeds ≡ range_with_len first (length feeds) → missing_from first (map receipt_of fed) ≡ None → AreFedBy left may_stop first sources (items_held (map receipt_of fed))
+pub fed_by_threads : {I : Type 0} (left : I → Option (List ℕ)) (may_stop : ℕ → ℕ → Type 0) (first : ℕ) (sources : List (Source I)) (feeds : List Feed) (fed : List FeedResult) → AreFedFrom left may_stop sources feeds fed → map rank_fed feeds ≡ range_with_len first (length feeds) → missing_from first (map receipt_of fed) ≡ None → AreFedBy left may_stop first sources (items_held (map receipt_of fed))
 unfolding items_held
 fed_by_threads left may_stop first [] [] [] are ranks present = tt
 fed_by_threads left may_stop first (s ∷ ss) (f ∷ fs) (x ∷ xs) are ranks present =
@@ -508,7 +508,7 @@ feeds_of groups feeds ranks = sym (length-map feeds rank_fed) ∙ ap (λ (ns : L
 pub feeds_count : {I : Type 0} (groups : Groups) (feeds : List Feed) (sources : List (Source I)) → length sources ≡ ranks_of groups → map rank_fed feeds ≡ range_with_len 0 (ranks_of groups) → length feeds ≡ length sources
 feeds_count groups feeds sources one ranks = feeds_of groups feeds ranks ∙ sym one
 
-module _ {I : Type 0} (left : I → Option (List ℕ)) (may_stop : ℕ → ℕ → Type 0) (sources : List (Source I)) (feeds : List Feed) (fed : List Fed) (collector now : Collector) (receipts : List (Option Receipt)) (reading : Reading) (groups : Groups) where
+module _ {I : Type 0} (left : I → Option (List ℕ)) (may_stop : ℕ → ℕ → Type 0) (sources : List (Source I)) (feeds : List Feed) (fed : List FeedResult) (collector now : Collector) (receipts : List (Option Receipt)) (reading : Reading) (groups : Groups) where
   pub close_receipts : AreFedFrom left may_stop sources feeds fed → rings collector ≡ map feed_ring feeds → IsSameSession collector now → receipts ≡ map receipt_of fed → AreReceiptsOf (rings now) receipts
   close_receipts are rings_are same is =
       rw is (subst (λ (names : List FeedName). AreReceiptsOf names (map receipt_of fed)) (sym (same.names ∙ rings_are)) (receipts_of_feeds left may_stop sources feeds fed are))
@@ -537,7 +537,7 @@ module _ {I : Type 0} (left : I → Option (List ℕ)) (may_stop : ℕ → ℕ �
         over = ap (refusal_of groups) (sym (held_traces receipts)) ∙ ap (λ (gs : Groups). refusal_of gs (traces_held receipts)) (sym head) ∙ answer.1;
       }
 
-  fed_count : (ss : List (Source I)) (fs : List Feed) (xs : List Fed) → AreFedFrom left may_stop ss fs xs → length xs ≡ length ss
+  fed_count : (ss : List (Source I)) (fs : List Feed) (xs : List FeedResult) → AreFedFrom left may_stop ss fs xs → length xs ≡ length ss
   fed_count [] [] [] so = refl
   fed_count (s ∷ ss) (f ∷ fs) (x ∷ xs) so = ap suc (fed_count ss fs xs so.1)
   fed_count ss fs xs so = absurd so

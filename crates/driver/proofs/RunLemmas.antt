@@ -6,7 +6,7 @@ use Rattle.mpicall.specs.Source.{coming}
 use Rattle.mpicall.specs.declared.call.Call.{Call}
 use Rattle.mpicall.specs.declared.source.Source.{Source}
 use Rattle.mpigroup.specs.Groups.{Groups, ranks_of}
-use Rattle.callnotes.specs.Recordings.{Lists, calls_of, IsClosed}
+use Rattle.callstore.specs.Recordings.{Lists, calls_of, IsClosed}
 use Rattle.std.proofs.lemmas.Bool.{not-true, not_from_false}
 use Rattle.std.proofs.lemmas.Option.{slice_get_within}
 use Rattle.moves.specs.Stands.{lowest_run_over, stands_of, is_at_end}
@@ -16,18 +16,18 @@ use Rattle.std.specs.Io.KnownBytes.{Appends}
 use Rattle.waitgraph.specs.declared.verdict.Verdict.{Verdict}
 use Rattle.waitgraph.proofs.VerdictLemmas.{hang_tells_of_a_stuck_rank, one_verdict, verdict_of_graph}
 use Rattle.moves.proofs.StandLemmas.{no_run_brings_a_stuck_rank_to_its_end, every_maximal_run_ends_at_the_stands}
-use Rattle.gather.specs.Answers.{fault_of_rank, refusal_or, refusal_from, refusal_of, recording_of_traces, SomeRankCannotEnd}
-use Rattle.runs.specs.Told.{Tells, IsVerdictOver, RefusesOver}
-use Rattle.runs.specs.inner.Ranks.{told_by, AcceptsAll, AcceptsRank, LeavesRunReport, NotReported, Reported, RefusesRun, IsRefusalOf}
-use Rattle.runs.proofs.HeldLemmas.{found_at, lowest_refusal}
-use Rattle.runs.proofs.ToldLemmas.{read_of_told, to_come_is_read}
-use Rattle.runs.specs.Runs.{RefusesFeeds, StopsWhereAllowed}
-use Rattle.runs.specs.inner.Runs.{of_close}
+use Rattle.gather.specs.Outcomes.{fault_of_rank, refusal_or, refusal_from, refusal_of, recording_of_traces, SomeRankCannotEnd}
+use Rattle.driver.specs.VerdictContract.{Tells, IsVerdictOver, RefusesOver}
+use Rattle.driver.specs.inner.Ranks.{told_by, AcceptsAll, AcceptsRank, LeavesRunReport, NotReported, Reported, RefusesRun, IsRefusalOf}
+use Rattle.driver.proofs.HeldLemmas.{found_at, lowest_refusal}
+use Rattle.driver.proofs.ToldLemmas.{read_of_told, to_come_is_read}
+use Rattle.driver.specs.Runs.{RefusesFeeds, StopsWhereAllowed}
+use Rattle.driver.specs.inner.Runs.{of_close}
 use Rattle.gather.specs.declared.outcome.CloseFault.{CloseFault}
 use Rattle.gather.specs.declared.outcome.CloseFault.TheVariants as close
-use Rattle.runs.specs.Written.{IsReportOver, LeavesOutput, WritesReport}
-use Rattle.reports.specs.Reports.{IsReport, report_of}
-use Rattle.reports.specs.declared.report.Format.{Format}
+use Rattle.driver.specs.OutputContract.{IsReportOver, LeavesOutput, WritesReport}
+use Rattle.report.specs.Reports.{IsReport, report_of}
+use Rattle.report.specs.declared.write.Format.{Format}
 use Rattle.gather.specs.declared.fault.Refusal.{Refusal}
 use Rattle.gather.specs.declared.fault.RunFault.{RunFault}
 use Rattle.gather.specs.declared.fault.RunFault.TheVariants.{Memory, Unproved, Refused, Write}

@@ -8,7 +8,7 @@ use Rattle.mpicall.specs.declared.source.Source.{Source}
 use Rattle.mpicall.specs.declared.source.Stage.{Stage}
 use Rattle.mpicall.specs.declared.source.Stage.TheVariants as stage
 use Rattle.mpicall.proofs.OneTraceLemmas.{one_trace}
-use Rattle.runs.specs.Told.{IsToCome, IsTraceAt, Tells}
+use Rattle.driver.specs.VerdictContract.{IsToCome, IsTraceAt, Tells}
 
 read_at : (at : Stage) (bytes : Option (List ℕ)) (trace : Trace) → IsTraceAt at bytes trace → trace_at at bytes ≡ Some trace
 unfolding trace_of

@@ -10,7 +10,7 @@ use Rattle.mpicall.specs.Trace.{Trace}
 use Rattle.mpicall.specs.declared.call.Call.{Call}
 use Rattle.mpicall.specs.declared.fault.SourceFault.{SourceFault}
 use Rattle.mpicall.specs.declared.source.Source.{Source}
-use Rattle.callnotes.specs.Recordings.{is_ended}
+use Rattle.callstore.specs.Recordings.{is_ended}
 use Rattle.mpigroup.proofs.ListLemmas.{slice_get-set_same, slice_get-set_other}
 use Rattle.rankfeed.specs.Items.{calls_among, end_mark_of, end_the_list, item_ends_list, last_behind, mark_in}
 use Rattle.mpicall.specs.declared.fault.Ending.{Ending}
@@ -20,15 +20,15 @@ use Rattle.rankfeed.specs.declared.item.Item.TheVariants.{Entry, Mark}
 use Rattle.rankfeed.proofs.ItemLemmas.{last_item-push}
 use Rattle.gather.specs.Collected.{Kept, nothing_kept, torn, EntersRecord, IsKeptIn}
 use Rattle.gather.specs.inner.Collected.{LeavesOthers}
-use Rattle.gather.specs.Fed.{marked, Continues, IsFed}
+use Rattle.gather.specs.FeedContract.{marked, Continues, IsFed}
 use Rattle.gather.specs.Reads.{IsReading}
-use Rattle.runs.specs.inner.Turns.{AtTurn, at_turn, at_turns, first_turn, IsReady, IsWhole, IsGoing, CameOf, IsTurnOf, source_of, IsBegun, IsOver, IsLater, AreTurnsOf, AreLater, IsReadOf, AreReadOf}
+use Rattle.driver.specs.inner.Turns.{AtTurn, at_turn, at_turns, first_turn, IsReady, IsWhole, IsGoing, CameOf, IsTurnOf, source_of, IsBegun, IsOver, IsLater, AreTurnsOf, AreLater, IsReadOf, AreReadOf}
 use Rattle.gather.specs.declared.fault.RankFault.TheVariants.{OfSource}
 use Rattle.gather.specs.declared.ledger.Stepped.{Stepped}
-use Rattle.runs.specs.declared.turn.Turn.{Turn as Progress}
+use Rattle.driver.specs.declared.turn.Turn.{Turn as Progress}
 use Rattle.gather.proofs.CollectedLemmas.{end_mark_of-push, mark_sealed, nothing_new, record_leaves, record_own, torn_leaves, torn_own}
 use Rattle.gather.proofs.FedLemmas.{begins, marked_calls}
-use Rattle.runs.proofs.HeldLemmas.{found_at, same_ended, mapped_at}
+use Rattle.driver.proofs.HeldLemmas.{found_at, same_ended, mapped_at}
 use Rattle.gather.proofs.OpenLemmas.{kept_at_first, places_at_first}
 
 -- The items of a source that is being read.

@@ -5,21 +5,21 @@ use Rattle.mpicall.specs.Source.{coming}
 use Rattle.mpicall.specs.declared.call.Call.{Call}
 use Rattle.mpicall.specs.declared.source.Source.{Source}
 use Rattle.mpigroup.specs.Groups.{Groups}
-use Rattle.callnotes.specs.Recordings.{Lists, calls_of, is_ended, IsClosed}
+use Rattle.callstore.specs.Recordings.{Lists, calls_of, is_ended, IsClosed}
 use Rattle.pairing.specs.Faults.{IsLawful}
 use Rattle.pairing.proofs.FaultLemmas.{an_ended_lawful_list_is_closed}
 use Rattle.rankfeed.specs.Items.{calls_among, end_mark_of}
 use Rattle.rankfeed.specs.declared.item.Item.{Item}
-use Rattle.gather.specs.Answers.{PlacedFault, fault_of_rank, refusal_or, refusal_from, refusal_of, recording_of_traces}
+use Rattle.gather.specs.Outcomes.{PlacedFault, fault_of_rank, refusal_or, refusal_from, refusal_of, recording_of_traces}
 use Rattle.gather.specs.Closes.{IsOutcomeOf, Concludes}
 use Rattle.gather.specs.inner.Closes.{IsOutcomeOver}
 use Rattle.gather.specs.Collected.{records_before, Kept, fault_at, refusal_in, refusal_kept}
-use Rattle.gather.specs.Fed.{IsFed}
+use Rattle.gather.specs.FeedContract.{IsFed}
 use Rattle.gather.specs.Receipts.{trace_of_items}
-use Rattle.runs.specs.Runs.{IsRefusalOfFeeds, RefusesFeeds}
-use Rattle.runs.specs.inner.Runs.{AreFedBy, IsOutcomeOfFeeds, of_close}
-use Rattle.runs.proofs.HeldLemmas.{all_read}
-use Rattle.runs.specs.inner.Turns.{IsReadOf, AreReadOf}
+use Rattle.driver.specs.Runs.{IsRefusalOfFeeds, RefusesFeeds}
+use Rattle.driver.specs.inner.Runs.{AreFedBy, IsOutcomeOfFeeds, of_close}
+use Rattle.driver.proofs.HeldLemmas.{all_read}
+use Rattle.driver.specs.inner.Turns.{IsReadOf, AreReadOf}
 use Rattle.gather.specs.declared.fault.Refusal.{Refusal}
 use Rattle.gather.specs.declared.outcome.CloseFault.{CloseFault}
 use Rattle.gather.specs.declared.outcome.CloseFault.TheVariants.{Memory, Unproved, Refused}

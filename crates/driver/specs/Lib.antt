@@ -1,5 +1,5 @@
-pub mod Told
-pub mod Written
+pub mod VerdictContract
+pub mod OutputContract
 pub mod Threads
 pub mod Along
 pub mod Runs

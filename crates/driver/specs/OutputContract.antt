@@ -6,12 +6,12 @@ use Rattle.mpicall.specs.declared.source.Source.{Source}
 use Rattle.mpicall.specs.Trace.{Trace}
 use Rattle.mpicall.specs.Device.{one_more, AppendsBeginning}
 use Rattle.mpigroup.specs.Groups.{Groups, ranks_of}
-use Rattle.callnotes.specs.Recordings.{Lists, calls_of, IsClosed}
+use Rattle.callstore.specs.Recordings.{Lists, calls_of, IsClosed}
 use Rattle.waitgraph.specs.declared.verdict.Verdict.{Verdict}
-use Rattle.reports.specs.Reports.{IsReport}
-use Rattle.reports.specs.declared.report.Format.{Format}
-use Rattle.gather.specs.Answers.{fault_of_rank, recording_of_traces}
-use Rattle.runs.specs.Told.{IsToCome, Tells}
+use Rattle.report.specs.Reports.{IsReport}
+use Rattle.report.specs.declared.write.Format.{Format}
+use Rattle.gather.specs.Outcomes.{fault_of_rank, recording_of_traces}
+use Rattle.driver.specs.VerdictContract.{IsToCome, Tells}
 use Rattle.gather.specs.declared.fault.RunFault.{RunFault}
 use Rattle.gather.specs.declared.fault.RunFault.TheVariants.{Write}
 

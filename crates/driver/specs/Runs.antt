@@ -7,10 +7,10 @@ use Rattle.mpicall.specs.declared.fault.Ending.{Ending}
 use Rattle.mpicall.specs.declared.fault.Ending.TheVariants.{Sealed, Torn}
 use Rattle.mpicall.specs.declared.fault.SourceFault.TheVariants.{GateStopped, NoFinalize, ReadFailed, ThreadNotStarted}
 use Rattle.mpigroup.specs.Groups.{Groups, ranks_of}
-use Rattle.gather.specs.Answers.{refusal_of}
-use Rattle.callnotes.specs.Recordings.{is_ended}
-use Rattle.gather.specs.Fed.{line_behind, Begins, StopsAs}
-use Rattle.runs.specs.Told.{IsToCome}
+use Rattle.gather.specs.Outcomes.{refusal_of}
+use Rattle.callstore.specs.Recordings.{is_ended}
+use Rattle.gather.specs.FeedContract.{line_behind, Begins, StopsAs}
+use Rattle.driver.specs.VerdictContract.{IsToCome}
 use Rattle.gather.specs.declared.fault.RankFault.TheVariants.{OfSource}
 use Rattle.gather.specs.declared.fault.Refusal.{Refusal}
 use Rattle.gather.specs.declared.fault.RunFault.{RunFault}

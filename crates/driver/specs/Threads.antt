@@ -9,18 +9,18 @@ use Rattle.rankfeed.specs.Rings.{feed_ring, receipt_ring, sent_whole}
 use Rattle.mpicall.specs.declared.fault.Ending.TheVariants.{Torn}
 use Rattle.rankfeed.specs.declared.item.Item.{Item}
 use Rattle.rankfeed.specs.declared.ring.Feed.{Feed}
-use Rattle.runs.specs.Along.{Along}
-use Rattle.gather.specs.Fed.{IsFed, marked}
-use Rattle.runs.specs.declared.threads.Fed.{Fed}
-use Rattle.runs.specs.declared.threads.Started.{Started}
-use Rattle.runs.specs.declared.threads.Started.TheVariants.{Running, NotStarted}
+use Rattle.driver.specs.Along.{Along}
+use Rattle.gather.specs.FeedContract.{IsFed, marked}
+use Rattle.driver.specs.declared.threads.FeedResult.{FeedResult}
+use Rattle.driver.specs.declared.threads.Started.{Started}
+use Rattle.driver.specs.declared.threads.Started.TheVariants.{Running, NotStarted}
 
 -- the items are those of a source, or the mark of a thread that didn't start alone
 abbrev pub IsFedOrNotStarted : Option Trace → (ℕ → Type 0) → List Item → Type 0
 IsFedOrNotStarted told may_stop items = IsFed told may_stop items ⊎ (items ≡ marked [] (Torn ThreadNotStarted))
 
 -- what comes of a source, a feed and a gate: the receipt is that feed's, and its items are those of the source
-pub record IsFedFrom {I : Type 0} (left : I → Option (List ℕ)) (may_stop : ℕ → ℕ → Type 0) (source : Source I) (feed : Feed) (fed : Fed) : Type 0 where
+pub record IsFedFrom {I : Type 0} (left : I → Option (List ℕ)) (may_stop : ℕ → ℕ → Type 0) (source : Source I) (feed : Feed) (fed : FeedResult) : Type 0 where
   pub name : IfOk fed.receipt (λ receipt. receipt_ring receipt ≡ feed_ring feed)
   pub order : IfOk fed.receipt (λ receipt. IsFeed (sent_whole receipt))
   pub items : IfOk fed.receipt (λ receipt. IsFedOrNotStarted (coming left source) (may_stop (feed_ring feed).rank_number) (sent_whole receipt))
@@ -37,5 +37,5 @@ AllPromise left may_stop sources feeds gate started =
     Along (λ source feed one. Promises left may_stop source feed gate one) sources feeds started
 
 -- at each place is what came of the source and the feed there
-abbrev pub AreFedFrom : {I : Type 0} → (I → Option (List ℕ)) → (ℕ → ℕ → Type 0) → List (Source I) → List Feed → List Fed → Type 0
+abbrev pub AreFedFrom : {I : Type 0} → (I → Option (List ℕ)) → (ℕ → ℕ → Type 0) → List (Source I) → List Feed → List FeedResult → Type 0
 AreFedFrom left may_stop sources feeds fed = Along (λ source feed one. IsFedFrom left may_stop source feed one) sources feeds fed

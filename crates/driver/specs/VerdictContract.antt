@@ -16,7 +16,7 @@ use Rattle.moves.specs.Runs.{IsTheEnd}
 use Rattle.moves.specs.Needs.{can_move}
 use Rattle.moves.specs.Stands.{stands_of}
 use Rattle.waitgraph.specs.Held.{is_some_left_open}
-use Rattle.gather.specs.Answers.{fault_of_rank, refusal_of, recording_of_traces, SomeRankCannotEnd}
+use Rattle.gather.specs.Outcomes.{fault_of_rank, refusal_of, recording_of_traces, SomeRankCannotEnd}
 use Rattle.waitgraph.specs.Verdicts.{IsVerdictOf}
 use Rattle.waitgraph.specs.declared.verdict.Verdict.{Verdict}
 use Rattle.waitgraph.specs.declared.verdict.Verdict.TheVariants.{Hang}

@@ -18,8 +18,8 @@
 //! By threads it uses the sessions of the crate `gather`; `threads` feeds one from a source by a thread for
 //! each rank. By turns each record goes straight to what a session keeps.
 //!
-//! The definitions are in `specs/`: `Told` says what an answer says where the inputs know their bytes,
-//! `Written` what was written then, `Runs` what a run answers by what was read. What only proofs and private
+//! The definitions are in `specs/`: `VerdictContract` says what an answer says where the inputs know their bytes,
+//! `OutputContract` what was written then, `Runs` what a run answers by what was read. What only proofs and private
 //! contracts cite is in `specs/inner/`, and nobody has to believe it.
 //!
 //! ```text
@@ -29,9 +29,9 @@
 //! ```
 #![tactic(auto)]
 
-mod gathering;
+mod poll;
+mod round_robin;
 pub mod run;
-mod sweep;
+mod threaded;
 pub mod threads;
 mod turn;
-mod turns;

@@ -5,7 +5,7 @@
 
 ghost use Rattle.std.specs.Prelude.{◌<◌, length};
 ghost use Rattle.gather.specs.Collectors.{rings};
-ghost use Rattle.runs.specs.inner.Runs.{IsSameSession};
+ghost use Rattle.driver.specs.inner.Runs.{IsSameSession};
 
 use gather::collector::Collector;
 use gather::ledger::Stepped;
@@ -17,41 +17,41 @@ const MOST: u16 = 1024;
 
 /// What a sweep over the feeds found.
 #[derive(Clone, Copy, Debug, PartialEq, Eq)]
-struct Swept {
+struct PollResult {
     all_ended: bool,
     some_came: bool,
 }
 
 /// Takes what is there from the feed of a rank.
-fn take_some(collector: &mut Collector, rank: u16, swept: &mut Swept)
+fn take_some(collector: &mut Collector, rank: u16, polled: &mut PollResult)
     requires { rank < length (rings collector.old) }
     ensures { IsSameSession collector.old collector.new }
 {
     for _ in 0..MOST {
         match collector.step(rank) {
-            Stepped::Took | Stepped::Refused | Stepped::Discarded => swept.some_came = true,
+            Stepped::Took | Stepped::Refused | Stepped::Discarded => polled.some_came = true,
             Stepped::Empty => {
-                swept.all_ended = false;
+                polled.all_ended = false;
                 return;
             }
             Stepped::Ended => return,
         }
     }
-    swept.all_ended = false;
+    polled.all_ended = false;
 }
 
 /// Takes what is there from the feed of each rank.
-fn sweep(collector: &mut Collector) -> Swept
+fn poll(collector: &mut Collector) -> PollResult
     ensures { IsSameSession collector.old collector.new }
 {
-    let mut swept = Swept {
+    let mut polled = PollResult {
         all_ended: true,
         some_came: false,
     };
     for rank in 0..collector.ranks() {
-        take_some(collector, rank, &mut swept);
+        take_some(collector, rank, &mut polled);
     }
-    swept
+    polled
 }
 
 /// Takes what comes by the feeds of all ranks until each has ended.
@@ -60,11 +60,11 @@ pub(crate) fn take_all(collector: &mut Collector, wait: &impl Wait)
 {
     let mut pause = Pause::new();
     for _ in wait.forever() {
-        let swept = sweep(collector);
-        if swept.all_ended {
+        let polled = poll(collector);
+        if polled.all_ended {
             return;
         }
-        if swept.some_came {
+        if polled.some_came {
             pause = Pause::new();
         } else {
             pause.rest(wait);

@@ -3,8 +3,8 @@
 ghost use Rattle.std.specs.Prelude.{◌≡◌, ◌<◌, true, false, None, All, IsTrue, length, replicate, vec_len};
 ghost use Rattle.mpicall.specs.Source.{ended};
 ghost use Rattle.gather.specs.Collected.{nothing_kept};
-ghost use Rattle.runs.specs.Told.{AreFresh};
-ghost use Rattle.runs.specs.inner.Turns.{at_turn, at_turns, first_turn, IsReady, IsLater, AreLater, AreReadOf};
+ghost use Rattle.driver.specs.VerdictContract.{AreFresh};
+ghost use Rattle.driver.specs.inner.Turns.{at_turn, at_turns, first_turn, IsReady, IsLater, AreLater, AreReadOf};
 
 use crate::turn::Turn;
 use gather::feed::next_of;

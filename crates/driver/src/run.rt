@@ -3,17 +3,17 @@
 ghost use Rattle.std.specs.Prelude.{◌≡◌, ◌<◌, ◌≤◌, ℕ, None, [], List, length, map, vec_len, vec_capacity, IfOk, IfErr, OnOk};
 ghost use Rattle.mpicall.specs.Trace.{Trace as TraceValue};
 ghost use Rattle.mpigroup.specs.Groups.{ranks_of};
-ghost use Rattle.gather.specs.Answers.{refusal_of};
-ghost use Rattle.runs.specs.Told.{AreFresh, Tells, IsVerdictOver, RefusesOver, TheTraceToComeIsRead};
-ghost use Rattle.runs.specs.inner.Ranks.{Reported, NotReported};
-ghost use Rattle.runs.specs.Written.{LeavesOutput, WritesReport};
-ghost use Rattle.runs.specs.Runs.{RefusesFeeds, StopsWhereAllowed};
-ghost use Rattle.runs.specs.inner.Runs.{receipt_of, of_close, IsOutcomeOfFeeds};
+ghost use Rattle.gather.specs.Outcomes.{refusal_of};
+ghost use Rattle.driver.specs.VerdictContract.{AreFresh, Tells, IsVerdictOver, RefusesOver, TheTraceToComeIsRead};
+ghost use Rattle.driver.specs.inner.Ranks.{Reported, NotReported};
+ghost use Rattle.driver.specs.OutputContract.{LeavesOutput, WritesReport};
+ghost use Rattle.driver.specs.Runs.{RefusesFeeds, StopsWhereAllowed};
+ghost use Rattle.driver.specs.inner.Runs.{receipt_of, of_close, IsOutcomeOfFeeds};
 
-use crate::gathering::in_threads;
-use crate::threads::{Fed, NotStarted};
+use crate::round_robin::read_in_turns;
+use crate::threaded::in_threads;
+use crate::threads::{FeedResult, NotStarted};
 use crate::turn::Turn;
-use crate::turns::read_in_turns;
 use gather::fault::RunFault;
 use gather::gate::Gate;
 use gather::ledger::Ledger;
@@ -24,7 +24,7 @@ use mpicall::device::{Input, Output};
 use mpicall::source::Source;
 use mpigroup::head::Head;
 use rankfeed::Receipt;
-use reports::report::{Format, ReportFault, write_report};
+use report::write::{Format, ReportFault, write_report};
 use std::alloc::Global;
 use std::sync::Wait;
 use std::thread::Threads;
@@ -43,7 +43,7 @@ pub enum ReadBy {
 }
 
 /// The receipts that came of the sources, in their order. `receipts` has room for them.
-fn receipts_of(fed: Vec<Fed>, receipts: Vec<Option<Receipt>>) -> Vec<Option<Receipt>>
+fn receipts_of(fed: Vec<FeedResult>, receipts: Vec<Option<Receipt>>) -> Vec<Option<Receipt>>
     requires nothing { receipts.items ≡ [] }
     requires room { vec_len fed ≤ vec_capacity receipts }
     ensures { result.items ≡ map receipt_of fed.items }

@@ -5,12 +5,12 @@
 
 ghost use Rattle.std.specs.Prelude.{◌≡◌, ◌≤◌, [], All, map, vec_len, vec_capacity};
 ghost use Rattle.rankfeed.specs.Rings.{sent_by};
-ghost use Rattle.runs.specs.inner.Runs.{IsSameSession};
-ghost use Rattle.runs.specs.Threads.{AreFedFrom};
-ghost use Rattle.runs.specs.Told.{AreFresh};
+ghost use Rattle.driver.specs.inner.Runs.{IsSameSession};
+ghost use Rattle.driver.specs.Threads.{AreFedFrom};
+ghost use Rattle.driver.specs.VerdictContract.{AreFresh};
 
-use crate::sweep::take_all;
-use crate::threads::{Fed, NotStarted, Started};
+use crate::poll::take_all;
+use crate::threads::{FeedResult, NotStarted, Started};
 use gather::collector::Collector;
 use gather::gate::Gate;
 use mpicall::device::Input;
@@ -28,11 +28,11 @@ fn in_scope<'s, E, I, G, R>(
     feeds: Vec<Feed>,
     collector: Collector,
     started: Vec<Started<I, G>>,
-    fed: Vec<Fed>,
+    fed: Vec<FeedResult>,
     gate: &'s G,
     not_started: &'s NotStarted,
     stack_size: Option<usize>,
-) -> (Collector, Vec<Fed>)
+) -> (Collector, Vec<FeedResult>)
 where
     I: Input + Drop + Send + 's,
     G: Gate + Sync,
@@ -73,11 +73,11 @@ pub(crate) fn in_threads<I, G, R>(
     feeds: Vec<Feed>,
     collector: Collector,
     started: Vec<Started<I, G>>,
-    fed: Vec<Fed>,
+    fed: Vec<FeedResult>,
     gate: &G,
     not_started: &NotStarted,
     stack_size: Option<usize>,
-) -> (Collector, Vec<Fed>)
+) -> (Collector, Vec<FeedResult>)
 where
     I: Input + Drop + Send,
     G: Gate + Sync,
@@ -96,7 +96,7 @@ where
     thread::scope(
         thread::scope_env(),
         rt,
-        move |scope| -> (Collector, Vec<Fed>)
+        move |scope| -> (Collector, Vec<FeedResult>)
             requires one_a_source { vec_len feeds ≡ vec_len sources }
             requires fresh { AreFresh sources.items }
             requires nothing_put { All (λ feed. sent_by feed ≡ []) feeds.items }

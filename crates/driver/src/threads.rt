@@ -48,7 +48,7 @@ fn stack_of(size: Option<usize>) -> Stack {
 /// What came of the feeding of one rank: the receipt of its feed. The source was let go, so that a pipe which
 /// isn't read on is closed.
 #[derive(Drop)]
-pub struct Fed {
+pub struct FeedResult {
     pub receipt: Result<Receipt, Unsealed>,
 }
 
@@ -60,17 +60,17 @@ pub struct Feeding<I, G> {
     gate: Snapshot<G>,
 }
 
-impl<I: Input, G: Gate> Promise<Fed> for Feeding<I, G> {
-    ghost use Rattle.runs.specs.Threads.{IsFedFrom};
+impl<I: Input, G: Gate> Promise<FeedResult> for Feeding<I, G> {
+    ghost use Rattle.driver.specs.Threads.{IsFedFrom};
 
     ghost kept_by = { λ promise fed. IsFedFrom I.left (G.may_stop promise.gate.value) promise.source.value promise.feed.value fed };
 }
 
-impl Fed {
+impl FeedResult {
     ghost use Rattle.std.specs.Prelude.{◌≡◌, [], None};
     ghost use Rattle.mpicall.specs.Source.{ended};
     ghost use Rattle.rankfeed.specs.Rings.{sent_by};
-    ghost use Rattle.runs.specs.Threads.{IsFedFrom};
+    ghost use Rattle.driver.specs.Threads.{IsFedFrom};
 
     /// Feeds a source to its end, or tears its feed where its thread didn't start.
     fn of<I: Input + Drop, G: Gate>(
@@ -79,7 +79,7 @@ impl Fed {
         gate: &G,
         wait: &impl Wait,
         not_started: &NotStarted,
-    ) -> Fed
+    ) -> FeedResult
         requires fresh { ended source ≡ None }
         requires nothing_put { sent_by feed_end ≡ [] }
         ensures { IsFedFrom I.left (G.may_stop gate.now) source feed_end result }
@@ -91,15 +91,15 @@ impl Fed {
         } else {
             feed(rank, &mut source, feed_end, gate, wait)
         };
-        Fed { receipt }
+        FeedResult { receipt }
     }
 }
 
 /// A feeding thread that was started, or what came of it where none could be.
 #[derive(Drop)]
 pub enum Started<I: Input, G: Gate> {
-    Running(PromisedHandle<Fed, Feeding<I, G>>),
-    NotStarted(Fed),
+    Running(PromisedHandle<FeedResult, Feeding<I, G>>),
+    NotStarted(FeedResult),
 }
 
 impl<I: Input, G: Gate> Started<I, G> {
@@ -108,8 +108,8 @@ impl<I: Input, G: Gate> Started<I, G> {
     ghost use Rattle.mpicall.specs.declared.source.Source.{Source as SourceValue};
     ghost use Rattle.rankfeed.specs.Rings.{sent_by};
     ghost use Rattle.rankfeed.specs.declared.ring.Feed.{Feed as FeedValue};
-    ghost use Rattle.runs.specs.Told.{AreFresh};
-    ghost use Rattle.runs.specs.Threads.{IsFedFrom, Promises, AllPromise, AreFedFrom};
+    ghost use Rattle.driver.specs.VerdictContract.{AreFresh};
+    ghost use Rattle.driver.specs.Threads.{IsFedFrom, Promises, AllPromise, AreFedFrom};
 
     /// Starts the thread that feeds a source. Where no thread starts, the feed is torn at once.
     pub fn start<'s, E, R: Threads + Wait + Sync>(
@@ -137,7 +137,7 @@ impl<I: Input, G: Gate> Started<I, G> {
         let started = stack_of(stack_size).spawn_scoped_with(
             scope,
             promise,
-            move || Fed::of(source, feed_end, gate, rt, not_started),
+            move || FeedResult::of(source, feed_end, gate, rt, not_started),
         );
         match started {
             Ok(handle) => Started::Running(handle),
@@ -149,7 +149,7 @@ impl<I: Input, G: Gate> Started<I, G> {
     }
 
     /// Waits until the thread ended, and answers what came of it.
-    pub fn finish(self, rt: &impl Threads) -> Fed
+    pub fn finish(self, rt: &impl Threads) -> FeedResult
         ensures { (source : SourceValue I) (feed : FeedValue) (gate : G) →
             Promises I.left G.may_stop source feed gate self → IsFedFrom I.left (G.may_stop gate) source feed result }
     {
@@ -197,7 +197,11 @@ impl<I: Input, G: Gate> Started<I, G> {
     }
 
     /// Waits until all threads ended, and answers what came of each. `fed` has room for them.
-    pub fn finish_all(started: Vec<Started<I, G>>, fed: Vec<Fed>, rt: &impl Threads) -> Vec<Fed>
+    pub fn finish_all(
+        started: Vec<Started<I, G>>,
+        fed: Vec<FeedResult>,
+        rt: &impl Threads,
+    ) -> Vec<FeedResult>
     where
         I: Drop,
         requires nothing { fed.items ≡ [] }

@@ -1,7 +1,7 @@
 //! How far the source of a rank was read, while those of other ranks are read in between.
 
 ghost use Rattle.std.specs.Prelude.{◌≡◌};
-ghost use Rattle.runs.specs.inner.Turns.{first_turn};
+ghost use Rattle.driver.specs.inner.Turns.{first_turn};
 
 /// The number of the next record of a rank's source, whether the last record ended the list, and whether the source
 /// has ended. The source itself stays in the list of all sources.

@@ -10,7 +10,7 @@ use mpicall::source::Source;
 use mpicall::spelling::write_line;
 use std::sync::Wait;
 
-/// A trace. What `read_line` makes of its first and last line is tried by rows of `libraryrows`.
+/// A trace. What `read_line` makes of its first and last line is tried by rows of `api_rows`.
 pub(crate) const TRACE: &str = "send 0 1 5\nrecv 255 63 2147483647\nfinalize\n";
 
 /// Whether its second line is read as it should be.

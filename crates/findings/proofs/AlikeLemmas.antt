@@ -12,13 +12,13 @@ use Rattle.mpicall.specs.declared.call.Call.TheVariants.{Coll}
 use Rattle.mpicall.specs.declared.call.Kind.{Kind}
 use Rattle.mpicall.specs.Spelling.{root_of, word_of_call}
 use Rattle.mpicall.specs.Word.{text_of}
-use Rattle.callnotes.specs.Kinds.{kind_of}
+use Rattle.callstore.specs.Kinds.{kind_of}
 use Rattle.findings.specs.declared.finding.wave.Compared.{Compared}
 use Rattle.findings.specs.declared.finding.wave.Compared.TheVariants.{Kinds, Roots}
 use Rattle.findings.specs.inner.Comparisons.{comparison_of, kind_in}
 use Rattle.findings.specs.Places.{call_of_member}
 use Rattle.mpigroup.specs.Groups.{Groups, group_of}
-use Rattle.callnotes.specs.Recordings.{Lists}
+use Rattle.callstore.specs.Recordings.{Lists}
 use Rattle.findings.specs.Findings.{Comparison, compared as where_both, kind_found, root_found, roots_found, found_of_member, found_in_comm, found_in_waves, waves_in, kinds_of, roots_of, is_wrong_group}
 
 same_text : (text : List ℕ) → bytes_eq text text ≡ true

@@ -7,9 +7,9 @@ use Rattle.std.proofs.lemmas.Option.{slice_get_past}
 use Rattle.mpicall.specs.declared.call.Call.{Call}
 use Rattle.mpigroup.specs.Groups.{Groups, world_rank_of}
 use Rattle.mpigroup.proofs.ListLemmas.{none_there}
-use Rattle.callnotes.specs.Recordings.{Lists, calls_of}
-use Rattle.callnotes.specs.Places.{places}
-use Rattle.callnotes.specs.Waves.{does_join, place_in_wave, member_of}
+use Rattle.callstore.specs.Recordings.{Lists, calls_of}
+use Rattle.callstore.specs.Places.{places}
+use Rattle.callstore.specs.Waves.{does_join, place_in_wave, member_of}
 use Rattle.findings.specs.Places.{call_in_wave, call_of_member}
 use Rattle.findings.specs.Findings.{Comparison, compared, found_of_member, found_in_wave}
 use Rattle.findings.specs.declared.finding.Finding.{Finding}

@@ -8,15 +8,15 @@ use Rattle.std.proofs.lemmas.Option.{none-some, same_Some, slice_get_within}
 use Rattle.mpicall.specs.declared.call.Call.{Call}
 use Rattle.mpicall.specs.declared.call.Call.TheVariants.{Dup, Split}
 use Rattle.mpigroup.specs.Groups.{Groups}
-use Rattle.callnotes.specs.declared.envelope.Half.TheVariants.{Send as SendHalf}
-use Rattle.callnotes.specs.declared.envelope.Message.{Message}
-use Rattle.callnotes.specs.Communicators.{makes, NoneIsMade}
+use Rattle.callstore.specs.declared.envelope.Half.TheVariants.{Send as SendHalf}
+use Rattle.callstore.specs.declared.envelope.Message.{Message}
+use Rattle.callstore.specs.Communicators.{makes, NoneIsMade}
 use Rattle.pairing.specs.Faults.{IsLawful}
 use Rattle.pairing.specs.Partners.{partner_of, sent_at, EachIsReceived}
-use Rattle.callnotes.specs.Recordings.{Lists, calls_of}
-use Rattle.callnotes.specs.Requests.{starts, does_start, does_complete, started_in, started_before}
-use Rattle.callnotes.specs.Waves.{wave_of}
-use Rattle.callnotes.proofs.OptionLemmas.{and_then_parts}
+use Rattle.callstore.specs.Recordings.{Lists, calls_of}
+use Rattle.callstore.specs.Requests.{starts, does_start, does_complete, started_in, started_before}
+use Rattle.callstore.specs.Waves.{wave_of}
+use Rattle.callstore.proofs.OptionLemmas.{and_then_parts}
 use Rattle.pairing.proofs.RequestLaws.{start_is_completed, completed_is_over}
 use Rattle.findings.specs.declared.finding.Finding.{Finding}
 use Rattle.findings.specs.Places.{call_at, over_places, over_ranks}
@@ -72,8 +72,8 @@ not_active_is_completed : (groups : Groups) (recording : Lists) (rank place req 
 not_active_is_completed groups recording rank place req lawful starts_it inactive =
     let start = and_then_parts starts (call_at recording rank place) req starts_it in
     let within = slice_get_within (calls_of recording rank) place start.0 start.1 in
-    let does : does_start req start.0 ≡ true = rw start.2 (eq-eqb req req refl) in
-    let wait = start_is_completed groups rank (calls_of recording rank) req place start.0 (lawful rank (calls_past recording rank place within)) start.1 does inactive in
+    let effect : does_start req start.0 ≡ true = rw start.2 (eq-eqb req req refl) in
+    let wait = start_is_completed groups rank (calls_of recording rank) req place start.0 (lawful rank (calls_past recording rank place within)) start.1 effect inactive in
     let here : completes_start recording rank req place wait.wait ≡ true = rw (wait.stands_there, wait.completes_it, wait.started_there) (eq-eqb place place refl) in
     any_in_range (completes_start recording rank req place) 0 (length (calls_of recording rank)) wait.wait (omega arith) (omega (arith, wait.before)) here
 

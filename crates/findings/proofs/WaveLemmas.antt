@@ -2,10 +2,10 @@
 use Rattle.std.proofs.Common.{ℕ, ◌≤◌, Option, Some, None, length, arith}
 use Rattle.std.specs.Option.{option_map_or}
 use Rattle.mpigroup.specs.Groups.{Groups, world_rank_of}
-use Rattle.callnotes.specs.Recordings.{Lists, calls_of}
-use Rattle.callnotes.specs.Places.{places}
-use Rattle.callnotes.specs.Waves.{does_join}
-use Rattle.callnotes.proofs.PlacesLemmas.{places_most}
+use Rattle.callstore.specs.Recordings.{Lists, calls_of}
+use Rattle.callstore.specs.Places.{places}
+use Rattle.callstore.specs.Waves.{does_join}
+use Rattle.callstore.proofs.PlacesLemmas.{places_most}
 use Rattle.findings.specs.Findings.{waves_in}
 
 -- no more waves than calls

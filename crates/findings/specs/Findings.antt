@@ -11,14 +11,14 @@ use Rattle.mpicall.specs.Spelling.{word_of_call, root_of}
 use Rattle.mpicall.specs.Word.{text_of}
 use Rattle.mpigroup.specs.Groups.{Groups, group_of, world_rank_of}
 use Rattle.mpigroup.specs.Splits.{Choices, colour_group}
-use Rattle.callnotes.specs.declared.envelope.Half.TheVariants.{Send as SendHalf}
-use Rattle.callnotes.specs.Recordings.{Lists, calls_of}
-use Rattle.callnotes.specs.Places.{places}
-use Rattle.callnotes.specs.Envelopes.{message_of}
+use Rattle.callstore.specs.declared.envelope.Half.TheVariants.{Send as SendHalf}
+use Rattle.callstore.specs.Recordings.{Lists, calls_of}
+use Rattle.callstore.specs.Places.{places}
+use Rattle.callstore.specs.Envelopes.{message_of}
 use Rattle.pairing.specs.Partners.{partner_of}
-use Rattle.callnotes.specs.Requests.{starts, does_complete, started_before}
-use Rattle.callnotes.specs.Communicators.{does_make}
-use Rattle.callnotes.specs.Waves.{does_join, wave_of}
+use Rattle.callstore.specs.Requests.{starts, does_complete, started_before}
+use Rattle.callstore.specs.Communicators.{does_make}
+use Rattle.callstore.specs.Waves.{does_join, wave_of}
 use Rattle.pairing.specs.LeftOpen.{is_left_open}
 use Rattle.findings.specs.Places.{call_at, call_of_member, over_ranks}
 use Rattle.findings.specs.declared.finding.Finding.{Finding}

@@ -4,8 +4,8 @@ use Rattle.std.specs.Prelude.{ℕ, Option, option_and_then, List, flat_map, leng
 use Rattle.std.specs.List.{range_with_len}
 use Rattle.mpicall.specs.declared.call.Call.{Call}
 use Rattle.mpigroup.specs.Groups.{Groups, world_rank_of}
-use Rattle.callnotes.specs.Recordings.{Lists, calls_of}
-use Rattle.callnotes.specs.Waves.{place_in_wave}
+use Rattle.callstore.specs.Recordings.{Lists, calls_of}
+use Rattle.callstore.specs.Waves.{place_in_wave}
 
 -- the call at a place of a rank
 abbrev pub call_at : Lists → Rank → Place → Option Call

@@ -3,8 +3,8 @@
 ghost use Rattle.std.specs.Prelude.{◌≡◌, ◌≤◌, length};
 ghost use Rattle.std.specs.Option.{option_map_or};
 ghost use Rattle.mpigroup.specs.Groups.{group_of, world_rank_of};
-ghost use Rattle.callnotes.specs.Limits.{most_calls};
-ghost use Rattle.callnotes.specs.Recordings.{calls_of};
+ghost use Rattle.callstore.specs.Limits.{most_calls};
+ghost use Rattle.callstore.specs.Recordings.{calls_of};
 ghost use Rattle.findings.specs.Findings.{waves_in};
 
 use pairing::pairs::Pairs;

@@ -21,5 +21,5 @@
 //! ```
 #![tactic(auto)]
 
-mod extent;
+mod bounds;
 pub mod finding;

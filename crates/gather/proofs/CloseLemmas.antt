@@ -7,7 +7,7 @@ use Rattle.std.proofs.lemmas.Bool.{false≢true}
 use Rattle.mpicall.specs.declared.call.Call.{Call}
 use Rattle.mpicall.specs.Ending.{ends_list}
 use Rattle.mpigroup.specs.Groups.{Groups}
-use Rattle.callnotes.specs.Recordings.{Lists, calls_of, is_ended, IsClosed}
+use Rattle.callstore.specs.Recordings.{Lists, calls_of, is_ended, IsClosed}
 use Rattle.pairing.specs.Faults.{fault_of, IsLawful}
 use Rattle.pairing.proofs.FaultLemmas.{an_ended_lawful_list_is_closed}
 use Rattle.moves.specs.Analysed.{Analysed}
@@ -20,7 +20,7 @@ use Rattle.rankfeed.specs.declared.item.Item.{Item}
 use Rattle.rankfeed.specs.declared.item.Item.TheVariants.{Entry, Mark}
 use Rattle.rankfeed.specs.declared.ring.Receipt.{Receipt}
 use Rattle.rankfeed.specs.declared.ring.Taker.{Taker}
-use Rattle.gather.specs.Answers.{PlacedFault, fault_of_end, fault_of_rank, fault_onward, or_behind, refusal_or, refusal_from, refusal_of, recording_of_traces}
+use Rattle.gather.specs.Outcomes.{PlacedFault, fault_of_end, fault_of_rank, fault_onward, or_behind, refusal_or, refusal_from, refusal_of, recording_of_traces}
 use Rattle.gather.specs.declared.fault.Refusal.{Refusal}
 use Rattle.gather.specs.declared.collector.Collector.{Collector}
 use Rattle.gather.specs.Collectors.{rings, kept, received_from}

@@ -7,10 +7,10 @@ use Rattle.std.proofs.Math.Seq.{take-append_seam}
 use Rattle.mpicall.specs.declared.call.Call.{Call}
 use Rattle.mpicall.specs.declared.fault.SourceFault.{SourceFault}
 use Rattle.mpigroup.specs.Groups.{Groups}
-use Rattle.callnotes.specs.Recordings.{calls_of}
+use Rattle.callstore.specs.Recordings.{calls_of}
 use Rattle.pairing.specs.Faults.{fault_of}
 use Rattle.pairing.specs.declared.fault.CallFault.{CallFault}
-use Rattle.callnotes.proofs.RecordingLemmas.{calls_of-appended, calls_of-appended_other}
+use Rattle.callstore.proofs.RecordingLemmas.{calls_of-appended, calls_of-appended_other}
 use Rattle.rankfeed.specs.Items.{calls_among, end_mark_of, mark_in}
 use Rattle.rankfeed.specs.Answers.{Receives, told_end}
 use Rattle.rankfeed.specs.Rings.{received_by, taker_ring}
@@ -21,7 +21,7 @@ use Rattle.rankfeed.specs.declared.item.Item.{Item}
 use Rattle.rankfeed.specs.declared.item.Item.TheVariants.{Entry, Mark}
 use Rattle.rankfeed.specs.declared.answer.Took.{Took}
 use Rattle.rankfeed.proofs.ItemLemmas.{last_item-push}
-use Rattle.gather.specs.Answers.{PlacedFault, fault_onward, or_behind}
+use Rattle.gather.specs.Outcomes.{PlacedFault, fault_onward, or_behind}
 use Rattle.gather.specs.declared.fault.RankFault.{RankFault}
 use Rattle.gather.specs.declared.fault.RankFault.TheVariants.{OfCall, OfSource}
 use Rattle.gather.specs.declared.ledger.Stepped.{Stepped}

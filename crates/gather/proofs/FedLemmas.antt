@@ -6,7 +6,7 @@ use Rattle.std.proofs.lemmas.List.{map-append, length_push}
 use Rattle.mpicall.specs.Device.{count_if, one_more}
 use Rattle.mpicall.specs.Ending.{ends_list}
 use Rattle.mpicall.specs.Lines.{lines_of}
-use Rattle.mpicall.specs.Reading.{record_of_line}
+use Rattle.mpicall.specs.Parsing.{record_of_line}
 use Rattle.mpicall.specs.Trace.{Trace, put_first, ends_here, trace_of, trace_of_lines, trace_with, end_with_behind}
 use Rattle.mpicall.specs.Source.{Gives, coming, trace_at}
 use Rattle.mpicall.specs.declared.source.Source.{Source}
@@ -24,7 +24,7 @@ use Rattle.mpicall.specs.declared.fault.Ending.TheVariants.{Sealed, Torn}
 use Rattle.rankfeed.specs.declared.item.Item.{Item}
 use Rattle.rankfeed.specs.declared.item.Item.TheVariants.{Entry, Mark}
 use Rattle.rankfeed.proofs.ItemLemmas.{last_item-push}
-use Rattle.gather.specs.Fed.{marked, end_behind, mark_of, CountsReads, EndsAs, StopsAs, line_behind, IsFed, is_failed_read, TraceGoesOn, Continues}
+use Rattle.gather.specs.FeedContract.{marked, end_behind, mark_of, CountsReads, EndsAs, StopsAs, line_behind, IsFed, is_failed_read, TraceGoesOn, Continues}
 
 -- No record follows the one that ends the list.
 

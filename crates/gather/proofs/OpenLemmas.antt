@@ -5,7 +5,7 @@ use Rattle.std.specs.List.{range_with_len}
 use Rattle.std.proofs.lemmas.List.{length-map, length-replicate}
 use Rattle.std.proofs.lemmas.List.FromFn.{length-range_with_len}
 use Rattle.mpigroup.specs.Groups.{Groups, ranks_of}
-use Rattle.callnotes.proofs.PlacesLemmas.{no_calls}
+use Rattle.callstore.proofs.PlacesLemmas.{no_calls}
 use Rattle.rankfeed.specs.Rings.{feed_ring, taker_ring, received_by}
 use Rattle.rankfeed.specs.declared.ring.Feed.{Feed}
 use Rattle.rankfeed.specs.declared.ring.Taker.{Taker}

@@ -3,7 +3,7 @@ use Rattle.std.proofs.Common.{◌≡◌, ℕ, ◌<◌, true, false, None, List, 
 use Rattle.std.proofs.lemmas.Bool.{cases_Bool}
 use Rattle.std.proofs.lemmas.List.{length-map}
 use Rattle.mpicall.specs.declared.call.Call.{Call}
-use Rattle.callnotes.specs.Recordings.{appended}
+use Rattle.callstore.specs.Recordings.{appended}
 use Rattle.moves.proofs.AnalyserLemmas.{goes_on_by}
 use Rattle.rankfeed.specs.Rings.{taker_ring}
 use Rattle.rankfeed.specs.declared.answer.Took.{Took}

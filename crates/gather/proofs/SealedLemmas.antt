@@ -1,12 +1,12 @@
 -- The trace of a text that ends without a fault has its end record as its last.
 use Rattle.std.proofs.Common.{◌≡◌, ℕ, suc, ◌-◌, Bool, true, false, cond, List, [], ◌∷◌, length, Result, Ok, Err, refl, arith}
 use Rattle.mpicall.specs.Ending.{ends_list}
-use Rattle.mpicall.specs.Reading.{record_of_line}
+use Rattle.mpicall.specs.Parsing.{record_of_line}
 use Rattle.mpicall.specs.Trace.{Trace, end_with_behind, ends_here, trace_of_lines, trace_with}
 use Rattle.mpicall.specs.declared.call.Call.{Call}
 use Rattle.mpicall.specs.declared.fault.Ending.TheVariants.{Sealed}
 use Rattle.mpicall.specs.declared.fault.LineFault.{LineFault}
-use Rattle.callnotes.specs.Recordings.{is_ended}
+use Rattle.callstore.specs.Recordings.{is_ended}
 
 one_before : (call : Call) (calls : List Call) → is_ended calls ≡ true → is_ended (call ∷ calls) ≡ true
 one_before call [] ended = cc

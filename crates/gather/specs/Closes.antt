@@ -2,9 +2,9 @@
 use Rattle.moves.specs.declared.reading.Reading.{Reading}
 use Rattle.std.specs.Prelude.{◌≡◌, ℕ, ⊤, false, Some, None, Option, Result, Ok, Err, List}
 use Rattle.mpigroup.specs.Groups.{Groups}
-use Rattle.callnotes.specs.Recordings.{Lists, IsClosed}
+use Rattle.callstore.specs.Recordings.{Lists, IsClosed}
 use Rattle.rankfeed.specs.declared.ring.Receipt.{Receipt}
-use Rattle.gather.specs.Answers.{refusal_of, recording_of_traces}
+use Rattle.gather.specs.Outcomes.{refusal_of, recording_of_traces}
 use Rattle.gather.specs.Collected.{Kept, refusal_kept}
 use Rattle.gather.specs.Receipts.{first_missing, traces_held}
 use Rattle.gather.specs.declared.fault.Refusal.{Refusal}

@@ -1,10 +1,10 @@
-pub mod Answers
+pub mod Outcomes
 pub mod Codes
 pub mod Collected
 pub mod Takers
 pub mod Receipts
 pub mod Collectors
 pub mod Closes
-pub mod Fed
+pub mod FeedContract
 pub mod Reads
 pub mod inner

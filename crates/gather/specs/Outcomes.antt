@@ -9,7 +9,7 @@ use Rattle.mpicall.specs.declared.fault.Ending.{Ending}
 use Rattle.mpicall.specs.declared.fault.Ending.TheVariants.{Sealed, Torn}
 use Rattle.mpicall.specs.declared.fault.SourceFault.TheVariants.{NoFinalize}
 use Rattle.mpigroup.specs.Groups.{Groups}
-use Rattle.callnotes.specs.Recordings.{Lists, is_ended}
+use Rattle.callstore.specs.Recordings.{Lists, is_ended}
 use Rattle.pairing.specs.Faults.{fault_of}
 use Rattle.pairing.specs.declared.fault.CallFault.{CallFault}
 use Rattle.moves.specs.Runs.{State}

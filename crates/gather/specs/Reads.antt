@@ -6,7 +6,7 @@ use Rattle.mpicall.specs.declared.source.Source.{Source}
 use Rattle.mpicall.specs.declared.fault.Ending.{Ending}
 use Rattle.rankfeed.specs.declared.item.Item.{Item}
 use Rattle.rankfeed.specs.declared.item.Item.TheVariants.{Entry, Mark}
-use Rattle.gather.specs.Fed.{IsFed, Continues, line_behind}
+use Rattle.gather.specs.FeedContract.{IsFed, Continues, line_behind}
 
 -- the items are records of a source that began so, and it goes on after them. The next question's line is
 -- after them

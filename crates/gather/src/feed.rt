@@ -10,8 +10,8 @@ ghost use Rattle.rankfeed.specs.declared.item.Item.{Item};
 ghost use Rattle.rankfeed.specs.declared.item.Item.TheVariants.{Mark};
 ghost use Rattle.rankfeed.specs.Rings.{feed_ring, sent_by, receipt_ring, sent_whole};
 ghost use Rattle.mpicall.specs.Trace.{trace_of};
-ghost use Rattle.gather.specs.Answers.{ASealedTextHasItsEndRecord};
-ghost use Rattle.gather.specs.Fed.{IsFed, CountsReads, end_behind, is_failed_read, mark_of};
+ghost use Rattle.gather.specs.Outcomes.{ASealedTextHasItsEndRecord};
+ghost use Rattle.gather.specs.FeedContract.{IsFed, CountsReads, end_behind, is_failed_read, mark_of};
 ghost use Rattle.gather.specs.Reads.{IsReading, IsNextRead};
 
 use crate::gate::Gate;

@@ -3,7 +3,7 @@
 ghost use Rattle.std.specs.Prelude.{◌≡◌, ◌<◌, false, None, Err, length, IfOk, IfSome};
 ghost use Rattle.gather.specs.declared.fault.RankFault.TheVariants.{OfSource};
 ghost use Rattle.pairing.specs.Faults.{IsLawful};
-ghost use Rattle.callnotes.specs.Recordings.{IsClosed};
+ghost use Rattle.callstore.specs.Recordings.{IsClosed};
 ghost use Rattle.gather.specs.Collected.{nothing_kept, refusal_kept, EntersRecord, torn, is_accepting, with_fault};
 ghost use Rattle.gather.specs.Closes.{Concludes};
 

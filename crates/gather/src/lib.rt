@@ -16,10 +16,10 @@
 //!   state that some run over what is kept passes. Where `covers` says yes, a watch answers by one of them.
 //! - `feed::feed` puts the records of one source on a rank's feed and ends it.
 //!
-//! The definitions are in `specs/`: `Answers` says which refusal or verdict some traces have, `Collected` and
-//! `Closes` what a session keeps and answers, `Fed` what is read of a source. Those of the crate `watches`
+//! The definitions are in `specs/`: `Outcomes` says which refusal or verdict some traces have, `Collected` and
+//! `Closes` what a session keeps and answers, `FeedContract` what is read of a source. Those of the crate `watches`
 //! say what is published and read. Runs over the sources of all ranks, with threads or by turns, are in the
-//! crate `runs`. What only proofs and private contracts cite is in `specs/inner/`, and nobody has to believe
+//! crate `driver`. What only proofs and private contracts cite is in `specs/inner/`, and nobody has to believe
 //! it.
 //!
 //! ```text

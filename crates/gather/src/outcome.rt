@@ -1,7 +1,7 @@
 //! What comes of a run whose records were all received, or why nothing does.
 
 ghost use Rattle.std.specs.Prelude.{◌≡◌, ◌↔◌, false, IfOk, IfErr};
-ghost use Rattle.callnotes.specs.Recordings.{IsClosed};
+ghost use Rattle.callstore.specs.Recordings.{IsClosed};
 ghost use Rattle.waitgraph.specs.Held.{is_some_left_open};
 ghost use Rattle.waitgraph.specs.Verdicts.{IsVerdictOf, SomeRankIsStuck};
 ghost use Rattle.waitgraph.specs.declared.verdict.Verdict.TheVariants.{Hang};
@@ -47,7 +47,7 @@ impl Drop for Outcome {
 }
 
 impl Model for Outcome {
-    ghost use Rattle.callnotes.specs.Recordings.{IsClosed};
+    ghost use Rattle.callstore.specs.Recordings.{IsClosed};
     ghost use Rattle.moves.specs.Analysed.{Analysed};
     ghost use Rattle.waitgraph.specs.inner.Graphs.{IsGraphBy};
 

@@ -3,14 +3,14 @@ use Rattle.std.proofs.Common.{◌≡◌, ℕ, Option, List, length, sym, ap, sub
 use Rattle.std.specs.Io.KnownBytes.{Appends}
 use Rattle.moves.specs.declared.reading.Reading.{Reading}
 use Rattle.mpigroup.specs.Groups.{Groups, ranks_of}
-use Rattle.callnotes.specs.Recordings.{Lists, IsClosed}
+use Rattle.callstore.specs.Recordings.{Lists, IsClosed}
 use Rattle.waitgraph.specs.Graphs.{GraphView, IsGraphOf}
 use Rattle.waitgraph.specs.Verdicts.{IsVerdictOf, verdict_by}
 use Rattle.waitgraph.specs.declared.verdict.Verdict.{Verdict}
 use Rattle.waitgraph.proofs.VerdictLemmas.{verdict_of_graph}
-use Rattle.reports.specs.Judged.{judged_of}
-use Rattle.reports.specs.declared.judged.Judged.{Judged}
-use Rattle.reports.specs.declared.report.Format.{Format}
+use Rattle.report.specs.Judged.{judged_of}
+use Rattle.report.specs.declared.judged.Judged.{Judged}
+use Rattle.report.specs.declared.write.Format.{Format}
 use Rattle.judging.specs.Judging.{IsJudgedReport}
 
 pub judged_written : {O : Type 0} (written : O → Option (List ℕ)) (old new : O) (format : Format) (reading : Reading) (groups : Groups) (recording : Lists) (graph : GraphView) (judged : Judged) (verdict : Verdict) →

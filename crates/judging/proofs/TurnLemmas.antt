@@ -2,7 +2,7 @@
 use Rattle.std.proofs.Common.{◌≡◌, ◌∙◌, ℕ, length, ap, refl}
 use Rattle.std.proofs.lemmas.List.{length-set}
 use Rattle.mpicall.specs.declared.call.Call.{Call}
-use Rattle.callnotes.specs.Recordings.{Lists, appended}
+use Rattle.callstore.specs.Recordings.{Lists, appended}
 use Rattle.moves.specs.Analysed.{Analysed}
 use Rattle.judging.specs.inner.Unwritten.{KeepsRanks}
 

@@ -3,14 +3,14 @@
 use Rattle.std.specs.Prelude.{◌≡◌, ℕ, Option, List, length}
 use Rattle.mpicall.specs.Device.{one_more, AppendsBeginning}
 use Rattle.mpigroup.specs.Groups.{Groups, ranks_of}
-use Rattle.callnotes.specs.Recordings.{Lists, IsClosed}
+use Rattle.callstore.specs.Recordings.{Lists, IsClosed}
 use Rattle.moves.specs.declared.reading.Reading.{Reading}
 use Rattle.waitgraph.specs.Causes.{CauseView, AreCauses}
 use Rattle.waitgraph.specs.Verdicts.{IsVerdictOf}
 use Rattle.waitgraph.specs.declared.verdict.Verdict.{Verdict}
-use Rattle.reports.specs.Judged.{judged_of}
-use Rattle.reports.specs.declared.judged.Judged.{Judged}
-use Rattle.reports.specs.declared.report.Format.{Format}
+use Rattle.report.specs.Judged.{judged_of}
+use Rattle.report.specs.declared.judged.Judged.{Judged}
+use Rattle.report.specs.declared.write.Format.{Format}
 use Rattle.judging.specs.declared.judge.JudgeFault.{JudgeFault}
 use Rattle.judging.specs.declared.judge.JudgeFault.TheVariants.{Write}
 

@@ -2,9 +2,9 @@
 
 ghost use Rattle.std.specs.Prelude.{◌≡◌, ◌≤◌, ℕ, All, List, length, IfErr, IfOk, OnOk};
 ghost use Rattle.std.specs.Io.KnownBytes.{Appends};
-ghost use Rattle.callnotes.specs.Recordings.{IsClosed};
+ghost use Rattle.callstore.specs.Recordings.{IsClosed};
 ghost use Rattle.waitgraph.specs.Graphs.{IsGraphOf};
-ghost use Rattle.reports.specs.declared.judged.TheConstants.{MOST_WORDS};
+ghost use Rattle.report.specs.declared.judged.TheConstants.{MOST_WORDS};
 ghost use Rattle.judging.specs.Judging.{IsJudgedReport, LeavesAt};
 ghost use Rattle.judging.specs.inner.Unwritten.{IsUnwritten};
 ghost use Rattle.judging.specs.declared.judge.JudgeFault.TheVariants.{Memory};
@@ -24,8 +24,8 @@ use moves::reading::Reading;
 use mpicall::device::Output;
 use mpigroup::fault::{HeadFault, ReadFault as HeadReadFault};
 use mpigroup::head::Head;
-use reports::judged::{Judged, LeftAt, LineAt, write_judged};
-use reports::report::{Format, ReportFault};
+use report::judged::{Judged, LeftAt, LineAt, write_judged};
+use report::write::{Format, ReportFault};
 use std::alloc::{AllocError, AllocFailed, Global};
 use std::sync::Wait;
 use waitgraph::graph::Graph;

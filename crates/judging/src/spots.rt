@@ -6,7 +6,7 @@ use findings::finding::Finding;
 use moves::analyser::Analyser;
 use moves::need::Need;
 use mpicall::call::Call;
-use reports::judged::LineAt;
+use report::judged::LineAt;
 use std::alloc::{AllocError, Global};
 use std::collections::BTreeSet;
 use waitgraph::graph::Graph;

@@ -4,7 +4,7 @@ use Rattle.std.proofs.Common.{◌≡◌, ℕ, ◌+◌, ◌<◌, ◌≢◌, lengt
 use Rattle.std.proofs.lemmas.List.{length-set}
 use Rattle.std.proofs.lemmas.Bool.{cases_eq}
 use Rattle.mpigroup.specs.Groups.{Groups}
-use Rattle.callnotes.specs.Recordings.{Lists}
+use Rattle.callstore.specs.Recordings.{Lists}
 use Rattle.moves.specs.Runs.{State, moved, IsReached, NoneCanMove, IsTheEnd, StandsNoLater}
 use Rattle.moves.specs.Needs.{can_move}
 use Rattle.moves.proofs.RunLemmas.{any_end_is_the_end}

@@ -9,15 +9,15 @@ use Rattle.mpicall.specs.declared.call.Call.{Call}
 use Rattle.mpigroup.proofs.ListLemmas.{get_end}
 use Rattle.mpigroup.specs.Groups.{Groups, ranks_of}
 use Rattle.mpicall.specs.Ending.{ends_list}
-use Rattle.callnotes.specs.Recordings.{Lists, calls_of, appended, GoesOn, is_ended, IsClosed}
+use Rattle.callstore.specs.Recordings.{Lists, calls_of, appended, GoesOn, is_ended, IsClosed}
 use Rattle.pairing.specs.Faults.{fault_of, IsLawful}
 use Rattle.pairing.specs.Pairs.{TellsFault}
 use Rattle.pairing.specs.declared.added.PairFault.{PairFault}
 use Rattle.pairing.specs.declared.fault.CallFault.{CallFault}
 use Rattle.pairing.specs.declared.added.PairFault.TheVariants.{Refused, Memory}
 use Rattle.pairing.proofs.FaultLemmas.{an_ended_lawful_list_is_closed}
-use Rattle.callnotes.proofs.RecordingLemmas.{calls_of-appended, calls_of-appended_other}
-use Rattle.callnotes.proofs.PlacesLemmas.{no_calls}
+use Rattle.callstore.proofs.RecordingLemmas.{calls_of-appended, calls_of-appended_other}
+use Rattle.callstore.proofs.PlacesLemmas.{no_calls}
 use Rattle.moves.specs.Runs.{State, start, IsReached, NoneCanMove, IsTheEnd}
 use Rattle.moves.specs.Needs.{can_move}
 use Rattle.moves.specs.Stands.{stands_of, lowest_run_over}

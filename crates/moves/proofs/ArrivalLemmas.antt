@@ -6,11 +6,11 @@ use Rattle.std.proofs.lemmas.Bool.{cases_eq, cases_Bool, false≢true, eq-eqb, n
 use Rattle.mpicall.specs.declared.call.Call.{Call}
 use Rattle.mpigroup.specs.Groups.{Groups, ranks_of}
 use Rattle.pairing.specs.declared.fault.CallFault.{CallFault}
-use Rattle.callnotes.specs.Recordings.{Lists, calls_of, appended}
+use Rattle.callstore.specs.Recordings.{Lists, calls_of, appended}
 use Rattle.pairing.specs.Faults.{fault_of, IsLawfulList, IsLawful}
 use Rattle.pairing.proofs.FaultLemmas.{lawful_push}
-use Rattle.callnotes.proofs.RecordingLemmas.{calls_of-appended, calls_of-appended_other}
-use Rattle.callnotes.proofs.PlacesLemmas.{no_calls}
+use Rattle.callstore.proofs.RecordingLemmas.{calls_of-appended, calls_of-appended_other}
+use Rattle.callstore.proofs.PlacesLemmas.{no_calls}
 use Rattle.moves.specs.Arrivals.{Arrival, kept_one, kept_from, kept_of, calls_by, KeptIsLawful, MixesAreKeptAlike}
 
 length-kept_one : (groups : Groups) (recording : Lists) (arrival : Arrival) → length (kept_one groups recording arrival) ≡ length recording

@@ -8,13 +8,13 @@ use Rattle.std.proofs.lemmas.Bool.{and_parts, false≢true, leb-true, le-leb}
 use Rattle.mpicall.specs.Ending.{ends_list}
 use Rattle.mpicall.specs.declared.call.Call.{Call}
 use Rattle.mpigroup.specs.Groups.{Groups}
-use Rattle.callnotes.specs.Recordings.{Lists, calls_of, GoesOn}
+use Rattle.callstore.specs.Recordings.{Lists, calls_of, GoesOn}
 use Rattle.moves.specs.Runs.{State, StandsNoLater, IsPersistent, IsBounded}
 use Rattle.moves.specs.declared.need.Need.{Need}
 use Rattle.moves.specs.declared.need.Need.TheVariants.{At, Lacking}
 use Rattle.moves.specs.Needs.{needs_of_call, needs_of, is_met, may_pass, can_move}
-use Rattle.callnotes.specs.Places.{places}
-use Rattle.callnotes.proofs.PlaceLemmas.{places-append}
+use Rattle.callstore.specs.Places.{places}
+use Rattle.callstore.proofs.PlaceLemmas.{places-append}
 use Rattle.moves.proofs.OntoLemmas.{nth_need, Onto, needs_onto}
 use Rattle.moves.proofs.StayLemmas.{first_calls_stay, call_stays, start_is_a_call}
 

@@ -9,18 +9,18 @@ use Rattle.std.proofs.lemmas.Bool.{and_parts, false≢true}
 use Rattle.mpicall.specs.declared.call.Call.{Call}
 use Rattle.mpicall.specs.declared.call.Call.TheVariants.{Open}
 use Rattle.mpigroup.specs.Groups.{Groups, group_of, group_rank_of}
-use Rattle.callnotes.specs.declared.envelope.Envelope.{Envelope}
-use Rattle.callnotes.specs.declared.envelope.Half.{Half}
-use Rattle.callnotes.specs.declared.envelope.Half.TheVariants.{Send as SendHalf, Recv as RecvHalf}
-use Rattle.callnotes.specs.declared.envelope.Message.{Message}
-use Rattle.callnotes.specs.Recordings.{Lists, calls_of}
-use Rattle.callnotes.specs.Places.{places}
-use Rattle.callnotes.specs.Envelopes.{message_of, other_half, envelope_by, envelope_of, rank_of_half, has_envelope, probed_message}
+use Rattle.callstore.specs.declared.envelope.Envelope.{Envelope}
+use Rattle.callstore.specs.declared.envelope.Half.{Half}
+use Rattle.callstore.specs.declared.envelope.Half.TheVariants.{Send as SendHalf, Recv as RecvHalf}
+use Rattle.callstore.specs.declared.envelope.Message.{Message}
+use Rattle.callstore.specs.Recordings.{Lists, calls_of}
+use Rattle.callstore.specs.Places.{places}
+use Rattle.callstore.specs.Envelopes.{message_of, other_half, envelope_by, envelope_of, rank_of_half, has_envelope, probed_message}
 use Rattle.pairing.specs.Partners.{number_of}
 use Rattle.pairing.specs.Probed.{probed_envelope}
-use Rattle.callnotes.specs.Requests.{starts, completes, started_in, started_before}
-use Rattle.callnotes.specs.Waves.{does_join, wave_of}
-use Rattle.callnotes.proofs.OptionLemmas.{map_parts}
+use Rattle.callstore.specs.Requests.{starts, completes, started_in, started_before}
+use Rattle.callstore.specs.Waves.{does_join, wave_of}
+use Rattle.callstore.proofs.OptionLemmas.{map_parts}
 use Rattle.moves.specs.declared.need.Need.{Need}
 use Rattle.moves.specs.declared.need.Need.TheVariants.{At, Lacking}
 use Rattle.moves.specs.Needs.{world_of, half_need, half_needs, probe_need, probe_needs, member_need, wave_needs, sends_freely, operation_needs, operation_needs_at, request_needs, needs_of_call}

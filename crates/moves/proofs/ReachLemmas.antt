@@ -10,20 +10,20 @@ use Rattle.std.proofs.lemmas.Option.{slice_get_within}
 use Rattle.std.proofs.lemmas.Bool.{and_parts, and_from, cases_eq, cases_Bool, false≢true, leb-true, le-leb}
 use Rattle.mpicall.specs.declared.call.Call.{Call}
 use Rattle.mpigroup.specs.Groups.{Groups}
-use Rattle.callnotes.specs.declared.envelope.Half.{Half}
-use Rattle.callnotes.specs.declared.envelope.Half.TheVariants.{Send as SendHalf, Recv as RecvHalf}
-use Rattle.callnotes.specs.declared.envelope.Message.{Message}
-use Rattle.callnotes.specs.Recordings.{Lists, calls_of, appended, GoesOn}
-use Rattle.callnotes.specs.Envelopes.{message_of, other_half, has_envelope, probed_message}
+use Rattle.callstore.specs.declared.envelope.Half.{Half}
+use Rattle.callstore.specs.declared.envelope.Half.TheVariants.{Send as SendHalf, Recv as RecvHalf}
+use Rattle.callstore.specs.declared.envelope.Message.{Message}
+use Rattle.callstore.specs.Recordings.{Lists, calls_of, appended, GoesOn}
+use Rattle.callstore.specs.Envelopes.{message_of, other_half, has_envelope, probed_message}
 use Rattle.pairing.specs.Partners.{number_of, partner_of}
 use Rattle.pairing.specs.Probed.{probed_envelope_at, probed_by, probed_of}
 use Rattle.pairing.specs.Pairs.{completed_of}
-use Rattle.callnotes.specs.Waves.{does_join, wave_of}
-use Rattle.callnotes.proofs.OptionLemmas.{and_then_parts}
+use Rattle.callstore.specs.Waves.{does_join, wave_of}
+use Rattle.callstore.proofs.OptionLemmas.{and_then_parts}
 use Rattle.pairing.proofs.PartnerLemmas.{numbered_parts, partner_parts, partner_from, partners_are_mutual}
-use Rattle.callnotes.proofs.RecordingLemmas.{calls_of-appended, calls_of-appended_other}
-use Rattle.callnotes.proofs.RequestLemmas.{place_within}
-use Rattle.callnotes.proofs.WaveLemmas.{waves_stay, no_other_call_is_in_a_wave}
+use Rattle.callstore.proofs.RecordingLemmas.{calls_of-appended, calls_of-appended_other}
+use Rattle.callstore.proofs.RequestLemmas.{place_within}
+use Rattle.callstore.proofs.WaveLemmas.{waves_stay, no_other_call_is_in_a_wave}
 use Rattle.moves.specs.Runs.{State, moved, StandsNoLater}
 use Rattle.moves.specs.declared.need.Need.{Need}
 use Rattle.moves.specs.declared.need.Need.TheVariants.{At, Lacking}

@@ -3,7 +3,7 @@ use Rattle.std.proofs.Common.{◌≡◌, ℕ, Bool, true, false, ◌||◌, Optio
 use Rattle.std.proofs.lemmas.Option.{slice_get_within}
 use Rattle.std.proofs.lemmas.Bool.{false≢true, leb-true, le-leb}
 use Rattle.mpigroup.specs.Groups.{Groups}
-use Rattle.callnotes.specs.Recordings.{Lists, calls_of}
+use Rattle.callstore.specs.Recordings.{Lists, calls_of}
 use Rattle.moves.specs.Runs.{State, start, IsReached}
 use Rattle.moves.specs.Readings.{is_eager, is_no_laxer}
 use Rattle.moves.specs.Needs.{is_buffered, bytes_of, is_met, can_move}

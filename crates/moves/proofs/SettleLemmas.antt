@@ -9,15 +9,15 @@ use Rattle.std.proofs.lemmas.Option.{none-some, same_Some, slice_get-get_or}
 use Rattle.std.proofs.lemmas.Bool.{cases_eq}
 use Rattle.mpicall.specs.declared.call.Call.{Call}
 use Rattle.mpigroup.specs.Groups.{Groups, group_of}
-use Rattle.callnotes.specs.Limits.{most_calls}
-use Rattle.callnotes.specs.Recordings.{Lists, calls_of, appended}
-use Rattle.callnotes.specs.Waves.{wave_of}
+use Rattle.callstore.specs.Limits.{most_calls}
+use Rattle.callstore.specs.Recordings.{Lists, calls_of, appended}
+use Rattle.callstore.specs.Waves.{wave_of}
 use Rattle.arenalist.specs.Numbers.{list_at, sum_to}
 use Rattle.arenalist.specs.inner.Numbers.{count, in_all}
 use Rattle.arenalist.proofs.NumberLemmas.{count_in_all, found_in}
 use Rattle.arenalist.proofs.SumLemmas.{sum_least, sum_count}
-use Rattle.callnotes.proofs.PlacesLemmas.{no_calls}
-use Rattle.callnotes.proofs.RecordingLemmas.{calls_of-appended_other}
+use Rattle.callstore.proofs.PlacesLemmas.{no_calls}
+use Rattle.callstore.proofs.RecordingLemmas.{calls_of-appended_other}
 use Rattle.moves.specs.Runs.{State, start, moved, IsReached, IsTheEnd, total}
 use Rattle.moves.specs.Needs.{may_pass, can_move}
 use Rattle.moves.specs.Stands.{call_count}

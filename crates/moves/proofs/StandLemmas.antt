@@ -8,7 +8,7 @@ use Rattle.std.proofs.lemmas.Bool.{cases_eq, cases_Bool, false≢true}
 use Rattle.mpicall.specs.Ending.{ends_list}
 use Rattle.mpicall.specs.declared.call.Call.{Call}
 use Rattle.mpigroup.specs.Groups.{Groups}
-use Rattle.callnotes.specs.Recordings.{Lists, calls_of, GoesOn}
+use Rattle.callstore.specs.Recordings.{Lists, calls_of, GoesOn}
 use Rattle.moves.specs.Runs.{StandsNoLater, State, start, moved, Step, AreSteps, last_state, run_end, IsMaximal, IsReached, IsTheEnd, lowest_run}
 use Rattle.moves.specs.Needs.{can_move}
 use Rattle.moves.specs.Stands.{call_count, IsRunOver, end_over, lowest_run_over, stands_of, is_at_end, EveryMaximalRunEndsAtTheStands, NoRunBringsAStuckRankToItsEnd, EveryMaximalRunBringsTheOthers, LongerRecordingsLowerNoStand, NoCallBehindTheEndIsReached}

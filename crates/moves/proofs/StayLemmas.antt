@@ -7,12 +7,12 @@ use Rattle.std.proofs.lemmas.List.{take-append-le, length-take}
 use Rattle.std.proofs.lemmas.Option.{none-some, same_Some}
 use Rattle.std.proofs.lemmas.Bool.{cases_Bool}
 use Rattle.mpicall.specs.declared.call.Call.{Call}
-use Rattle.callnotes.specs.Recordings.{Lists, calls_of, GoesOn}
-use Rattle.callnotes.specs.Places.{places}
-use Rattle.callnotes.specs.Requests.{does_start, does_complete, last_of, unless_completed, started_in, started_before}
-use Rattle.callnotes.specs.Waves.{wave_of}
-use Rattle.callnotes.proofs.PlaceLemmas.{nth_place, place_nth, slice_get-front}
-use Rattle.callnotes.proofs.RequestLemmas.{place_within}
+use Rattle.callstore.specs.Recordings.{Lists, calls_of, GoesOn}
+use Rattle.callstore.specs.Places.{places}
+use Rattle.callstore.specs.Requests.{does_start, does_complete, last_of, unless_completed, started_in, started_before}
+use Rattle.callstore.specs.Waves.{wave_of}
+use Rattle.callstore.proofs.PlaceLemmas.{nth_place, place_nth, slice_get-front}
+use Rattle.callstore.proofs.RequestLemmas.{place_within}
 
 pub first_calls_stay : (recording longer : Lists) (rank place : ℕ) → GoesOn recording longer → place ≤ length (calls_of recording rank) → take place (calls_of longer rank) ≡ take place (calls_of recording rank)
 first_calls_stay recording longer rank place goes_on within =

@@ -7,11 +7,11 @@ use Rattle.std.proofs.lemmas.Option.{slice_get_within}
 use Rattle.std.proofs.lemmas.Bool.{cases_eq, cases_lt, cases_Bool, leb-true, le-leb}
 use Rattle.mpicall.specs.declared.call.Call.{Call}
 use Rattle.mpigroup.specs.Groups.{Groups}
-use Rattle.callnotes.specs.Places.{places_from}
-use Rattle.callnotes.specs.Recordings.{Lists, calls_of, appended, GoesOn}
-use Rattle.callnotes.specs.Waves.{does_join, wave_of}
-use Rattle.callnotes.proofs.RequestLemmas.{place_within}
-use Rattle.callnotes.proofs.WaveLemmas.{the_call_in_a_wave_joins_it, no_other_call_is_in_a_wave}
+use Rattle.callstore.specs.Places.{places_from}
+use Rattle.callstore.specs.Recordings.{Lists, calls_of, appended, GoesOn}
+use Rattle.callstore.specs.Waves.{does_join, wave_of}
+use Rattle.callstore.proofs.RequestLemmas.{place_within}
+use Rattle.callstore.proofs.WaveLemmas.{the_call_in_a_wave_joins_it, no_other_call_is_in_a_wave}
 use Rattle.moves.specs.Runs.{State, moved}
 use Rattle.moves.specs.Stands.{call_count}
 use Rattle.moves.specs.declared.progress.Progress.{Progress}

@@ -10,11 +10,11 @@ use Rattle.std.proofs.lemmas.Option.{none-some, same_Some, slice_get-get_or}
 use Rattle.std.proofs.lemmas.Bool.{and_parts, and_from, false_from_ne_true, cases_lt, cases_Bool, false≢true, leb-true, le-leb, true_from_ne_false}
 use Rattle.mpicall.specs.declared.call.Call.{Call}
 use Rattle.mpigroup.specs.Groups.{Groups, group_of}
-use Rattle.callnotes.specs.Recordings.{Lists, calls_of}
+use Rattle.callstore.specs.Recordings.{Lists, calls_of}
 use Rattle.pairing.specs.Pairs.{completed_of}
-use Rattle.callnotes.specs.Requests.{completes, started_before}
-use Rattle.callnotes.specs.Waves.{wave_of}
-use Rattle.callnotes.proofs.OptionLemmas.{and_then_parts}
+use Rattle.callstore.specs.Requests.{completes, started_before}
+use Rattle.callstore.specs.Waves.{wave_of}
+use Rattle.callstore.proofs.OptionLemmas.{and_then_parts}
 use Rattle.moves.specs.Runs.{State}
 use Rattle.moves.specs.declared.progress.Progress.{Progress}
 use Rattle.moves.specs.Needs.{member_need, wave_needs, operation_needs, operation_needs_at, request_needs, needs_of_call, is_met, can_move}

@@ -8,21 +8,21 @@ use Rattle.std.proofs.lemmas.List.{length-append}
 use Rattle.std.proofs.lemmas.Option.{none-some, same_Some, slice_get_within, get_or_from_slice_get, slice_get-get_or}
 use Rattle.std.proofs.lemmas.Bool.{cases_Bool, false≢true, eqb-true, eq-eqb}
 use Rattle.mpigroup.specs.Groups.{Groups, world_rank_of, group_rank_of}
-use Rattle.callnotes.specs.declared.envelope.Envelope.{Envelope}
-use Rattle.callnotes.specs.declared.envelope.Half.{Half}
-use Rattle.callnotes.specs.declared.envelope.Message.{Message}
-use Rattle.callnotes.specs.declared.envelope.Half.TheVariants.{Send as SendHalf, Recv as RecvHalf}
-use Rattle.callnotes.specs.Recordings.{Lists, calls_of}
-use Rattle.callnotes.specs.Envelopes.{message_of, envelope_by}
+use Rattle.callstore.specs.declared.envelope.Envelope.{Envelope}
+use Rattle.callstore.specs.declared.envelope.Half.{Half}
+use Rattle.callstore.specs.declared.envelope.Message.{Message}
+use Rattle.callstore.specs.declared.envelope.Half.TheVariants.{Send as SendHalf, Recv as RecvHalf}
+use Rattle.callstore.specs.Recordings.{Lists, calls_of}
+use Rattle.callstore.specs.Envelopes.{message_of, envelope_by}
 use Rattle.pairing.specs.Partners.{number_of, partner_of}
 use Rattle.pairing.specs.Probed.{probed_envelope, probed_envelope_at, probed_by, probed_of}
-use Rattle.callnotes.proofs.OptionLemmas.{and_then_parts, map_parts}
+use Rattle.callstore.proofs.OptionLemmas.{and_then_parts, map_parts}
 use Rattle.pairing.proofs.PartnerLemmas.{numbered_parts, numbered_half}
 use Rattle.pairing.proofs.ProbedLemmas.{prober}
 use Rattle.arenalist.specs.inner.Numbers.{count}
 use Rattle.arenalist.specs.Numbers.{list_at}
 use Rattle.moves.specs.inner.Waiting.{WaitLists, own_list, comm_list, woken, awaits, woken_at, woken_partner, sent_to, sees, prober_of, woken_prober, woken_peers, woken_comm, WaitsFor, HasLists}
-use Rattle.callnotes.specs.Waves.{wave_of}
+use Rattle.callstore.specs.Waves.{wave_of}
 use Rattle.pairing.specs.Seen.{wave_seen}
 use Rattle.pairing.specs.declared.call_at.CallAt.{CallAt}
 use Rattle.moves.specs.inner.Positions.{IsCallIf, IsSeenIf}

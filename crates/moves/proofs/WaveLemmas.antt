@@ -6,13 +6,13 @@ use Rattle.std.proofs.lemmas.List.{length-set, length-take}
 use Rattle.std.proofs.lemmas.Option.{none-some, same_Some, some_pair_parts, slice_get_within, slice_get-get_or}
 use Rattle.std.proofs.lemmas.Bool.{cases_eq, cases_lt, false≢true, leb-true, le-leb}
 use Rattle.mpigroup.specs.Groups.{Groups, group_of, world_rank_of}
-use Rattle.callnotes.specs.Recordings.{Lists, calls_of}
-use Rattle.callnotes.specs.Places.{places_from, count_before}
-use Rattle.callnotes.specs.Waves.{joins, does_join, place_in_wave, wave_of}
-use Rattle.callnotes.proofs.OptionLemmas.{and_then_parts, map_parts}
-use Rattle.callnotes.proofs.PlacesLemmas.{places_most}
-use Rattle.callnotes.proofs.PlaceLemmas.{places_rise}
-use Rattle.callnotes.proofs.WaveLemmas.{the_call_in_a_wave_joins_it}
+use Rattle.callstore.specs.Recordings.{Lists, calls_of}
+use Rattle.callstore.specs.Places.{places_from, count_before}
+use Rattle.callstore.specs.Waves.{joins, does_join, place_in_wave, wave_of}
+use Rattle.callstore.proofs.OptionLemmas.{and_then_parts, map_parts}
+use Rattle.callstore.proofs.PlacesLemmas.{places_most}
+use Rattle.callstore.proofs.PlaceLemmas.{places_rise}
+use Rattle.callstore.proofs.WaveLemmas.{the_call_in_a_wave_joins_it}
 use Rattle.moves.specs.Runs.{State}
 use Rattle.moves.specs.declared.need.Need.TheVariants.{At, Lacking}
 use Rattle.moves.specs.declared.progress.Progress.{Progress}

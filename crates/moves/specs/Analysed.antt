@@ -3,8 +3,8 @@ use Rattle.std.specs.Prelude.{ℕ, ◌+◌, ◌*◌, if◌then◌else◌, List, 
 use Rattle.mpicall.specs.declared.call.Call.{Call}
 use Rattle.moves.specs.declared.reading.Reading.{Reading}
 use Rattle.mpigroup.specs.Groups.{Groups}
-use Rattle.callnotes.specs.Recordings.{Lists, calls_of}
-use Rattle.callnotes.specs.Requests.{waits_for}
+use Rattle.callstore.specs.Recordings.{Lists, calls_of}
+use Rattle.callstore.specs.Requests.{waits_for}
 use Rattle.arenalist.specs.Numbers.{sum_to}
 use Rattle.moves.specs.Needs.{may_pass}
 use Rattle.moves.specs.Runs.{State, total}

@@ -5,7 +5,7 @@ use Rattle.moves.specs.declared.reading.Reading.{Reading}
 use Rattle.std.specs.Prelude.{◌≡◌, ℕ, ◌==◌, is_none, List, [], ◌∷◌, ◌++◌, replicate, if◌then◌else◌}
 use Rattle.mpicall.specs.declared.call.Call.{Call}
 use Rattle.mpigroup.specs.Groups.{Groups, ranks_of}
-use Rattle.callnotes.specs.Recordings.{Lists, calls_of, appended}
+use Rattle.callstore.specs.Recordings.{Lists, calls_of, appended}
 use Rattle.pairing.specs.Faults.{fault_of, IsLawful}
 use Rattle.moves.specs.Stands.{stands_of}
 

@@ -17,15 +17,15 @@ use Rattle.mpicall.specs.Ending.{ends_list}
 use Rattle.mpicall.specs.declared.call.Call.{Call}
 use Rattle.mpicall.specs.declared.call.Call.TheVariants.{Send, Isend, Sendrecv}
 use Rattle.mpigroup.specs.Groups.{Groups, group_of, world_rank_of}
-use Rattle.callnotes.specs.declared.envelope.Half.{Half}
-use Rattle.callnotes.specs.declared.envelope.Half.TheVariants.{Send as SendHalf, Recv as RecvHalf}
-use Rattle.callnotes.specs.declared.envelope.Message.{Message}
-use Rattle.callnotes.specs.Recordings.{Lists, calls_of}
-use Rattle.callnotes.specs.Envelopes.{message_of, probed_message}
+use Rattle.callstore.specs.declared.envelope.Half.{Half}
+use Rattle.callstore.specs.declared.envelope.Half.TheVariants.{Send as SendHalf, Recv as RecvHalf}
+use Rattle.callstore.specs.declared.envelope.Message.{Message}
+use Rattle.callstore.specs.Recordings.{Lists, calls_of}
+use Rattle.callstore.specs.Envelopes.{message_of, probed_message}
 use Rattle.pairing.specs.Partners.{partner_of}
 use Rattle.pairing.specs.Probed.{probed_of}
-use Rattle.callnotes.specs.Requests.{starts, completes, started_before}
-use Rattle.callnotes.specs.Waves.{place_in_wave, wave_of}
+use Rattle.callstore.specs.Requests.{starts, completes, started_before}
+use Rattle.callstore.specs.Waves.{place_in_wave, wave_of}
 use Rattle.moves.specs.Readings.{is_eager}
 use Rattle.moves.specs.Runs.{State, Rule}
 use Rattle.moves.specs.declared.need.Need.{Need}

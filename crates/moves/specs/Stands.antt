@@ -7,7 +7,7 @@ use Rattle.std.specs.Option.{option_map_or}
 use Rattle.mpicall.specs.Ending.{ends_list}
 use Rattle.mpicall.specs.declared.call.Call.{Call}
 use Rattle.mpigroup.specs.Groups.{Groups}
-use Rattle.callnotes.specs.Recordings.{Lists, calls_of, GoesOn}
+use Rattle.callstore.specs.Recordings.{Lists, calls_of, GoesOn}
 use Rattle.moves.specs.Runs.{State, IsRun, run_end, IsMaximal, IsTheEnd, StandsNoLater, total, lowest_run}
 use Rattle.moves.specs.Readings.{is_no_laxer}
 use Rattle.moves.specs.Needs.{can_move}

@@ -1,7 +1,7 @@
 -- What `Needs` says, of a world: the calls with the reading of their sends.
 use Rattle.std.specs.Prelude.{ℕ, if◌then◌else◌, List, []}
 use Rattle.mpicall.specs.declared.call.Call.{Call}
-use Rattle.callnotes.specs.declared.envelope.Half.TheVariants.{Send as SendHalf, Recv as RecvHalf}
+use Rattle.callstore.specs.declared.envelope.Half.TheVariants.{Send as SendHalf, Recv as RecvHalf}
 use Rattle.pairing.specs.Seen.{IsSeen}
 use Rattle.pairing.specs.declared.call_at.CallAt.{CallAt}
 use Rattle.moves.specs.Needs.{half_needs, probe_needs, sends_freely}

@@ -7,8 +7,8 @@
 ghost use Rattle.std.specs.Prelude.{◌≡◌, ◌≢◌, ◌<◌, ◌≤◌, ◌↔◌, [], length, true, replicate, slice_get, option_map, None, Some, Err, IfOk, IfErr, IfSome, OnOk, OnErr};
 ghost use Rattle.std.specs.List.{list_all, range_with_len};
 ghost use Rattle.mpigroup.specs.Groups.{ranks_of};
-ghost use Rattle.callnotes.specs.Limits.{most_calls};
-ghost use Rattle.callnotes.specs.Recordings.{calls_of, appended, is_ended, IsClosed};
+ghost use Rattle.callstore.specs.Limits.{most_calls};
+ghost use Rattle.callstore.specs.Recordings.{calls_of, appended, is_ended, IsClosed};
 ghost use Rattle.pairing.specs.Faults.{fault_of, IsLawful};
 ghost use Rattle.pairing.specs.Pairs.{TellsFault};
 ghost use Rattle.pairing.specs.declared.added.PairFault.TheVariants.{Refused, Memory};

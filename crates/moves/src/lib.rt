@@ -20,8 +20,8 @@
 //!
 //! The definitions stand in `specs/`, to be read in the order of docs/DEFINITIONS.md: `Needs` says what a
 //! call needs before its rank moves on, `Runs` and `Stands` where runs end. What a call over a communicator
-//! sends, receives, probes for and joins follows from `does_of` of `mpicall`; which calls start requests and
-//! complete them is said by the tables of `callnotes`. What only proofs and private contracts cite is in
+//! sends, receives, probes for and joins follows from `effect_of` of `mpicall`; which calls start requests and
+//! complete them is said by the tables of `callstore`. What only proofs and private contracts cite is in
 //! `specs/inner/`, and nobody has to believe it.
 //!
 //! A rank that cannot move on is linked where it waits: for the partner of one of its messages, for the send that

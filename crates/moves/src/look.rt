@@ -6,7 +6,7 @@
 
 ghost use Rattle.std.specs.Prelude.{◌≡◌, ◌<◌, slice_index};
 ghost use Rattle.std.specs.List.{list_all};
-ghost use Rattle.callnotes.specs.Limits.{most_calls};
+ghost use Rattle.callstore.specs.Limits.{most_calls};
 ghost use Rattle.moves.specs.Needs.{is_met};
 ghost use Rattle.pairing.specs.Seen.{call_seen};
 ghost use Rattle.moves.specs.inner.Waiting.{message_needs};
@@ -15,7 +15,7 @@ ghost use Rattle.moves.specs.inner.Positions.{IsCallAt, KnowWaves, OperationTell
 
 use crate::need::{At, Part, is_met, need_for};
 use crate::world::{Positions, World};
-use callnotes::often::{COLL, IRECV, ISEND, RECV, SEND, WAIT, WAITALL};
+use callstore::hot::{COLL, IRECV, ISEND, RECV, SEND, WAIT, WAITALL};
 use pairing::call_at::CallAt;
 
 /// What a look at a rank tells.
@@ -96,7 +96,7 @@ fn look_at_operation_of<const KIND: u8>(
     requires seen { IsSeenAt world.now at call.now }
     ensures { OperationTells world.now positions.now at result }
 {
-    if call.call().kind_no() == KIND {
+    if call.call().hot_kind() == KIND {
         look_at_operation(world, positions, at, call)
     } else {
         look_at_any_operation(world, positions, at, call)
@@ -111,7 +111,7 @@ fn look_at_started(world: &World, positions: &Positions, at: At, call: &CallAt<'
     requires seen { IsSeenAt world.now at call.now }
     ensures { OperationTells world.now positions.now at result }
 {
-    match call.call().kind_no() {
+    match call.call().hot_kind() {
         ISEND => look_at_operation_of::<ISEND>(world, positions, at, call),
         IRECV => look_at_operation_of::<IRECV>(world, positions, at, call),
         _ => look_at_any_operation(world, positions, at, call),
@@ -195,7 +195,7 @@ fn look_at_call_of<const KIND: u8>(
     requires seen { IsSeenAt world.now at call.now }
     ensures { CallTells world.now positions.now at (call_seen call.now) result }
 {
-    if call.call().kind_no() != KIND {
+    if call.call().hot_kind() != KIND {
         return look_at_any_call(world, positions, at, call);
     }
     if call.call().starts().is_some() {
@@ -216,7 +216,7 @@ fn look_at_call(world: &World, positions: &Positions, at: At, call: &CallAt<'_>)
     ensures { CallTells world.now positions.now at (call_seen call.now) result }
 {
     // Not by_kind!: functions for starts that are never called would be second callers of those for a started request.
-    match call.call().kind_no() {
+    match call.call().hot_kind() {
         ISEND | IRECV if call.call().starts().is_some() => Look::Moves,
         SEND => look_at_call_of::<SEND>(world, positions, at, call),
         RECV => look_at_call_of::<RECV>(world, positions, at, call),

@@ -9,7 +9,7 @@ ghost use Rattle.pairing.specs.Seen.{call_seen, IsSeen};
 
 use crate::reading::sends_freely;
 use crate::world::World;
-use callnotes::envelope::{Half, Message};
+use callstore::envelope::{Half, Message};
 use mpigroup::head::Head;
 use pairing::call_at::CallAt;
 use pairing::pairs::Pairs;

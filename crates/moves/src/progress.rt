@@ -7,8 +7,8 @@
 
 ghost use Rattle.std.specs.Prelude.{◌≡◌, ◌≢◌, ◌+◌, ◌<◌, ◌≤◌, ◌↔◌, ℕ, Some, None, true, false, length, replicate, slice_index, IfOk, IfSome};
 ghost use Rattle.mpigroup.specs.Groups.{group_of, world_rank_of};
-ghost use Rattle.callnotes.specs.Limits.{most_calls};
-ghost use Rattle.callnotes.specs.Waves.{wave_of};
+ghost use Rattle.callstore.specs.Limits.{most_calls};
+ghost use Rattle.callstore.specs.Waves.{wave_of};
 ghost use Rattle.moves.specs.Needs.{member_need, is_met};
 ghost use Rattle.moves.specs.inner.Waiting.{complete_of, met_of, is_open, open_wave_by, AreWaves, IsNoException};
 

@@ -5,7 +5,7 @@ ghost use Rattle.std.specs.Prelude.{◌≡◌};
 ghost use Rattle.moves.specs.Readings.{is_eager};
 ghost use Rattle.moves.specs.Needs.{bytes_of, sends_freely};
 
-use callnotes::call_ref::CallRef;
+use callstore::call_ref::CallRef;
 use mpicall::call::Mode;
 
 /// Which sends in standard mode wait for their receive. Synchronous sends always do, and buffered ones never.

@@ -5,11 +5,11 @@
 //! the worklist.
 
 ghost use Rattle.std.specs.Prelude.{◌≡◌, ◌<◌, ◌≤◌, true, false, None, length, slice_index, option_and_then, IfSome};
-ghost use Rattle.callnotes.specs.Envelopes.{message_of};
-ghost use Rattle.callnotes.specs.Limits.{most_calls};
+ghost use Rattle.callstore.specs.Envelopes.{message_of};
+ghost use Rattle.callstore.specs.Limits.{most_calls};
 ghost use Rattle.pairing.specs.Seen.{call_seen, wave_seen};
 ghost use Rattle.moves.specs.Worlds.{IsSeenAt};
-ghost use Rattle.callnotes.specs.declared.envelope.Half.TheVariants.{Send as SendHalf, Recv as RecvHalf};
+ghost use Rattle.callstore.specs.declared.envelope.Half.TheVariants.{Send as SendHalf, Recv as RecvHalf};
 ghost use Rattle.moves.specs.Runs.{moved};
 ghost use Rattle.moves.specs.inner.Waiting.{comm_list, sent_to, sees, prober_of, woken_partner, woken_prober, woken_peers, woken_comm};
 ghost use Rattle.moves.specs.inner.Positions.{IsCallAt, IsCallIf, IsSeenIf, AreKept, AreReached, AreSettled, GoOn, HaveArrival, HaveInHand, HaveWoken, left_to_do};
@@ -18,10 +18,10 @@ use crate::look::{Look, look_at};
 use crate::need::At;
 use crate::waiters::Waiters;
 use crate::world::{Positions, World};
-use callnotes::by_kind;
-use callnotes::envelope::Half;
-use callnotes::often::NONE;
-use mpicall::does::Does;
+use callstore::by_kind;
+use callstore::envelope::Half;
+use callstore::hot::NONE;
+use mpicall::effect::Effect;
 use pairing::call_at::CallAt;
 use pairing::pairs::Pairs;
 
@@ -96,7 +96,7 @@ fn exchanges(call: &CallAt<'_>) -> bool
     ensures send { result ≡ false → message_of SendHalf (call_seen call.now) ≡ None }
     ensures recv { result ≡ false → message_of RecvHalf (call_seen call.now) ≡ None }
 {
-    matches!(call.call().does(), Does::Exchanges { .. })
+    matches!(call.call().effect(), Effect::PointToPoint { .. })
 }
 
 /// Wakes the ranks that wait for a message of the call at the place.
@@ -182,7 +182,7 @@ fn reach_any(world: &World, positions: &mut Positions, at: At, call: &Option<Cal
 #[inline(always)]
 fn kind_of(call: &Option<CallAt<'_>>) -> u8 {
     match call {
-        Some(call) => call.call().kind_no(),
+        Some(call) => call.call().hot_kind(),
         None => NONE,
     }
 }

@@ -17,7 +17,7 @@ use Rattle.mpicall.specs.Number.{number_up_to, signed_of, negative, negative_of,
 use Rattle.mpicall.specs.Argument.{Argument, Number, PeerOf, Colour, Key, New, Form, NumberUpTo, PeerForm, ColourForm, KeyForm, NewForm, spell, is_in_range, none_or_up_to, key_in_range, peer_in_range, read_argument, read_number_or, read_peer, number_or, peer_field}
 use Rattle.mpicall.specs.inner.Argument.{form_of}
 use Rattle.mpicall.specs.Line.{is_any}
-use Rattle.mpicall.specs.Reading.{next_argument, with_behind}
+use Rattle.mpicall.specs.Parsing.{next_argument, with_behind}
 use Rattle.mpicall.specs.declared.limits.TheConstants.{GREATEST_KEY, GREATEST_RANK, GREATEST_COMM, GREATEST_COLOUR}
 use Rattle.mpicall.specs.declared.call.Peer.{Peer}
 use Rattle.mpicall.specs.declared.call.Peer.TheVariants.{Rank, Null}

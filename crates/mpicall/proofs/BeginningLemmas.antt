@@ -10,7 +10,7 @@ use Rattle.mpicall.proofs.LineLemmas.{spelling_read}
 use Rattle.mpicall.proofs.WordLemmas.{text_is}
 use Rattle.mpicall.specs.Argument.{spell}
 use Rattle.mpicall.specs.Limits.{in_ranges}
-use Rattle.mpicall.specs.Reading.{record_of_line}
+use Rattle.mpicall.specs.Parsing.{record_of_line}
 use Rattle.mpicall.specs.Spelling.{space, line_feed, word_of_call, arguments_of, fields_of, spelling}
 use Rattle.mpicall.specs.Word.{text_of}
 use Rattle.mpicall.specs.declared.call.Call.{Call}

@@ -12,8 +12,8 @@ use Rattle.mpicall.specs.Limits.{in_ranges, names_enough}
 use Rattle.mpicall.specs.Line.{Shape, Fixed, Chosen, shape_of, root_forms, bytes_forms, operation_forms, takes_count, each_in_form, all_requests, all_in_form}
 use Rattle.mpicall.specs.inner.Line.{fits, fits_line}
 use Rattle.mpicall.specs.Number.{number_up_to, is_canonical, value_of}
-use Rattle.mpicall.specs.Reading.{with_behind, next_argument, take_arguments}
-use Rattle.mpicall.specs.inner.Reading.{all_taken, ReadsWhole, ReadsBehind, ReadsFields, requests_fit, SpellsRequests}
+use Rattle.mpicall.specs.Parsing.{with_behind, next_argument, take_arguments}
+use Rattle.mpicall.specs.inner.Parsing.{all_taken, ReadsWhole, ReadsBehind, ReadsFields, requests_fit, SpellsRequests}
 use Rattle.mpicall.specs.Spelling.{word_of_call, arguments_of, fields_of}
 use Rattle.mpicall.specs.Word.{word_of, text_of}
 use Rattle.mpicall.proofs.WordLemmas.{word_has}

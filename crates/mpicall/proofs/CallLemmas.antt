@@ -9,7 +9,7 @@ use Rattle.mpicall.specs.inner.Argument.{form_of}
 use Rattle.mpicall.specs.Limits.{in_ranges, names_enough, few_enough}
 use Rattle.mpicall.specs.Line.{Fixed, shape_of, root_forms, all_requests}
 use Rattle.mpicall.specs.inner.Line.{fits}
-use Rattle.mpicall.specs.Reading.{taken, arguments_in, call_of, kind_named, numeral_in, request_in}
+use Rattle.mpicall.specs.Parsing.{taken, arguments_in, call_of, kind_named, numeral_in, request_in}
 use Rattle.mpicall.specs.Spelling.{word_of_call, arguments_of, name_of, root_of, root_arguments}
 use Rattle.mpicall.proofs.ArgumentLemmas.{is_small, reads_back, argument_field, IsField, le_to, le_from}
 use Rattle.mpicall.proofs.DecimalLemmas.{value_decimal}

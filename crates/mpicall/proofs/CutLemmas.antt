@@ -8,8 +8,8 @@ use Rattle.std.proofs.lemmas.Bool.{and_parts}
 use Rattle.mpicall.specs.Ending.{ends_list}
 use Rattle.mpicall.specs.Limits.{in_ranges}
 use Rattle.mpicall.specs.Lines.{most_bytes, has_line_feed, lines_of}
-use Rattle.mpicall.specs.Reading.{record_of_line}
-use Rattle.mpicall.specs.inner.Reading.{BeginsWith}
+use Rattle.mpicall.specs.Parsing.{record_of_line}
+use Rattle.mpicall.specs.inner.Parsing.{BeginsWith}
 use Rattle.mpicall.specs.Source.{Gives, CutsOff, BreaksOffBehind, breaks_off, ended_at, trace_at}
 use Rattle.mpicall.specs.Spelling.{space, line_feed, fields_of, spelling}
 use Rattle.mpicall.specs.inner.Stage.{stage_behind}
@@ -17,7 +17,7 @@ use Rattle.mpicall.specs.Trace.{Trace, IsTraceOf, trace_of, trace_of_lines, trac
 use Rattle.mpicall.specs.declared.fault.Ending.TheVariants.{Torn}
 use Rattle.mpicall.specs.inner.Window.{NoFeedBelow}
 use Rattle.mpicall.proofs.BeginningLemmas.{WithoutFeed, body_without_feed, no_feed_here}
-use Rattle.mpicall.proofs.GivesLemmas.{held_left, last_is_feed}
+use Rattle.mpicall.proofs.GivesLemmas.{buffered_left, last_is_feed}
 use Rattle.mpicall.proofs.LineLemmas.{spelling_read, no_line_feed}
 use Rattle.mpicall.proofs.OneTraceLemmas.{one_trace}
 use Rattle.mpicall.proofs.TraceLemmas.{line_without_feed}
@@ -35,27 +35,27 @@ no_feed_last line true is none = absurd (last_is_feed line is none)
 no_feed_last line false is none = is
 
 -- the trace of bytes that are less than a line
-part_of_line : (held : List ℕ) → NoFeedBelow held (length held) → length held ≤ most_bytes → BreaksOffBehind [] (trace_of held)
+part_of_line : (buffered : List ℕ) → NoFeedBelow buffered (length buffered) → length buffered ≤ most_bytes → BreaksOffBehind [] (trace_of buffered)
 unfolding trace_of
 part_of_line [] none short = (refl, refl)
 part_of_line (byte ∷ bytes) none short =
-    let held = byte ∷ bytes in
-    let lines : lines_of held ≡ held ∷ [] = ap lines_of (sym (append-nil held)) ∙ line_without_feed byte bytes [] none in
-    let read : record_of_line held ≡ Err NoLineFeed = no_line_feed held short (no_feed_last held _ refl none) in
-    let is : trace_of_lines (lines_of held) ≡ ends_here (Torn (Line NoLineFeed)) =
+    let buffered = byte ∷ bytes in
+    let lines : lines_of buffered ≡ buffered ∷ [] = ap lines_of (sym (append-nil buffered)) ∙ line_without_feed byte bytes [] none in
+    let read : record_of_line buffered ≡ Err NoLineFeed = no_line_feed buffered short (no_feed_last buffered _ refl none) in
+    let is : trace_of_lines (lines_of buffered) ≡ ends_here (Torn (Line NoLineFeed)) =
     ap trace_of_lines lines ∙ ap (λ reading. trace_with reading [] (trace_of_lines [])) read in
     (ap (λ (t : Trace). t.records) is, ap (λ (t : Trace). breaks_off t.end) is)
 
-pub cut_in_line : (stage : Stage) (known left : Option (List ℕ)) (held : List ℕ) → stage ≡ Reading → Keeps known (prepend_known held left) → NoFeedBelow held (length held) → length held ≤ most_bytes → CutsOff stage known left []
-cut_in_line stage None left held is keeps none short = tt
-cut_in_line stage (Some text) left held is keeps none short =
-    (held, held_left (Some text) left held keeps, rw is (part_of_line held none short))
+pub cut_in_line : (stage : Stage) (known left : Option (List ℕ)) (buffered : List ℕ) → stage ≡ Reading → Keeps known (prepend_known buffered left) → NoFeedBelow buffered (length buffered) → length buffered ≤ most_bytes → CutsOff stage known left []
+cut_in_line stage None left buffered is keeps none short = tt
+cut_in_line stage (Some text) left buffered is keeps none short =
+    (buffered, buffered_left (Some text) left buffered keeps, rw is (part_of_line buffered none short))
 
 -- nothing came after the end record
-pub cut_behind_end : (stage : Stage) (known left : Option (List ℕ)) (held : List ℕ) → stage ≡ Ended → Keeps known (prepend_known held left) → held ≡ [] → CutsOff stage known left []
-cut_behind_end stage None left held is keeps none = tt
-cut_behind_end stage (Some text) left held is keeps none =
-    ([], held_left (Some text) left [] (rw none at keeps), rw is (refl, refl))
+pub cut_behind_end : (stage : Stage) (known left : Option (List ℕ)) (buffered : List ℕ) → stage ≡ Ended → Keeps known (prepend_known buffered left) → buffered ≡ [] → CutsOff stage known left []
+cut_behind_end stage None left buffered is keeps none = tt
+cut_behind_end stage (Some text) left buffered is keeps none =
+    ([], buffered_left (Some text) left [] (rw none at keeps), rw is (refl, refl))
 
 -- A record in front.
 
@@ -91,25 +91,25 @@ first_in_ranges (line ∷ behind) call rest (inl (x, others, h, is, first, follo
 first_in_ranges (line ∷ behind) call rest (inr (fault, told, e)) = let no = ap (λ (t : Trace). t.records) e in cc
 
 -- bytes that are held begin with the spelling of a call: its record comes next
-begins_with : (held left : List ℕ) (call : Call) (n : ℕ) → BeginsWith held call n → held ++ left ≡ spelling call ++ (drop n held ++ left)
-begins_with held left call n begins =
-    ap (λ bytes. bytes ++ left) (sym (take-append-drop n held) ∙ ap (λ line. line ++ drop n held) begins.spells.line_is)
-    ∙ append_assoc (spelling call) (drop n held) left
+begins_with : (buffered left : List ℕ) (call : Call) (n : ℕ) → BeginsWith buffered call n → buffered ++ left ≡ spelling call ++ (drop n buffered ++ left)
+begins_with buffered left call n begins =
+    ap (λ bytes. bytes ++ left) (sym (take-append-drop n buffered) ∙ ap (λ line. line ++ drop n buffered) begins.spells.line_is)
+    ∙ append_assoc (spelling call) (drop n buffered) left
 
-pub held_spelling : (held : List ℕ) (left : Option (List ℕ)) (call : Call) (n : ℕ) → BeginsWith held call n → Consumes (prepend_known held left) (prepend_known (drop n held) left) (spelling call)
-held_spelling held None call n begins = tt
-held_spelling held (Some left) call n begins = begins_with held left call n begins
+pub held_spelling : (buffered : List ℕ) (left : Option (List ℕ)) (call : Call) (n : ℕ) → BeginsWith buffered call n → Consumes (prepend_known buffered left) (prepend_known (drop n buffered) left) (spelling call)
+held_spelling buffered None call n begins = tt
+held_spelling buffered (Some left) call n begins = begins_with buffered left call n begins
 
 goes_behind : (ends : Bool) (rest : List ℕ) → Some (goes_on ends rest) ≡ trace_at (cond ends Ended Reading) (Some rest)
 unfolding trace_of
 goes_behind true rest = refl
 goes_behind false rest = refl
 
-pub gives_spelled : (held : List ℕ) (left : Option (List ℕ)) (call : Call) (n : ℕ) → BeginsWith held call n → Gives (option_map trace_of (prepend_known held left)) (trace_at (stage_behind call) (prepend_known (drop n held) left)) (Ok (Some call))
-gives_spelled held None call n begins = tt
-gives_spelled held (Some left) call n begins =
-    let rest = drop n held ++ left in
-    let first = ap trace_of (begins_with held left call n begins) ∙ trace_spelled call rest begins.spells.in_ranges_is in
+pub gives_spelled : (buffered : List ℕ) (left : Option (List ℕ)) (call : Call) (n : ℕ) → BeginsWith buffered call n → Gives (option_map trace_of (prepend_known buffered left)) (trace_at (stage_behind call) (prepend_known (drop n buffered) left)) (Ok (Some call))
+gives_spelled buffered None call n begins = tt
+gives_spelled buffered (Some left) call n begins =
+    let rest = drop n buffered ++ left in
+    let first = ap trace_of (begins_with buffered left call n begins) ∙ trace_spelled call rest begins.spells.in_ranges_is in
     (goes_on (ends_list call) rest, first, sym (goes_behind (ends_list call) rest))
 
 -- the trace of some lines is no end that follows a record

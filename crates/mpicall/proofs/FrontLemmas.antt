@@ -11,7 +11,7 @@ use Rattle.mpicall.specs.Number.{value_after, number_up_to, is_canonical, has_le
 use Rattle.mpicall.specs.inner.Front.{AreDigits, IsFront}
 use Rattle.mpicall.specs.Lines.{split_fields}
 use Rattle.mpicall.specs.Argument.{NumberUpTo, Number}
-use Rattle.mpicall.specs.Reading.{next_argument}
+use Rattle.mpicall.specs.Parsing.{next_argument}
 use Rattle.mpicall.proofs.FieldLemmas.{split_at_first_space, split_without_space}
 
 -- a digit after others

@@ -7,7 +7,7 @@ use Rattle.std.proofs.lemmas.List.{take_all, length-append}
 use Rattle.std.proofs.lemmas.Bool.{and_parts}
 use Rattle.mpicall.specs.Spelling.{line_feed}
 use Rattle.mpicall.specs.Lines.{most_bytes, has_line_feed}
-use Rattle.mpicall.specs.Reading.{record_of_line}
+use Rattle.mpicall.specs.Parsing.{record_of_line}
 use Rattle.mpicall.specs.inner.Window.{NoFeedBelow, HasNoFeed, EndsLine}
 use Rattle.mpicall.specs.Trace.{Trace, trace_of, trace_of_lines, trace_with, ends_here, put_first, end_with_behind}
 use Rattle.mpicall.specs.declared.fault.Ending.TheVariants.{Sealed, Torn}
@@ -57,26 +57,26 @@ gives_read_failed (Some trace) = refl
 
 -- No bytes are left, and no `finalize` came.
 
-no_line_at_zero : (held : List ℕ) (left : Option (List ℕ)) → EndsLine held left 0 → (held ≡ []) × IsAtEnd left
-no_line_at_zero held left (inl (place, is, first)) = absurd (omega arith)
+no_line_at_zero : (buffered : List ℕ) (left : Option (List ℕ)) → EndsLine buffered left 0 → (buffered ≡ []) × IsAtEnd left
+no_line_at_zero buffered left (inl (place, is, first)) = absurd (omega arith)
 no_line_at_zero [] left (inr (is, none)) = (refl, elim none.last [ inl long ↦ absurd (omega arith) | inr end ↦ end ])
-no_line_at_zero (byte ∷ held) left (inr (is, none)) = absurd (omega arith)
+no_line_at_zero (byte ∷ buffered) left (inr (is, none)) = absurd (omega arith)
 
-pub gives_no_finalize : (known left : Option (List ℕ)) (held : List ℕ) → Keeps known (prepend_known held left) → EndsLine held left 0 → Gives (option_map trace_of known) (Some (ends_here (Torn NoFinalize))) (Err NoFinalize)
+pub gives_no_finalize : (known left : Option (List ℕ)) (buffered : List ℕ) → Keeps known (prepend_known buffered left) → EndsLine buffered left 0 → Gives (option_map trace_of known) (Some (ends_here (Torn NoFinalize))) (Err NoFinalize)
 unfolding trace_of
-gives_no_finalize None left held keeps ends = tt
-gives_no_finalize (Some known) None held keeps ends = absurd keeps
-gives_no_finalize (Some known) (Some left) held keeps ends =
-    let none = no_line_at_zero held (Some left) ends in
+gives_no_finalize None left buffered keeps ends = tt
+gives_no_finalize (Some known) None buffered keeps ends = absurd keeps
+gives_no_finalize (Some known) (Some left) buffered keeps ends =
+    let none = no_line_at_zero buffered (Some left) ends in
     let empty : known ≡ [] = sym keeps ∙ ap (λ (xs : List ℕ). xs ++ left) none.0 ∙ none.1 in
     let old : trace_of known ≡ ends_here (Torn NoFinalize) = ap trace_of empty in
     (old, ap Some (sym old))
 
 -- what was unread is what is held and what is left
-pub held_left : (known left : Option (List ℕ)) (held : List ℕ) → Keeps known (prepend_known held left) → Consumes known left held
-held_left None left held keeps = tt
-held_left (Some known) None held keeps = absurd keeps
-held_left (Some known) (Some left) held keeps = sym keeps
+pub buffered_left : (known left : Option (List ℕ)) (buffered : List ℕ) → Keeps known (prepend_known buffered left) → Consumes known left buffered
+buffered_left None left buffered keeps = tt
+buffered_left (Some known) None buffered keeps = absurd keeps
+buffered_left (Some known) (Some left) buffered keeps = sym keeps
 
 -- A record was read.
 
@@ -93,21 +93,21 @@ last_is_feed line ends none =
     let some : 0 < length line = grind (arith, nat_tests, parts.0) in
     none (length line - 1) (omega arith) (grind (arith, nat_tests, parts.1))
 
-pub gives_record : (known left : Option (List ℕ)) (held : List ℕ) (n : ℕ) (call : Call) → Keeps known (prepend_known held left) → EndsLine held left n → record_of_line (take n held) ≡ Ok call → Gives (option_map trace_of known) (trace_at (stage_behind call) (prepend_known (drop n held) left)) (Ok (Some call))
+pub gives_record : (known left : Option (List ℕ)) (buffered : List ℕ) (n : ℕ) (call : Call) → Keeps known (prepend_known buffered left) → EndsLine buffered left n → record_of_line (take n buffered) ≡ Ok call → Gives (option_map trace_of known) (trace_at (stage_behind call) (prepend_known (drop n buffered) left)) (Ok (Some call))
 unfolding trace_of
-gives_record None left held n call keeps ends read = tt
-gives_record (Some known) None held n call keeps ends read = absurd keeps
-gives_record (Some known) (Some left) held n call keeps (inl (place, is, first)) read =
+gives_record None left buffered n call keeps ends read = tt
+gives_record (Some known) None buffered n call keeps ends read = absurd keeps
+gives_record (Some known) (Some left) buffered n call keeps (inl (place, is, first)) read =
     let at : n ≡ suc place = omega arith in
-    let lines : lines_of known ≡ take n held ∷ lines_of (drop n held ++ left) =
-    ap lines_of (sym keeps) ∙ rw at (line_at_feed held left place first) in
-    let old : trace_of known ≡ trace_with (Ok call) (lines_of (drop n held ++ left)) (trace_of (drop n held ++ left)) =
-    ap trace_of_lines lines ∙ ap (λ reading. trace_with reading (lines_of (drop n held ++ left)) (trace_of (drop n held ++ left))) read in
-    behind_record call known (drop n held ++ left) old
-gives_record (Some known) (Some left) held n call keeps (inr (is, none)) read =
-    let whole : take n held ≡ held = take_all n held (omega arith) in
-    let feed = read_has_feed held call (rw whole at read) in
-    absurd (last_is_feed held feed none.none)
+    let lines : lines_of known ≡ take n buffered ∷ lines_of (drop n buffered ++ left) =
+    ap lines_of (sym keeps) ∙ rw at (line_at_feed buffered left place first) in
+    let old : trace_of known ≡ trace_with (Ok call) (lines_of (drop n buffered ++ left)) (trace_of (drop n buffered ++ left)) =
+    ap trace_of_lines lines ∙ ap (λ reading. trace_with reading (lines_of (drop n buffered ++ left)) (trace_of (drop n buffered ++ left))) read in
+    behind_record call known (drop n buffered ++ left) old
+gives_record (Some known) (Some left) buffered n call keeps (inr (is, none)) read =
+    let whole : take n buffered ≡ buffered = take_all n buffered (omega arith) in
+    let feed = read_has_feed buffered call (rw whole at read) in
+    absurd (last_is_feed buffered feed none.none)
 
 -- The next line has a fault.
 
@@ -116,11 +116,11 @@ unfolding trace_of
 first_of_lines line behind known fault lines read =
     ap trace_of_lines lines ∙ ap (λ reading. trace_with reading behind (trace_of_lines behind)) read
 
-long_line : (held : List ℕ) (lines : List (List ℕ)) → most_bytes < length held → (line : List ℕ) × (behind : List (List ℕ)) × (onto_line held lines ≡ line ∷ behind) × (record_of_line line ≡ Err TooLong)
-long_line held [] long = (held, [], refl, too_long held long)
-long_line held (line ∷ lines) long = (held ++ line, lines, refl, too_long (held ++ line) (omega (arith, length-append held line)))
+long_line : (buffered : List ℕ) (lines : List (List ℕ)) → most_bytes < length buffered → (line : List ℕ) × (behind : List (List ℕ)) × (onto_line buffered lines ≡ line ∷ behind) × (record_of_line line ≡ Err TooLong)
+long_line buffered [] long = (buffered, [], refl, too_long buffered long)
+long_line buffered (line ∷ lines) long = (buffered ++ line, lines, refl, too_long (buffered ++ line) (omega (arith, length-append buffered line)))
 
-unended : (held left : List ℕ) (n : ℕ) (fault : LineFault) → n ≢ 0 → n ≡ length held → HasNoFeed held (Some left) → record_of_line held ≡ Err fault → trace_of (held ++ left) ≡ ends_here (Torn (Line fault))
+unended : (buffered left : List ℕ) (n : ℕ) (fault : LineFault) → n ≢ 0 → n ≡ length buffered → HasNoFeed buffered (Some left) → record_of_line buffered ≡ Err fault → trace_of (buffered ++ left) ≡ ends_here (Torn (Line fault))
 unended [] left n fault some is none read = absurd (some is)
 unended (byte ∷ bytes) left n fault some is none read =
     let lines = line_without_feed byte bytes left none.none in
@@ -134,18 +134,18 @@ unended (byte ∷ bytes) left n fault some is none read =
           first_of_lines (byte ∷ bytes) [] ((byte ∷ bytes) ++ left) fault (lines ∙ ap (λ l. onto_line (byte ∷ bytes) (lines_of l)) nothing) read)
     ]
 
-pub gives_line_fault : (known left : Option (List ℕ)) (held : List ℕ) (n : ℕ) (fault : LineFault) → Keeps known (prepend_known held left) → EndsLine held left n → n ≢ 0 → record_of_line (take n held) ≡ Err fault → Gives (option_map trace_of known) (Some (ends_here (Torn (Line fault)))) (Err (Line fault))
-gives_line_fault None left held n fault keeps ends some read = tt
-gives_line_fault (Some known) None held n fault keeps ends some read = absurd keeps
-gives_line_fault (Some known) (Some left) held n fault keeps (inl (place, is, first)) some read =
+pub gives_line_fault : (known left : Option (List ℕ)) (buffered : List ℕ) (n : ℕ) (fault : LineFault) → Keeps known (prepend_known buffered left) → EndsLine buffered left n → n ≢ 0 → record_of_line (take n buffered) ≡ Err fault → Gives (option_map trace_of known) (Some (ends_here (Torn (Line fault)))) (Err (Line fault))
+gives_line_fault None left buffered n fault keeps ends some read = tt
+gives_line_fault (Some known) None buffered n fault keeps ends some read = absurd keeps
+gives_line_fault (Some known) (Some left) buffered n fault keeps (inl (place, is, first)) some read =
     let at : n ≡ suc place = omega arith in
-    let lines : lines_of known ≡ take n held ∷ lines_of (drop n held ++ left) =
-    ap lines_of (sym keeps) ∙ rw at (line_at_feed held left place first) in
-    let old = first_of_lines (take n held) (lines_of (drop n held ++ left)) known fault lines read in
+    let lines : lines_of known ≡ take n buffered ∷ lines_of (drop n buffered ++ left) =
+    ap lines_of (sym keeps) ∙ rw at (line_at_feed buffered left place first) in
+    let old = first_of_lines (take n buffered) (lines_of (drop n buffered ++ left)) known fault lines read in
     (old, ap Some (sym old))
-gives_line_fault (Some known) (Some left) held n fault keeps (inr (is, none)) some read =
-    let whole : take n held ≡ held = take_all n held (omega arith) in
-    let old : trace_of known ≡ ends_here (Torn (Line fault)) = ap trace_of (sym keeps) ∙ unended held left n fault some is none (rw whole at read) in
+gives_line_fault (Some known) (Some left) buffered n fault keeps (inr (is, none)) some read =
+    let whole : take n buffered ≡ buffered = take_all n buffered (omega arith) in
+    let old : trace_of known ≡ ends_here (Torn (Line fault)) = ap trace_of (sym keeps) ∙ unended buffered left n fault some is none (rw whole at read) in
     (old, ap Some (sym old))
 
 -- After `finalize`.

@@ -15,7 +15,7 @@ pub mod RequestLemmas
 pub mod CellLemmas
 pub mod WordLemmas
 pub mod RowLemmas
-pub mod LaidLemmas
+pub mod CallArgsLemmas
 pub mod BodyLemmas
 pub mod CallLemmas
 pub mod LineLemmas

@@ -14,8 +14,8 @@ use Rattle.mpicall.specs.Spelling.{space, line_feed, word_of_call, arguments_of,
 use Rattle.mpicall.specs.Line.{is_any, wildcard_at, source_place, shape_of, takes_count, all_in_form, fault_behind, fault_of_line, fault_of_fields}
 use Rattle.mpicall.specs.inner.Line.{fits}
 use Rattle.mpicall.specs.Lines.{is_blank, most_bytes, has_line_feed, body_of, split_fields}
-use Rattle.mpicall.specs.Reading.{call_of_fields, call_unless, record_of_line}
-use Rattle.mpicall.specs.inner.Reading.{Spells, IsBody}
+use Rattle.mpicall.specs.Parsing.{call_of_fields, call_unless, record_of_line}
+use Rattle.mpicall.specs.inner.Parsing.{Spells, IsBody}
 use Rattle.mpicall.proofs.ArgumentLemmas.{above_space}
 use Rattle.mpicall.proofs.WordLemmas.{word_found, text_is}
 use Rattle.mpicall.proofs.CallLemmas.{known_call, call_fields, AllFields}

@@ -3,7 +3,7 @@ use Rattle.std.proofs.Common.{◌≡◌, ◌↔◌, ℕ, Bool, true, false, List
 use Rattle.mpicall.specs.Ending.{ends_list}
 use Rattle.mpicall.specs.Line.{fault_of_line}
 use Rattle.mpicall.specs.Lines.{body_of, split_fields}
-use Rattle.mpicall.specs.Reading.{record_of_line, call_of_fields}
+use Rattle.mpicall.specs.Parsing.{record_of_line, call_of_fields}
 use Rattle.mpicall.specs.Trace.{Trace, IsTraceOf, trace_of_lines, trace_with, put_first, ends_here, end_with_behind}
 use Rattle.mpicall.proofs.LineLemmas.{fault_read, spells_read}
 use Rattle.mpicall.proofs.SpelledLemmas.{faultless_spelled}

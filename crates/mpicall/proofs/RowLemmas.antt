@@ -6,7 +6,7 @@ use Rattle.std.proofs.lemmas.List.{length-map}
 use Rattle.mpicall.specs.Argument.{Argument, Form, spell, is_in_range, read_argument, request_argument}
 use Rattle.mpicall.specs.inner.Argument.{form_of}
 use Rattle.mpicall.specs.Line.{each_in_form}
-use Rattle.mpicall.specs.Reading.{with_behind, put_before, take_behind, take_arguments, taken}
+use Rattle.mpicall.specs.Parsing.{with_behind, put_before, take_behind, take_arguments, taken}
 use Rattle.mpicall.proofs.ArgumentLemmas.{small_form, is_small, reads_back, argument_spelled}
 
 -- One more field.

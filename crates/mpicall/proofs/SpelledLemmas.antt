@@ -23,8 +23,8 @@ use Rattle.mpicall.proofs.LineLemmas.{body_spells}
 use Rattle.mpicall.specs.declared.fault.LineFault.{LineFault}
 use Rattle.mpicall.specs.declared.fault.LineFault.TheVariants.{EmptyField, FieldCount, FieldForm, Wildcard, TooLong, NoLineFeed}
 use Rattle.mpicall.specs.Number.{number_up_to, signed_of, value_of}
-use Rattle.mpicall.specs.Reading.{at, numeral_in, number_at, peer_in, colour_in, key_in, new_in, kind_named, call_of, arguments_in, request_in, take_arguments, taken, put_before, take_behind, with_behind, call_by_word, call_of_fields}
-use Rattle.mpicall.specs.inner.Reading.{Spells}
+use Rattle.mpicall.specs.Parsing.{at, numeral_in, number_at, peer_in, colour_in, key_in, new_in, kind_named, call_of, arguments_in, request_in, take_arguments, taken, put_before, take_behind, with_behind, call_by_word, call_of_fields}
+use Rattle.mpicall.specs.inner.Parsing.{Spells}
 use Rattle.mpicall.specs.Spelling.{word_of_call, arguments_of, name_of, root_of, root_arguments, fields_of, line_feed}
 use Rattle.mpicall.proofs.ArgumentLemmas.{map_some, le_to, le_from}
 use Rattle.mpicall.proofs.DecimalLemmas.{number-decimal, value_decimal}

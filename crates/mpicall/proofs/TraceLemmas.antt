@@ -17,7 +17,7 @@ none_in_tail : (byte : ℕ) (bytes : List ℕ) (n : ℕ) → NoFeedBelow (byte �
 none_in_tail byte bytes n none k below is = none (suc k) (omega arith) is
 
 -- the first line is the bytes through the first line feed
-pub line_at_feed : (held left : List ℕ) (place : ℕ) → FirstFeed held place → lines_of (held ++ left) ≡ take (suc place) held ∷ lines_of (drop (suc place) held ++ left)
+pub line_at_feed : (buffered left : List ℕ) (place : ℕ) → FirstFeed buffered place → lines_of (buffered ++ left) ≡ take (suc place) buffered ∷ lines_of (drop (suc place) buffered ++ left)
 line_at_feed [] left place f = absurd (omega (arith, f.within))
 line_at_feed (byte ∷ bytes) left zero f = rw (feed byte f.feed) refl
 line_at_feed (byte ∷ bytes) left (suc place) f =
@@ -27,8 +27,8 @@ line_at_feed (byte ∷ bytes) left (suc place) f =
 
 -- bytes without a line feed in front of the first of some lines
 abbrev pub onto_line : List ℕ → List (List ℕ) → List (List ℕ)
-onto_line held [] = held ∷ []
-onto_line held (line ∷ lines) = (held ++ line) ∷ lines
+onto_line buffered [] = buffered ∷ []
+onto_line buffered (line ∷ lines) = (buffered ++ line) ∷ lines
 
 onto_both : (byte : ℕ) (bytes : List ℕ) (lines : List (List ℕ)) → onto_first byte (onto_line bytes lines) ≡ onto_line (byte ∷ bytes) lines
 onto_both byte bytes [] = refl

@@ -6,7 +6,7 @@ use Rattle.std.proofs.lemmas.List.Sums.{sum_by-cons}
 use Rattle.mpicall.specs.Ending.{ends_list}
 use Rattle.mpicall.specs.Line.{fault_of_line, fault_of_fields, fault_by_word, takes_count, shape_of, wildcard_at, source_place, all_in_form}
 use Rattle.mpicall.specs.Lines.{is_blank, most_bytes, has_line_feed, lines_of, body_of, split_fields}
-use Rattle.mpicall.specs.Reading.{record_of_line}
+use Rattle.mpicall.specs.Parsing.{record_of_line}
 use Rattle.mpicall.specs.Source.{breaks_off}
 use Rattle.mpicall.specs.Spelling.{line_feed}
 use Rattle.mpicall.specs.Trace.{Trace, trace_of, trace_of_lines, trace_with, ends_here, end_with_behind}

@@ -48,13 +48,13 @@ pub window_length : (start end : ℕ) (buffer : List ℕ) → start ≤ end → 
 window_length start end buffer order fits = omega (arith, length-take (end - start) (drop start buffer), length-drop start buffer)
 
 -- what is held and what is left stay one text
-pub known_filled : (held now given : List ℕ) (old new : Option (List ℕ)) → now ≡ held ++ given → Consumes old new given → Keeps (prepend_known held old) (prepend_known now new)
-known_filled held now given None new e c = tt
-known_filled held now given (Some old) None e c = c
-known_filled held now given (Some old) (Some new) e c =
-    ap (λ bytes. bytes ++ new) e ∙ append_assoc held given new ∙ ap (λ bytes. held ++ bytes) (sym c)
+pub known_filled : (buffered now given : List ℕ) (old new : Option (List ℕ)) → now ≡ buffered ++ given → Consumes old new given → Keeps (prepend_known buffered old) (prepend_known now new)
+known_filled buffered now given None new e c = tt
+known_filled buffered now given (Some old) None e c = c
+known_filled buffered now given (Some old) (Some new) e c =
+    ap (λ bytes. bytes ++ new) e ∙ append_assoc buffered given new ∙ ap (λ bytes. buffered ++ bytes) (sym c)
 
-pub known_kept : (held now : List ℕ) (old new : Option (List ℕ)) → now ≡ held → Keeps old new → Keeps (prepend_known held old) (prepend_known now new)
-known_kept held now None new e k = tt
-known_kept held now (Some old) None e k = k
-known_kept held now (Some old) (Some new) e k = ap (λ bytes. bytes ++ new) e ∙ ap (λ bytes. held ++ bytes) k
+pub known_kept : (buffered now : List ℕ) (old new : Option (List ℕ)) → now ≡ buffered → Keeps old new → Keeps (prepend_known buffered old) (prepend_known now new)
+known_kept buffered now None new e k = tt
+known_kept buffered now (Some old) None e k = k
+known_kept buffered now (Some old) (Some new) e k = ap (λ bytes. bytes ++ new) e ∙ ap (λ bytes. buffered ++ bytes) k

@@ -7,24 +7,24 @@ use Rattle.mpicall.specs.Spelling.{root_of}
 use Rattle.mpicall.specs.declared.call.Peer.{Peer}
 use Rattle.mpicall.specs.declared.call.Call.{Call}
 use Rattle.mpicall.specs.declared.call.Call.TheVariants.{Send, Recv, Isend, Irecv, Sendrecv, Probe, Coll, Icoll, Dup, Split}
-use Rattle.mpicall.specs.declared.does.Side.{Side}
-use Rattle.mpicall.specs.declared.does.Does.{Does}
-use Rattle.mpicall.specs.declared.does.Does.TheVariants.{Exchanges, Joins, Alone}
+use Rattle.mpicall.specs.declared.effect.Side.{Side}
+use Rattle.mpicall.specs.declared.effect.Effect.{Effect}
+use Rattle.mpicall.specs.declared.effect.Effect.TheVariants.{PointToPoint, Joins, Local}
 
 abbrev pub side : Peer → Tag → Option Side
 side peer tag = Some (record { peer = peer; tag = tag })
 
 -- what it sends, receives and probes for, each with the peer and the tag; or the root and the communicator that it
 -- makes, of a call of all members
-abbrev pub does_of : Call → Does
-does_of (Send mode comm dest tag bytes) = Exchanges comm (side dest tag) None None
-does_of (Isend req mode comm dest tag bytes) = Exchanges comm (side dest tag) None None
-does_of (Recv comm source tag) = Exchanges comm None (side source tag) None
-does_of (Irecv req comm source tag) = Exchanges comm None (side source tag) None
-does_of (Sendrecv comm dest send_tag source recv_tag bytes) = Exchanges comm (side dest send_tag) (side source recv_tag) None
-does_of (Probe comm source tag) = Exchanges comm None None (side source tag)
-does_of (Coll comm kind) = Joins comm (root_of kind) None
-does_of (Icoll req comm kind) = Joins comm (root_of kind) None
-does_of (Dup comm new) = Joins comm None (Some new)
-does_of (Split comm colour key new) = Joins comm None new
-does_of _ = Alone
+abbrev pub effect_of : Call → Effect
+effect_of (Send mode comm dest tag bytes) = PointToPoint comm (side dest tag) None None
+effect_of (Isend req mode comm dest tag bytes) = PointToPoint comm (side dest tag) None None
+effect_of (Recv comm source tag) = PointToPoint comm None (side source tag) None
+effect_of (Irecv req comm source tag) = PointToPoint comm None (side source tag) None
+effect_of (Sendrecv comm dest send_tag source recv_tag bytes) = PointToPoint comm (side dest send_tag) (side source recv_tag) None
+effect_of (Probe comm source tag) = PointToPoint comm None None (side source tag)
+effect_of (Coll comm kind) = Joins comm (root_of kind) None
+effect_of (Icoll req comm kind) = Joins comm (root_of kind) None
+effect_of (Dup comm new) = Joins comm None (Some new)
+effect_of (Split comm colour key new) = Joins comm None new
+effect_of _ = Local

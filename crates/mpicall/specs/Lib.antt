@@ -2,13 +2,13 @@ pub mod Names
 pub mod Number
 pub mod Argument
 pub mod Word
-pub mod Laid
+pub mod CallArgs
 pub mod Spelling
 pub mod Limits
-pub mod Does
+pub mod Effect
 pub mod Lines
 pub mod Line
-pub mod Reading
+pub mod Parsing
 pub mod Device
 pub mod Devices
 pub mod Ending

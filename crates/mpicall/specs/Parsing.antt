@@ -4,7 +4,7 @@
 use Rattle.std.specs.Prelude.{ℕ, ℤ, pos, Option, Some, None, Result, Ok, Err, option_map, unwrap_or, List, [], ◌∷◌, length, map, get_or, slice_get, drop}
 use Rattle.mpicall.specs.Argument.{Argument, Number, PeerOf, Colour, Key, New, Form, request_argument, index_argument, read_argument}
 use Rattle.mpicall.specs.Number.{value_of}
-use Rattle.mpicall.specs.Laid.{call_by}
+use Rattle.mpicall.specs.CallArgs.{call_by}
 use Rattle.mpicall.specs.Word.{word_of, layout_of}
 use Rattle.mpicall.specs.Line.{Shape, Fixed, Requests, Chosen, shape_of, fault_of_line}
 use Rattle.mpicall.specs.Lines.{body_of, split_fields}
@@ -14,8 +14,8 @@ use Rattle.mpicall.specs.declared.call.Kind.{Kind}
 use Rattle.mpicall.specs.declared.call.Kind.TheVariants.{Barrier, Bcast, Gather, Scatter, Reduce, Allgather, Alltoall, Allreduce, Scan, Exscan}
 use Rattle.mpicall.specs.declared.call.Call.{Call}
 use Rattle.mpicall.specs.declared.call.Call.TheVariants.{Send, Recv, Isend, Irecv, Wait, Waitall, Waitany, Coll, Icoll, Finalize}
-use Rattle.mpicall.specs.declared.laid.Laid.{Laid}
-use Rattle.mpicall.specs.declared.laid.Laid.TheVariants.{Nothing, Message, Exchange, Copy, Split}
+use Rattle.mpicall.specs.declared.call_args.CallArgs.{CallArgs}
+use Rattle.mpicall.specs.declared.call_args.CallArgs.TheVariants.{Nothing, Message, Exchange, Copy, Split}
 use Rattle.mpicall.specs.declared.word.Layout.{Layout}
 use Rattle.mpicall.specs.declared.word.Layout.TheVariants as layout
 use Rattle.mpicall.specs.declared.word.Collective.{Collective}
@@ -93,12 +93,12 @@ kind_named ScanName root = Scan
 kind_named ExscanName root = Exscan
 
 -- what follows a name of a layout, of its arguments
-abbrev pub laid_by : Layout → List Argument → Laid
-laid_by layout.Message a = Message (numeral_in (at a 0)) (peer_in (at a 1)) (numeral_in (at a 2))
-laid_by layout.Exchange a = Exchange (numeral_in (at a 0)) (peer_in (at a 1)) (numeral_in (at a 2)) (peer_in (at a 3)) (numeral_in (at a 4)) (number_at a 5)
-laid_by layout.Copy a = Copy (numeral_in (at a 0)) (numeral_in (at a 1))
-laid_by layout.Split a = Split (numeral_in (at a 0)) (colour_in (at a 1)) (key_in (at a 2)) (new_in (at a 3))
-laid_by _ a = Nothing
+abbrev pub args_by : Layout → List Argument → CallArgs
+args_by layout.Message a = Message (numeral_in (at a 0)) (peer_in (at a 1)) (numeral_in (at a 2))
+args_by layout.Exchange a = Exchange (numeral_in (at a 0)) (peer_in (at a 1)) (numeral_in (at a 2)) (peer_in (at a 3)) (numeral_in (at a 4)) (number_at a 5)
+args_by layout.Copy a = Copy (numeral_in (at a 0)) (numeral_in (at a 1))
+args_by layout.Split a = Split (numeral_in (at a 0)) (colour_in (at a 1)) (key_in (at a 2)) (new_in (at a 3))
+args_by _ a = Nothing
 
 -- the call of a word and its arguments
 abbrev pub call_of : Word → List Argument → Call
@@ -111,7 +111,7 @@ call_of (Started (CollOperation name)) a = Icoll (numeral_in (at a 0)) (numeral_
 call_of (Named name.Wait) a = Wait (numeral_in (at a 0))
 call_of (Named name.Waitall) a = Waitall (map numeral_in a)
 call_of (Named name.Waitany) a = Waitany (numeral_in (at a 0)) (map numeral_in (drop 1 a))
-call_of (Named other) a = unwrap_or (call_by other (laid_by (layout_of other) a)) Finalize
+call_of (Named other) a = unwrap_or (call_by other (args_by (layout_of other) a)) Finalize
 
 -- the arguments that fields of a shape spell
 abbrev pub taken : Option (List Argument × List (List ℕ)) → List Argument

@@ -3,13 +3,13 @@ use Rattle.mpicall.specs.Names.{Rank}
 use Rattle.std.specs.Prelude.{ℕ, Option, Some, None, List, [], ◌∷◌, ◌++◌, length, map}
 use Rattle.std.specs.List.{join_with_byte}
 use Rattle.mpicall.specs.Argument.{Argument, PeerOf, comm_argument, tag_argument, request_argument, bytes_arguments, root_argument, index_argument, spell}
-use Rattle.mpicall.specs.Laid.{laid_of, laid_arguments}
+use Rattle.mpicall.specs.CallArgs.{call_args_of, args_in_line}
 use Rattle.mpicall.specs.Word.{text_of}
 use Rattle.mpicall.specs.declared.call.Kind.{Kind}
 use Rattle.mpicall.specs.declared.call.Kind.TheVariants.{Barrier, Bcast, Gather, Scatter, Reduce, Allgather, Alltoall, Allreduce, Scan, Exscan}
 use Rattle.mpicall.specs.declared.call.Call.{Call}
 use Rattle.mpicall.specs.declared.call.Call.TheVariants.{Send, Recv, Isend, Irecv, Wait, Waitall, Waitany, Coll, Icoll}
-use Rattle.mpicall.specs.declared.laid.Laid.{Laid}
+use Rattle.mpicall.specs.declared.call_args.CallArgs.{CallArgs}
 use Rattle.mpicall.specs.declared.word.Collective.{Collective}
 use Rattle.mpicall.specs.declared.word.Collective.TheVariants.{Barrier as BarrierName, Bcast as BcastName, Gather as GatherName, Scatter as ScatterName, Reduce as ReduceName, Allgather as AllgatherName, Alltoall as AlltoallName, Allreduce as AllreduceName, Scan as ScanName, Exscan as ExscanName}
 use Rattle.mpicall.specs.declared.word.Operation.TheVariants.{Send as SendOperation, Recv as RecvOperation, Coll as CollOperation}
@@ -50,9 +50,9 @@ root_arguments None = []
 root_arguments (Some root) = root_argument root ∷ []
 
 -- the line of a call that is no operation and no wait
-abbrev pub laid_line : Option (Name × Laid) → Word × List Argument
-laid_line (Some it) = (Named it.0, laid_arguments it.1)
-laid_line None = (Named name.Finalize, [])
+abbrev pub args_line : Option (Name × CallArgs) → Word × List Argument
+args_line (Some it) = (Named it.0, args_in_line it.1)
+args_line None = (Named name.Finalize, [])
 
 -- the line of a call: its word, and its arguments in their order
 abbrev pub line_of : Call → Word × List Argument
@@ -66,7 +66,7 @@ line_of (Waitall reqs) = (Named name.Waitall, map request_argument reqs)
 line_of (Waitany chosen reqs) = (Named name.Waitany, index_argument (length reqs) chosen ∷ map request_argument reqs)
 line_of (Coll comm kind) = (Blocking (CollOperation (name_of kind)), comm_argument comm ∷ root_arguments (root_of kind))
 line_of (Icoll req comm kind) = (Started (CollOperation (name_of kind)), request_argument req ∷ comm_argument comm ∷ root_arguments (root_of kind))
-line_of call = laid_line (laid_of call)
+line_of call = args_line (call_args_of call)
 
 abbrev pub word_of_call : Call → Word
 word_of_call call = (line_of call).0

@@ -4,7 +4,7 @@ use Rattle.mpicall.specs.Limits.{in_ranges}
 use Rattle.mpicall.specs.Line.{fault_of_line}
 use Rattle.mpicall.specs.Spelling.{spelling}
 use Rattle.mpicall.specs.Lines.{lines_of}
-use Rattle.mpicall.specs.Reading.{record_of_line}
+use Rattle.mpicall.specs.Parsing.{record_of_line}
 use Rattle.mpicall.specs.declared.call.Call.{Call}
 use Rattle.mpicall.specs.Ending.{ends_list}
 use Rattle.mpicall.specs.declared.fault.Ending.{Ending}

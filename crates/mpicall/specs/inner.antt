@@ -3,9 +3,9 @@ pub mod Argument
 pub mod Cells
 pub mod Draft
 pub mod Front
-pub mod Laid
+pub mod CallArgs
 pub mod Line
 pub mod Lines
-pub mod Reading
+pub mod Parsing
 pub mod Stage
 pub mod Window

@@ -5,7 +5,7 @@
 //! end of the field is known.
 
 ghost use Rattle.std.specs.Prelude.{◌≡◌, ◌≤◌, [], ◌∷◌, true, false, List, ℕ, length, MatchOption, MatchBool};
-ghost use Rattle.mpicall.specs.inner.Reading.{ReadsBehind, ReadsFields, requests_fit, SpellsRequests};
+ghost use Rattle.mpicall.specs.inner.Parsing.{ReadsBehind, ReadsFields, requests_fit, SpellsRequests};
 ghost use Rattle.mpicall.specs.inner.Line.{fits_line};
 ghost use Rattle.mpicall.specs.Word.{text_of};
 ghost use Rattle.mpicall.specs.declared.word.Name.TheVariants as name;
@@ -14,8 +14,8 @@ ghost use Rattle.mpicall.specs.declared.word.Word.TheVariants.{Named};
 use crate::call::{Call, Mode};
 use crate::fields::Fields;
 use crate::limits::MOST_REQUESTS;
-use crate::reading::{
-    next_number, next_request, read_blocking, read_laid, read_started, read_wait,
+use crate::parsing::{
+    next_number, next_request, read_args, read_blocking, read_started, read_wait,
 };
 use crate::reqs::Reqs;
 use crate::word::{Name, Operation, Word, word_of};
@@ -82,7 +82,7 @@ fn read_named(name: Name, fields: Fields<'_>, into: &mut Call) -> bool
         Name::Waitall => read_waitall(fields, into),
         Name::Wait => read_wait(fields, into).is_some(),
         Name::Waitany => read_waitany(fields, into),
-        _ => read_laid(name, fields, into).is_some(),
+        _ => read_args(name, fields, into).is_some(),
     }
 }
 

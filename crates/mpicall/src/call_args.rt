@@ -1,7 +1,7 @@
 //! The calls that are no operation and no wait: a name, and what follows it, by the layout of the name.
 
 ghost use Rattle.std.specs.Prelude.{◌≡◌, IfSome, Some, unwrap_or};
-ghost use Rattle.mpicall.specs.Laid.{laid_of, call_by};
+ghost use Rattle.mpicall.specs.CallArgs.{call_args_of, call_by};
 ghost use Rattle.mpicall.specs.declared.call.Call.TheVariants.{Recv};
 ghost use Rattle.mpicall.specs.declared.call.Peer.TheVariants.{Null};
 
@@ -10,7 +10,7 @@ use crate::word::Name;
 
 /// What follows the name of such a call: a variant for each layout that such names have.
 #[derive(Clone, Copy, PartialEq, Eq)]
-pub enum Laid {
+pub enum CallArgs {
     Nothing,
     Message {
         comm: u16,
@@ -40,8 +40,8 @@ pub enum Laid {
 impl Call {
     /// The name of the call and what follows it; None for an operation and a wait.
     #[inline(always)]
-    pub fn laid(&self) -> Option<(Name, Laid)>
-        ensures value { result ≡ laid_of self.now }
+    pub fn call_args(&self) -> Option<(Name, CallArgs)>
+        ensures value { result ≡ call_args_of self.now }
         ensures back { IfSome result (λ it. call_by it.0 it.1 ≡ Some self.now) }
     {
         match *self {
@@ -54,7 +54,7 @@ impl Call {
                 bytes,
             } => Some((
                 Name::Sendrecv,
-                Laid::Exchange {
+                CallArgs::Exchange {
                     comm,
                     dest,
                     send_tag,
@@ -63,7 +63,7 @@ impl Call {
                     bytes,
                 },
             )),
-            Call::Dup { comm, new } => Some((Name::Dup, Laid::Copy { comm, new })),
+            Call::Dup { comm, new } => Some((Name::Dup, CallArgs::Copy { comm, new })),
             Call::Split {
                 comm,
                 colour,
@@ -71,7 +71,7 @@ impl Call {
                 new,
             } => Some((
                 Name::Split,
-                Laid::Split {
+                CallArgs::Split {
                     comm,
                     colour,
                     key,
@@ -79,10 +79,10 @@ impl Call {
                 },
             )),
             Call::Probe { comm, source, tag } => {
-                Some((Name::Probe, Laid::Message { comm, source, tag }))
+                Some((Name::Probe, CallArgs::Message { comm, source, tag }))
             }
-            Call::Finalize => Some((Name::Finalize, Laid::Nothing)),
-            Call::Open => Some((Name::Open, Laid::Nothing)),
+            Call::Finalize => Some((Name::Finalize, CallArgs::Nothing)),
+            Call::Open => Some((Name::Open, CallArgs::Nothing)),
             _ => None,
         }
     }
@@ -91,13 +91,13 @@ impl Call {
 impl Name {
     /// The call of the name and what follows it; a receive from nobody where they don't go together.
     #[inline(always)]
-    pub fn call(self, laid: Laid) -> Call
-        ensures { result ≡ unwrap_or (call_by self laid) (Recv 0 Null 0) }
+    pub fn call(self, call_args: CallArgs) -> Call
+        ensures { result ≡ unwrap_or (call_by self call_args) (Recv 0 Null 0) }
     {
-        match (self, laid) {
+        match (self, call_args) {
             (
                 Name::Sendrecv,
-                Laid::Exchange {
+                CallArgs::Exchange {
                     comm,
                     dest,
                     send_tag,
@@ -113,10 +113,10 @@ impl Name {
                 recv_tag,
                 bytes,
             },
-            (Name::Dup, Laid::Copy { comm, new }) => Call::Dup { comm, new },
+            (Name::Dup, CallArgs::Copy { comm, new }) => Call::Dup { comm, new },
             (
                 Name::Split,
-                Laid::Split {
+                CallArgs::Split {
                     comm,
                     colour,
                     key,
@@ -128,9 +128,13 @@ impl Name {
                 key,
                 new,
             },
-            (Name::Probe, Laid::Message { comm, source, tag }) => Call::Probe { comm, source, tag },
-            (Name::Finalize, Laid::Nothing) => Call::Finalize,
-            (Name::Open, Laid::Nothing) => Call::Open,
+            (Name::Probe, CallArgs::Message { comm, source, tag }) => Call::Probe {
+                comm,
+                source,
+                tag,
+            },
+            (Name::Finalize, CallArgs::Nothing) => Call::Finalize,
+            (Name::Open, CallArgs::Nothing) => Call::Open,
             _ => Call::Recv {
                 comm: 0,
                 source: Peer::Null,

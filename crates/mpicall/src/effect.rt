@@ -1,7 +1,7 @@
 //! What a call does over its communicator.
 
 ghost use Rattle.std.specs.Prelude.{◌≡◌, Some, None};
-ghost use Rattle.mpicall.specs.Does.{does_of};
+ghost use Rattle.mpicall.specs.Effect.{effect_of};
 
 use crate::call::{Call, Peer};
 use crate::word::root_of;
@@ -15,9 +15,9 @@ pub struct Side {
 
 /// What a call does over a communicator, whether it waits for that itself or only starts it.
 #[derive(Clone, Copy, PartialEq, Eq)]
-pub enum Does {
+pub enum Effect {
     /// It sends a message, receives one, or waits for one that it doesn't take; MPI_Sendrecv does two of these.
-    Exchanges {
+    PointToPoint {
         comm: u16,
         sent: Option<Side>,
         received: Option<Side>,
@@ -30,16 +30,16 @@ pub enum Does {
         made: Option<u16>,
     },
     /// It names no communicator.
-    Alone,
+    Local,
 }
 
-impl Does {
+impl Effect {
     /// It sends a message.
     #[inline(always)]
-    pub fn sends(comm: u16, peer: Peer, tag: u32) -> Does
-        ensures { result ≡ Does.Exchanges comm (Some (record { peer = peer; tag = tag })) None None }
+    pub fn sends(comm: u16, peer: Peer, tag: u32) -> Effect
+        ensures { result ≡ Effect.PointToPoint comm (Some (record { peer = peer; tag = tag })) None None }
     {
-        Does::Exchanges {
+        Effect::PointToPoint {
             comm,
             sent: Some(Side { peer, tag }),
             received: None,
@@ -49,10 +49,10 @@ impl Does {
 
     /// It receives a message.
     #[inline(always)]
-    pub fn receives(comm: u16, peer: Peer, tag: u32) -> Does
-        ensures { result ≡ Does.Exchanges comm None (Some (record { peer = peer; tag = tag })) None }
+    pub fn receives(comm: u16, peer: Peer, tag: u32) -> Effect
+        ensures { result ≡ Effect.PointToPoint comm None (Some (record { peer = peer; tag = tag })) None }
     {
-        Does::Exchanges {
+        Effect::PointToPoint {
             comm,
             sent: None,
             received: Some(Side { peer, tag }),
@@ -64,8 +64,8 @@ impl Does {
 impl Call {
     /// What the call does.
     #[inline(always)]
-    pub fn does(&self) -> Does
-        ensures { result ≡ does_of self.now }
+    pub fn effect(&self) -> Effect
+        ensures { result ≡ effect_of self.now }
     {
         match *self {
             Call::Send {
@@ -79,14 +79,14 @@ impl Call {
                 dest,
                 tag,
                 ..
-            } => Does::sends(comm, dest, tag),
+            } => Effect::sends(comm, dest, tag),
             Call::Recv { comm, source, tag }
             | Call::Irecv {
                 comm,
                 source,
                 tag,
                 ..
-            } => Does::receives(comm, source, tag),
+            } => Effect::receives(comm, source, tag),
             Call::Sendrecv {
                 comm,
                 dest,
@@ -94,7 +94,7 @@ impl Call {
                 source,
                 recv_tag,
                 ..
-            } => Does::Exchanges {
+            } => Effect::PointToPoint {
                 comm,
                 sent: Some(Side {
                     peer: dest,
@@ -106,28 +106,28 @@ impl Call {
                 }),
                 probed: None,
             },
-            Call::Probe { comm, source, tag } => Does::Exchanges {
+            Call::Probe { comm, source, tag } => Effect::PointToPoint {
                 comm,
                 sent: None,
                 received: None,
                 probed: Some(Side { peer: source, tag }),
             },
-            Call::Coll { comm, kind } | Call::Icoll { comm, kind, .. } => Does::Joins {
+            Call::Coll { comm, kind } | Call::Icoll { comm, kind, .. } => Effect::Joins {
                 comm,
                 root: root_of(kind),
                 made: None,
             },
-            Call::Dup { comm, new } => Does::Joins {
+            Call::Dup { comm, new } => Effect::Joins {
                 comm,
                 root: None,
                 made: Some(new),
             },
-            Call::Split { comm, new, .. } => Does::Joins {
+            Call::Split { comm, new, .. } => Effect::Joins {
                 comm,
                 root: None,
                 made: new,
             },
-            _ => Does::Alone,
+            _ => Effect::Local,
         }
     }
 }

@@ -6,7 +6,7 @@ ghost use Rattle.mpicall.specs.Spelling.{space};
 ghost use Rattle.mpicall.specs.Lines.{split_fields, is_blank};
 ghost use Rattle.mpicall.specs.inner.Lines.{is_empty};
 ghost use Rattle.mpicall.specs.Argument.{NumberUpTo, Number};
-ghost use Rattle.mpicall.specs.Reading.{next_argument};
+ghost use Rattle.mpicall.specs.Parsing.{next_argument};
 
 use crate::number::{has_leading_zero, read_front};
 use std::marker::Model;

@@ -25,11 +25,11 @@
 //!   `memory::MemoryInput` gives pieces of a stated size.
 //! - Every call but `lint` returns, whatever the bytes are; a source may have no end.
 //!
-//! The definitions stand in `specs/`: `Number`, `Argument`, `Word`, `Laid` and `Spelling` say how a call is
-//! spelled, `Limits` which calls are records, `Ending` which of them end a list, `Does` what they do over
+//! The definitions stand in `specs/`: `Number`, `Argument`, `Word`, `CallArgs` and `Spelling` say how a call is
+//! spelled, `Limits` which calls are records, `Ending` which of them end a list, `Effect` what they do over
 //! their communicators, `Lines` and `Line` what is wrong with a line, `Trace` what the bytes of a source are,
 //! and `Device`, `Source` and `Lint` what a function does. What only proofs and private contracts cite is in
-//! `specs/inner/`, and nobody has to believe it. `Trace` cites `Reading`, and
+//! `specs/inner/`, and nobody has to believe it. `Trace` cites `Parsing`, and
 //! `source::each_text_has_one_trace` says what that comes to without it.
 //!
 //! ```text
@@ -43,21 +43,21 @@
 
 mod body;
 pub mod call;
+pub mod call_args;
 pub mod counted;
 pub mod device;
-pub mod does;
+pub mod effect;
 pub mod fails_at;
 pub mod fault;
 pub mod fields;
 mod first_fault;
-pub mod laid;
 pub mod limits;
 pub mod line;
 pub mod lint;
 pub mod memory;
 pub mod number;
 pub mod page;
-mod reading;
+mod parsing;
 pub mod record;
 mod remembered;
 pub mod reqs;

@@ -5,8 +5,8 @@ ghost use Rattle.mpicall.specs.declared.call.Call.{Call as CallValue};
 ghost use Rattle.mpicall.specs.Limits.{in_ranges};
 ghost use Rattle.mpicall.specs.Spelling.{spelling};
 ghost use Rattle.mpicall.specs.Line.{fault_of_line};
-ghost use Rattle.mpicall.specs.Reading.{record_of_line};
-ghost use Rattle.mpicall.specs.inner.Reading.{IsBody, Spells, ReadsInto};
+ghost use Rattle.mpicall.specs.Parsing.{record_of_line};
+ghost use Rattle.mpicall.specs.inner.Parsing.{IsBody, Spells, ReadsInto};
 ghost use Rattle.mpicall.specs.declared.fault.LineFault.{LineFault as FaultValue};
 
 use crate::fault::LineFault;

@@ -5,12 +5,12 @@ ghost use Rattle.std.specs.Fmt.{decimal, signed_decimal};
 ghost use Rattle.std.specs.List.{join_with_byte};
 ghost use Rattle.mpicall.specs.Argument.{PeerOf, comm_argument, tag_argument, request_argument, bytes_arguments, peer_field, number_or};
 ghost use Rattle.mpicall.specs.inner.Draft.{line_with};
-ghost use Rattle.mpicall.specs.Laid.{laid_arguments};
+ghost use Rattle.mpicall.specs.CallArgs.{args_in_line};
 ghost use Rattle.mpicall.specs.Spelling.{space, arguments_of, fields_of, root_of, root_arguments};
 ghost use Rattle.mpicall.specs.Word.{text_of};
 
 use crate::call::{Call, Kind, Peer};
-use crate::laid::Laid;
+use crate::call_args::CallArgs;
 use crate::word::{Word, root_of};
 use arrayvec::ArrayString;
 use itoa::Buffer;
@@ -165,15 +165,15 @@ impl Page {
     }
 
     /// Adds what follows a name.
-    fn push_laid(&mut self, laid: Laid)
+    fn push_args(&mut self, call_args: CallArgs)
         requires { length self.old + 1000 ≤ PAGE_BYTES }
-        ensures value { self.new ≡ line_with self.old (laid_arguments laid) }
+        ensures value { self.new ≡ line_with self.old (args_in_line call_args) }
         ensures short { length self.new ≤ length self.old + 1000 }
     {
-        match laid {
-            Laid::Nothing => {}
-            Laid::Message { comm, source, tag } => self.push_message(comm, source, tag),
-            Laid::Exchange {
+        match call_args {
+            CallArgs::Nothing => {}
+            CallArgs::Message { comm, source, tag } => self.push_message(comm, source, tag),
+            CallArgs::Exchange {
                 comm,
                 dest,
                 send_tag,
@@ -186,11 +186,11 @@ impl Page {
                 self.push_number(recv_tag);
                 self.push_bytes(bytes);
             }
-            Laid::Copy { comm, new } => {
+            CallArgs::Copy { comm, new } => {
                 self.push_number(u32::from(comm));
                 self.push_number(u32::from(new));
             }
-            Laid::Split {
+            CallArgs::Split {
                 comm,
                 colour,
                 key,
@@ -259,8 +259,8 @@ impl Page {
                 self.push_root(kind);
             }
             _ => {
-                if let Some((_, laid)) = call.laid() {
-                    self.push_laid(laid);
+                if let Some((_, call_args)) = call.call_args() {
+                    self.push_args(call_args);
                 }
             }
         }

@@ -4,21 +4,21 @@
 
 ghost use Rattle.std.specs.Prelude.{◌≡◌, ◌≤◌, ◌-◌, [], ◌∷◌, Some, None, true, false, length, IfSome, MatchOption};
 ghost use Rattle.mpicall.specs.Argument.{NumberUpTo, PeerForm, ColourForm, KeyForm, NewForm, Number, PeerOf, Colour, Key, New, comm_form, tag_form, request_form, root_form, comm_argument, tag_argument, request_argument, bytes_arguments, root_argument};
-ghost use Rattle.mpicall.specs.inner.Laid.{is_laid};
+ghost use Rattle.mpicall.specs.inner.CallArgs.{has_args};
 ghost use Rattle.mpicall.specs.inner.Lines.{is_empty};
 ghost use Rattle.mpicall.specs.Spelling.{name_of, root_of, root_arguments};
 ghost use Rattle.mpicall.specs.Line.{root_forms, bytes_forms, operation_forms};
-ghost use Rattle.mpicall.specs.inner.Line.{laid_forms};
-ghost use Rattle.mpicall.specs.Reading.{next_argument, take_arguments};
-ghost use Rattle.mpicall.specs.inner.Reading.{all_taken, TakesLaid, ReadsWhole};
+ghost use Rattle.mpicall.specs.inner.Line.{args_forms};
+ghost use Rattle.mpicall.specs.Parsing.{next_argument, take_arguments};
+ghost use Rattle.mpicall.specs.inner.Parsing.{all_taken, TakesArgs, ReadsWhole};
 ghost use Rattle.mpicall.specs.Word.{layout_of};
 ghost use Rattle.mpicall.specs.declared.word.Layout.TheVariants as layout;
 ghost use Rattle.mpicall.specs.declared.word.Name.TheVariants as name;
 ghost use Rattle.mpicall.specs.declared.word.Word.TheVariants.{Blocking, Started, Named};
 
 use crate::call::{Call, Kind, Mode, Peer};
+use crate::call_args::CallArgs;
 use crate::fields::Fields;
-use crate::laid::Laid;
 use crate::limits::{
     GREATEST_BYTES, GREATEST_COLOUR, GREATEST_COMM, GREATEST_RANK, GREATEST_REQUEST, GREATEST_TAG,
 };
@@ -333,23 +333,23 @@ pub(crate) fn read_started(
 }
 
 /// A communicator, a source and a tag.
-fn last_source(fields: &mut Fields<'_>) -> Option<Laid>
-    ensures { TakesLaid layout.Message fields.old result }
+fn last_source(fields: &mut Fields<'_>) -> Option<CallArgs>
+    ensures { TakesArgs layout.Message fields.old result }
 {
     let (comm, source, tag) = next_message(fields)?;
     end_of(fields)?;
-    Some(Laid::Message { comm, source, tag })
+    Some(CallArgs::Message { comm, source, tag })
 }
 
 /// Both messages of MPI_Sendrecv.
-fn last_exchange(fields: &mut Fields<'_>) -> Option<Laid>
-    ensures { TakesLaid layout.Exchange fields.old result }
+fn last_exchange(fields: &mut Fields<'_>) -> Option<CallArgs>
+    ensures { TakesArgs layout.Exchange fields.old result }
 {
     let (comm, dest, send_tag) = next_message(fields)?;
     let source = next_peer(fields)?;
     let recv_tag = next_tag(fields)?;
     let bytes = last_bytes(fields)?;
-    Some(Laid::Exchange {
+    Some(CallArgs::Exchange {
         comm,
         dest,
         send_tag,
@@ -360,25 +360,25 @@ fn last_exchange(fields: &mut Fields<'_>) -> Option<Laid>
 }
 
 /// A communicator and a new one.
-fn last_copy(fields: &mut Fields<'_>) -> Option<Laid>
-    ensures { TakesLaid layout.Copy fields.old result }
+fn last_copy(fields: &mut Fields<'_>) -> Option<CallArgs>
+    ensures { TakesArgs layout.Copy fields.old result }
 {
     let comm = next_comm(fields)?;
     let new = next_comm(fields)?;
     end_of(fields)?;
-    Some(Laid::Copy { comm, new })
+    Some(CallArgs::Copy { comm, new })
 }
 
 /// What a split has after it.
-fn last_split(fields: &mut Fields<'_>) -> Option<Laid>
-    ensures { TakesLaid layout.Split fields.old result }
+fn last_split(fields: &mut Fields<'_>) -> Option<CallArgs>
+    ensures { TakesArgs layout.Split fields.old result }
 {
     let comm = next_comm(fields)?;
     let colour = next_colour(fields)?;
     let key = next_key(fields)?;
     let new = next_new(fields)?;
     end_of(fields)?;
-    Some(Laid::Split {
+    Some(CallArgs::Split {
         comm,
         colour,
         key,
@@ -387,9 +387,9 @@ fn last_split(fields: &mut Fields<'_>) -> Option<Laid>
 }
 
 /// What follows a name of a layout that no wait has.
-fn last_laid(layout: Layout, fields: &mut Fields<'_>) -> Option<Laid>
-    requires { is_laid layout ≡ true }
-    ensures { TakesLaid layout fields.old result }
+fn last_args(layout: Layout, fields: &mut Fields<'_>) -> Option<CallArgs>
+    requires { has_args layout ≡ true }
+    ensures { TakesArgs layout fields.old result }
 {
     match layout {
         Layout::Message => last_source(fields),
@@ -398,18 +398,18 @@ fn last_laid(layout: Layout, fields: &mut Fields<'_>) -> Option<Laid>
         Layout::Split => last_split(fields),
         _ => {
             end_of(fields)?;
-            Some(Laid::Nothing)
+            Some(CallArgs::Nothing)
         }
     }
 }
 
 /// Reads the call of a name that is no wait's.
-pub(crate) fn read_laid(name: Name, mut fields: Fields<'_>, into: &mut Call) -> Option<()>
-    requires { is_laid (layout_of name) ≡ true }
-    ensures { ReadsWhole (Named name) (laid_forms (layout_of name) (length fields.entry)) fields.entry result into.old into.new }
+pub(crate) fn read_args(name: Name, mut fields: Fields<'_>, into: &mut Call) -> Option<()>
+    requires { has_args (layout_of name) ≡ true }
+    ensures { ReadsWhole (Named name) (args_forms (layout_of name) (length fields.entry)) fields.entry result into.old into.new }
 {
-    let laid = last_laid(layout_of(name), &mut fields)?;
-    *into = name.call(laid);
+    let call_args = last_args(layout_of(name), &mut fields)?;
+    *into = name.call(call_args);
     Some(())
 }
 

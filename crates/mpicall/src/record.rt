@@ -4,16 +4,16 @@ ghost use Rattle.std.specs.Prelude.{◌≡◌, ◌↔◌, ◌&&◌, [], ◌∷�
 ghost use Rattle.std.specs.List.{list_all};
 ghost use Rattle.mpicall.specs.Argument.{PeerOf, comm_argument, tag_argument, request_argument, bytes_arguments, is_in_range, peer_in_range, key_in_range, none_or_up_to};
 ghost use Rattle.mpicall.specs.Ending.{ends_list};
-ghost use Rattle.mpicall.specs.Laid.{laid_arguments};
+ghost use Rattle.mpicall.specs.CallArgs.{args_in_line};
 ghost use Rattle.mpicall.specs.Limits.{in_ranges, may_tell};
-ghost use Rattle.mpicall.specs.inner.Reading.{ReadsFields};
+ghost use Rattle.mpicall.specs.inner.Parsing.{ReadsFields};
 ghost use Rattle.mpicall.specs.Spelling.{root_of, root_arguments};
 ghost use Rattle.mpicall.specs.declared.call.Call.TheVariants.{Coll, Finalize};
 
 use crate::body::read_fields;
 use crate::call::{Call, Kind, Mode, Peer};
+use crate::call_args::CallArgs;
 use crate::fields::Fields;
-use crate::laid::Laid;
 use crate::limits::{
     GREATEST_BYTES, GREATEST_COLOUR, GREATEST_COMM, GREATEST_RANK, GREATEST_REQUEST, GREATEST_TAG,
 };
@@ -114,13 +114,13 @@ fn are_bytes_in_range(mode: Mode, bytes: Option<u32>) -> bool
 }
 
 /// Whether what follows a name is in its ranges.
-fn is_laid_in_ranges(laid: Laid) -> bool
-    ensures { result ≡ list_all is_in_range (laid_arguments laid) }
+fn args_in_ranges(call_args: CallArgs) -> bool
+    ensures { result ≡ list_all is_in_range (args_in_line call_args) }
 {
-    match laid {
-        Laid::Nothing => true,
-        Laid::Message { comm, source, tag } => is_message_in_ranges(comm, source, tag),
-        Laid::Exchange {
+    match call_args {
+        CallArgs::Nothing => true,
+        CallArgs::Message { comm, source, tag } => is_message_in_ranges(comm, source, tag),
+        CallArgs::Exchange {
             comm,
             dest,
             send_tag,
@@ -133,8 +133,8 @@ fn is_laid_in_ranges(laid: Laid) -> bool
                 && recv_tag <= GREATEST_TAG
                 && are_bytes_in_range(Mode::Standard, bytes)
         }
-        Laid::Copy { comm, new } => comm <= GREATEST_COMM && new <= GREATEST_COMM,
-        Laid::Split {
+        CallArgs::Copy { comm, new } => comm <= GREATEST_COMM && new <= GREATEST_COMM,
+        CallArgs::Split {
             comm,
             colour,
             key,
@@ -187,8 +187,8 @@ fn is_in_ranges(call: &Call) -> bool
         Call::Icoll { req, comm, kind } => {
             req <= GREATEST_REQUEST && comm <= GREATEST_COMM && is_kind_in_range(kind)
         }
-        _ => match call.laid() {
-            Some((_, laid)) => is_laid_in_ranges(laid),
+        _ => match call.call_args() {
+            Some((_, call_args)) => args_in_ranges(call_args),
             None => true,
         },
     }

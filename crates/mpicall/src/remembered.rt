@@ -10,8 +10,8 @@
 //! record. So the policy is a matter of time alone, and nothing is proved of it.
 
 ghost use Rattle.std.specs.Prelude.{◌≡◌, ◌≤◌, true, length, take, IfOk, MatchOption, MatchBool};
-ghost use Rattle.mpicall.specs.Reading.{record_of_line};
-ghost use Rattle.mpicall.specs.inner.Reading.{ReadsInto, Spells, BeginsWith};
+ghost use Rattle.mpicall.specs.Parsing.{record_of_line};
+ghost use Rattle.mpicall.specs.inner.Parsing.{ReadsInto, Spells, BeginsWith};
 ghost use Rattle.mpicall.specs.declared.remembered.TheConstants.{MOST_KEPT_BYTES};
 
 use crate::fault::LineFault;
@@ -160,13 +160,13 @@ impl Remembered {
 
     /// Reads the record of the first line of some bytes, where it is the line that is expected; says how many bytes it
     /// has, and else leaves the place alone.
-    pub(crate) fn expect(&mut self, held: &[u8], into: &mut Record) -> Option<usize>
-        ensures { MatchOption result (into.new ≡ into.old) (BeginsWith held.now into.new) }
+    pub(crate) fn expect(&mut self, buffered: &[u8], into: &mut Record) -> Option<usize>
+        ensures { MatchOption result (into.new ≡ into.old) (BeginsWith buffered.now into.new) }
     {
         let at = self.expected()?;
         let kept = self.kept.get(usize::from(at))?;
         let line = kept.line();
-        if held.len() < line.len() || !are_same(&held[..line.len()], line) {
+        if buffered.len() < line.len() || !are_same(&buffered[..line.len()], line) {
             return None;
         }
         let len = line.len();

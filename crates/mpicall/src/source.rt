@@ -125,7 +125,7 @@ impl<I: Input> Source<I> {
         ensures cut { result ≡ Err ReadFailed
             → IsCutOff I.left self.old self.new [] }
     {
-        if let Some(count) = self.remembered.expect(self.window.held(), into) {
+        if let Some(count) = self.remembered.expect(self.window.buffered(), into) {
             self.window.drop_front(count);
             self.stage = stage_behind(into);
             return Ok(true);
@@ -159,7 +159,7 @@ impl<I: Input> Source<I> {
             self.stage = Stage::Failed(SourceFault::NoFinalize);
             return Err(SourceFault::NoFinalize);
         }
-        match self.remembered.read(&self.window.held()[..len], into) {
+        match self.remembered.read(&self.window.buffered()[..len], into) {
             Ok(()) => {
                 self.window.drop_front(len);
                 self.stage = stage_behind(into);

@@ -5,7 +5,7 @@
 ghost use Rattle.std.specs.Prelude.{◌≡◌, ◌≢◌, true, false, Ok, ◌+◌, ◌-◌, ◌≤◌, ◌<◌, ℕ, List, [], ◌++◌, length, drop, IsTrue, IfOk, MatchOption, OnErr, ◌↔◌};
 ghost use Rattle.std.specs.Io.KnownBytes.{Keeps, prepend_known, IsAtEnd};
 ghost use Rattle.mpicall.specs.Device.{CountsFailure};
-ghost use Rattle.mpicall.specs.inner.Window.{Fills, held_between, NoFeedBelow, FirstFeed, EndsLine};
+ghost use Rattle.mpicall.specs.inner.Window.{Fills, buffered_between, NoFeedBelow, FirstFeed, EndsLine};
 
 use crate::device::{DeviceFault, Input};
 use crate::limits::MOST_LINE_BYTES;
@@ -26,12 +26,12 @@ pub(crate) struct Window {
 
 impl Model for Window {
     ghost use Rattle.std.specs.Prelude.{List, ℕ, ◌≤◌};
-    ghost use Rattle.mpicall.specs.inner.Window.{held_between};
+    ghost use Rattle.mpicall.specs.inner.Window.{buffered_between};
     ghost use Rattle.mpicall.specs.declared.window.TheConstants.{CAPACITY};
 
     ghost Value = { List ℕ };
 
-    ghost view = { λ w. held_between w.start w.end w.buffer };
+    ghost view = { λ w. buffered_between w.start w.end w.buffer };
 
     ghost invariant = { λ w. (w.start ≤ w.end) × (w.end ≤ CAPACITY) };
 }
@@ -42,7 +42,7 @@ fn make_room(buffer: &mut [u8; CAPACITY], start: &mut usize, end: &mut usize)
     requires order { start.old ≤ end.old }
     requires within { end.old ≤ CAPACITY }
     requires few { end.old - start.old ≤ MOST_LINE_BYTES }
-    ensures held { held_between start.new end.new buffer.new ≡ held_between start.old end.old buffer.old }
+    ensures buffered { buffered_between start.new end.new buffer.new ≡ buffered_between start.old end.old buffer.old }
     ensures order { start.new ≤ end.new }
     ensures room { end.new < CAPACITY }
 {
@@ -68,7 +68,7 @@ impl Window {
         }
     }
 
-    pub(crate) fn held(&self) -> &[u8]
+    pub(crate) fn buffered(&self) -> &[u8]
         ensures { result.now ≡ self.now }
     {
         &self.buffer[self.start..self.end]
@@ -135,10 +135,10 @@ pub(crate) fn line_end<I: Input>(window: &mut Window, input: &mut I) -> Result<u
 {
     let mut searched = 0;
     loop {
-        if let Some(at) = feed_at(window.held(), searched) {
+        if let Some(at) = feed_at(window.buffered(), searched) {
             return Ok(at + 1);
         }
-        searched = window.held().len();
+        searched = window.buffered().len();
         if searched > MOST_LINE_BYTES || window.fill(input)? == 0 {
             return Ok(searched);
         }

@@ -100,7 +100,7 @@ impl Word {
             Call::Waitany { .. } => Word::Named(Name::Waitany),
             Call::Coll { kind, .. } => Word::Blocking(Operation::Coll(name_of(kind))),
             Call::Icoll { kind, .. } => Word::Started(Operation::Coll(name_of(kind))),
-            _ => match call.laid() {
+            _ => match call.call_args() {
                 Some((name, _)) => Word::Named(name),
                 None => Word::Named(Name::Finalize),
             },

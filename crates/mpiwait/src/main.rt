@@ -1,8 +1,8 @@
 //! The program `mpiwait`: whether a recorded MPI run can hang.
 #![tactic(auto)]
 
-use command::given::{Ended, run};
-use command::opener::Disk;
+use cli::argv::{Ended, run};
+use cli::opener::Disk;
 use mpicall::counted::Counted;
 
 fn main(rt: HostRuntime) -> Ended {

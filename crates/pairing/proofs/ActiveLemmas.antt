@@ -7,14 +7,14 @@ use Rattle.std.proofs.lemmas.Bool.{cases_eq, cases_Bool, eq-eqb}
 use Rattle.std.proofs.lemmas.Bool.Decides.{nat_tests}
 use Rattle.std.proofs.lemmas.Grind.{common_steps}
 use Rattle.mpicall.specs.declared.call.Call.{Call}
-use Rattle.callnotes.specs.Recordings.{Lists, calls_of, appended}
-use Rattle.callnotes.specs.Requests.{does_start, does_complete, started_in, is_active, HasActive}
+use Rattle.callstore.specs.Recordings.{Lists, calls_of, appended}
+use Rattle.callstore.specs.Requests.{does_start, does_complete, started_in, is_active, HasActive}
 use Rattle.pairing.specs.inner.Starts.{cell_in, place_at, place_in, IsActive}
 use Rattle.pairing.specs.declared.active.Request.{Request}
-use Rattle.pairing.specs.declared.active.Start.{Start}
+use Rattle.pairing.specs.declared.active.ActiveRequest.{ActiveRequest}
 use Rattle.pairing.specs.declared.active.Active.{Active}
-use Rattle.callnotes.proofs.RecordingLemmas.{calls_of-appended, calls_of-appended_other}
-use Rattle.callnotes.proofs.RequestLemmas.{starts_it, completes_it, leaves_it}
+use Rattle.callstore.proofs.RecordingLemmas.{calls_of-appended, calls_of-appended_other}
+use Rattle.callstore.proofs.RequestLemmas.{starts_it, completes_it, leaves_it}
 
 -- what started a request once one more call is made
 pub started-push : (calls : List Call) (call : Call) (req : ℕ) → started_in (calls ++ call ∷ []) req ≡ (if does_start req call then Some (length calls) else if does_complete req call then None else started_in calls req)
@@ -63,7 +63,7 @@ one_inactive calls reqs i less none =
     list_all_at (is_active calls) reqs i 0 less (rw none refl) ∙ sym differs
 
 -- cells that are all empty
-pub no_cell : (cells i : ℕ) → get_or {A = Option Start} (replicate cells None) i None ≡ None
+pub no_cell : (cells i : ℕ) → get_or {A = Option ActiveRequest} (replicate cells None) i None ≡ None
 no_cell zero i = refl
 no_cell (suc cells) zero = refl
 no_cell (suc cells) (suc i) = no_cell cells i

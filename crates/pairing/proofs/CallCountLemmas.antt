@@ -11,8 +11,8 @@ use Rattle.mpicall.specs.declared.call.Call.{Call}
 use Rattle.mpicall.specs.declared.call.Call.TheVariants.{Finalize}
 use Rattle.mpigroup.specs.Groups.{Groups, ranks_of}
 use Rattle.mpigroup.specs.declared.limits.TheConstants.{MOST_RANKS}
-use Rattle.callnotes.specs.Limits.{most_calls}
-use Rattle.callnotes.specs.Recordings.{Lists, calls_of, appended}
+use Rattle.callstore.specs.Limits.{most_calls}
+use Rattle.callstore.specs.Recordings.{Lists, calls_of, appended}
 use Rattle.pairing.specs.Faults.{IsLawfulList, IsLawful}
 use Rattle.pairing.specs.inner.Probing.{calls_in_all}
 use Rattle.pairing.proofs.FaultLemmas.{fault_none}

@@ -9,10 +9,10 @@ use Rattle.mpicall.specs.declared.call.Call.{Call}
 use Rattle.mpicall.specs.Ending.{ends_list}
 use Rattle.mpigroup.specs.Groups.{Groups}
 use Rattle.std.specs.Prelude.{not}
-use Rattle.callnotes.specs.Limits.{most_calls}
-use Rattle.callnotes.specs.Recordings.{IsClosedList, has_end, is_ended}
+use Rattle.callstore.specs.Limits.{most_calls}
+use Rattle.callstore.specs.Recordings.{IsClosedList, has_end, is_ended}
 use Rattle.pairing.specs.Faults.{AnEndedLawfulListIsClosed, first_failed, comm_exists, holds_comm, peers_exist, starts_afresh, are_distinct, waits_for_active, makes_afresh, fault_of, IsLawfulList}
-use Rattle.callnotes.specs.Requests.{waits_for}
+use Rattle.callstore.specs.Requests.{waits_for}
 use Rattle.pairing.specs.declared.fault.CallFault.TheVariants.{CallAfterFinalize, TooManyCalls, UnknownCommunicator, CommunicatorNotHeld, PeerOutOfGroup, RequestInUse, RequestRepeated, RequestNotActive, WrongNewCommunicator}
 
 -- where no test has failed each one passes; six of them are used

@@ -10,29 +10,29 @@ use Rattle.arenalist.specs.Arena.{counted}
 use Rattle.mpicall.specs.declared.call.Call.{Call}
 use Rattle.mpigroup.specs.Groups.{Groups}
 use Rattle.mpigroup.proofs.ListLemmas.{get_end}
-use Rattle.callnotes.specs.declared.envelope.Envelope.{Envelope}
-use Rattle.callnotes.specs.declared.envelope.Half.{Half}
-use Rattle.callnotes.specs.declared.envelope.Half.TheVariants.{Send as SendHalf, Recv as RecvHalf}
+use Rattle.callstore.specs.declared.envelope.Envelope.{Envelope}
+use Rattle.callstore.specs.declared.envelope.Half.{Half}
+use Rattle.callstore.specs.declared.envelope.Half.TheVariants.{Send as SendHalf, Recv as RecvHalf}
 use Rattle.pairing.specs.declared.matches.Halves.{Halves}
-use Rattle.pairing.specs.declared.matches.Numbered.{Numbered}
-use Rattle.callnotes.specs.Envelopes.{other_half, envelope_of, same_envelope, rank_of_half, has_envelope}
+use Rattle.pairing.specs.declared.matches.NumberedEnvelope.{NumberedEnvelope}
+use Rattle.callstore.specs.Envelopes.{other_half, envelope_of, same_envelope, rank_of_half, has_envelope}
 use Rattle.pairing.specs.inner.Kept.{AreNoted, ArePartnered}
 use Rattle.pairing.specs.Matched.{halves_of, pending_of}
 use Rattle.pairing.specs.inner.Matched.{Matching, Filing, filed_on, filed_halves, worked_if, worked, number_in, pending_at, pending_by, IsGrown, IsMatched, ArePaired, IsNext}
 use Rattle.pairing.specs.Work.{count_halves, halves_in, halves_from, work_of}
-use Rattle.callnotes.specs.Notes.{Noted, notes_of, with_note}
-use Rattle.callnotes.specs.inner.Notes.{recording_of, kept_at}
-use Rattle.callnotes.specs.Beside.{partner_in}
+use Rattle.callstore.specs.Notes.{Noted, notes_of, with_note}
+use Rattle.callstore.specs.inner.Notes.{recording_of, kept_at}
+use Rattle.callstore.specs.CachedMatch.{partner_in}
 use Rattle.pairing.specs.Partners.{envelope_at, places_of, number_of, numbered, partner_of}
-use Rattle.callnotes.specs.Places.{places}
-use Rattle.callnotes.specs.Recordings.{Lists, calls_of, appended}
+use Rattle.callstore.specs.Places.{places}
+use Rattle.callstore.specs.Recordings.{Lists, calls_of, appended}
 use Rattle.pairing.proofs.MeetingLemmas.{filed_other_half}
 use Rattle.pairing.proofs.NotedLemmas.{notes_of-same, notes_of-other}
-use Rattle.callnotes.proofs.OptionLemmas.{map_parts}
+use Rattle.callstore.proofs.OptionLemmas.{map_parts}
 use Rattle.pairing.proofs.PartnerLemmas.{own_rank, own_place, numbered_half, has_it, envelope_at_parts, partner_parts, HasHalf}
-use Rattle.callnotes.proofs.PlaceLemmas.{slice_get-front}
-use Rattle.callnotes.proofs.PlacesLemmas.{with_place, places_on, no_calls}
-use Rattle.callnotes.proofs.RecordingLemmas.{calls_of-appended, calls_of-appended_other}
+use Rattle.callstore.proofs.PlaceLemmas.{slice_get-front}
+use Rattle.callstore.proofs.PlacesLemmas.{with_place, places_on, no_calls}
+use Rattle.callstore.proofs.RecordingLemmas.{calls_of-appended, calls_of-appended_other}
 
 -- the halves of an envelope are the places of their rank
 halves_by : (groups : Groups) (recording : Lists) (half : Half) (e : Envelope) (rank : ℕ) → rank_of_half groups half e ≡ Some rank → halves_of groups recording half e ≡ places_of groups recording rank half e
@@ -89,25 +89,25 @@ half_on groups recording rank call r place half e is_rank has = record { call = 
         (cases_eq r rank)
 
 -- what is kept stays as a call is noted that has no partner yet
-kept_more : (notes : List (List Noted)) (rank : ℕ) (noted : Noted) → rank < length notes → ((half : Half) → partner_in half noted.beside ≡ None) → (half : Half) (r place : ℕ) → kept_at (with_note notes rank noted) half r place ≡ kept_at notes half r place
+kept_more : (notes : List (List Noted)) (rank : ℕ) (noted : Noted) → rank < length notes → ((half : Half) → partner_in half noted.cached ≡ None) → (half : Half) (r place : ℕ) → kept_at (with_note notes rank noted) half r place ≡ kept_at notes half r place
 kept_more notes rank noted is_rank alone half r place =
     ⊎_elim
     (λ (is_r : r ≡ rank).
     subst (λ (x : ℕ). kept_at (with_note notes rank noted) half x place ≡ kept_at notes half x place) (sym is_r)
-    (ap (λ (list : List Noted). option_and_then (λ note. partner_in half note.beside) (slice_get list place)) (notes_of-same notes rank noted is_rank)
+    (ap (λ (list : List Noted). option_and_then (λ note. partner_in half note.cached) (slice_get list place)) (notes_of-same notes rank noted is_rank)
     ∙ in_list (notes_of notes rank) place))
     (λ (isnt_r : r ≢ rank).
-    ap (λ (list : List Noted). option_and_then (λ note. partner_in half note.beside) (slice_get list place)) (notes_of-other notes rank r noted isnt_r))
+    ap (λ (list : List Noted). option_and_then (λ note. partner_in half note.cached) (slice_get list place)) (notes_of-other notes rank r noted isnt_r))
     (cases_eq r rank)
   where
-    in_list : (list : List Noted) (p : ℕ) → option_and_then (λ note. partner_in half note.beside) (slice_get (list ++ noted ∷ []) p) ≡ option_and_then (λ note. partner_in half note.beside) (slice_get list p)
+    in_list : (list : List Noted) (p : ℕ) → option_and_then (λ note. partner_in half note.cached) (slice_get (list ++ noted ∷ []) p) ≡ option_and_then (λ note. partner_in half note.cached) (slice_get list p)
     in_list [] zero = alone half
     in_list [] (suc p) = refl
     in_list (n ∷ list) zero = refl
     in_list (n ∷ list) (suc p) = in_list list p
 
 -- so the halves of a recording are paired, as its next call is noted
-pub paired_from : (groups : Groups) (notes : List (List Noted)) (rank : ℕ) (noted : Noted) (matching : Matching) → rank < length notes → rank < length (recording_of notes) → recording_of (with_note notes rank noted) ≡ appended (recording_of notes) rank noted.call → ((half : Half) → partner_in half noted.beside ≡ None) → AreNoted (with_note notes rank noted) → ArePartnered groups notes → IsMatched groups (recording_of notes) matching → ArePaired groups (with_note notes rank noted) (halves_of groups (recording_of notes)) matching
+pub paired_from : (groups : Groups) (notes : List (List Noted)) (rank : ℕ) (noted : Noted) (matching : Matching) → rank < length notes → rank < length (recording_of notes) → recording_of (with_note notes rank noted) ≡ appended (recording_of notes) rank noted.call → ((half : Half) → partner_in half noted.cached ≡ None) → AreNoted (with_note notes rank noted) → ArePartnered groups notes → IsMatched groups (recording_of notes) matching → ArePaired groups (with_note notes rank noted) (halves_of groups (recording_of notes)) matching
 paired_from groups notes rank noted matching is_rank in_recording longer alone are_noted partnered matched = record {
   noted = are_noted;
   pending = matched.pending;
@@ -155,7 +155,7 @@ comes_next groups recording longer rank place call half e is is_rank next at_env
       omega (arith, within, next);
 }
 
-pub come_next : (groups : Groups) (recording longer : Lists) (rank place : ℕ) (call : Call) (half : Half) (o : Option Numbered) → longer ≡ appended recording rank call → rank < length recording → place ≡ length (calls_of recording rank) → option_map (λ it. it.envelope) o ≡ envelope_of groups rank half call → IfSome o (λ it. IsNext groups longer (halves_of groups recording) rank place half it.envelope)
+pub come_next : (groups : Groups) (recording longer : Lists) (rank place : ℕ) (call : Call) (half : Half) (o : Option NumberedEnvelope) → longer ≡ appended recording rank call → rank < length recording → place ≡ length (calls_of recording rank) → option_map (λ it. it.envelope) o ≡ envelope_of groups rank half call → IfSome o (λ it. IsNext groups longer (halves_of groups recording) rank place half it.envelope)
 come_next groups recording longer rank place call half None is is_rank next at_envelope = tt
 come_next groups recording longer rank place call half (Some it) is is_rank next at_envelope =
     comes_next groups recording longer rank place call half it.envelope is is_rank next (sym at_envelope)
@@ -167,7 +167,7 @@ next_still groups recording filing rank place half o e next = record {
   last = λ f number before theirs found. next.last f number before theirs (sym (ap (λ (ps : List ℕ). slice_get ps number) (filed_other_half half o f place filing)) ∙ found);
 }
 
-pub recv_next_still : (groups : Groups) (recording : Lists) (filing : Filing) (rank place : ℕ) (o : Option Envelope) (recv : Option Numbered) → IfSome recv (λ it. IsNext groups recording filing rank place RecvHalf it.envelope) → IfSome recv (λ it. IsNext groups recording (filed_on SendHalf o place filing) rank place RecvHalf it.envelope)
+pub recv_next_still : (groups : Groups) (recording : Lists) (filing : Filing) (rank place : ℕ) (o : Option Envelope) (recv : Option NumberedEnvelope) → IfSome recv (λ it. IsNext groups recording filing rank place RecvHalf it.envelope) → IfSome recv (λ it. IsNext groups recording (filed_on SendHalf o place filing) rank place RecvHalf it.envelope)
 recv_next_still groups recording filing rank place o None next = tt
 recv_next_still groups recording filing rank place o (Some it) next = next_still groups recording filing rank place SendHalf o it.envelope next
 
@@ -199,7 +199,7 @@ halves_put groups recording rank place call half e is_rank next = by_rank (rank_
         ∙ sym (ap (λ calls. places (has_envelope groups other half e) calls) (calls_of-appended_other recording rank other call differs)))
         (cases_eq other rank)
 
-abbrev pub envelopes : Option Numbered → Option Envelope
+abbrev pub envelopes : Option NumberedEnvelope → Option Envelope
 envelopes o = option_map (λ it. it.envelope) o
 
 pub filed_call : (groups : Groups) (recording : Lists) (rank place : ℕ) (call : Call) (halves : Halves) → rank < length recording → place ≡ length (calls_of recording rank) → envelopes halves.send ≡ envelope_of groups rank SendHalf call → envelopes halves.recv ≡ envelope_of groups rank RecvHalf call → (half : Half) (e : Envelope) → filed_halves halves place (halves_of groups recording) half e ≡ halves_of groups (appended recording rank call) half e
@@ -264,7 +264,7 @@ halves_more groups from (calls ∷ lists) (suc rank) call is_rank =
     let rest = halves_more groups (from + 1) lists rank call (omega arith) in
     rw there (omega (arith, rest))
 
-has : (o : Option Numbered) → is_some o ≡ is_some (envelopes o)
+has : (o : Option NumberedEnvelope) → is_some o ≡ is_some (envelopes o)
 has None = refl
 has (Some it) = refl
 

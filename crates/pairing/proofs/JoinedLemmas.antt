@@ -8,17 +8,17 @@ use Rattle.std.proofs.lemmas.List.Quantifiers.{position-Some}
 use Rattle.std.proofs.lemmas.Option.{none-some, same_Some}
 use Rattle.indexmap.specs.IndexSet.{insert_key}
 use Rattle.mpicall.specs.declared.call.Call.{Call}
-use Rattle.pairing.specs.declared.held.Holding.{Holding}
+use Rattle.pairing.specs.declared.made_comms.Holding.{Holding}
 use Rattle.pairing.specs.inner.Joined.{Joinings, is_key, list_number, list_of, IsJoined, IsListFor}
-use Rattle.callnotes.specs.Places.{places}
-use Rattle.callnotes.specs.Recordings.{Lists, calls_of, appended}
-use Rattle.callnotes.specs.Seats.{Seats, list_in, with_place_in}
-use Rattle.callnotes.specs.Waves.{joins, does_join}
-use Rattle.callnotes.proofs.NumberLemmas.{position_cases, number_stays, number_past, number_next}
-use Rattle.callnotes.proofs.OptionLemmas.{map_parts}
-use Rattle.callnotes.proofs.PlacesLemmas.{with_place, places_on}
-use Rattle.callnotes.proofs.RecordingLemmas.{calls_of-appended, calls_of-appended_other}
-use Rattle.callnotes.proofs.SeatLemmas.{list_pushed, list_past, list_same, list_other}
+use Rattle.callstore.specs.Places.{places}
+use Rattle.callstore.specs.Recordings.{Lists, calls_of, appended}
+use Rattle.callstore.specs.Seats.{Seats, list_in, with_place_in}
+use Rattle.callstore.specs.Waves.{joins, does_join}
+use Rattle.callstore.proofs.NumberLemmas.{position_cases, number_stays, number_past, number_next}
+use Rattle.callstore.proofs.OptionLemmas.{map_parts}
+use Rattle.callstore.proofs.PlacesLemmas.{with_place, places_on}
+use Rattle.callstore.proofs.RecordingLemmas.{calls_of-appended, calls_of-appended_other}
+use Rattle.callstore.proofs.SeatLemmas.{list_pushed, list_past, list_same, list_other}
 
 -- two keys have the same fields
 abbrev pub same_fields : Holding → Holding → Bool
@@ -164,8 +164,8 @@ put_in waves lists recording rank place comm number call is_joined numbered many
     elsewhere None differs = refl
     elsewhere (Some other) differs = list_other waves.lists.places number other place (λ same. differs (ap (λ (m : ℕ). Some m) same))
 
-    does : (m : ℕ) → does_join m call ≡ eqb comm m
-    does m = ap (λ (o : Option ℕ). option_map_or (λ other. eqb other m) o false) is_joined
+    effect : (m : ℕ) → does_join m call ≡ eqb comm m
+    effect m = ap (λ (o : Option ℕ). option_map_or (λ other. eqb other m) o false) is_joined
 
     list_put : (m : ℕ) → option_map_or (list_in (with_place_in waves.lists.places number place)) (list_number waves rank m) [] ≡ with_place (eqb comm m) (list_of waves rank m) place
     list_put m =
@@ -181,7 +181,7 @@ put_in waves lists recording rank place comm number call is_joined numbered many
     own : (m : ℕ) → option_map_or (list_in (with_place_in waves.lists.places number place)) (list_number waves rank m) [] ≡ places (does_join m) (calls_of (appended recording rank call) rank)
     own m =
         list_put m
-        ∙ ap (λ b. with_place b (list_of waves rank m) place) (sym (does m))
+        ∙ ap (λ b. with_place b (list_of waves rank m) place) (sym (effect m))
         ∙ ap (λ ns. with_place (does_join m call) ns place) (joined rank m)
         ∙ ap (λ (n : ℕ). with_place (does_join m call) (places (does_join m) (calls_of recording rank)) n) next
         ∙ sym (ap (λ calls. places (does_join m) calls) (calls_of-appended recording rank call is_rank)

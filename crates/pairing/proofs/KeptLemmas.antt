@@ -8,33 +8,33 @@ use Rattle.std.proofs.lemmas.Bool.{cases_Bool, cases_eq, cases_lt, eqb-true, lt-
 use Rattle.mpicall.specs.declared.call.Call.TheVariants.{Waitany}
 use Rattle.mpicall.specs.declared.call.Call.{Call}
 use Rattle.mpigroup.specs.Groups.{Groups, ranks_of, world_rank_of, group_rank_of}
-use Rattle.callnotes.specs.declared.envelope.Envelope.{Envelope}
-use Rattle.callnotes.specs.declared.envelope.Half.{Half}
-use Rattle.callnotes.specs.Notes.{Noted, notes_of, completed_among, completed_starts, start_of, calls_in}
-use Rattle.callnotes.specs.inner.Notes.{recording_of, kept_at}
-use Rattle.callnotes.specs.declared.envelope.Half.TheVariants.{Send as SendHalf, Recv as RecvHalf}
-use Rattle.callnotes.specs.declared.envelope.Message.{Message}
+use Rattle.callstore.specs.declared.envelope.Envelope.{Envelope}
+use Rattle.callstore.specs.declared.envelope.Half.{Half}
+use Rattle.callstore.specs.Notes.{Noted, notes_of, completed_among, completed_starts, start_of, calls_in}
+use Rattle.callstore.specs.inner.Notes.{recording_of, kept_at}
+use Rattle.callstore.specs.declared.envelope.Half.TheVariants.{Send as SendHalf, Recv as RecvHalf}
+use Rattle.callstore.specs.declared.envelope.Message.{Message}
 use Rattle.pairing.specs.declared.matches.Halves.{Halves}
-use Rattle.callnotes.specs.Beside.{partner_in, wave_in}
+use Rattle.callstore.specs.CachedMatch.{partner_in, wave_in}
 use Rattle.pairing.specs.inner.Kept.{IsNoted, AreNoted, ArePartnered}
 use Rattle.pairing.specs.Matched.{halves_of}
 use Rattle.pairing.specs.inner.Matched.{filed_halves, worked, ArePaired}
 use Rattle.pairing.proofs.FiledLemmas.{envelopes, filed_call, pending_to, partnered_to, paired_from, work_on}
-use Rattle.callnotes.proofs.OptionLemmas.{map_parts, and_then_parts}
+use Rattle.callstore.proofs.OptionLemmas.{map_parts, and_then_parts}
 use Rattle.pairing.proofs.PartnerLemmas.{partner_parts}
-use Rattle.callnotes.specs.Recordings.{Lists, calls_of, appended, has_end, is_ended}
-use Rattle.callnotes.specs.Places.{count_before}
-use Rattle.callnotes.specs.Envelopes.{message_of, envelope_by, envelope_of, other_half, rank_of_half}
+use Rattle.callstore.specs.Recordings.{Lists, calls_of, appended, has_end, is_ended}
+use Rattle.callstore.specs.Places.{count_before}
+use Rattle.callstore.specs.Envelopes.{message_of, envelope_by, envelope_of, other_half, rank_of_half}
 use Rattle.pairing.specs.Partners.{partner_of}
 use Rattle.pairing.specs.Seen.{partner_by}
-use Rattle.callnotes.specs.Requests.{waits_for, completes, started_in, started_of}
-use Rattle.callnotes.specs.Waves.{joins, does_join, wave_of}
+use Rattle.callstore.specs.Requests.{waits_for, completes, started_in, started_of}
+use Rattle.callstore.specs.Waves.{joins, does_join, wave_of}
 use Rattle.pairing.specs.Pairs.{completed_of}
 use Rattle.pairing.specs.Faults.{fault_of, IsLawfulList, IsLawful}
 use Rattle.pairing.specs.inner.Tables.{AreOthers, AreTables, GoOnBy, IsKept}
 use Rattle.pairing.specs.declared.tables.Tables.{Tables}
 use Rattle.pairing.proofs.FaultLemmas.{lawful_push, lawful_end}
-use Rattle.callnotes.proofs.RecordingLemmas.{calls_of-appended, calls_of-appended_other}
+use Rattle.callstore.proofs.RecordingLemmas.{calls_of-appended, calls_of-appended_other}
 use Rattle.pairing.proofs.NotedLemmas.{calls_of-recorded, recording_of-more, are_noted-more}
 
 -- the call at a place is the one that is noted there
@@ -56,8 +56,8 @@ its_note notes rank place noted are_noted h =
     subst (λ (calls : List Call). IsNoted (take place calls) noted) (sym (calls_of-recorded notes rank)) (are_noted rank place noted h)
 
 -- what is kept with a call that is noted
-pub kept_there : (notes : List (List Noted)) (rank place : ℕ) (half : Half) (noted : Noted) → slice_get (notes_of notes rank) place ≡ Some noted → kept_at notes half rank place ≡ partner_in half noted.beside
-kept_there notes rank place half noted h = ap (λ (o : Option Noted). option_and_then (λ note. partner_in half note.beside) o) h
+pub kept_there : (notes : List (List Noted)) (rank place : ℕ) (half : Half) (noted : Noted) → slice_get (notes_of notes rank) place ≡ Some noted → kept_at notes half rank place ≡ partner_in half noted.cached
+kept_there notes rank place half noted h = ap (λ (o : Option Noted). option_and_then (λ note. partner_in half note.cached) o) h
 
 -- the other half's rank is that of the peer
 peer_rank : (groups : Groups) (half : Half) (m : Message) (own : ℕ) → rank_of_half groups (other_half half) (envelope_by half m own) ≡ world_rank_of groups m.comm m.peer
@@ -77,15 +77,15 @@ no_partner_past groups notes rank place half h = rw (no_call notes rank place h)
 pub partner_noted : (groups : Groups) (notes : List (List Noted)) (rank place : ℕ) (half : Half) (noted : Noted) → ArePartnered groups notes → slice_get (notes_of notes rank) place ≡ Some noted → partner_by groups half noted ≡ partner_of groups (recording_of notes) rank place half
 partner_noted groups notes rank place half noted partnered h = by_partner (partner_of groups (recording_of notes) rank place half) refl
   where
-    kept : partner_in half noted.beside ≡ option_map (λ partner. partner.1) (partner_of groups (recording_of notes) rank place half)
+    kept : partner_in half noted.cached ≡ option_map (λ partner. partner.1) (partner_of groups (recording_of notes) rank place half)
     kept = sym (kept_there notes rank place half noted h) ∙ partnered half rank place
 
     by_partner : (o : Option (ℕ × ℕ)) → partner_of groups (recording_of notes) rank place half ≡ o → partner_by groups half noted ≡ o
     by_partner None e =
-        let none : partner_in half noted.beside ≡ None = kept ∙ ap (option_map (λ (partner : ℕ × ℕ). partner.1)) e in
+        let none : partner_in half noted.cached ≡ None = kept ∙ ap (option_map (λ (partner : ℕ × ℕ). partner.1)) e in
         rw none refl
     by_partner (Some (other, there)) e =
-        let its_place : partner_in half noted.beside ≡ Some there = kept ∙ ap (option_map (λ (partner : ℕ × ℕ). partner.1)) e in
+        let its_place : partner_in half noted.cached ≡ Some there = kept ∙ ap (option_map (λ (partner : ℕ × ℕ). partner.1)) e in
         let parts = partner_parts groups (recording_of notes) rank place half other there e in
         let same_call : parts.own.call ≡ noted.call = same_Some parts.own.call noted.call (sym parts.own.stands_there ∙ its_call notes rank place noted h) in
         let envelope : envelope_of groups rank half noted.call ≡ Some parts.e = ap (envelope_of groups rank half) (sym same_call) ∙ parts.own.envelope in
@@ -93,16 +93,16 @@ partner_noted groups notes rank place half noted partnered h = by_partner (partn
         let peer : world_rank_of groups message.0.comm message.0.peer ≡ Some other = sym (peer_of groups rank half noted.call message.0 parts.e envelope message.1) ∙ parts.rank_there in
         rw (its_place, message.1, peer) refl
 
-pub wave_noted : (notes : List (List Noted)) (rank place comm : ℕ) (noted : Noted) → AreNoted notes → slice_get (notes_of notes rank) place ≡ Some noted → joins noted.call ≡ Some comm → wave_of (recording_of notes) rank place ≡ Some (comm, wave_in noted.beside)
+pub wave_noted : (notes : List (List Noted)) (rank place comm : ℕ) (noted : Noted) → AreNoted notes → slice_get (notes_of notes rank) place ≡ Some noted → joins noted.call ≡ Some comm → wave_of (recording_of notes) rank place ≡ Some (comm, wave_in noted.cached)
 wave_noted notes rank place comm noted are_noted h at_comm =
-    let number : wave_in noted.beside ≡ count_before (does_join comm) (calls_of (recording_of notes) rank) place = (its_note notes rank place noted are_noted h).wave comm at_comm in
+    let number : wave_in noted.cached ≡ count_before (does_join comm) (calls_of (recording_of notes) rank) place = (its_note notes rank place noted are_noted h).wave comm at_comm in
     rw (its_call notes rank place noted h, at_comm) (ap (λ (wave : ℕ). Some (comm, wave)) (sym number))
 
 -- and so is the wave that it joins
-pub wave_there : (notes : List (List Noted)) (rank place : ℕ) (noted : Noted) → AreNoted notes → slice_get (notes_of notes rank) place ≡ Some noted → option_map (λ comm. (comm, wave_in noted.beside)) (joins noted.call) ≡ wave_of (recording_of notes) rank place
+pub wave_there : (notes : List (List Noted)) (rank place : ℕ) (noted : Noted) → AreNoted notes → slice_get (notes_of notes rank) place ≡ Some noted → option_map (λ comm. (comm, wave_in noted.cached)) (joins noted.call) ≡ wave_of (recording_of notes) rank place
 wave_there notes rank place noted are_noted h = by_comm (joins noted.call) refl
   where
-    by_comm : (o : Option ℕ) → joins noted.call ≡ o → option_map (λ comm. (comm, wave_in noted.beside)) o ≡ wave_of (recording_of notes) rank place
+    by_comm : (o : Option ℕ) → joins noted.call ≡ o → option_map (λ comm. (comm, wave_in noted.cached)) o ≡ wave_of (recording_of notes) rank place
     by_comm None e = rw (its_call notes rank place noted h, e) refl
     by_comm (Some comm) e = sym (wave_noted notes rank place comm noted are_noted h e)
 
@@ -112,12 +112,12 @@ picked_among (Waitany chosen reqs) xs = take 1 (drop chosen xs)
 picked_among _ xs = xs
 
 -- a start stands with the request of the same index
-beside : (f : ℕ → Option ℕ) (starts reqs : List ℕ) (index : ℕ) → map (λ start. Some start) starts ≡ map f reqs → slice_get starts index ≡ option_and_then f (slice_get reqs index)
-beside f [] [] index h = refl
-beside f [] (req ∷ reqs) index h = cc
-beside f (start ∷ starts) [] index h = cc
-beside f (start ∷ starts) (req ∷ reqs) zero h = cc
-beside f (start ∷ starts) (req ∷ reqs) (suc index) h = beside f starts reqs index cc
+cached : (f : ℕ → Option ℕ) (starts reqs : List ℕ) (index : ℕ) → map (λ start. Some start) starts ≡ map f reqs → slice_get starts index ≡ option_and_then f (slice_get reqs index)
+cached f [] [] index h = refl
+cached f [] (req ∷ reqs) index h = cc
+cached f (start ∷ starts) [] index h = cc
+cached f (start ∷ starts) (req ∷ reqs) zero h = cc
+cached f (start ∷ starts) (req ∷ reqs) (suc index) h = cached f starts reqs index cc
 
 completes_among : (call : Call) → completes call ≡ completed_among call (waits_for call)
 completes_among (Waitany chosen reqs) = refl
@@ -136,7 +136,7 @@ completed_noted notes rank place index noted are_noted h =
     ∙ ap (picked_among noted.call) started
     ∙ sym (among_maps (started_in before) noted.call (waits_for noted.call))
     ∙ ap (map (started_in before)) (sym (completes_among noted.call)) in
-    rw (its_call notes rank place noted h) (sym (beside (started_in before) (completed_starts noted) (completes noted.call) index same))
+    rw (its_call notes rank place noted h) (sym (cached (started_in before) (completed_starts noted) (completes noted.call) index same))
 
 -- the start with the first of the requests that is the one
 at_position : (f : ℕ → Option ℕ) (starts reqs : List ℕ) (req : ℕ) → map (λ start. Some start) starts ≡ map f reqs → option_and_then (slice_get starts) (position (λ other. eqb other req) reqs) ≡ cond (list_any (λ other. eqb other req) reqs) (f req) None
@@ -263,7 +263,7 @@ nothing_kept groups notes tables is are_tables =
 
     none_kept : (n : ℕ) (half : Half) (rank place : ℕ) → kept_at (replicate n []) half rank place ≡ option_map (λ partner. partner.1) (partner_of groups (recording_of (replicate n [])) rank place half)
     none_kept n half rank place =
-        ap (λ (list : List Noted). option_and_then (λ note. partner_in half note.beside) (slice_get list place)) (none_noted n rank)
+        ap (λ (list : List Noted). option_and_then (λ note. partner_in half note.cached) (slice_get list place)) (none_noted n rank)
         ∙ sym (ap (λ (o : Option (ℕ × ℕ)). option_map (λ partner. partner.1) o)
         (no_partner_past groups (replicate n []) rank place half (ap (λ (list : List Noted). slice_get list place) (none_noted n rank))))
 

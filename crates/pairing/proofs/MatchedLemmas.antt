@@ -13,13 +13,13 @@ use Rattle.arenalist.specs.Arena.{first_value, linked}
 use Rattle.arenalist.specs.inner.Arena.{contents}
 use Rattle.arenalist.specs.Numbers.{list_at}
 use Rattle.arenalist.proofs.ContentsLemmas.{values, contents_at, contents_drop, contents_linked, first_content}
-use Rattle.callnotes.specs.declared.envelope.Envelope.{Envelope}
-use Rattle.callnotes.specs.declared.envelope.Half.{Half}
-use Rattle.callnotes.specs.declared.envelope.Half.TheVariants.{Send as SendHalf, Recv as RecvHalf}
-use Rattle.callnotes.specs.Envelopes.{other_half, same_envelope}
+use Rattle.callstore.specs.declared.envelope.Envelope.{Envelope}
+use Rattle.callstore.specs.declared.envelope.Half.{Half}
+use Rattle.callstore.specs.declared.envelope.Half.TheVariants.{Send as SendHalf, Recv as RecvHalf}
+use Rattle.callstore.specs.Envelopes.{other_half, same_envelope}
 use Rattle.pairing.specs.inner.Matched.{Matching, HaveLists, number_in, list_no, pending_at, pending_by, met_if, met, HasPending, IsGrown}
-use Rattle.callnotes.proofs.NumberLemmas.{position_at, position_cases, number_stays, number_past}
-use Rattle.callnotes.proofs.PlaceLemmas.{slice_get_there}
+use Rattle.callstore.proofs.NumberLemmas.{position_at, position_cases, number_stays, number_past}
+use Rattle.callstore.proofs.PlaceLemmas.{slice_get_there}
 use Rattle.pairing.proofs.RequestLaws.{some_parts}
 use Rattle.pairing.proofs.PartnerLemmas.{same_envelope_true, same_envelope_refl}
 

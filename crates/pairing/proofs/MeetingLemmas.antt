@@ -6,13 +6,13 @@ use Rattle.std.proofs.lemmas.Bool.{cases_Bool, cases_eq, cases_lt, both_ways}
 use Rattle.std.proofs.lemmas.Option.{none-some, same_Some, slice_get_within}
 use Rattle.mpigroup.specs.Groups.{Groups}
 use Rattle.mpigroup.proofs.ListLemmas.{get_end, none_there}
-use Rattle.callnotes.specs.declared.envelope.Envelope.{Envelope}
-use Rattle.callnotes.specs.declared.envelope.Half.{Half}
-use Rattle.callnotes.specs.declared.envelope.Half.TheVariants.{Send as SendHalf, Recv as RecvHalf}
-use Rattle.callnotes.specs.Envelopes.{other_half, same_envelope, rank_of_half}
+use Rattle.callstore.specs.declared.envelope.Envelope.{Envelope}
+use Rattle.callstore.specs.declared.envelope.Half.{Half}
+use Rattle.callstore.specs.declared.envelope.Half.TheVariants.{Send as SendHalf, Recv as RecvHalf}
+use Rattle.callstore.specs.Envelopes.{other_half, same_envelope, rank_of_half}
 use Rattle.pairing.specs.inner.Matched.{Filing, is_half, filed_on}
 use Rattle.pairing.proofs.PartnerLemmas.{same_envelope_true, same_envelope_refl, other_other}
-use Rattle.callnotes.proofs.PlaceLemmas.{slice_get-front}
+use Rattle.callstore.proofs.PlaceLemmas.{slice_get-front}
 
 -- a half is the one or the other
 pub half_cases : (half other : Half) → (other ≡ half) ⊎ (other ≡ other_half half)

@@ -6,12 +6,12 @@ use Rattle.std.proofs.lemmas.List.{map-set, take-append-le, take_all, map_push, 
 use Rattle.std.proofs.lemmas.Option.{unwrap_or-slice_get}
 use Rattle.std.proofs.lemmas.Bool.{cases_eq, cases_lt}
 use Rattle.mpicall.specs.declared.call.Call.{Call}
-use Rattle.callnotes.specs.Notes.{Noted, notes_of, with_note, calls_in}
-use Rattle.callnotes.specs.inner.Notes.{recording_of}
+use Rattle.callstore.specs.Notes.{Noted, notes_of, with_note, calls_in}
+use Rattle.callstore.specs.inner.Notes.{recording_of}
 use Rattle.pairing.specs.inner.Kept.{IsNoted, AreNoted}
-use Rattle.callnotes.specs.Recordings.{calls_of, appended}
+use Rattle.callstore.specs.Recordings.{calls_of, appended}
 use Rattle.pairing.proofs.MeetingLemmas.{get_last}
-use Rattle.callnotes.proofs.PlaceLemmas.{slice_get-front}
+use Rattle.callstore.proofs.PlaceLemmas.{slice_get-front}
 
 -- the rank's calls in the recording are those noted of it
 pub calls_of-recorded : (notes : List (List Noted)) (rank : ℕ) → calls_of (recording_of notes) rank ≡ calls_in (notes_of notes rank)

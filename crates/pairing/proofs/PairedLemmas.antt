@@ -8,22 +8,22 @@ use Rattle.std.proofs.lemmas.Option.{none-some, same_Some, slice_get-map}
 use Rattle.mpicall.specs.declared.call.Call.TheVariants.{Coll, Icoll, Dup, Split}
 use Rattle.mpicall.specs.declared.call.Call.{Call}
 use Rattle.mpigroup.specs.Groups.{Groups, group_rank_of}
-use Rattle.callnotes.specs.declared.envelope.Envelope.{Envelope}
-use Rattle.callnotes.specs.declared.envelope.Half.{Half}
-use Rattle.callnotes.specs.declared.envelope.Half.TheVariants.{Send as SendHalf, Recv as RecvHalf}
-use Rattle.callnotes.specs.declared.envelope.Message.{Message}
-use Rattle.callnotes.specs.Envelopes.{other_half, message_of, envelope_by, envelope_of, rank_of_half}
+use Rattle.callstore.specs.declared.envelope.Envelope.{Envelope}
+use Rattle.callstore.specs.declared.envelope.Half.{Half}
+use Rattle.callstore.specs.declared.envelope.Half.TheVariants.{Send as SendHalf, Recv as RecvHalf}
+use Rattle.callstore.specs.declared.envelope.Message.{Message}
+use Rattle.callstore.specs.Envelopes.{other_half, message_of, envelope_by, envelope_of, rank_of_half}
 use Rattle.pairing.specs.inner.Kept.{AreNoted}
 use Rattle.pairing.specs.inner.Matched.{Matching, Filing, filed_on, number_in, list_no, pending_at, pending_by, met_if, met, ArePaired, IsNext}
-use Rattle.callnotes.specs.Notes.{Noted, notes_of, partnered}
-use Rattle.callnotes.specs.inner.Notes.{recording_of, kept_at}
+use Rattle.callstore.specs.Notes.{Noted, notes_of, partnered}
+use Rattle.callstore.specs.inner.Notes.{recording_of, kept_at}
 use Rattle.pairing.specs.Partners.{envelope_at}
-use Rattle.callnotes.specs.Recordings.{Lists}
-use Rattle.callnotes.specs.Waves.{joins}
+use Rattle.callstore.specs.Recordings.{Lists}
+use Rattle.callstore.specs.Waves.{joins}
 use Rattle.pairing.proofs.MatchedLemmas.{written_own, written_rest, list_no_most}
 use Rattle.pairing.proofs.MeetingLemmas.{half_cases, halves_differ, IsPlace, drop_first, once_more, placed_more, ranked_more, met_kept, met_filed, met_pending, waits_kept, waits_filed, waits_pending}
 use Rattle.pairing.proofs.NotedLemmas.{calls_of-recorded}
-use Rattle.callnotes.proofs.OptionLemmas.{and_then_parts, map_parts}
+use Rattle.callstore.proofs.OptionLemmas.{and_then_parts, map_parts}
 use Rattle.pairing.proofs.PartnerLemmas.{own_rank, other_other, envelope_at_parts}
 use Rattle.pairing.proofs.PartneredLemmas.{kept_own, kept_other_half, kept_elsewhere, noted_partnered, recording_partnered}
 

@@ -8,15 +8,15 @@ use Rattle.std.proofs.lemmas.Option.{slice_get_within, none-some, same_Some, som
 use Rattle.std.proofs.lemmas.Bool.{and_parts, eqb-true, eq-eqb}
 use Rattle.mpicall.specs.declared.call.Call.{Call}
 use Rattle.mpigroup.specs.Groups.{Groups, group_of, world_rank_of, group_rank_of}
-use Rattle.callnotes.specs.declared.envelope.Envelope.{Envelope}
-use Rattle.callnotes.specs.declared.envelope.Half.{Half}
-use Rattle.callnotes.specs.declared.envelope.Message.{Message}
-use Rattle.callnotes.specs.declared.envelope.Half.TheVariants.{Send as SendHalf, Recv as RecvHalf}
-use Rattle.callnotes.specs.Recordings.{Lists, calls_of, GoesOn}
-use Rattle.callnotes.specs.Envelopes.{other_half, message_of, envelope_by, same_envelope, envelope_of, rank_of_half, has_envelope}
+use Rattle.callstore.specs.declared.envelope.Envelope.{Envelope}
+use Rattle.callstore.specs.declared.envelope.Half.{Half}
+use Rattle.callstore.specs.declared.envelope.Message.{Message}
+use Rattle.callstore.specs.declared.envelope.Half.TheVariants.{Send as SendHalf, Recv as RecvHalf}
+use Rattle.callstore.specs.Recordings.{Lists, calls_of, GoesOn}
+use Rattle.callstore.specs.Envelopes.{other_half, message_of, envelope_by, same_envelope, envelope_of, rank_of_half, has_envelope}
 use Rattle.pairing.specs.Partners.{envelope_at, places_of, number_of, numbered, partner_of, PartnersAreMutual, PartnersAreNotShared, PartnersStay, MessagesDoNotOvertake}
-use Rattle.callnotes.proofs.OptionLemmas.{and_then_parts, map_parts}
-use Rattle.callnotes.proofs.PlaceLemmas.{nth_place, place_nth, places-append, slice_get-front, places_rise, before_less}
+use Rattle.callstore.proofs.OptionLemmas.{and_then_parts, map_parts}
+use Rattle.callstore.proofs.PlaceLemmas.{nth_place, place_nth, places-append, slice_get-front, places_rise, before_less}
 
 map_pair : (rank other there : ℕ) (o : Option ℕ) → option_map {U = ℕ × ℕ} (λ place. (rank, place)) o ≡ Some (other, there) → (rank ≡ other) × (o ≡ Some there)
 map_pair rank other there None h = absurd (none-some (other, there) h)

@@ -8,20 +8,20 @@ use Rattle.std.proofs.lemmas.Option.{slice_get_within, slice_get_past, slice_get
 use Rattle.std.proofs.lemmas.Bool.{cases_eq, cases_lt}
 use Rattle.mpicall.specs.declared.call.Call.{Call}
 use Rattle.mpigroup.proofs.ListLemmas.{slice_get-set_same, slice_get-set_other}
-use Rattle.callnotes.specs.declared.envelope.Half.{Half}
-use Rattle.callnotes.specs.declared.envelope.Half.TheVariants.{Send as SendHalf, Recv as RecvHalf}
-use Rattle.callnotes.specs.declared.beside.Beside.{Beside}
-use Rattle.callnotes.specs.declared.beside.Beside.TheVariants.{Nothing, Wave, Sent, Received, Exchanged}
-use Rattle.callnotes.specs.Beside.{partner_in, with_partner}
-use Rattle.callnotes.specs.Envelopes.{other_half}
+use Rattle.callstore.specs.declared.envelope.Half.{Half}
+use Rattle.callstore.specs.declared.envelope.Half.TheVariants.{Send as SendHalf, Recv as RecvHalf}
+use Rattle.callstore.specs.declared.cached_match.CachedMatch.{CachedMatch}
+use Rattle.callstore.specs.declared.cached_match.CachedMatch.TheVariants.{Nothing, Wave, Sent, Received, Exchanged}
+use Rattle.callstore.specs.CachedMatch.{partner_in, with_partner}
+use Rattle.callstore.specs.Envelopes.{other_half}
 use Rattle.pairing.specs.inner.Kept.{IsNoted, AreNoted}
-use Rattle.callnotes.specs.Notes.{Noted, notes_of, calls_in, note_with, partnered_in, partnered}
-use Rattle.callnotes.specs.inner.Notes.{recording_of, kept_at}
-use Rattle.callnotes.specs.Waves.{joins}
-use Rattle.callnotes.proofs.NumberLemmas.{set_past}
+use Rattle.callstore.specs.Notes.{Noted, notes_of, calls_in, note_with, partnered_in, partnered}
+use Rattle.callstore.specs.inner.Notes.{recording_of, kept_at}
+use Rattle.callstore.specs.Waves.{joins}
+use Rattle.callstore.proofs.NumberLemmas.{set_past}
 
 -- the partner that is set is kept, and the other half's stays
-pub partner_set : (half : Half) (there : ℕ) (beside : Beside) → partner_in half (with_partner half there beside) ≡ Some there
+pub partner_set : (half : Half) (there : ℕ) (cached : CachedMatch) → partner_in half (with_partner half there cached) ≡ Some there
 partner_set SendHalf there Nothing = refl
 partner_set SendHalf there (Wave number) = refl
 partner_set SendHalf there (Sent to) = refl
@@ -33,7 +33,7 @@ partner_set RecvHalf there (Sent to) = refl
 partner_set RecvHalf there (Received from) = refl
 partner_set RecvHalf there (Exchanged to from) = refl
 
-pub partner_stays : (half : Half) (there : ℕ) (beside : Beside) → partner_in (other_half half) (with_partner half there beside) ≡ partner_in (other_half half) beside
+pub partner_stays : (half : Half) (there : ℕ) (cached : CachedMatch) → partner_in (other_half half) (with_partner half there cached) ≡ partner_in (other_half half) cached
 partner_stays SendHalf there Nothing = refl
 partner_stays SendHalf there (Wave number) = refl
 partner_stays SendHalf there (Sent to) = refl
@@ -119,7 +119,7 @@ other_note_partnered notes place p half there differs = by_option (slice_get not
 pub kept_own : (lists : List (List Noted)) (rank place : ℕ) (half : Half) (there : ℕ) (note : Noted) → slice_get (notes_of lists rank) place ≡ Some note → kept_at (partnered lists rank place half there) half rank place ≡ Some there
 kept_own lists rank place half there note is =
     rw (notes_partnered lists rank place half there, note_partnered (notes_of lists rank) place half there note is)
-    (partner_set half there note.beside)
+    (partner_set half there note.cached)
 
 pub kept_other_half : (lists : List (List Noted)) (rank place : ℕ) (half : Half) (there : ℕ) → kept_at (partnered lists rank place half there) (other_half half) rank place ≡ kept_at lists (other_half half) rank place
 kept_other_half lists rank place half there = by_option (slice_get (notes_of lists rank) place) refl
@@ -128,7 +128,7 @@ kept_other_half lists rank place half there = by_option (slice_get (notes_of lis
     by_option None is = rw (notes_partnered lists rank place half there, no_note_partnered (notes_of lists rank) place half there is) refl
     by_option (Some note) is =
         rw (notes_partnered lists rank place half there, note_partnered (notes_of lists rank) place half there note is, is)
-        (partner_stays half there note.beside)
+        (partner_stays half there note.cached)
 
 pub kept_elsewhere : (lists : List (List Noted)) (rank place : ℕ) (half : Half) (there : ℕ) (h : Half) (r p : ℕ) → ((r ≡ rank) × (p ≡ place) → ⊥) → kept_at (partnered lists rank place half there) h r p ≡ kept_at lists h r p
 kept_elsewhere lists rank place half there h r p differs =

@@ -9,15 +9,15 @@ use Rattle.mpicall.specs.declared.call.Call.{Call}
 use Rattle.mpicall.specs.declared.call.Peer.TheVariants.{Rank}
 use Rattle.mpicall.specs.declared.call.Call.TheVariants.{Recv, Irecv, Sendrecv}
 use Rattle.mpigroup.specs.Groups.{Groups, group_rank_of}
-use Rattle.callnotes.specs.declared.envelope.Envelope.{Envelope}
-use Rattle.callnotes.specs.declared.envelope.Half.TheVariants.{Send as SendHalf, Recv as RecvHalf}
-use Rattle.callnotes.specs.Recordings.{Lists, calls_of}
-use Rattle.callnotes.specs.Envelopes.{envelope_by, envelope_of, rank_of_half, has_envelope, probed_message}
+use Rattle.callstore.specs.declared.envelope.Envelope.{Envelope}
+use Rattle.callstore.specs.declared.envelope.Half.TheVariants.{Send as SendHalf, Recv as RecvHalf}
+use Rattle.callstore.specs.Recordings.{Lists, calls_of}
+use Rattle.callstore.specs.Envelopes.{envelope_by, envelope_of, rank_of_half, has_envelope, probed_message}
 use Rattle.pairing.specs.Partners.{envelope_at, places_of, number_of}
-use Rattle.callnotes.specs.Places.{places_from}
+use Rattle.callstore.specs.Places.{places_from}
 use Rattle.pairing.proofs.MeetingLemmas.{drop_first}
-use Rattle.callnotes.proofs.PlaceLemmas.{places-append, slice_get-front}
-use Rattle.callnotes.proofs.OptionLemmas.{and_then_parts}
+use Rattle.callstore.proofs.PlaceLemmas.{places-append, slice_get-front}
+use Rattle.callstore.proofs.OptionLemmas.{and_then_parts}
 use Rattle.pairing.proofs.PartnerLemmas.{own_rank, numbered_half, numbered_parts}
 use Rattle.pairing.specs.Probed.{probed_envelope, probed_envelope_at, probed_by, receive_behind, TheNextReceiveTakesIt, ElseTheFirstPendingIsSeen, ProbedSendsStay}
 

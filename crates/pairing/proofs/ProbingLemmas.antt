@@ -10,22 +10,22 @@ use Rattle.std.proofs.lemmas.Grind.{common_steps}
 use Rattle.mpicall.specs.declared.call.Call.{Call}
 use Rattle.mpigroup.specs.Groups.{Groups}
 use Rattle.mpigroup.proofs.ListLemmas.{get_end, slice_get-set_same, slice_get-set_other}
-use Rattle.callnotes.specs.declared.envelope.Envelope.{Envelope}
-use Rattle.callnotes.specs.declared.envelope.Half.TheVariants.{Send as SendHalf, Recv as RecvHalf}
-use Rattle.callnotes.specs.Recordings.{Lists, calls_of, appended}
-use Rattle.callnotes.specs.Envelopes.{envelope_of, rank_of_half, has_envelope}
+use Rattle.callstore.specs.declared.envelope.Envelope.{Envelope}
+use Rattle.callstore.specs.declared.envelope.Half.TheVariants.{Send as SendHalf, Recv as RecvHalf}
+use Rattle.callstore.specs.Recordings.{Lists, calls_of, appended}
+use Rattle.callstore.specs.Envelopes.{envelope_of, rank_of_half, has_envelope}
 use Rattle.pairing.specs.Partners.{places_of, number_of}
 use Rattle.pairing.specs.Matched.{pending_of}
-use Rattle.callnotes.specs.Places.{places, count_before}
-use Rattle.callnotes.proofs.PlaceLemmas.{slice_get-front}
-use Rattle.callnotes.proofs.PlacesLemmas.{places_on}
-use Rattle.callnotes.proofs.OptionLemmas.{and_then_parts}
+use Rattle.callstore.specs.Places.{places, count_before}
+use Rattle.callstore.proofs.PlaceLemmas.{slice_get-front}
+use Rattle.callstore.proofs.PlacesLemmas.{places_on}
+use Rattle.callstore.proofs.OptionLemmas.{and_then_parts}
 use Rattle.pairing.proofs.PartnerLemmas.{own_rank, has_it, same_envelope_true, same_envelope_refl}
-use Rattle.callnotes.proofs.RecordingLemmas.{calls_of-appended, calls_of-appended_other}
+use Rattle.callstore.proofs.RecordingLemmas.{calls_of-appended, calls_of-appended_other}
 use Rattle.pairing.specs.Probed.{probed_envelope, probed_envelope_at, probed_of, receive_behind, HasProbe}
 use Rattle.pairing.specs.inner.Probed.{seen_from, HasProbesIf}
 use Rattle.pairing.specs.inner.Probing.{is_same_envelope, unfilled_at, seat_for, Seating, seated, IsSeatOf, AreSeated, Sits, Follows, filled}
-use Rattle.pairing.specs.declared.matches.Numbered.{Numbered}
+use Rattle.pairing.specs.declared.matches.NumberedEnvelope.{NumberedEnvelope}
 use Rattle.pairing.specs.declared.probes.Probes.{Probes}
 use Rattle.pairing.proofs.CallCountLemmas.{one_more_call}
 use Rattle.pairing.proofs.ProbedLemmas.{prober, no_receive, all_before, the_next_receive_takes_it, else_the_first_pending_is_seen}
@@ -102,15 +102,15 @@ same_true e f h = same_envelope_true f e h
 same_refl : (e : Envelope) → is_same_envelope e e ≡ true
 same_refl e = rw (eq-eqb e.comm e.comm refl, eq-eqb e.source e.source refl, eq-eqb e.dest e.dest refl, eq-eqb e.tag e.tag refl) refl
 
-beside_other : (seating : Seating) (rank place : ℕ) (seat : Option ℕ) (r p : ℕ) → (r ≡ rank → p ≡ place → ⊥) → seated seating rank place seat r p ≡ seating r p
-beside_other seating rank place seat r p differs =
+cached_other : (seating : Seating) (rank place : ℕ) (seat : Option ℕ) (r p : ℕ) → (r ≡ rank → p ≡ place → ⊥) → seated seating rank place seat r p ≡ seating r p
+cached_other seating rank place seat r p differs =
     ⊎_elim
     (λ (same : r ≡ rank). ⊎_elim (λ (here : p ≡ place). absurd (differs same here)) (λ (no : p ≢ place). grind (arith, common_steps)) (cases_eq p place))
     (λ (no : r ≢ rank). grind (arith, common_steps))
     (cases_eq r rank)
 
-beside_own : (seating : Seating) (rank place : ℕ) (seat : Option ℕ) → seated seating rank place seat rank place ≡ seat
-beside_own seating rank place seat = rw (eq-eqb rank rank refl, eq-eqb place place refl) refl
+cached_own : (seating : Seating) (rank place : ℕ) (seat : Option ℕ) → seated seating rank place seat rank place ≡ seat
+cached_own seating rank place seat = rw (eq-eqb rank rank refl, eq-eqb place place refl) refl
 
 -- the seats once a probe is put in
 grown : (o : Option ℕ) (seats new : List (Option ℕ)) → new ≡ (if is_some o then seats else seats ++ None ∷ []) → (seat : ℕ) (v : Option ℕ) → slice_get seats seat ≡ Some v → slice_get new seat ≡ Some v
@@ -191,7 +191,7 @@ sits_more groups recording seating old new rank call e is_rank is_probe sits are
         let behind = behind_same groups recording rank call r place f is_rank (omega (arith, there.within)) (λ same. lacks f) in
         record {
           seat = it.seat;
-          stands_there = beside_other seating rank (length (calls_of recording rank)) (Some (seat_for old e)) r place (λ same here. absurd (omega (arith, there.within, here, ap (λ (x : ℕ). length (calls_of recording x)) same))) ∙ it.stands_there;
+          stands_there = cached_other seating rank (length (calls_of recording rank)) (Some (seat_for old e)) r place (λ same here. absurd (omega (arith, there.within, here, ap (λ (x : ℕ). length (calls_of recording x)) same))) ∙ it.stands_there;
           has = grows it.seat (receive_behind groups recording r place f) it.has ∙ ap (λ (o : Option ℕ). Some o) (sym behind);
           waits = λ none. stays_open f it.seat (it.waits (sym behind ∙ none));
         }
@@ -205,7 +205,7 @@ sits_more groups recording seating old new rank call e is_rank is_probe sits are
         (subst (λ (p : ℕ). IsSeatOf groups (appended recording rank call) (seated seating rank (length (calls_of recording rank)) (Some (seat_for old e))) new rank p e) (sym it.last)
         (record {
           seat = seat_for old e;
-          stands_there = beside_own seating rank (length (calls_of recording rank)) (Some (seat_for old e));
+          stands_there = cached_own seating rank (length (calls_of recording rank)) (Some (seat_for old e));
           has = sits_there ∙ ap (λ (o : Option ℕ). Some o) (sym none);
           waits = λ h. opens;
         })))
@@ -266,7 +266,7 @@ neither_more groups recording seating old rank call is_rank no_probe no_recv are
         let behind = behind_same groups recording rank call r place f is_rank (omega (arith, there.within)) (λ same. rw no_recv refl) in
         record {
           seat = it.seat;
-          stands_there = beside_other seating rank (length (calls_of recording rank)) None r place (λ same here. absurd (omega (arith, there.within, here, ap (λ (x : ℕ). length (calls_of recording x)) same))) ∙ it.stands_there;
+          stands_there = cached_other seating rank (length (calls_of recording rank)) None r place (λ same here. absurd (omega (arith, there.within, here, ap (λ (x : ℕ). length (calls_of recording x)) same))) ∙ it.stands_there;
           has = it.has ∙ ap (λ (o : Option ℕ). Some o) (sym behind);
           waits = λ none. it.waits (sym behind ∙ none);
         }
@@ -331,8 +331,8 @@ follows_more groups recording seating old new rank call e is_rank no_probe recei
     has_own : has_envelope groups rank RecvHalf e call ≡ true
     has_own = rw receives (same_envelope_refl e)
 
-    beside : (r place : ℕ) (f : Envelope) → WasThere groups recording r place f → seated seating rank (length (calls_of recording rank)) None r place ≡ seating r place
-    beside r place f there = beside_other seating rank (length (calls_of recording rank)) None r place (λ same here. absurd (omega (arith, there.within, here, ap (λ (x : ℕ). length (calls_of recording x)) same)))
+    cached : (r place : ℕ) (f : Envelope) → WasThere groups recording r place f → seated seating rank (length (calls_of recording rank)) None r place ≡ seating r place
+    cached r place f there = cached_other seating rank (length (calls_of recording rank)) None r place (λ same here. absurd (omega (arith, there.within, here, ap (λ (x : ℕ). length (calls_of recording x)) same)))
 
     -- a probe of another envelope
     other : (r place : ℕ) (f : Envelope) → WasThere groups recording r place f → is_same_envelope f e ≡ false → IsSeatOf groups (appended recording rank call) (seated seating rank (length (calls_of recording rank)) None) new r place f
@@ -341,7 +341,7 @@ follows_more groups recording seating old new rank call e is_rank no_probe recei
         let behind = behind_same groups recording rank call r place f is_rank (omega (arith, there.within)) (λ same. differs_in f differs) in
         record {
           seat = it.seat;
-          stands_there = beside r place f there ∙ it.stands_there;
+          stands_there = cached r place f there ∙ it.stands_there;
           has = at_other it.seat (keeps it) ∙ it.has ∙ ap (λ (o : Option ℕ). Some o) (sym behind);
           waits = λ none. follows.unfilled f ∙ ap (λ b. if b then None else unfilled_at old f) differs ∙ it.waits (sym behind ∙ none);
         }
@@ -369,7 +369,7 @@ follows_more groups recording seating old new rank call e is_rank no_probe recei
             more ∙ ap (slice_get (places_of groups recording rank RecvHalf e ++ length (calls_of recording rank) ∷ [])) (all_before groups recording rank place e is) ∙ get_end (places_of groups recording rank RecvHalf e) (length (calls_of recording rank)) in
             record {
               seat = it.seat;
-              stands_there = beside rank place e there ∙ it.stands_there;
+              stands_there = cached rank place e there ∙ it.stands_there;
               has = rw follows.seats (filled_own (unfilled_at old e) old.seats.items (length (calls_of recording rank)) it.seat (it.waits is) (it.has ∙ ap (λ (o : Option ℕ). Some o) is)) ∙ ap (λ (o : Option ℕ). Some o) (sym now);
               waits = λ none. absurd (none-some (length (calls_of recording rank)) (sym none ∙ now));
             }
@@ -378,7 +378,7 @@ follows_more groups recording seating old new rank call e is_rank no_probe recei
             more ∙ slice_get-front (places_of groups recording rank RecvHalf e) (length (calls_of recording rank) ∷ []) (number_of groups recording rank RecvHalf e place) (slice_get_within (places_of groups recording rank RecvHalf e) (number_of groups recording rank RecvHalf e place) found is) ∙ is in
             record {
               seat = it.seat;
-              stands_there = beside rank place e there ∙ it.stands_there;
+              stands_there = cached rank place e there ∙ it.stands_there;
               has = at_other it.seat (λ own. absurd (none-some found (same_Some None (Some found) (sym (are.empty e it.seat own) ∙ it.has ∙ ap (λ (o : Option ℕ). Some o) is)))) ∙ it.has ∙ ap (λ (o : Option ℕ). Some o) (is ∙ sym now);
               waits = λ none. absurd (none-some found (sym none ∙ now));
             }
@@ -397,8 +397,8 @@ follows_more groups recording seating old new rank call e is_rank no_probe recei
         (differ f e (is_same_envelope f e) refl)
 
 -- the half of a call that receives, if there is one
-pub receives_more : (groups : Groups) (recording : Lists) (seating : Seating) (old new : Probes) (rank : ℕ) (call : Call) (half : Option Numbered) → rank < length recording → probed_envelope groups rank call ≡ None → option_map (λ (own : Numbered). own.envelope) half ≡ envelope_of groups rank RecvHalf call →
-    (half ≡ None → new ≡ old) → IfSome half (λ (own : Numbered). Follows old new own.envelope (length (calls_of recording rank))) → AreSeated groups recording seating old →
+pub receives_more : (groups : Groups) (recording : Lists) (seating : Seating) (old new : Probes) (rank : ℕ) (call : Call) (half : Option NumberedEnvelope) → rank < length recording → probed_envelope groups rank call ≡ None → option_map (λ (own : NumberedEnvelope). own.envelope) half ≡ envelope_of groups rank RecvHalf call →
+    (half ≡ None → new ≡ old) → IfSome half (λ (own : NumberedEnvelope). Follows old new own.envelope (length (calls_of recording rank))) → AreSeated groups recording seating old →
     AreSeated groups (appended recording rank call) (seated seating rank (length (calls_of recording rank)) None) new
 receives_more groups recording seating old new rank call None is_rank no_probe received none some are =
     subst (AreSeated groups (appended recording rank call) (seated seating rank (length (calls_of recording rank)) None)) (sym (none refl)) (neither_more groups recording seating old rank call is_rank no_probe (sym received) are)

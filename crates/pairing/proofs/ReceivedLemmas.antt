@@ -10,20 +10,20 @@ use Rattle.mpicall.specs.declared.call.Call.{Call}
 use Rattle.mpicall.specs.declared.call.Call.TheVariants.{Send, Isend, Sendrecv}
 use Rattle.mpicall.specs.declared.call.Peer.TheVariants.{Rank}
 use Rattle.mpigroup.specs.Groups.{Groups, group_rank_of}
-use Rattle.callnotes.specs.declared.envelope.Envelope.{Envelope}
-use Rattle.callnotes.specs.declared.envelope.Half.TheVariants.{Send as SendHalf, Recv as RecvHalf}
-use Rattle.callnotes.specs.declared.envelope.Message.{Message}
-use Rattle.callnotes.specs.Envelopes.{message_of, envelope_by, envelope_of, rank_of_half}
-use Rattle.callnotes.specs.Communicators.{comm_of}
+use Rattle.callstore.specs.declared.envelope.Envelope.{Envelope}
+use Rattle.callstore.specs.declared.envelope.Half.TheVariants.{Send as SendHalf, Recv as RecvHalf}
+use Rattle.callstore.specs.declared.envelope.Message.{Message}
+use Rattle.callstore.specs.Envelopes.{message_of, envelope_by, envelope_of, rank_of_half}
+use Rattle.callstore.specs.Communicators.{comm_of}
 use Rattle.pairing.specs.Faults.{is_member, IsLawful}
 use Rattle.pairing.specs.Matched.{halves_of, pending_of}
 use Rattle.pairing.specs.Partners.{places_of, number_of, numbered, envelope_at, partner_of, sent_at, EachIsReceived, HasUnreceived}
-use Rattle.callnotes.specs.Recordings.{Lists, calls_of}
+use Rattle.callstore.specs.Recordings.{Lists, calls_of}
 use Rattle.pairing.proofs.FaultLemmas.{fault_none}
 use Rattle.pairing.proofs.RequestLaws.{some_parts}
 use Rattle.pairing.proofs.MeetingLemmas.{drop_first}
 use Rattle.pairing.proofs.PartnerLemmas.{HasHalf, own_rank, own_place, numbered_half, partner_from}
-use Rattle.callnotes.proofs.OptionLemmas.{and_then_parts}
+use Rattle.callstore.proofs.OptionLemmas.{and_then_parts}
 
 -- a call that sends a message names its communicator
 comm_of_sent : (call : Call) (m : Message) → message_of SendHalf call ≡ Some m → comm_of call ≡ Some m.comm
@@ -39,8 +39,8 @@ enveloped groups rank g call m is stands = rw (is, stands) refl
 sent_envelope : (groups : Groups) (recording : Lists) (rank place : ℕ) (call : Call) (m : Message) → IsLawful groups recording → slice_get (calls_of recording rank) place ≡ Some call → message_of SendHalf call ≡ Some m → (e : Envelope) × (envelope_of groups rank SendHalf call ≡ Some e)
 sent_envelope groups recording rank place call m lawful here is =
     let holds_it = (fault_none groups rank _ call (lawful rank (rank_there recording rank place call here) place call here)).holds_it in
-    let held = rw (comm_of_sent call m is) at holds_it in
-    let g = some_parts (group_rank_of groups m.comm rank) (and_parts (is_member groups rank m.comm) _ held).0 in
+    let made_comms = rw (comm_of_sent call m is) at holds_it in
+    let g = some_parts (group_rank_of groups m.comm rank) (and_parts (is_member groups rank m.comm) _ made_comms).0 in
     (envelope_by SendHalf m g.0, enveloped groups rank g.0 call m is g.1)
   where
     rank_there : (lists : Lists) (r p : ℕ) (c : Call) → slice_get (calls_of lists r) p ≡ Some c → r < length lists

@@ -6,14 +6,14 @@ use Rattle.std.proofs.lemmas.List.{take_more, take_all}
 use Rattle.std.proofs.lemmas.Option.{slice_get_within, none-some, same_Some, get_or_from_slice_get}
 use Rattle.std.proofs.lemmas.Bool.{false≢true, cases_Bool, eqb-true}
 use Rattle.mpicall.specs.declared.call.Call.{Call}
-use Rattle.callnotes.specs.Recordings.{calls_of}
-use Rattle.callnotes.specs.Requests.{starts, waits_for, does_start, does_complete, is_among, started_in, is_active}
+use Rattle.callstore.specs.Recordings.{calls_of}
+use Rattle.callstore.specs.Requests.{starts, waits_for, does_start, does_complete, is_among, started_in, is_active}
 use Rattle.pairing.specs.Faults.{starts_afresh, IsLawfulList, EachWaitHasItsStarts, NoTwoStartsAreActive}
 use Rattle.mpigroup.specs.Groups.{Groups}
 use Rattle.pairing.proofs.ActiveLemmas.{started-push}
-use Rattle.callnotes.proofs.OptionLemmas.{is_it}
-use Rattle.callnotes.proofs.PlaceLemmas.{slice_get_there}
-use Rattle.callnotes.proofs.RequestLemmas.{started}
+use Rattle.callstore.proofs.OptionLemmas.{is_it}
+use Rattle.callstore.proofs.PlaceLemmas.{slice_get_there}
+use Rattle.callstore.proofs.RequestLemmas.{started}
 use Rattle.pairing.proofs.FaultLemmas.{fault_none, not_true}
 
 -- an element of a list's front, or of what is left of it, is one of the list

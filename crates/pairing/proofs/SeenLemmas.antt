@@ -1,9 +1,9 @@
 -- What a call that is seen in its place means for the others.
 use Rattle.std.proofs.Common.{◌≡◌, ℕ}
 use Rattle.mpigroup.specs.Groups.{Groups}
-use Rattle.callnotes.specs.declared.envelope.Half.{Half}
-use Rattle.callnotes.specs.Recordings.{Lists}
-use Rattle.callnotes.specs.Waves.{wave_of}
+use Rattle.callstore.specs.declared.envelope.Half.{Half}
+use Rattle.callstore.specs.Recordings.{Lists}
+use Rattle.callstore.specs.Waves.{wave_of}
 use Rattle.pairing.specs.declared.call_at.CallAt.{CallAt}
 use Rattle.pairing.specs.Pairs.{completed_of}
 use Rattle.pairing.specs.Partners.{partner_of}

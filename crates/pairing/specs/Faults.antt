@@ -9,17 +9,17 @@ use Rattle.std.specs.List.{list_all}
 use Rattle.std.specs.Option.{option_map_or}
 use Rattle.mpicall.specs.declared.call.Peer.{Peer}
 use Rattle.mpicall.specs.declared.call.Peer.TheVariants as peer
-use Rattle.mpicall.specs.Does.{does_of}
-use Rattle.mpicall.specs.declared.does.Side.{Side}
-use Rattle.mpicall.specs.declared.does.Does.{Does}
-use Rattle.mpicall.specs.declared.does.Does.TheVariants.{Exchanges, Joins, Alone}
+use Rattle.mpicall.specs.Effect.{effect_of}
+use Rattle.mpicall.specs.declared.effect.Side.{Side}
+use Rattle.mpicall.specs.declared.effect.Effect.{Effect}
+use Rattle.mpicall.specs.declared.effect.Effect.TheVariants.{PointToPoint, Joins, Local}
 use Rattle.mpicall.specs.declared.call.Call.{Call}
 use Rattle.mpicall.specs.declared.call.Call.TheVariants.{Dup, Split}
 use Rattle.mpigroup.specs.Groups.{Groups, size_of, group_rank_of}
-use Rattle.callnotes.specs.Limits.{most_calls}
-use Rattle.callnotes.specs.Recordings.{Lists, calls_of, has_end, is_ended, IsClosedList}
-use Rattle.callnotes.specs.Requests.{starts, waits_for, does_start, does_complete, is_among, is_active, started_of}
-use Rattle.callnotes.specs.Communicators.{comm_of, holds}
+use Rattle.callstore.specs.Limits.{most_calls}
+use Rattle.callstore.specs.Recordings.{Lists, calls_of, has_end, is_ended, IsClosedList}
+use Rattle.callstore.specs.Requests.{starts, waits_for, does_start, does_complete, is_among, is_active, started_of}
+use Rattle.callstore.specs.Communicators.{comm_of, holds}
 use Rattle.pairing.specs.declared.fault.CallFault.{CallFault}
 use Rattle.pairing.specs.declared.fault.CallFault.TheVariants.{CallAfterFinalize, TooManyCalls, UnknownCommunicator, CommunicatorNotHeld, PeerOutOfGroup, RequestInUse, RequestRepeated, RequestNotActive, WrongNewCommunicator}
 
@@ -50,16 +50,16 @@ holds_comm groups rank calls call = option_map_or (λ comm. is_member groups ran
 
 -- each peer and root that the call names is a rank of its communicator's group
 abbrev pub peers_exist : Groups → Call → Bool
-peers_exist groups call = by_what (does_of call)
+peers_exist groups call = by_what (effect_of call)
   where
     is_side : Comm → Side → Bool
     is_side comm side = is_peer groups comm side.peer
 
-    by_what : Does → Bool
-    by_what (Exchanges comm sent received probed) =
+    by_what : Effect → Bool
+    by_what (PointToPoint comm sent received probed) =
         option_map_or (is_side comm) sent true && option_map_or (is_side comm) received true && option_map_or (is_side comm) probed true
     by_what (Joins comm root made) = option_map_or (is_group_rank groups comm) root true
-    by_what Alone = true
+    by_what Local = true
 
 -- the request that the call starts isn't active before
 abbrev pub starts_afresh : List Call → Call → Bool

@@ -4,7 +4,7 @@ use Rattle.std.specs.Prelude.{◌-◌, Bool, true, false, length, slice_get}
 use Rattle.std.specs.Option.{option_map_or}
 use Rattle.mpicall.specs.declared.call.Call.{Call}
 use Rattle.mpicall.specs.declared.call.Call.TheVariants.{Open}
-use Rattle.callnotes.specs.Recordings.{Lists, calls_of}
+use Rattle.callstore.specs.Recordings.{Lists, calls_of}
 
 -- the call says that its rank's list was left open
 abbrev pub leaves_open : Call → Bool

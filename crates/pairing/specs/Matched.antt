@@ -4,10 +4,10 @@ use Rattle.mpicall.specs.Names.{Place}
 use Rattle.std.specs.Prelude.{List, [], length, drop}
 use Rattle.std.specs.Option.{option_map_or}
 use Rattle.mpigroup.specs.Groups.{Groups}
-use Rattle.callnotes.specs.declared.envelope.Envelope.{Envelope}
-use Rattle.callnotes.specs.declared.envelope.Half.{Half}
-use Rattle.callnotes.specs.Recordings.{Lists}
-use Rattle.callnotes.specs.Envelopes.{other_half, rank_of_half}
+use Rattle.callstore.specs.declared.envelope.Envelope.{Envelope}
+use Rattle.callstore.specs.declared.envelope.Half.{Half}
+use Rattle.callstore.specs.Recordings.{Lists}
+use Rattle.callstore.specs.Envelopes.{other_half, rank_of_half}
 use Rattle.pairing.specs.Partners.{places_of}
 
 -- the places of that half of the envelope's messages, in the order of their rank's list

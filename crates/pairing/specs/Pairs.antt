@@ -3,16 +3,16 @@ use Rattle.mpicall.specs.Names.{Rank, Place, Request}
 use Rattle.std.specs.Prelude.{◌≡◌, ℕ, Option, Some, None, option_map, option_and_then, slice_get}
 use Rattle.mpicall.specs.declared.call.Call.{Call}
 use Rattle.mpigroup.specs.Groups.{Groups}
-use Rattle.callnotes.specs.declared.envelope.Half.TheVariants.{Send as SendHalf, Recv as RecvHalf}
+use Rattle.callstore.specs.declared.envelope.Half.TheVariants.{Send as SendHalf, Recv as RecvHalf}
 use Rattle.pairing.specs.declared.added.Added.{Added}
 use Rattle.pairing.specs.declared.added.Joined.{Joined}
 use Rattle.pairing.specs.declared.added.PairFault.{PairFault}
 use Rattle.pairing.specs.declared.added.PairFault.TheVariants.{Refused, Memory}
 use Rattle.pairing.specs.declared.fault.CallFault.{CallFault}
-use Rattle.callnotes.specs.Recordings.{Lists, calls_of, appended}
+use Rattle.callstore.specs.Recordings.{Lists, calls_of, appended}
 use Rattle.pairing.specs.Partners.{partner_of}
-use Rattle.callnotes.specs.Requests.{completes, started_before}
-use Rattle.callnotes.specs.Waves.{wave_of, is_full}
+use Rattle.callstore.specs.Requests.{completes, started_before}
+use Rattle.callstore.specs.Waves.{wave_of, is_full}
 
 -- the groups of a run's communicators, and the calls of each rank that were added
 pub record Paired : Type 0 where

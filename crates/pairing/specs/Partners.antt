@@ -4,13 +4,13 @@
 use Rattle.mpicall.specs.Names.{Rank, Place}
 use Rattle.std.specs.Prelude.{◌≡◌, ℕ, ◌<◌, Option, Some, option_map, option_and_then, IsSome, None, List, slice_get}
 use Rattle.mpigroup.specs.Groups.{Groups}
-use Rattle.callnotes.specs.declared.envelope.Envelope.{Envelope}
-use Rattle.callnotes.specs.declared.envelope.Half.{Half}
-use Rattle.callnotes.specs.declared.envelope.Half.TheVariants.{Send as SendHalf}
-use Rattle.callnotes.specs.declared.envelope.Message.{Message}
-use Rattle.callnotes.specs.Recordings.{Lists, calls_of, GoesOn}
-use Rattle.callnotes.specs.Places.{places, count_before}
-use Rattle.callnotes.specs.Envelopes.{message_of, envelope_of, has_envelope, other_half, rank_of_half}
+use Rattle.callstore.specs.declared.envelope.Envelope.{Envelope}
+use Rattle.callstore.specs.declared.envelope.Half.{Half}
+use Rattle.callstore.specs.declared.envelope.Half.TheVariants.{Send as SendHalf}
+use Rattle.callstore.specs.declared.envelope.Message.{Message}
+use Rattle.callstore.specs.Recordings.{Lists, calls_of, GoesOn}
+use Rattle.callstore.specs.Places.{places, count_before}
+use Rattle.callstore.specs.Envelopes.{message_of, envelope_of, has_envelope, other_half, rank_of_half}
 
 -- the envelope of a half of the call at the place of the rank
 abbrev pub envelope_at : Groups → Lists → Rank → Place → Half → Option Envelope

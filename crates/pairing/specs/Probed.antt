@@ -5,10 +5,10 @@ use Rattle.mpicall.specs.Names.{Rank, Place}
 use Rattle.std.specs.Prelude.{◌≡◌, ℕ, Option, Some, None, option_map, option_and_then, slice_get}
 use Rattle.mpicall.specs.declared.call.Call.{Call}
 use Rattle.mpigroup.specs.Groups.{Groups, group_rank_of}
-use Rattle.callnotes.specs.declared.envelope.Envelope.{Envelope}
-use Rattle.callnotes.specs.declared.envelope.Half.TheVariants.{Send as SendHalf, Recv as RecvHalf}
-use Rattle.callnotes.specs.Recordings.{Lists, calls_of, GoesOn}
-use Rattle.callnotes.specs.Envelopes.{probed_message, envelope_by, rank_of_half}
+use Rattle.callstore.specs.declared.envelope.Envelope.{Envelope}
+use Rattle.callstore.specs.declared.envelope.Half.TheVariants.{Send as SendHalf, Recv as RecvHalf}
+use Rattle.callstore.specs.Recordings.{Lists, calls_of, GoesOn}
+use Rattle.callstore.specs.Envelopes.{probed_message, envelope_by, rank_of_half}
 use Rattle.pairing.specs.Partners.{number_of, numbered, places_of, partner_of}
 use Rattle.pairing.specs.Matched.{pending_of}
 

@@ -2,12 +2,12 @@
 use Rattle.std.specs.Prelude.{◌≡◌, ℕ, Option, option_map, option_and_then, slice_get}
 use Rattle.mpicall.specs.declared.call.Call.{Call}
 use Rattle.mpigroup.specs.Groups.{Groups, world_rank_of}
-use Rattle.callnotes.specs.declared.envelope.Half.{Half}
-use Rattle.callnotes.specs.Beside.{partner_in, wave_in}
-use Rattle.callnotes.specs.Envelopes.{message_of}
-use Rattle.callnotes.specs.Notes.{Noted, completed_starts}
-use Rattle.callnotes.specs.Recordings.{Lists}
-use Rattle.callnotes.specs.Waves.{joins, wave_of}
+use Rattle.callstore.specs.declared.envelope.Half.{Half}
+use Rattle.callstore.specs.CachedMatch.{partner_in, wave_in}
+use Rattle.callstore.specs.Envelopes.{message_of}
+use Rattle.callstore.specs.Notes.{Noted, completed_starts}
+use Rattle.callstore.specs.Recordings.{Lists}
+use Rattle.callstore.specs.Waves.{joins, wave_of}
 use Rattle.pairing.specs.declared.call_at.CallAt.{CallAt}
 use Rattle.pairing.specs.Pairs.{completed_of}
 use Rattle.pairing.specs.Partners.{partner_of}
@@ -17,7 +17,7 @@ abbrev pub partner_by : Groups → Half → Noted → Option (ℕ × ℕ)
 partner_by groups half noted =
     option_and_then
     (λ there. option_and_then (λ m. option_map (λ other. (other, there)) (world_rank_of groups m.comm m.peer)) (message_of half noted.call))
-    (partner_in half noted.beside)
+    (partner_in half noted.cached)
 
 -- what is seen: the call, the partner of a half, the wave that it joins, and what started a request that it completes
 abbrev pub call_seen : CallAt → Call
@@ -27,7 +27,7 @@ abbrev pub partner_seen : CallAt → Half → Option (ℕ × ℕ)
 partner_seen seen half = partner_by seen.head.now half seen.note
 
 abbrev pub wave_seen : CallAt → Option (ℕ × ℕ)
-wave_seen seen = option_map (λ comm. (comm, wave_in seen.note.beside)) (joins seen.note.call)
+wave_seen seen = option_map (λ comm. (comm, wave_in seen.note.cached)) (joins seen.note.call)
 
 abbrev pub start_seen : CallAt → ℕ → Option ℕ
 start_seen seen index = slice_get (completed_starts seen.note) index

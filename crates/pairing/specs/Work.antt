@@ -4,9 +4,9 @@ use Rattle.std.specs.Prelude.{ℕ, ◌+◌, if◌then◌else◌, is_some, List, 
 use Rattle.arenalist.specs.Arena.{counted}
 use Rattle.mpicall.specs.declared.call.Call.{Call}
 use Rattle.mpigroup.specs.Groups.{Groups}
-use Rattle.callnotes.specs.declared.envelope.Half.TheVariants.{Send as SendHalf, Recv as RecvHalf}
-use Rattle.callnotes.specs.Envelopes.{envelope_of}
-use Rattle.callnotes.specs.Recordings.{Lists}
+use Rattle.callstore.specs.declared.envelope.Half.TheVariants.{Send as SendHalf, Recv as RecvHalf}
+use Rattle.callstore.specs.Envelopes.{envelope_of}
+use Rattle.callstore.specs.Recordings.{Lists}
 
 -- how many halves of messages a call has
 abbrev pub count_halves : Groups → Rank → Call → ℕ

@@ -10,11 +10,11 @@ ghost use Rattle.std.specs.Hash as fed;
 ghost use Rattle.std.specs.Cmp.Rules.{hashing};
 ghost use Rattle.std.proofs.Common.{rules};
 ghost use Rattle.indexmap.specs.IndexMap.{spare};
-ghost use Rattle.callnotes.specs.Recordings.{Lists, calls_of, appended};
-ghost use Rattle.callnotes.specs.Requests.{started_in, is_among, is_active, does_start, HasActive};
+ghost use Rattle.callstore.specs.Recordings.{Lists, calls_of, appended};
+ghost use Rattle.callstore.specs.Requests.{started_in, is_among, is_active, does_start, HasActive};
 ghost use Rattle.pairing.specs.inner.Starts.{cell_no, cell_in, place_at, place_in, has_place, IsActive, HasRoomToStart};
 
-use callnotes::next_call::NextCall;
+use callstore::next_call::NextCall;
 use indexmap::IndexMap;
 use std::alloc::{AllocError, Global};
 use std::hash::{Hash, Hasher};
@@ -42,7 +42,7 @@ pub(crate) const REQUEST_CELLS: usize = 64;
 
 /// An active request of some rank: its number, and the place of the call that started it.
 #[derive(Clone, Copy)]
-pub(crate) struct Start {
+pub(crate) struct ActiveRequest {
     req: u32,
     place: u32,
 }
@@ -52,7 +52,7 @@ pub(crate) struct Start {
 #[derive(Drop)]
 pub(crate) struct Active {
     // The cells of the ranks, in turn. A request stands in the cell of its number's remainder.
-    cells: Vec<Option<Start>>,
+    cells: Vec<Option<ActiveRequest>>,
     // The requests that found another one in their cell.
     others: IndexMap<Request, u32>,
 }
@@ -132,7 +132,7 @@ impl Active {
                 return false;
             }
         }
-        self.cells[no] = Some(Start { req, place });
+        self.cells[no] = Some(ActiveRequest { req, place });
         true
     }
 

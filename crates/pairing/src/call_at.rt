@@ -3,9 +3,9 @@
 ghost use Rattle.std.specs.Prelude.{◌≡◌};
 ghost use Rattle.pairing.specs.Seen.{call_seen, partner_seen, wave_seen, start_seen};
 
-use callnotes::call_ref::CallRef;
-use callnotes::envelope::Half;
-use callnotes::note::Note;
+use callstore::call_ref::CallRef;
+use callstore::envelope::Half;
+use callstore::note::Note;
 use mpigroup::head::Head;
 
 /// A call of a rank, seen in its place. What it means for the others is looked up where it is asked for, and the call

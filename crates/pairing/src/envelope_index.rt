@@ -11,10 +11,10 @@
 ghost use Rattle.std.specs.Prelude.{◌≡◌, ◌<◌, [], length, Some, IfOk, IfSome, OnErr, OnOk};
 ghost use Rattle.std.specs.List.{IsDistinct};
 ghost use Rattle.indexmap.specs.IndexSet.{insert_key};
-ghost use Rattle.callnotes.specs.Envelopes.{same_envelope};
+ghost use Rattle.callstore.specs.Envelopes.{same_envelope};
 ghost use Rattle.pairing.specs.inner.Matched.{number_in};
 
-use callnotes::envelope::Envelope;
+use callstore::envelope::Envelope;
 use indexmap::IndexSet;
 use std::alloc::{AllocError, Global};
 use std::marker::Model;
@@ -23,7 +23,7 @@ use std::marker::Model;
 const ENVELOPE_CELLS: usize = 65_536;
 
 /// The envelopes that have numbers, from 0 on in the order in which they got them. Contracts see them.
-pub(crate) struct Numbering {
+pub(crate) struct EnvelopeIndex {
     envelopes: IndexSet<Envelope>,
     // The number of the envelope that was numbered or looked up last among those whose fields tell the cell, 0 at first.
     // What is found there is compared with the envelope that has it, so that the cells may hold any numbers.
@@ -31,18 +31,18 @@ pub(crate) struct Numbering {
 }
 
 // By hand: a derived drop is proved again at each exit of a function that owns one.
-impl Drop for Numbering {
+impl Drop for EnvelopeIndex {
     fn drop(self) {
-        let Numbering {
+        let EnvelopeIndex {
             envelopes: _,
             cells: _,
         } = self;
     }
 }
 
-impl Model for Numbering {
+impl Model for EnvelopeIndex {
     ghost use Rattle.std.specs.Prelude.{List};
-    ghost use Rattle.callnotes.specs.declared.envelope.Envelope.{Envelope as EnvelopeValue};
+    ghost use Rattle.callstore.specs.declared.envelope.Envelope.{Envelope as EnvelopeValue};
 
     ghost Value = { List EnvelopeValue };
 
@@ -61,13 +61,13 @@ fn cell_no(envelope: &Envelope) -> usize
     (fields.wrapping_mul(0x9e37_79b9_7f4a_7c15) >> 48) as usize % ENVELOPE_CELLS
 }
 
-impl Numbering {
+impl EnvelopeIndex {
     /// No envelope has a number yet.
-    pub(crate) fn new(alloc: Global) -> Result<Numbering, AllocError>
-        ensures { IfOk result (λ numbering. numbering ≡ []) }
+    pub(crate) fn new(alloc: Global) -> Result<EnvelopeIndex, AllocError>
+        ensures { IfOk result (λ envelope_index. envelope_index ≡ []) }
     {
         let cells = vec![in alloc; 0u32; ENVELOPE_CELLS]?;
-        Ok(Numbering {
+        Ok(EnvelopeIndex {
             envelopes: IndexSet::new(alloc),
             cells,
         })

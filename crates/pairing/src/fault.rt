@@ -8,10 +8,10 @@ ghost use Rattle.std.specs.Option.{option_map_or};
 ghost use Rattle.pairing.specs.Codes.{code_of_call, words_of_call};
 ghost use Rattle.pairing.specs.Faults.{is_group_rank, is_peer, is_member, comm_exists, peers_exist, are_distinct, AnEndedLawfulListIsClosed, EachWaitHasItsStarts, NoTwoStartsAreActive};
 
-use callnotes::next_call::NextCall;
-use callnotes::request::is_among;
+use callstore::next_call::NextCall;
+use callstore::request::is_among;
 use mpicall::call::Peer;
-use mpicall::does::{Does, Side};
+use mpicall::effect::{Effect, Side};
 use mpigroup::head::Head;
 use std::error::Error;
 use std::fmt;
@@ -130,8 +130,8 @@ pub(crate) fn comm_exists(head: &Head, call: &NextCall<'_>) -> bool
 pub(crate) fn peers_exist(head: &Head, call: &NextCall<'_>) -> bool
     ensures { result ≡ peers_exist head.now call.now }
 {
-    match *call.does() {
-        Does::Exchanges {
+    match *call.effect() {
+        Effect::PointToPoint {
             comm,
             sent,
             received,
@@ -141,8 +141,8 @@ pub(crate) fn peers_exist(head: &Head, call: &NextCall<'_>) -> bool
                 && is_side(head, comm, received)
                 && is_side(head, comm, probed)
         }
-        Does::Joins { comm, root, .. } => is_root(head, comm, root),
-        Does::Alone => true,
+        Effect::Joins { comm, root, .. } => is_root(head, comm, root),
+        Effect::Local => true,
     }
 }
 

@@ -1,27 +1,27 @@
 //! The first fault of a call, by look-ups in the tables of what its rank's calls before have done.
 
 ghost use Rattle.std.specs.Prelude.{◌≡◌, length};
-ghost use Rattle.callnotes.specs.Recordings.{Lists, calls_of, has_end};
+ghost use Rattle.callstore.specs.Recordings.{Lists, calls_of, has_end};
 ghost use Rattle.pairing.specs.Faults.{holds_comm, starts_afresh, waits_for_active, is_fresh_comm, makes_afresh, fault_of};
 ghost use Rattle.pairing.specs.inner.Holdings.{IsHolding};
 ghost use Rattle.pairing.specs.inner.Starts.{IsActive};
 
 use crate::active::Active;
 use crate::fault::{CallFault, are_distinct, comm_exists, is_member, peers_exist};
-use crate::held::Held;
+use crate::made_comms::MadeComms;
 use crate::tables::Tables;
-use callnotes::limits::MOST_CALLS;
-use callnotes::next_call::NextCall;
+use callstore::limits::MOST_CALLS;
+use callstore::next_call::NextCall;
 use mpicall::call::Call;
 use mpigroup::head::Head;
 
 /// Whether the rank is in the group of the communicator that the call names, and holds it.
 #[inline(always)]
-fn holds_comm(head: &Head, held: &Held, rank: u16, call: &NextCall<'_>) -> bool
-    ensures { (recording : Lists) → IsHolding recording held.now → result ≡ holds_comm head.now rank (calls_of recording rank) call.now }
+fn holds_comm(head: &Head, made_comms: &MadeComms, rank: u16, call: &NextCall<'_>) -> bool
+    ensures { (recording : Lists) → IsHolding recording made_comms.now → result ≡ holds_comm head.now rank (calls_of recording rank) call.now }
 {
     match call.comm() {
-        Some(comm) => is_member(head, rank, comm) && held.holds(rank, comm),
+        Some(comm) => is_member(head, rank, comm) && made_comms.holds(rank, comm),
         None => true,
     }
 }
@@ -40,22 +40,22 @@ fn starts_afresh(active: &Active, rank: u16, call: &NextCall<'_>) -> bool
 /// Whether the rank may come to hold the communicator: not the world, with the rank in its group, and not
 /// held before.
 #[inline(always)]
-fn is_fresh_comm(head: &Head, held: &Held, rank: u16, comm: u16) -> bool
-    ensures { (recording : Lists) → IsHolding recording held.now → result ≡ is_fresh_comm head.now rank (calls_of recording rank) comm }
+fn is_fresh_comm(head: &Head, made_comms: &MadeComms, rank: u16, comm: u16) -> bool
+    ensures { (recording : Lists) → IsHolding recording made_comms.now → result ≡ is_fresh_comm head.now rank (calls_of recording rank) comm }
 {
-    comm != 0 && is_member(head, rank, comm) && !held.holds(rank, comm)
+    comm != 0 && is_member(head, rank, comm) && !made_comms.holds(rank, comm)
 }
 
 /// Whether what the call makes is such a communicator; a split makes one just where it has a colour.
 #[inline(always)]
-fn makes_afresh(head: &Head, held: &Held, rank: u16, call: &NextCall<'_>) -> bool
-    ensures { (recording : Lists) → IsHolding recording held.now → result ≡ makes_afresh head.now rank (calls_of recording rank) call.now }
+fn makes_afresh(head: &Head, made_comms: &MadeComms, rank: u16, call: &NextCall<'_>) -> bool
+    ensures { (recording : Lists) → IsHolding recording made_comms.now → result ≡ makes_afresh head.now rank (calls_of recording rank) call.now }
 {
     match *call.as_call() {
-        Call::Dup { new, .. } => is_fresh_comm(head, held, rank, new),
+        Call::Dup { new, .. } => is_fresh_comm(head, made_comms, rank, new),
         Call::Split { colour, new, .. } => match (colour, new) {
             (None, None) => true,
-            (Some(_), Some(new)) => is_fresh_comm(head, held, rank, new),
+            (Some(_), Some(new)) => is_fresh_comm(head, made_comms, rank, new),
             _ => false,
         },
         _ => true,
@@ -82,7 +82,7 @@ pub(crate) fn first_fault(
     call: &NextCall<'_>,
     before: Before,
 ) -> Option<CallFault>
-    ensures { (recording : Lists) → IsHolding recording tables.now.held → IsActive recording tables.now.active →
+    ensures { (recording : Lists) → IsHolding recording tables.now.made_comms → IsActive recording tables.now.active →
         before.count ≡ length (calls_of recording rank) → before.is_over ≡ has_end (calls_of recording rank) →
         before.are_active ≡ waits_for_active (calls_of recording rank) call.now →
         result ≡ fault_of head.now rank (calls_of recording rank) call.now }
@@ -93,7 +93,7 @@ pub(crate) fn first_fault(
         Some(CallFault::TooManyCalls)
     } else if !comm_exists(head, call) {
         Some(CallFault::UnknownCommunicator)
-    } else if !holds_comm(head, &tables.held, rank, call) {
+    } else if !holds_comm(head, &tables.made_comms, rank, call) {
         Some(CallFault::CommunicatorNotHeld)
     } else if !peers_exist(head, call) {
         Some(CallFault::PeerOutOfGroup)
@@ -103,7 +103,7 @@ pub(crate) fn first_fault(
         Some(CallFault::RequestRepeated)
     } else if !before.are_active {
         Some(CallFault::RequestNotActive)
-    } else if !makes_afresh(head, &tables.held, rank, call) {
+    } else if !makes_afresh(head, &tables.made_comms, rank, call) {
         Some(CallFault::WrongNewCommunicator)
     } else {
         None

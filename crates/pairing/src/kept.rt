@@ -1,12 +1,12 @@
 //! The calls of a run with what is looked up of them: all but its probes.
 
 ghost use Rattle.std.specs.Prelude.{◌≡◌, ◌<◌, length, map, None, Some, option_map, slice_get, IfOk, IfSome, OnOk};
-ghost use Rattle.callnotes.specs.Limits.{most_calls};
-ghost use Rattle.callnotes.specs.Recordings.{Lists, calls_of, appended, is_ended};
-ghost use Rattle.callnotes.specs.Requests.{started_in, started_of, waits_for};
-ghost use Rattle.callnotes.specs.Waves.{wave_of};
-ghost use Rattle.callnotes.specs.Notes.{notes_of, HasRoom};
-ghost use Rattle.callnotes.specs.inner.Notes.{recording_of};
+ghost use Rattle.callstore.specs.Limits.{most_calls};
+ghost use Rattle.callstore.specs.Recordings.{Lists, calls_of, appended, is_ended};
+ghost use Rattle.callstore.specs.Requests.{started_in, started_of, waits_for};
+ghost use Rattle.callstore.specs.Waves.{wave_of};
+ghost use Rattle.callstore.specs.Notes.{notes_of, HasRoom};
+ghost use Rattle.callstore.specs.inner.Notes.{recording_of};
 ghost use Rattle.pairing.specs.Faults.{fault_of, waits_for_active};
 ghost use Rattle.pairing.specs.inner.Kept.{AreNoted};
 ghost use Rattle.pairing.specs.Pairs.{joined_at, added_at, completed_of};
@@ -15,7 +15,7 @@ ghost use Rattle.pairing.specs.Probed.{probed_of};
 ghost use Rattle.pairing.specs.inner.Probed.{seen_from};
 ghost use Rattle.pairing.specs.inner.Seated.{IsProbing};
 ghost use Rattle.pairing.specs.Seen.{call_seen, IsSeen};
-ghost use Rattle.pairing.specs.inner.Tables.{AreTables, HaveRoom, GoOnBy, IsBeside, IsKept};
+ghost use Rattle.pairing.specs.inner.Tables.{AreTables, HaveRoom, GoOnBy, IsCached, IsKept};
 
 use crate::added::{Added, Joined};
 use crate::call_at::CallAt;
@@ -25,10 +25,10 @@ use crate::meeting::meet_halves;
 use crate::probes::received_by;
 use crate::probing::Probing;
 use crate::tables::{Room, Tables};
-use callnotes::beside::Beside;
-use callnotes::envelope::{Envelope, Half, rank_of_half};
-use callnotes::next_call::NextCall;
-use callnotes::notes::Notes;
+use callstore::cached_match::CachedMatch;
+use callstore::envelope::{Envelope, Half, rank_of_half};
+use callstore::next_call::NextCall;
+use callstore::notes::Notes;
 use mpigroup::head::Head;
 use std::alloc::AllocError;
 
@@ -52,15 +52,15 @@ impl Drop for Kept {
 
 /// Notes the rank's next call, with what is kept with it and the places that started the requests which it names.
 #[inline(always)]
-fn note_call(notes: &mut Notes, rank: u16, call: &NextCall<'_>, beside: Beside, starts: &[u32])
+fn note_call(notes: &mut Notes, rank: u16, call: &NextCall<'_>, cached: CachedMatch, starts: &[u32])
     requires is_rank { rank < length notes.old.lists }
     requires room { HasRoom notes.old rank call.now }
     requires few { length (notes_of notes.old.lists rank) < most_calls }
-    requires beside { IsBeside (calls_of (recording_of notes.old.lists) rank) call.now beside }
+    requires cached { IsCached (calls_of (recording_of notes.old.lists) rank) call.now cached }
     requires starts { map Some starts.now ≡ map (started_in (calls_of (recording_of notes.old.lists) rank)) (waits_for call.now) }
     ensures { GoOnBy notes.old.lists notes.new.lists rank call.now }
 {
-    notes.note(rank, call.record(), beside, starts);
+    notes.note(rank, call.record(), cached, starts);
 }
 
 impl Kept {
@@ -129,8 +129,8 @@ impl Kept {
         ensures recording { recording_of self.new.notes.lists ≡ appended (recording_of self.old.notes.lists) at.0 call.now }
         ensures kept { IsKept self.old.head self.new.notes.lists self.new.tables }
     {
-        let beside = self.tables.beside(room.list);
-        note_call(&mut self.notes, at.0, call, beside, starts);
+        let cached = self.tables.cached(room.list);
+        note_call(&mut self.notes, at.0, call, cached, starts);
         meet_halves(
             &self.head,
             &mut self.notes,

@@ -4,7 +4,7 @@ ghost use Rattle.std.specs.Prelude.{◌≡◌};
 ghost use Rattle.pairing.specs.LeftOpen.{is_left_open, leaves_open};
 
 use crate::pairs::Pairs;
-use callnotes::call_ref::CallRef;
+use callstore::call_ref::CallRef;
 use mpicall::call::Call;
 
 /// Whether the call says that its rank's list was left open.

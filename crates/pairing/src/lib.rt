@@ -1,7 +1,7 @@
 //! What the calls of a run mean for one another: which send goes with which receive, which call started a
 //! request, which collectives belong together, and which calls a rank may not make.
 //!
-//! What it promises, as contracts that are proved, by definitions of `specs/` and of `callnotes`:
+//! What it promises, as contracts that are proved, by definitions of `specs/` and of `callstore`:
 //!
 //! - `pairs::Pairs` has the calls of all ranks, added one by one. `add` refuses a call exactly where it has a
 //!   fault after its rank's calls before it (`Faults`), with the first one, or where memory is wanted, and
@@ -18,7 +18,7 @@
 //!   messages of one envelope do not overtake; in a list without faults each request that a wait names has its
 //!   start, and no request is started while it is active; partners and what probes see stay as a recording goes on.
 //!
-//! What a call means by itself, and how it is kept, is the matter of `callnotes`. The definitions stand in
+//! What a call means by itself, and how it is kept, is the matter of `callstore`. The definitions stand in
 //! `specs/`, to be read in the order of docs/DEFINITIONS.md. What only proofs and private contracts cite is
 //! in `specs/inner/`, and nobody has to believe it.
 //!
@@ -43,18 +43,18 @@
 mod active;
 pub mod added;
 pub mod call_at;
+mod envelope_index;
 pub mod fault;
 mod first_fault;
-mod held;
-mod joined;
 mod kept;
 pub mod left_open;
+mod made_comms;
 mod matches;
 mod meeting;
-mod numbering;
 pub mod pairs;
 pub mod partner;
 pub mod probed;
 mod probes;
 mod probing;
 mod tables;
+mod waves;

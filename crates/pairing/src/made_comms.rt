@@ -4,11 +4,11 @@ ghost use Rattle.std.specs.Prelude.{◌≡◌, ◌+◌, ◌*◌, ◌^◌, ◌<�
 ghost use Rattle.std.specs.Hash as fed;
 ghost use Rattle.std.specs.Cmp.Rules.{hashing};
 ghost use Rattle.std.proofs.Common.{rules};
-ghost use Rattle.callnotes.specs.Recordings.{Lists, calls_of, appended};
-ghost use Rattle.callnotes.specs.Communicators.{holds, makes, NoneIsMade, HasMade};
+ghost use Rattle.callstore.specs.Recordings.{Lists, calls_of, appended};
+ghost use Rattle.callstore.specs.Communicators.{holds, makes, NoneIsMade, HasMade};
 ghost use Rattle.pairing.specs.inner.Holdings.{IsHolding, HasRoomToHold};
 
-use callnotes::next_call::NextCall;
+use callstore::next_call::NextCall;
 use indexmap::IndexSet;
 use std::alloc::{AllocError, Global};
 use std::hash::{Hash, Hasher};
@@ -34,16 +34,16 @@ impl Hash for Holding {
 /// The communicators that each rank has made by its calls. A look-up takes the same time however many
 /// calls there were, on average.
 #[derive(Drop)]
-pub(crate) struct Held {
+pub(crate) struct MadeComms {
     pairs: IndexSet<Holding>,
 }
 
-impl Held {
+impl MadeComms {
     /// Nothing made yet: the table of each recording without calls.
-    pub(crate) fn new(alloc: Global) -> Held
+    pub(crate) fn new(alloc: Global) -> MadeComms
         ensures { (ranks : ℕ) → IsHolding (replicate ranks []) result }
     {
-        Held {
+        MadeComms {
             pairs: IndexSet::new(alloc),
         }
     }

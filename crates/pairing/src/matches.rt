@@ -6,21 +6,21 @@
 
 ghost use Rattle.std.specs.Prelude.{◌≡◌, ◌+◌, ◌*◌, ◌<◌, ◌≤◌, ◌^◌, [], Some, length, slice_get, min, option_map, true, false, IfOk, IfSome, OnOk};
 ghost use Rattle.arenalist.specs.Arena.{counted};
-ghost use Rattle.callnotes.specs.Envelopes.{other_half};
-ghost use Rattle.callnotes.specs.declared.envelope.Envelope.{Envelope};
+ghost use Rattle.callstore.specs.Envelopes.{other_half};
+ghost use Rattle.callstore.specs.declared.envelope.Envelope.{Envelope};
 ghost use Rattle.pairing.specs.inner.Matched.{list_no, number_in, pending_at, pending_by, met, HasNumber, HasPending, HasRoomFor, IsGrown};
 
-use crate::numbering::Numbering;
+use crate::envelope_index::EnvelopeIndex;
 use arenalist::lists::Lists;
-use callnotes::envelope::{Envelope, Half};
-use callnotes::next_call::NextCall;
+use callstore::envelope::{Envelope, Half};
+use callstore::next_call::NextCall;
 use mpigroup::head::Head;
 use std::alloc::{AllocError, Global};
 use std::marker::Model;
 
 /// The envelope of a half of a call, with its number.
 #[derive(Clone, Copy)]
-pub(crate) struct Numbered {
+pub(crate) struct NumberedEnvelope {
     pub envelope: Envelope,
     pub number: usize,
 }
@@ -28,8 +28,8 @@ pub(crate) struct Numbered {
 /// The halves of a call that have messages.
 #[derive(Clone, Copy)]
 pub(crate) struct Halves {
-    pub send: Option<Numbered>,
-    pub recv: Option<Numbered>,
+    pub send: Option<NumberedEnvelope>,
+    pub recv: Option<NumberedEnvelope>,
 }
 
 /// The number of the list of an envelope's half.
@@ -47,7 +47,7 @@ fn list_no(half: Half, number: usize) -> usize
 /// The places of sends and receives that have no partner yet, by their envelopes. An envelope has its number
 /// from the first call that makes room for it.
 pub(crate) struct Matches {
-    numbering: Numbering,
+    envelope_index: EnvelopeIndex,
     // Of the envelope with number n list 2n has the pending sends, and list 2n + 1 the pending receives.
     pending: Lists<u32>,
 }
@@ -56,7 +56,7 @@ pub(crate) struct Matches {
 impl Drop for Matches {
     fn drop(self) {
         let Matches {
-            numbering: _,
+            envelope_index: _,
             pending: _,
         } = self;
     }
@@ -70,13 +70,13 @@ impl Model for Matches {
     ghost Value = { Matching };
 
     ghost view = { λ m. record {
-      keys = m.numbering;
+      keys = m.envelope_index;
       lists = contents m.pending.lists;
       spare = m.pending.spare;
       work = m.pending.work;
     } };
 
-    ghost invariant = { λ m. HaveLists m.pending.lists (length m.numbering) };
+    ghost invariant = { λ m. HaveLists m.pending.lists (length m.envelope_index) };
 }
 
 impl Matches {
@@ -86,7 +86,7 @@ impl Matches {
         ensures work { IfOk result (λ matches. matches.work ≡ 0) }
     {
         Ok(Matches {
-            numbering: Numbering::new(alloc)?,
+            envelope_index: EnvelopeIndex::new(alloc)?,
             pending: Lists::new(alloc),
         })
     }
@@ -98,7 +98,7 @@ impl Matches {
         ensures enough { 2 * length self.old.keys ≤ length self.old.lists }
         ensures more { OnOk result (min (length self.old.lists + 1) (2 * length self.old.keys + 2) ≤ length self.new.lists) }
     {
-        if self.pending.list_count() / 2 > self.numbering.len() {
+        if self.pending.list_count() / 2 > self.envelope_index.len() {
             return Ok(());
         }
         self.pending.new_list()?;
@@ -112,7 +112,7 @@ impl Matches {
         ensures keys { self.new.keys ≡ self.old.keys }
         ensures enough { OnOk result (2 * length self.old.keys + 2 ≤ length self.new.lists) }
     {
-        if self.pending.list_count() / 2 > self.numbering.len() {
+        if self.pending.list_count() / 2 > self.envelope_index.len() {
             return Ok(());
         }
         self.add_list()?;
@@ -125,7 +125,7 @@ impl Matches {
         ensures grown { IsGrown self.old self.new }
         ensures number { IfOk result (λ number. number_in self.new.keys envelope ≡ Some number) }
     {
-        let number = self.numbering.insert(envelope)?;
+        let number = self.envelope_index.insert(envelope)?;
         Ok(number)
     }
 
@@ -135,7 +135,7 @@ impl Matches {
         ensures grown { IsGrown self.old self.new }
         ensures number { IfOk result (λ number. number_in self.new.keys envelope ≡ Some number) }
     {
-        match self.numbering.known(&envelope) {
+        match self.envelope_index.known(&envelope) {
             Some(number) => Ok(number),
             None => {
                 self.add_lists()?;
@@ -146,7 +146,10 @@ impl Matches {
 
     /// The same, for a half that may have no message.
     #[inline(always)]
-    fn number_half(&mut self, envelope: Option<Envelope>) -> Result<Option<Numbered>, AllocError>
+    fn number_half(
+        &mut self,
+        envelope: Option<Envelope>,
+    ) -> Result<Option<NumberedEnvelope>, AllocError>
         ensures grown { IsGrown self.old self.new }
         ensures number { IfOk result (λ half. IfSome half (HasNumber self.new)) }
         ensures envelope { IfOk result (λ half. option_map (λ it. it.envelope) half ≡ envelope) }
@@ -154,7 +157,7 @@ impl Matches {
         match envelope {
             Some(envelope) => {
                 let number = self.number(envelope)?;
-                Ok(Some(Numbered { envelope, number }))
+                Ok(Some(NumberedEnvelope { envelope, number }))
             }
             None => Ok(None),
         }
@@ -220,7 +223,7 @@ impl Matches {
     pub(crate) fn first_pending(&self, half: Half, envelope: &Envelope) -> Option<u32>
         ensures { result ≡ slice_get (pending_by self.now half envelope.now) 0 }
     {
-        match self.numbering.get(envelope) {
+        match self.envelope_index.get(envelope) {
             Some(number) => self.front(half, number),
             None => None,
         }
@@ -231,7 +234,7 @@ impl Matches {
         ensures none { result ≡ false → (e : Envelope) → pending_by self.now half e ≡ [] }
         ensures some { result ≡ true → HasPending self.now half }
     {
-        for number in 0..self.numbering.len() {
+        for number in 0..self.envelope_index.len() {
             if self.front(half, number).is_some() {
                 return true;
             }

@@ -2,15 +2,15 @@
 
 ghost use Rattle.std.specs.Prelude.{◌≡◌, ◌+◌, ◌≤◌, ◌<◌, Some, option_map, IfSome, is_some};
 ghost use Rattle.arenalist.specs.Arena.{counted};
-ghost use Rattle.callnotes.specs.Envelopes.{other_half, rank_of_half};
-ghost use Rattle.callnotes.specs.Notes.{partnered};
-ghost use Rattle.callnotes.specs.inner.Notes.{recording_of};
+ghost use Rattle.callstore.specs.Envelopes.{other_half, rank_of_half};
+ghost use Rattle.callstore.specs.Notes.{partnered};
+ghost use Rattle.callstore.specs.inner.Notes.{recording_of};
 ghost use Rattle.pairing.specs.inner.Matched.{Filing, filed_on, filed_halves, worked_if, worked, HasNumber, ArePaired, IsNext};
-ghost use Rattle.callnotes.specs.declared.envelope.Half.TheVariants.{Send as SendHalf, Recv as RecvHalf};
+ghost use Rattle.callstore.specs.declared.envelope.Half.TheVariants.{Send as SendHalf, Recv as RecvHalf};
 
-use crate::matches::{Halves, Matches, Numbered};
-use callnotes::envelope::{Half, rank_of_half};
-use callnotes::notes::Notes;
+use crate::matches::{Halves, Matches, NumberedEnvelope};
+use callstore::envelope::{Half, rank_of_half};
+use callstore::notes::Notes;
 use mpigroup::head::Head;
 
 /// A half of a rank's call at a place.
@@ -23,7 +23,7 @@ struct HalfAt {
 
 /// Notes with a half of a call, and with the half that it met, where the other is.
 #[inline(always)]
-fn note_partners(head: &Head, notes: &mut Notes, at: HalfAt, own: &Numbered, there: u32)
+fn note_partners(head: &Head, notes: &mut Notes, at: HalfAt, own: &NumberedEnvelope, there: u32)
     ensures recording { recording_of notes.new.lists ≡ recording_of notes.old.lists }
     ensures partners { IfSome (rank_of_half head.now (other_half at.half) own.now.envelope) (λ other.
         notes.new.lists ≡ partnered (partnered notes.old.lists at.rank at.place at.half there) other there (other_half at.half) at.place) }
@@ -36,7 +36,13 @@ fn note_partners(head: &Head, notes: &mut Notes, at: HalfAt, own: &Numbered, the
 
 /// A half of a noted call meets the first pending other half of its envelope, or is pending itself.
 #[inline(always)]
-fn meet_own(head: &Head, notes: &mut Notes, matches: &mut Matches, at: HalfAt, own: &Numbered)
+fn meet_own(
+    head: &Head,
+    notes: &mut Notes,
+    matches: &mut Matches,
+    at: HalfAt,
+    own: &NumberedEnvelope,
+)
     requires number { HasNumber matches.old own.now }
     requires room { 0 < matches.old.spare }
     ensures recording { recording_of notes.new.lists ≡ recording_of notes.old.lists }
@@ -59,7 +65,7 @@ fn meet_half(
     notes: &mut Notes,
     matches: &mut Matches,
     at: HalfAt,
-    own: &Option<Numbered>,
+    own: &Option<NumberedEnvelope>,
 )
     requires number { IfSome own.now (HasNumber matches.old) }
     requires room { 0 < matches.old.spare }

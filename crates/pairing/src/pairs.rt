@@ -5,20 +5,20 @@
 
 ghost use Rattle.std.specs.Prelude.{◌≡◌, ◌≢◌, ◌<◌, ◌≤◌, ℕ, [], length, replicate, slice_get, option_map, None, Err, IfOk, IfErr, IfSome, OnOk, OnErr, false, true};
 ghost use Rattle.mpigroup.specs.Groups.{ranks_of};
-ghost use Rattle.callnotes.specs.Limits.{most_calls};
-ghost use Rattle.callnotes.specs.Recordings.{calls_of, is_ended};
+ghost use Rattle.callstore.specs.Limits.{most_calls};
+ghost use Rattle.callstore.specs.Recordings.{calls_of, is_ended};
 ghost use Rattle.pairing.specs.Partners.{partner_of, EachIsReceived, HasUnreceived};
 ghost use Rattle.pairing.specs.Probed.{probed_of, HasProbe, NoneIsProbed};
-ghost use Rattle.callnotes.specs.Often.{kind_no};
+ghost use Rattle.callstore.specs.Hot.{hot_kind};
 ghost use Rattle.pairing.specs.inner.Seated.{IsProbing};
 ghost use Rattle.pairing.specs.Seen.{call_seen, IsSeen};
-ghost use Rattle.callnotes.specs.Communicators.{NoneIsMade, HasMade};
-ghost use Rattle.callnotes.specs.Requests.{started_in, started_of, HasActive};
-ghost use Rattle.callnotes.specs.Waves.{wave_of, member_of};
+ghost use Rattle.callstore.specs.Communicators.{NoneIsMade, HasMade};
+ghost use Rattle.callstore.specs.Requests.{started_in, started_of, HasActive};
+ghost use Rattle.callstore.specs.Waves.{wave_of, member_of};
 ghost use Rattle.pairing.specs.Faults.{fault_of, IsLawful};
 ghost use Rattle.pairing.specs.Pairs.{with_call, added_at, TellsFault, completed_of};
 ghost use Rattle.pairing.specs.Work.{work_of};
-ghost use Rattle.callnotes.specs.inner.Notes.{recording_of};
+ghost use Rattle.callstore.specs.inner.Notes.{recording_of};
 ghost use Rattle.pairing.specs.inner.Tables.{IsKept};
 ghost use Rattle.pairing.specs.declared.added.PairFault.TheVariants.{Refused};
 
@@ -27,12 +27,12 @@ use crate::call_at::CallAt;
 use crate::kept::Kept;
 use crate::probing::Probing;
 use crate::tables::Tables;
-use callnotes::by_kind;
-use callnotes::call_ref::CallRef;
-use callnotes::envelope::Half;
-use callnotes::next_call::NextCall;
-use callnotes::notes::Notes;
-use callnotes::often::{ANY, kind_no};
+use callstore::by_kind;
+use callstore::call_ref::CallRef;
+use callstore::envelope::Half;
+use callstore::hot::{ANY, hot_kind};
+use callstore::next_call::NextCall;
+use callstore::notes::Notes;
 use mpicall::limits::MOST_REQUESTS;
 use mpicall::record::Record;
 use mpigroup::head::Head;
@@ -59,7 +59,7 @@ impl Drop for Pairs {
 
 impl Model for Pairs {
     ghost use Rattle.pairing.specs.inner.Seated.{IsProbing};
-    ghost use Rattle.callnotes.specs.inner.Notes.{recording_of};
+    ghost use Rattle.callstore.specs.inner.Notes.{recording_of};
     ghost use Rattle.pairing.specs.Pairs.{Paired};
     ghost use Rattle.pairing.specs.inner.Tables.{IsKept};
 
@@ -97,7 +97,7 @@ impl Pairs {
         place: u32,
         call: &Record,
     ) -> Result<(), PairFault>
-        requires kind { KIND ≢ 0 → kind_no call.now ≡ KIND }
+        requires kind { KIND ≢ 0 → hot_kind call.now ≡ KIND }
         requires is_rank { rank < length self.old.recording }
         requires is_next { place ≡ length (calls_of self.old.recording rank) }
         ensures ok { OnOk result (self.new ≡ with_call self.old rank call.now) }
@@ -107,7 +107,7 @@ impl Pairs {
     {
         // For the proof: the ranks are few, so the calls are, and each probe's seat has a number of 32 bits.
         let _ranks = self.kept.head.ranks();
-        if KIND != ANY && kind_no(call.as_call()) != KIND {
+        if KIND != ANY && hot_kind(call.as_call()) != KIND {
             unreachable!();
         }
         let call = &NextCall::of(call);
@@ -143,7 +143,7 @@ impl Pairs {
         ensures err { OnErr result (self.new ≡ self.old) }
     {
         by_kind!(
-            kind_no(call.as_call()),
+            hot_kind(call.as_call()),
             self.admit_kind(rank, place, call),
             _ => self.admit_kind::<ANY>(rank, place, call)
         )
@@ -311,7 +311,7 @@ impl Pairs {
         ensures none { result ≡ false → NoneIsMade self.now.recording }
         ensures some { result ≡ true → HasMade self.now.recording }
     {
-        self.kept.tables.held.has_made()
+        self.kept.tables.made_comms.has_made()
     }
 
     /// How much was done in the arena of the halves that have no partner yet: 1 for each half of a message, which

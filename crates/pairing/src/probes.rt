@@ -7,16 +7,16 @@
 
 ghost use Rattle.std.specs.Prelude.{◌≡◌, ◌<◌, ◌^◌, ℕ, [], length, replicate, Option, None, Some, OnOk, IfSome, slice_get, slice_set, option_map, option_and_then};
 ghost use Rattle.mpigroup.specs.Groups.{Groups, group_rank_of};
-ghost use Rattle.callnotes.specs.declared.envelope.Half.TheVariants.{Recv as RecvHalf};
-ghost use Rattle.callnotes.specs.Envelopes.{envelope_by};
-ghost use Rattle.callnotes.specs.Recordings.{Lists};
+ghost use Rattle.callstore.specs.declared.envelope.Half.TheVariants.{Recv as RecvHalf};
+ghost use Rattle.callstore.specs.Envelopes.{envelope_by};
+ghost use Rattle.callstore.specs.Recordings.{Lists};
 ghost use Rattle.pairing.specs.Probed.{probed_envelope};
 ghost use Rattle.pairing.specs.inner.Probed.{HasProbesIf};
 ghost use Rattle.pairing.specs.inner.Probing.{seat_for, Seating, AreSeated, HasRoomToSit, Sits, Follows};
 
-use crate::matches::Numbered;
-use callnotes::envelope::{Envelope, Half, Message, envelope_by};
-use callnotes::next_call::NextCall;
+use crate::matches::NumberedEnvelope;
+use callstore::envelope::{Envelope, Half, Message, envelope_by};
+use callstore::next_call::NextCall;
 use indexmap::IndexMap;
 use mpigroup::head::Head;
 use std::alloc::{AllocError, Global};
@@ -114,7 +114,7 @@ impl Probes {
 
     /// The same for the half of a call that may receive nothing.
     #[inline(always)]
-    pub(crate) fn receive(&mut self, half: &Option<Numbered>, place: u32)
+    pub(crate) fn receive(&mut self, half: &Option<NumberedEnvelope>, place: u32)
         ensures none { half.now ≡ None → self.new ≡ self.old }
         ensures some { IfSome half.now (λ own. Follows self.old self.new own.envelope place) }
     {

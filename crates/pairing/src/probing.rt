@@ -3,17 +3,17 @@
 
 ghost use Rattle.std.specs.Prelude.{◌≡◌, ◌<◌, ◌^◌, ℕ, true, false, [], Some, Option, length, replicate, option_map, option_and_then, slice_get, OnOk};
 ghost use Rattle.mpigroup.specs.Groups.{Groups};
-ghost use Rattle.callnotes.specs.declared.envelope.Half.TheVariants.{Recv as RecvHalf};
-ghost use Rattle.callnotes.specs.Envelopes.{envelope_of};
-ghost use Rattle.callnotes.specs.Recordings.{Lists, calls_of, appended};
+ghost use Rattle.callstore.specs.declared.envelope.Half.TheVariants.{Recv as RecvHalf};
+ghost use Rattle.callstore.specs.Envelopes.{envelope_of};
+ghost use Rattle.callstore.specs.Recordings.{Lists, calls_of, appended};
 ghost use Rattle.pairing.specs.Probed.{HasProbe, NoneIsProbed};
 ghost use Rattle.pairing.specs.inner.Probing.{seat_for, seated, Sits};
 ghost use Rattle.pairing.specs.inner.Seated.{seat_in, IsProbing, HasRoomForProbe, HasRoomToProbe};
 
 use crate::matches::Halves;
 use crate::probes::{Probes, probed_envelope};
-use callnotes::envelope::Envelope;
-use callnotes::next_call::NextCall;
+use callstore::envelope::Envelope;
+use callstore::next_call::NextCall;
 use indexmap::IndexMap;
 use mpigroup::head::Head;
 use std::alloc::{AllocError, Global};

@@ -3,20 +3,20 @@
 ghost use Rattle.std.specs.Prelude.{◌≡◌, ◌<◌, ◌≤◌, ℕ, [], length, replicate, IfOk, IfSome};
 ghost use Rattle.mpicall.specs.declared.call.Call.{Call};
 ghost use Rattle.mpigroup.specs.Groups.{Groups};
-ghost use Rattle.callnotes.specs.Limits.{most_calls};
-ghost use Rattle.callnotes.specs.Recordings.{Lists, calls_of, appended};
-ghost use Rattle.callnotes.specs.Seats.{HasRoomIn};
+ghost use Rattle.callstore.specs.Limits.{most_calls};
+ghost use Rattle.callstore.specs.Recordings.{Lists, calls_of, appended};
+ghost use Rattle.callstore.specs.Seats.{HasRoomIn};
 ghost use Rattle.pairing.specs.inner.Holdings.{HasRoomToHold};
 ghost use Rattle.pairing.specs.inner.Joined.{IsListFor};
 ghost use Rattle.pairing.specs.inner.Starts.{HasRoomToStart};
-ghost use Rattle.pairing.specs.inner.Tables.{AreOthers, AreTables, HaveRoom, IsBeside};
+ghost use Rattle.pairing.specs.inner.Tables.{AreOthers, AreTables, HaveRoom, IsCached};
 
 use crate::active::Active;
-use crate::held::Held;
-use crate::joined::Waves;
+use crate::made_comms::MadeComms;
 use crate::matches::{Halves, Matches};
-use callnotes::beside::Beside;
-use callnotes::next_call::NextCall;
+use crate::waves::Waves;
+use callstore::cached_match::CachedMatch;
+use callstore::next_call::NextCall;
 use mpigroup::head::Head;
 use std::alloc::{AllocError, Global};
 
@@ -32,7 +32,7 @@ pub(crate) struct Room {
 pub(crate) struct Tables {
     pub matches: Matches,
     pub waves: Waves,
-    pub held: Held,
+    pub made_comms: MadeComms,
     pub active: Active,
 }
 
@@ -42,7 +42,7 @@ impl Drop for Tables {
         let Tables {
             matches: _,
             waves: _,
-            held: _,
+            made_comms: _,
             active: _,
         } = self;
     }
@@ -56,7 +56,7 @@ impl Tables {
         Ok(Tables {
             matches: Matches::new(alloc)?,
             waves: Waves::new(alloc, head)?,
-            held: Held::new(alloc),
+            made_comms: MadeComms::new(alloc),
             active: Active::new(alloc, head.ranks())?,
         })
     }
@@ -74,7 +74,7 @@ impl Tables {
     {
         let halves = self.matches.reserve(head, rank, call)?;
         let list = self.waves.reserve(rank, call)?;
-        self.held.reserve(call)?;
+        self.made_comms.reserve(call)?;
         self.active.reserve(call)?;
         Ok(Room { halves, list })
     }
@@ -85,28 +85,28 @@ impl Tables {
     pub(crate) fn put(&mut self, rank: u16, place: u32, call: &NextCall<'_>, list: Option<usize>)
         requires is_list { IsListFor rank call.now self.old.waves list }
         requires joined { IfSome list (HasRoomIn self.old.waves.lists) }
-        requires held { HasRoomToHold self.old.held call.now }
+        requires made_comms { HasRoomToHold self.old.made_comms call.now }
         requires active { HasRoomToStart self.old.active call.now }
         ensures matches { self.new.matches ≡ self.old.matches }
         ensures others { (recording : Lists) → AreOthers recording self.old → rank < length recording →
             place ≡ length (calls_of recording rank) → AreOthers (appended recording rank call.now) self.new }
     {
         self.waves.put(list, place);
-        self.held.put(rank, call);
+        self.made_comms.put(rank, call);
         self.active.put(rank, place, call);
     }
 
     /// What is kept with a rank's next call, whose wave has that list, as long as its halves have no partners.
     #[inline(always)]
-    pub(crate) fn beside(&self, list: Option<usize>) -> Beside
+    pub(crate) fn cached(&self, list: Option<usize>) -> CachedMatch
         ensures { (groups : Groups) (recording : Lists) (rank : ℕ) (call : Call) → AreTables groups recording self.now →
-            IsListFor rank call self.now.waves list → length (calls_of recording rank) ≤ most_calls → IsBeside (calls_of recording rank) call result }
+            IsListFor rank call self.now.waves list → length (calls_of recording rank) ≤ most_calls → IsCached (calls_of recording rank) call result }
     {
         match list {
-            Some(list) => Beside::Wave {
+            Some(list) => CachedMatch::Wave {
                 number: self.waves.number(list),
             },
-            None => Beside::Nothing,
+            None => CachedMatch::Nothing,
         }
     }
 }

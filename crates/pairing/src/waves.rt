@@ -7,16 +7,16 @@
 ghost use Rattle.std.specs.Prelude.{◌≡◌, ◌<◌, ◌≤◌, ℕ, Option, None, Some, [], true, length, replicate, IfOk, IfSome};
 ghost use Rattle.mpicall.specs.declared.call.Call.{Call};
 ghost use Rattle.pairing.specs.inner.Joined.{list_number, list_of, IsJoined, IsListFor, HasRoomToJoin};
-ghost use Rattle.callnotes.specs.Limits.{most_calls};
-ghost use Rattle.callnotes.specs.Places.{places};
-ghost use Rattle.callnotes.specs.Recordings.{Lists, calls_of, appended};
-ghost use Rattle.callnotes.specs.Seats.{HasRoomIn};
-ghost use Rattle.callnotes.specs.Waves.{does_join, place_in_wave, member_of, is_full};
+ghost use Rattle.callstore.specs.Limits.{most_calls};
+ghost use Rattle.callstore.specs.Places.{places};
+ghost use Rattle.callstore.specs.Recordings.{Lists, calls_of, appended};
+ghost use Rattle.callstore.specs.Seats.{HasRoomIn};
+ghost use Rattle.callstore.specs.Waves.{does_join, place_in_wave, member_of, is_full};
 
-use crate::held::Holding;
-use callnotes::limits::MOST_CALLS;
-use callnotes::next_call::NextCall;
-use callnotes::place_lists::PlaceLists;
+use crate::made_comms::Holding;
+use callstore::limits::MOST_CALLS;
+use callstore::next_call::NextCall;
+use callstore::place_lists::PlaceLists;
 use indexmap::IndexSet;
 use mpigroup::head::Head;
 use std::alloc::{AllocError, Global};

@@ -6,7 +6,7 @@ use Rattle.std.proofs.lemmas.Bool.Decides.{nat_tests}
 use Rattle.std.proofs.lemmas.List.{map-append, take_more}
 use Rattle.mpicall.specs.Spelling.{line_feed}
 use Rattle.mpigroup.specs.Groups.{Groups}
-use Rattle.callnotes.specs.Recordings.{Lists}
+use Rattle.callstore.specs.Recordings.{Lists}
 use Rattle.serde_json.specs.Data.{Data, string, array, Members, member, no_members}
 use Rattle.serde_json.specs.View.{items_of}
 use Rattle.serde_json.specs.Written.{comma_if, compact_text, items_text, members_text}
@@ -14,9 +14,9 @@ use Rattle.waitgraph.specs.Causes.{CauseView}
 use Rattle.findings.specs.Findings.{findings_of}
 use Rattle.waitgraph.specs.Stuck.{stuck_of}
 use Rattle.waitgraph.specs.declared.verdict.Verdict.{Verdict}
-use Rattle.reports.specs.inner.ArrayTexts.{values_text, elements_text, key_text}
-use Rattle.reports.specs.JsonReport.{each, cause_data, finding_data, rank_data, report_data, json_report}
-use Rattle.reports.specs.TextReport.{verdict_text}
+use Rattle.report.specs.inner.ArrayTexts.{values_text, elements_text, key_text}
+use Rattle.report.specs.JsonReport.{each, cause_data, finding_data, rank_data, report_data, json_report}
+use Rattle.report.specs.TextReport.{verdict_text}
 
 -- whether something comes before what comes after the values
 abbrev behind : Bool → List Data → Bool

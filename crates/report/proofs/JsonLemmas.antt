@@ -3,7 +3,7 @@ use Rattle.moves.specs.declared.reading.Reading.{Reading}
 use Rattle.std.proofs.Common.{◌≡◌, ℕ, ◌+◌, ◌<◌, Bool, false, ◌||◌, List, [], ◌∷◌, ◌++◌, length, map, take, get_or, refl, sym, ap}
 use Rattle.std.proofs.lemmas.List.{map-append, take_more}
 use Rattle.mpigroup.specs.Groups.{Groups}
-use Rattle.callnotes.specs.Recordings.{Lists}
+use Rattle.callstore.specs.Recordings.{Lists}
 use Rattle.moves.specs.declared.need.Need.{Need}
 use Rattle.moves.specs.declared.need.Need.TheVariants.{At, Lacking}
 use Rattle.serde_json.specs.Data.{Data}
@@ -11,7 +11,7 @@ use Rattle.serde_json.specs.View.{view, items_of}
 use Rattle.serde_json.specs.Written.{has_float, items_have_float}
 use Rattle.serde_json.specs.declared.value.Value.{Value}
 use Rattle.waitgraph.specs.Causes.{CauseView, CycleOf, MissingOf, view_of}
-use Rattle.reports.specs.JsonReport.{numeral, each, need_data, rank_data, cause_data}
+use Rattle.report.specs.JsonReport.{numeral, each, need_data, rank_data, cause_data}
 use Rattle.waitgraph.specs.Stuck.{unmet_of}
 use Rattle.waitgraph.specs.declared.cause.Cause.{Cause}
 

@@ -4,7 +4,7 @@ use Rattle.std.proofs.Common.{◌≡◌, ℕ, true, false, List, [], ◌∷◌, 
 use Rattle.std.specs.Prelude.{codes}
 use Rattle.mpicall.specs.Spelling.{line_feed}
 use Rattle.mpigroup.specs.Groups.{Groups}
-use Rattle.callnotes.specs.Recordings.{Lists}
+use Rattle.callstore.specs.Recordings.{Lists}
 use Rattle.serde_json.specs.Data.{Data, string, array, Members, member, no_members}
 use Rattle.serde_json.specs.View.{items_of}
 use Rattle.serde_json.specs.Written.{compact_text, members_text}
@@ -12,13 +12,13 @@ use Rattle.findings.specs.declared.finding.Finding.{Finding}
 use Rattle.waitgraph.specs.Causes.{CauseView}
 use Rattle.waitgraph.specs.Stuck.{stuck_of}
 use Rattle.waitgraph.specs.declared.verdict.Verdict.{Verdict}
-use Rattle.reports.specs.inner.ArrayTexts.{values_text, elements_text, key_text}
-use Rattle.reports.specs.JsonReport.{each, cause_data, finding_data, rank_data}
-use Rattle.reports.specs.Judged.{judged_data, judged_json, left_data, line_data}
-use Rattle.reports.specs.TextReport.{verdict_text}
-use Rattle.reports.specs.declared.judged.LeftAt.{LeftAt}
-use Rattle.reports.specs.declared.judged.LineAt.{LineAt}
-use Rattle.reports.proofs.ArrayLemmas.{array_member, verdict_member, behind_key}
+use Rattle.report.specs.inner.ArrayTexts.{values_text, elements_text, key_text}
+use Rattle.report.specs.JsonReport.{each, cause_data, finding_data, rank_data}
+use Rattle.report.specs.Judged.{judged_data, judged_json, left_data, line_data}
+use Rattle.report.specs.TextReport.{verdict_text}
+use Rattle.report.specs.declared.judged.LeftAt.{LeftAt}
+use Rattle.report.specs.declared.judged.LineAt.{LineAt}
+use Rattle.report.proofs.ArrayLemmas.{array_member, verdict_member, behind_key}
 
 -- a member whose value is an array, after another such
 array_after : (key : List ℕ) (values : List Data) (rest : Members) (more : List ℕ) →

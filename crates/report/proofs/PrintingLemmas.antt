@@ -11,9 +11,9 @@ use Rattle.std.proofs.lemmas.List.{take-append-le, take_min}
 use Rattle.mpicall.specs.Device.{one_more, AppendsBeginning, CountsFailure}
 use Rattle.mpicall.specs.Spelling.{space, line_feed}
 use Rattle.waitgraph.specs.Causes.{CycleOf}
-use Rattle.reports.specs.TextReport.{cause_line}
-use Rattle.reports.specs.inner.Printing.{IsPrinted, KeepsPrinted, Prints}
-use Rattle.reports.specs.declared.report.printer.Printer.{Printer}
+use Rattle.report.specs.TextReport.{cause_line}
+use Rattle.report.specs.inner.Printing.{IsPrinted, KeepsPrinted, Prints}
+use Rattle.report.specs.declared.write.printer.Printer.{Printer}
 
 -- a prefix of a text is one of a longer text
 begins_longer : (a b : Option (List ℕ)) (xs ys : List ℕ) → AppendsBeginning a b xs → AppendsBeginning a b (xs ++ ys)

@@ -4,8 +4,8 @@ use Rattle.std.specs.List.{join_with_byte}
 use Rattle.mpicall.proofs.SpellingLemmas.{joined_front, joined_space}
 use Rattle.mpicall.specs.Spelling.{space, line_feed, fields_of}
 use Rattle.mpicall.specs.declared.call.Call.{Call}
-use Rattle.reports.specs.inner.Printing.{with_fields}
-use Rattle.reports.specs.TextReport.{line}
+use Rattle.report.specs.inner.Printing.{with_fields}
+use Rattle.report.specs.TextReport.{line}
 
 -- further fields are joined to the text before them
 fields_joined : (bytes : List ℕ) (fields : List (List ℕ)) → with_fields bytes fields ≡ join_with_byte space (bytes ∷ fields)

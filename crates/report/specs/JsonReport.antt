@@ -8,16 +8,16 @@ use Rattle.serde_json.specs.View.{items_of}
 use Rattle.serde_json.specs.Written.{compact_text}
 use Rattle.mpicall.specs.Spelling.{space, line_feed}
 use Rattle.mpigroup.specs.Groups.{Groups}
-use Rattle.callnotes.specs.Recordings.{Lists}
+use Rattle.callstore.specs.Recordings.{Lists}
 use Rattle.moves.specs.Stands.{stands_of}
 use Rattle.waitgraph.specs.declared.verdict.Verdict.{Verdict}
 use Rattle.moves.specs.declared.need.Need.{Need}
 use Rattle.moves.specs.declared.need.Need.TheVariants.{At, Lacking}
 use Rattle.waitgraph.specs.Causes.{CauseView, CycleOf, MissingOf}
 use Rattle.findings.specs.Findings.{findings_of}
-use Rattle.reports.specs.FindingTexts.{finding_fields}
+use Rattle.report.specs.FindingTexts.{finding_fields}
 use Rattle.waitgraph.specs.Stuck.{stuck_of, unmet_of}
-use Rattle.reports.specs.TextReport.{present_fields, verdict_text}
+use Rattle.report.specs.TextReport.{present_fields, verdict_text}
 use Rattle.findings.specs.declared.finding.Finding.{Finding}
 
 -- a number

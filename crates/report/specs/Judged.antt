@@ -6,19 +6,19 @@ use Rattle.serde_json.specs.Data.{Data, string, array, object, item, no_items, m
 use Rattle.serde_json.specs.Written.{compact_text}
 use Rattle.mpicall.specs.Spelling.{line_feed}
 use Rattle.mpigroup.specs.Groups.{Groups}
-use Rattle.callnotes.specs.Recordings.{Lists}
+use Rattle.callstore.specs.Recordings.{Lists}
 use Rattle.moves.specs.declared.reading.Reading.{Reading}
 use Rattle.findings.specs.declared.finding.Finding.{Finding}
 use Rattle.waitgraph.specs.Causes.{CauseView}
 use Rattle.waitgraph.specs.Stuck.{stuck_of}
 use Rattle.waitgraph.specs.declared.verdict.Verdict.{Verdict}
-use Rattle.reports.specs.JsonReport.{numeral, each, cause_data, finding_data, rank_data}
-use Rattle.reports.specs.TextReport.{line, verdict_line, verdict_text, rank_lines, cause_line, finding_line}
-use Rattle.reports.specs.declared.judged.Judged.{Judged}
-use Rattle.reports.specs.declared.judged.LeftAt.{LeftAt}
-use Rattle.reports.specs.declared.judged.LineAt.{LineAt}
-use Rattle.reports.specs.declared.report.Format.{Format}
-use Rattle.reports.specs.declared.report.Format.TheVariants.{Text, Json}
+use Rattle.report.specs.JsonReport.{numeral, each, cause_data, finding_data, rank_data}
+use Rattle.report.specs.TextReport.{line, verdict_line, verdict_text, rank_lines, cause_line, finding_line}
+use Rattle.report.specs.declared.judged.Judged.{Judged}
+use Rattle.report.specs.declared.judged.LeftAt.{LeftAt}
+use Rattle.report.specs.declared.judged.LineAt.{LineAt}
+use Rattle.report.specs.declared.write.Format.{Format}
+use Rattle.report.specs.declared.write.Format.TheVariants.{Text, Json}
 
 -- `left R N WHY`
 abbrev pub left_line : LeftAt → List ℕ

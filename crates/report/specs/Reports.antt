@@ -3,16 +3,16 @@ use Rattle.std.specs.Prelude.{◌≡◌, ℕ, Option, List}
 use Rattle.mpicall.specs.Device.{one_more, AppendsBeginning}
 use Rattle.moves.specs.declared.reading.Reading.{Reading}
 use Rattle.mpigroup.specs.Groups.{Groups}
-use Rattle.callnotes.specs.Recordings.{Lists}
+use Rattle.callstore.specs.Recordings.{Lists}
 use Rattle.waitgraph.specs.Causes.{CauseView, AreCauses}
 use Rattle.waitgraph.specs.Verdicts.{IsVerdictOf}
 use Rattle.waitgraph.specs.declared.verdict.Verdict.{Verdict}
-use Rattle.reports.specs.JsonReport.{json_report}
-use Rattle.reports.specs.TextReport.{text_report}
-use Rattle.reports.specs.declared.report.Format.{Format}
-use Rattle.reports.specs.declared.report.Format.TheVariants.{Text, Json}
-use Rattle.reports.specs.declared.report.ReportFault.{ReportFault}
-use Rattle.reports.specs.declared.report.ReportFault.TheVariants.{Memory, Write}
+use Rattle.report.specs.JsonReport.{json_report}
+use Rattle.report.specs.TextReport.{text_report}
+use Rattle.report.specs.declared.write.Format.{Format}
+use Rattle.report.specs.declared.write.Format.TheVariants.{Text, Json}
+use Rattle.report.specs.declared.write.ReportFault.{ReportFault}
+use Rattle.report.specs.declared.write.ReportFault.TheVariants.{Memory, Write}
 
 unfoldable pub report_of : Format → Reading → Groups → Lists → Verdict → List CauseView → List ℕ
 report_of Text reading groups recording verdict causes = text_report reading groups recording verdict causes

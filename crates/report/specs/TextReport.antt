@@ -8,7 +8,7 @@ use Rattle.std.specs.Fmt.{decimal}
 use Rattle.std.specs.List.{join_with_byte}
 use Rattle.mpicall.specs.Spelling.{space, line_feed, fields_of}
 use Rattle.mpigroup.specs.Groups.{Groups}
-use Rattle.callnotes.specs.Recordings.{Lists}
+use Rattle.callstore.specs.Recordings.{Lists}
 use Rattle.moves.specs.Stands.{stands_of}
 use Rattle.moves.specs.declared.need.Need.{Need}
 use Rattle.moves.specs.declared.need.Need.TheVariants.{At, Lacking}
@@ -16,7 +16,7 @@ use Rattle.waitgraph.specs.declared.verdict.Verdict.{Verdict}
 use Rattle.waitgraph.specs.declared.verdict.Verdict.TheVariants.{Free, Hang, Unfinished}
 use Rattle.waitgraph.specs.Causes.{CauseView, CycleOf, MissingOf}
 use Rattle.findings.specs.Findings.{findings_of}
-use Rattle.reports.specs.FindingTexts.{finding_fields}
+use Rattle.report.specs.FindingTexts.{finding_fields}
 use Rattle.findings.specs.Places.{call_at}
 use Rattle.waitgraph.specs.Stuck.{stuck_of, unmet_of}
 use Rattle.findings.specs.declared.finding.Finding.{Finding}

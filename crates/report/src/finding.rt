@@ -5,7 +5,7 @@ ghost use Rattle.std.specs.Fmt.{decimal};
 ghost use Rattle.std.specs.List.{join_with_byte};
 ghost use Rattle.mpicall.specs.Spelling.{space};
 ghost use Rattle.mpicall.specs.Word.{text_of};
-ghost use Rattle.reports.specs.FindingTexts.{finding_fields};
+ghost use Rattle.report.specs.FindingTexts.{finding_fields};
 
 use findings::finding::Finding;
 use mpicall::page::{PAGE_BYTES, Page};

@@ -5,12 +5,12 @@ ghost use Rattle.std.specs.Prelude.{◌≡◌, ◌≤◌, All, length, IfErr, On
 ghost use Rattle.std.specs.Io.KnownBytes.{Appends};
 ghost use Rattle.waitgraph.specs.Graphs.{IsGraphOf};
 ghost use Rattle.waitgraph.specs.Verdicts.{verdict_by};
-ghost use Rattle.reports.specs.Judged.{judged_json, judged_of};
-ghost use Rattle.reports.specs.Reports.{LeavesReport};
+ghost use Rattle.report.specs.Judged.{judged_json, judged_of};
+ghost use Rattle.report.specs.Reports.{LeavesReport};
 
 use crate::json::judged_json_text;
-use crate::report::text::write_judged_text;
-use crate::report::{Format, ReportFault};
+use crate::write::text::write_judged_text;
+use crate::write::{Format, ReportFault};
 use findings::finding::Finding;
 use moves::analyser::Analyser;
 use mpicall::device::{Output, write_all};

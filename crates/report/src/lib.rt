@@ -2,7 +2,7 @@
 //!
 //! What it promises, as contracts that are proved, by definitions of `specs/`:
 //!
-//! - `report::write_report` writes exactly the report of a recording, as text or as JSON (`TextReport`,
+//! - `write::write_report` writes exactly the report of a recording, as text or as JSON (`TextReport`,
 //!   `JsonReport`, `Reports`): the verdict, who waits for whom where the ranks stand, the causes and the
 //!   findings, as the crates `waitgraph` and `findings` define them.
 //! - Where a write fails, what was written before is a prefix of that report. Lack of memory is
@@ -21,5 +21,5 @@
 pub mod finding;
 mod json;
 pub mod judged;
-pub mod report;
 mod stand;
+pub mod write;

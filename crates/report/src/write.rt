@@ -4,11 +4,11 @@ ghost use Rattle.std.specs.Prelude.{◌≡◌, IfErr, OnOk};
 ghost use Rattle.std.specs.Io.KnownBytes.{Appends};
 ghost use Rattle.waitgraph.specs.Graphs.{IsGraphOf};
 ghost use Rattle.waitgraph.specs.Verdicts.{verdict_by};
-ghost use Rattle.reports.specs.JsonReport.{json_report};
-ghost use Rattle.reports.specs.Reports.{report_of, LeavesReport};
+ghost use Rattle.report.specs.JsonReport.{json_report};
+ghost use Rattle.report.specs.Reports.{report_of, LeavesReport};
 
 use crate::json::json_text;
-use crate::report::text::write_text;
+use crate::write::text::write_text;
 use moves::analyser::Analyser;
 use mpicall::device::{Output, write_all};
 use std::alloc::Global;

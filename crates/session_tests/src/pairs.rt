@@ -2,7 +2,7 @@
 
 use crate::kept::Kept;
 use crate::opened::head_again;
-use callnotes::envelope::Half;
+use callstore::envelope::Half;
 use mpicall::line::read_line;
 use mpicall::record::Record;
 use pairing::added::{Added, PairFault};

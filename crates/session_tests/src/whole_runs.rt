@@ -3,8 +3,9 @@
 
 ghost use Rattle.std.specs.Prelude.{◌≡◌, None, IfOk};
 ghost use Rattle.mpicall.specs.Source.{ended};
-ghost use Rattle.runs.specs.Told.{AreFresh};
+ghost use Rattle.driver.specs.VerdictContract.{AreFresh};
 
+use driver::run::{ReadBy, run, run_by};
 use gather::fault::{RankFault, Refusal, RunFault};
 use gather::gate::{Gate, OpenGate};
 use moves::reading::Reading;
@@ -15,8 +16,7 @@ use mpicall::memory::{MemoryInput, MemoryOutput};
 use mpicall::source::Source;
 use mpigroup::head::Head;
 use pairing::fault::CallFault;
-use reports::report::Format;
-use runs::run::{ReadBy, run, run_by};
+use report::write::Format;
 use std::alloc::{AllocError, Global};
 use std::process::Abort;
 use std::sync::Wait;

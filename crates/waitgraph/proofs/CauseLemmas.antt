@@ -6,7 +6,7 @@ use Rattle.std.specs.List.{list_all, filter_map, range_with_len}
 use Rattle.std.proofs.lemmas.Option.{none-some, same_Some}
 use Rattle.std.proofs.lemmas.Bool.{cases_Bool, false≢true}
 use Rattle.mpigroup.specs.Groups.{Groups}
-use Rattle.callnotes.specs.Recordings.{Lists, IsClosed}
+use Rattle.callstore.specs.Recordings.{Lists, IsClosed}
 use Rattle.moves.specs.Stands.{stands_of}
 use Rattle.moves.specs.declared.need.Need.{Need}
 use Rattle.moves.specs.declared.need.Need.TheVariants.{At, Lacking}
@@ -18,10 +18,10 @@ use Rattle.waitgraph.specs.Causes.{CauseView, CycleOf, MissingOf, held_by, next_
 use Rattle.waitgraph.specs.Graphs.{GraphView, IsGraphOf}
 use Rattle.waitgraph.specs.inner.Graphs.{IsGraphBy}
 use Rattle.waitgraph.specs.inner.Held.{opened_of, is_held}
-use Rattle.waitgraph.specs.inner.Loose.{goes_on, onward, onward_by}
+use Rattle.waitgraph.specs.inner.Loose.{goes_on, hop, hop_by}
 use Rattle.waitgraph.specs.inner.Waits.{waits_of}
-use Rattle.waitgraph.specs.inner.Causes.{Walks, walks_of, onward_in, to_of, lacked_by, next_in, way_home, cycle_by, cycle_at, missing_at, causes_of}
-use Rattle.waitgraph.specs.declared.onward.Onward.{Onward}
+use Rattle.waitgraph.specs.inner.Causes.{Walks, walks_of, hop_in, to_of, lacked_by, next_in, way_round, cycle_by, cycle_at, missing_at, causes_of}
+use Rattle.waitgraph.specs.declared.next_hop.NextHop.{NextHop}
 use Rattle.waitgraph.proofs.AmongLemmas.{Among}
 use Rattle.waitgraph.proofs.UnmetLemmas.{unmet_from, waits_are}
 use Rattle.waitgraph.proofs.CycleLemmas.{way_home_is, cycle_found, cycle_no_lower}
@@ -68,27 +68,27 @@ not_held_by reading groups recording dead rank not_held =
         absurd (false≢true (sym not_held ∙ held))
 
 -- the walk of the search goes on by the need by which a rank is held
-onward_is : (reading : Reading) (groups : Groups) (recording : Lists) → IsDeadlocked reading groups recording (is_held reading groups recording) → (rank : ℕ) → onward_in (walks_of reading groups recording) rank ≡ option_map (onward (opened_of recording)) (held_by reading groups recording (is_held reading groups recording) rank)
+onward_is : (reading : Reading) (groups : Groups) (recording : Lists) → IsDeadlocked reading groups recording (is_held reading groups recording) → (rank : ℕ) → hop_in (walks_of reading groups recording) rank ≡ option_map (hop (opened_of recording)) (held_by reading groups recording (is_held reading groups recording) rank)
 onward_is reading groups recording dead rank =
     walk_is reading groups recording rank
     ∙ ⊎_elim
     (λ (held : is_held reading groups recording rank ≡ true).
-    by_held (is_held reading groups recording rank) (onward_by (opened_of recording) (is_held reading groups recording) (needs_in (waits_of reading groups recording) rank)) held
-    ∙ ap (λ (needs : List Need). onward_by (opened_of recording) (is_held reading groups recording) needs) (waits_are reading groups recording (stands_of reading groups recording) rank)
-    ∙ ap (option_map (onward (opened_of recording)))
+    by_held (is_held reading groups recording rank) (hop_by (opened_of recording) (is_held reading groups recording) (needs_in (waits_of reading groups recording) rank)) held
+    ∙ ap (λ (needs : List Need). hop_by (opened_of recording) (is_held reading groups recording) needs) (waits_are reading groups recording (stands_of reading groups recording) rank)
+    ∙ ap (option_map (hop (opened_of recording)))
     (find_same (goes_on (opened_of recording) (is_held reading groups recording)) (is_blocked recording (is_held reading groups recording)) (λ need. sym (blocked_is recording (is_held reading groups recording) need)) (unmet_of reading groups recording rank)))
     (λ (not_held : is_held reading groups recording rank ≡ false).
-    by_other (is_held reading groups recording rank) (onward_by (opened_of recording) (is_held reading groups recording) (needs_in (waits_of reading groups recording) rank)) not_held
-    ∙ ap (option_map (onward (opened_of recording))) (sym (not_held_by reading groups recording dead rank not_held)))
+    by_other (is_held reading groups recording rank) (hop_by (opened_of recording) (is_held reading groups recording) (needs_in (waits_of reading groups recording) rank)) not_held
+    ∙ ap (option_map (hop (opened_of recording))) (sym (not_held_by reading groups recording dead rank not_held)))
     (cases_Bool (is_held reading groups recording rank))
   where
-    by_held : (held : Bool) (o : Option Onward) → held ≡ true → (if held then o else None) ≡ o
+    by_held : (held : Bool) (o : Option NextHop) → held ≡ true → (if held then o else None) ≡ o
     by_held held o is = rw is refl
 
-    by_other : (held : Bool) (o : Option Onward) → held ≡ false → (if held then o else None) ≡ None
+    by_other : (held : Bool) (o : Option NextHop) → held ≡ false → (if held then o else None) ≡ None
     by_other held o is = rw is refl
 
-next_by : (recording : Lists) (o : Option Need) → option_and_then to_of (option_map (onward (opened_of recording)) o) ≡ option_and_then (λ need. if is_missing recording need then None else Some (rank_needed need)) o
+next_by : (recording : Lists) (o : Option Need) → option_and_then to_of (option_map (hop (opened_of recording)) o) ≡ option_and_then (λ need. if is_missing recording need then None else Some (rank_needed need)) o
 next_by recording None = refl
 next_by recording (Some (At rank place)) = refl
 next_by recording (Some (Lacking rank)) =
@@ -98,7 +98,7 @@ next_by recording (Some (Lacking rank)) =
     (λ (no : is_left_open recording rank ≡ false). rw (opened, no) refl)
     (cases_Bool (is_left_open recording rank))
 
-missing_by : (recording : Lists) (waiting : ℕ) (o : Option Need) → option_map (MissingOf waiting) (option_and_then lacked_by (option_map (onward (opened_of recording)) o)) ≡ option_and_then (λ need. if is_missing recording need then Some (MissingOf waiting (rank_needed need)) else None) o
+missing_by : (recording : Lists) (waiting : ℕ) (o : Option Need) → option_map (MissingOf waiting) (option_and_then lacked_by (option_map (hop (opened_of recording)) o)) ≡ option_and_then (λ need. if is_missing recording need then Some (MissingOf waiting (rank_needed need)) else None) o
 missing_by recording waiting None = refl
 missing_by recording waiting (Some (At rank place)) = refl
 missing_by recording waiting (Some (Lacking rank)) =
@@ -114,7 +114,7 @@ next_is reading groups recording dead rank =
 
 missing_is : (reading : Reading) (groups : Groups) (recording : Lists) → IsDeadlocked reading groups recording (is_held reading groups recording) → (rank : ℕ) → missing_at (walks_of reading groups recording) rank ≡ missing_of reading groups recording (is_held reading groups recording) rank
 missing_is reading groups recording dead rank =
-    ap (λ (o : Option Onward). option_map (MissingOf rank) (option_and_then lacked_by o)) (onward_is reading groups recording dead rank)
+    ap (λ (o : Option NextHop). option_map (MissingOf rank) (option_and_then lacked_by o)) (onward_is reading groups recording dead rank)
     ∙ missing_by recording rank (held_by reading groups recording (is_held reading groups recording) rank)
 
 -- a cycle by one walk is one by another that goes the same way
@@ -126,20 +126,20 @@ cut_by : ℕ → List ℕ → Option (List ℕ)
 cut_by low ranks = if list_all (nat_le low) ranks then Some (drop 1 ranks) else None
 
 rest_by : Walks → ℕ → Option (List ℕ)
-rest_by walks low = option_and_then (cut_by low) (way_home walks (length walks) low low)
+rest_by walks low = option_and_then (cut_by low) (way_round walks (length walks) low low)
 
 rest_to : (walks : Walks) (low : ℕ) (rest : List ℕ) → rest_by walks low ≡ Some rest → IsCycle (next_in walks) low rest
 unfolding rest_by cut_by
-rest_to walks low rest is = by_way walks low rest (way_home walks (length walks) low low) refl is
+rest_to walks low rest is = by_way walks low rest (way_round walks (length walks) low low) refl is
   where
-    by_test : (walks : Walks) (low : ℕ) (rest ranks : List ℕ) (test : Bool) → way_home walks (length walks) low low ≡ Some ranks → list_all (nat_le low) ranks ≡ test → (if test then Some (drop 1 ranks) else None) ≡ Some rest → IsCycle (next_in walks) low rest
+    by_test : (walks : Walks) (low : ℕ) (rest ranks : List ℕ) (test : Bool) → way_round walks (length walks) low low ≡ Some ranks → list_all (nat_le low) ranks ≡ test → (if test then Some (drop 1 ranks) else None) ≡ Some rest → IsCycle (next_in walks) low rest
     by_test walks low rest ranks false way all is = absurd (none-some rest is)
     by_test walks low rest ranks true way all is =
         let told = told_by_way walks (length walks) low ranks way all in
         let same : told.rest ≡ rest = ap (drop 1) (sym told.begins) ∙ same_Some (drop 1 ranks) rest is in
         subst (λ (r : List ℕ). IsCycle (next_in walks) low r) same told.is_cycle
 
-    by_way : (walks : Walks) (low : ℕ) (rest : List ℕ) (o : Option (List ℕ)) → way_home walks (length walks) low low ≡ o → option_and_then (cut_by low) o ≡ Some rest → IsCycle (next_in walks) low rest
+    by_way : (walks : Walks) (low : ℕ) (rest : List ℕ) (o : Option (List ℕ)) → way_round walks (length walks) low low ≡ o → option_and_then (cut_by low) o ≡ Some rest → IsCycle (next_in walks) low rest
     by_way walks low rest None way is = absurd (none-some rest is)
     by_way walks low rest (Some ranks) way is = by_test walks low rest ranks (list_all (nat_le low) ranks) way refl is
 
@@ -149,13 +149,13 @@ rest_from walks low rest cycle = rw (cycle_found walks low rest cycle, cycle_no_
 
 cycle_is : (walks : Walks) (low : ℕ) → cycle_at walks low ≡ option_map (λ rest. CycleOf (low ∷ rest)) (rest_by walks low)
 unfolding rest_by cut_by
-cycle_is walks low = by_way walks low (way_home walks (length walks) low low) refl
+cycle_is walks low = by_way walks low (way_round walks (length walks) low low) refl
   where
     by_test : (low : ℕ) (rest : List ℕ) (test : Bool) → (if test then Some (CycleOf (low ∷ rest)) else None) ≡ option_map (λ rest. CycleOf (low ∷ rest)) (if test then Some (drop 1 (low ∷ rest)) else None)
     by_test low rest true = refl
     by_test low rest false = refl
 
-    by_way : (walks : Walks) (low : ℕ) (o : Option (List ℕ)) → way_home walks (length walks) low low ≡ o → option_and_then (cycle_by low) o ≡ option_map (λ rest. CycleOf (low ∷ rest)) (option_and_then (cut_by low) o)
+    by_way : (walks : Walks) (low : ℕ) (o : Option (List ℕ)) → way_round walks (length walks) low low ≡ o → option_and_then (cycle_by low) o ≡ option_map (λ rest. CycleOf (low ∷ rest)) (option_and_then (cut_by low) o)
     by_way walks low None way = refl
     by_way walks low (Some ranks) way =
         let home = way_home_is walks (length walks) low low ranks way in

@@ -4,7 +4,7 @@ use Rattle.std.specs.Prelude.{if◌then◌else◌, nat_le, nat_lt, option_map, o
 use Rattle.std.specs.List.{slice_get, list_all}
 use Rattle.std.proofs.lemmas.Option.{none-some, same_Some, slice_get_within, slice_get_past, slice_get-get_or}
 use Rattle.std.proofs.lemmas.Bool.{cases_eq, cases_lt, eq-eqb, ne_eqb, and_parts, and_from, leb-true, le-leb, ltb-true, lt-ltb}
-use Rattle.waitgraph.specs.inner.Causes.{Walks, next_in, way_home}
+use Rattle.waitgraph.specs.inner.Causes.{Walks, next_in, way_round}
 use Rattle.waitgraph.specs.Causes.{after_steps, IsCycle}
 use Rattle.waitgraph.proofs.PigeonLemmas.{twice}
 
@@ -24,7 +24,7 @@ mapped : (rank : ℕ) (o : Option (List ℕ)) (ranks : List ℕ) → option_map 
 mapped rank None ranks h = absurd (none-some ranks h)
 mapped rank (Some more) ranks h = (more, refl, sym (same_Some (rank ∷ more) ranks h))
 
-pub way_home_is : (walks : Walks) (most home rank : ℕ) (ranks : List ℕ) → way_home walks most home rank ≡ Some ranks → HasWay walks home rank ranks
+pub way_home_is : (walks : Walks) (most home rank : ℕ) (ranks : List ℕ) → way_round walks most home rank ≡ Some ranks → HasWay walks home rank ranks
 way_home_is walks zero home rank ranks h = absurd (none-some ranks h)
 way_home_is walks (suc most) home rank ranks h =
     by_next walks most home rank ranks (next_in walks rank) refl (λ next more there. way_home_is walks most home next more there) h
@@ -37,7 +37,7 @@ way_home_is walks (suc most) home rank ranks h =
           is_way = (is, other, way.is_way);
         }
 
-    by_next : (walks : Walks) (most home rank : ℕ) (ranks : List ℕ) (present : Option ℕ) → next_in walks rank ≡ present → ((next : ℕ) (more : List ℕ) → way_home walks most home next ≡ Some more → HasWay walks home next more) → option_and_then (λ next. if next == home then Some (rank ∷ []) else option_map (λ ranks. rank ∷ ranks) (way_home walks most home next)) present ≡ Some ranks → HasWay walks home rank ranks
+    by_next : (walks : Walks) (most home rank : ℕ) (ranks : List ℕ) (present : Option ℕ) → next_in walks rank ≡ present → ((next : ℕ) (more : List ℕ) → way_round walks most home next ≡ Some more → HasWay walks home next more) → option_and_then (λ next. if next == home then Some (rank ∷ []) else option_map (λ ranks. rank ∷ ranks) (way_round walks most home next)) present ≡ Some ranks → HasWay walks home rank ranks
     by_next walks most home rank ranks None is later h = absurd (none-some ranks h)
     by_next walks most home rank ranks (Some next) is later h =
         ⊎_elim
@@ -45,7 +45,7 @@ way_home_is walks (suc most) home rank ranks h =
         let end : ◌≡◌ {A = Option (List ℕ)} (Some (rank ∷ [])) (Some ranks) = rw (eq-eqb next home same) at h in
         record { rest = []; begins = sym (same_Some (rank ∷ []) ranks end); is_way = is ∙ ap (λ (k : ℕ). Some k) same })
         (λ (other : next ≢ home).
-        let parts = mapped rank (way_home walks most home next) ranks (rw (ne_eqb next home other) at h) in
+        let parts = mapped rank (way_round walks most home next) ranks (rw (ne_eqb next home other) at h) in
         goes_on walks home rank next ranks parts.0 is other parts.2 (later next parts.0 parts.1))
         (cases_eq next home)
 
@@ -144,7 +144,7 @@ pub cycle_is_way : (walks : Walks) (low : ℕ) (rest : List ℕ) → IsCycle (ne
 cycle_is_way walks low rest cycle = map_way walks low low rest cycle.0 cycle.1
 
 -- and the search finds it, since it has no more ranks than there are
-way_found : (walks : Walks) (most home rank : ℕ) (rest : List ℕ) → IsWay walks home (rank ∷ rest) → length (rank ∷ rest) ≤ most → way_home walks most home rank ≡ Some (rank ∷ rest)
+way_found : (walks : Walks) (most home rank : ℕ) (rest : List ℕ) → IsWay walks home (rank ∷ rest) → length (rank ∷ rest) ≤ most → way_round walks most home rank ≡ Some (rank ∷ rest)
 way_found walks zero home rank rest way few = absurd (omega (arith, few))
 way_found walks (suc most) home rank [] way few = rw (way, eq-eqb home home refl) refl
 way_found walks (suc most) home rank (next ∷ rest) way few =
@@ -179,7 +179,7 @@ way_short walks home ranks way =
     (λ (few : length ranks ≤ length walks). few)
     (cases_lt (length walks) (length ranks))
 
-pub cycle_found : (walks : Walks) (low : ℕ) (rest : List ℕ) → IsCycle (next_in walks) low rest → way_home walks (length walks) low low ≡ Some (low ∷ rest)
+pub cycle_found : (walks : Walks) (low : ℕ) (rest : List ℕ) → IsCycle (next_in walks) low rest → way_round walks (length walks) low low ≡ Some (low ∷ rest)
 cycle_found walks low rest cycle =
     let way = cycle_is_way walks low rest cycle in
     way_found walks (length walks) low low rest way (way_short walks low (low ∷ rest) way)
@@ -198,7 +198,7 @@ cycle_no_lower walks low rest cycle =
 -- a walk that comes home in so many steps and goes by no lower rank has a way home, all of whose ranks are no lower
 pub record HasWayHome (walks : Walks) (most home rank low : ℕ) : Type 0 where
   pub ranks : List ℕ
-  pub is_way : way_home walks most home rank ≡ Some ranks
+  pub is_way : way_round walks most home rank ≡ Some ranks
   pub no_lower : list_all (nat_le low) ranks ≡ true
 
 more_steps : (walks : Walks) (steps next home : ℕ) → next ≢ home → after_steps (next_in walks) steps next ≡ Some home → 0 < steps

@@ -8,10 +8,10 @@ use Rattle.moves.specs.declared.need.Need.{Need}
 use Rattle.moves.specs.declared.need.Need.TheVariants.{At, Lacking}
 use Rattle.waitgraph.specs.Held.{Set}
 use Rattle.waitgraph.specs.Waits.{Waits, needs_in}
-use Rattle.waitgraph.specs.inner.Loose.{standing_of, is_on, are_loose, is_held_at, are_held, goes_on, onward, onward_by, FitTogether, GoesOnOrEnds, HeldRanksGoOn}
+use Rattle.waitgraph.specs.inner.Loose.{standing_of, is_on, are_loose, is_held_at, are_held, goes_on, hop, hop_by, FitTogether, GoesOnOrEnds, HeldRanksGoOn}
 use Rattle.waitgraph.specs.declared.standing.Standing.{Standing}
 use Rattle.waitgraph.specs.declared.standing.Standing.TheVariants.{AtOpen, Stuck}
-use Rattle.waitgraph.specs.declared.onward.Onward.{Onward}
+use Rattle.waitgraph.specs.declared.next_hop.NextHop.{NextHop}
 use Rattle.waitgraph.proofs.SweepLemmas.{the_loose_are_the_least}
 
 -- a need of the list
@@ -76,7 +76,7 @@ decides opened standings waits rank index (Lacking peer) fit there fails =
     (λ (ended : opened peer ≡ false). rw ended refl)
     (cases_Bool (opened peer))
 
-tells : (opened held : Set) (need : Need) → goes_on opened held need ≡ true → GoesOnOrEnds opened held (Some (onward opened need))
+tells : (opened held : Set) (need : Need) → goes_on opened held need ≡ true → GoesOnOrEnds opened held (Some (hop opened need))
 tells opened held (At peer place) h = h
 tells opened held (Lacking peer) h =
     ⊎_elim
@@ -130,10 +130,10 @@ find_none test (first ∷ needs) none =
     rw fails (find_none test needs both.1)
 
 -- the walk goes on by the first need by which it does, and by none where there is none
-pub onward_found : (opened held : Set) (needs : List Need) (index : ℕ) (need d : Need) (answer : Onward) → index < length needs → need ≡ get_or needs index d → list_all (λ n. not (goes_on opened held n)) (take index needs) ≡ true → goes_on opened held need ≡ true → answer ≡ onward opened need → Some answer ≡ onward_by opened held needs
-onward_found opened held needs index need d answer within at none passes is =
-    rw (find_first (goes_on opened held) needs index need (slice_get-get_or needs index d within ∙ ap (λ (n : Need). Some n) (sym at)) none passes) (ap (λ (o : Onward). Some o) is)
+pub hop_found : (opened held : Set) (needs : List Need) (index : ℕ) (need d : Need) (answer : NextHop) → index < length needs → need ≡ get_or needs index d → list_all (λ n. not (goes_on opened held n)) (take index needs) ≡ true → goes_on opened held need ≡ true → answer ≡ hop opened need → Some answer ≡ hop_by opened held needs
+hop_found opened held needs index need d answer within at none passes is =
+    rw (find_first (goes_on opened held) needs index need (slice_get-get_or needs index d within ∙ ap (λ (n : Need). Some n) (sym at)) none passes) (ap (λ (o : NextHop). Some o) is)
 
-pub onward_none : (opened held : Set) (needs : List Need) (index : ℕ) → length needs ≤ index → list_all (λ n. not (goes_on opened held n)) (take index needs) ≡ true → None ≡ onward_by opened held needs
-onward_none opened held needs index past none =
+pub hop_none : (opened held : Set) (needs : List Need) (index : ℕ) → length needs ≤ index → list_all (λ n. not (goes_on opened held n)) (take index needs) ≡ true → None ≡ hop_by opened held needs
+hop_none opened held needs index past none =
     rw (find_none (goes_on opened held) needs (subst (λ (ns : List Need). list_all (λ n. not (goes_on opened held n)) ns ≡ true) (take_all index needs past) none)) refl

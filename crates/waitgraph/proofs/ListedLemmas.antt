@@ -4,28 +4,28 @@ use Rattle.std.specs.Prelude.{if◌then◌else◌, nat_le, option_map, option_an
 use Rattle.std.specs.List.{slice_get, list_all, filter_map, cons_option, range_with_len}
 use Rattle.std.proofs.lemmas.Option.{none-some, same_Some}
 use Rattle.std.proofs.lemmas.Bool.{cases_lt}
-use Rattle.callnotes.proofs.PlaceLemmas.{slice_get-front}
+use Rattle.callstore.proofs.PlaceLemmas.{slice_get-front}
 use Rattle.waitgraph.specs.Causes.{CauseView, CycleOf, MissingOf, ComesTo}
-use Rattle.waitgraph.specs.inner.Causes.{Walks, onward_in, next_in, lacks_in, way_home, cycle_by, cycle_at, missing_at, causes_in}
+use Rattle.waitgraph.specs.inner.Causes.{Walks, hop_in, next_in, lacks_in, way_round, cycle_by, cycle_at, missing_at, causes_in}
 use Rattle.waitgraph.proofs.AmongLemmas.{Among, in_among, among_both, among_given, among_range}
 use Rattle.waitgraph.proofs.WalkLaws.{IsWaiting, told_by_way, lacks_is_waiting, next_is_waiting}
 
 -- what it means that the cycle of a rank is told
 record IsCycleOf (walks : Walks) (rank : ℕ) (cause : CauseView) : Type 0 where
   ranks : List ℕ
-  is_way : way_home walks (length walks) rank rank ≡ Some ranks
+  is_way : way_round walks (length walks) rank rank ≡ Some ranks
   all : list_all (nat_le rank) ranks ≡ true
   is : cause ≡ CycleOf ranks
 
 cycle_parts : (walks : Walks) (rank : ℕ) (cause : CauseView) → cycle_at walks rank ≡ Some cause → IsCycleOf walks rank cause
 cycle_parts walks rank cause h =
-    by_way walks rank cause (way_home walks (length walks) rank rank) refl h
+    by_way walks rank cause (way_round walks (length walks) rank rank) refl h
   where
-    by_test : (walks : Walks) (rank : ℕ) (cause : CauseView) (ranks : List ℕ) (test : Bool) → way_home walks (length walks) rank rank ≡ Some ranks → list_all (nat_le rank) ranks ≡ test → (if test then Some (CycleOf ranks) else None) ≡ Some cause → IsCycleOf walks rank cause
+    by_test : (walks : Walks) (rank : ℕ) (cause : CauseView) (ranks : List ℕ) (test : Bool) → way_round walks (length walks) rank rank ≡ Some ranks → list_all (nat_le rank) ranks ≡ test → (if test then Some (CycleOf ranks) else None) ≡ Some cause → IsCycleOf walks rank cause
     by_test walks rank cause ranks true way all h = record { ranks = ranks; is_way = way; all = all; is = sym (same_Some (CycleOf ranks) cause h) }
     by_test walks rank cause ranks false way all h = absurd (none-some cause h)
 
-    by_way : (walks : Walks) (rank : ℕ) (cause : CauseView) (o : Option (List ℕ)) → way_home walks (length walks) rank rank ≡ o → option_and_then (cycle_by rank) o ≡ Some cause → IsCycleOf walks rank cause
+    by_way : (walks : Walks) (rank : ℕ) (cause : CauseView) (o : Option (List ℕ)) → way_round walks (length walks) rank rank ≡ o → option_and_then (cycle_by rank) o ≡ Some cause → IsCycleOf walks rank cause
     by_way walks rank cause None way h = absurd (none-some cause h)
     by_way walks rank cause (Some ranks) way h = by_test walks rank cause ranks (list_all (nat_le rank) ranks) way refl h
 
@@ -49,14 +49,14 @@ pub record HasStart (walks : Walks) (cause : CauseView) : Type 0 where
   pub is_waiting : IsWaiting walks rank
   pub ends : ComesTo (next_in walks) (missing_at walks) rank cause
 
-way_waits : (walks : Walks) (most home rank : ℕ) (ranks : List ℕ) → way_home walks most home rank ≡ Some ranks → IsWaiting walks rank
+way_waits : (walks : Walks) (most home rank : ℕ) (ranks : List ℕ) → way_round walks most home rank ≡ Some ranks → IsWaiting walks rank
 way_waits walks zero home rank ranks h = absurd (none-some ranks h)
 way_waits walks (suc most) home rank ranks h =
     by_next walks most home rank ranks (next_in walks rank) refl h
   where
-    by_next : (walks : Walks) (most home rank : ℕ) (ranks : List ℕ) (o : Option ℕ) → next_in walks rank ≡ o → option_and_then (λ next. if next == home then Some (rank ∷ []) else option_map (λ ranks. rank ∷ ranks) (way_home walks most home next)) o ≡ Some ranks → IsWaiting walks rank
+    by_next : (walks : Walks) (most home rank : ℕ) (ranks : List ℕ) (o : Option ℕ) → next_in walks rank ≡ o → option_and_then (λ next. if next == home then Some (rank ∷ []) else option_map (λ ranks. rank ∷ ranks) (way_round walks most home next)) o ≡ Some ranks → IsWaiting walks rank
     by_next walks most home rank ranks None is h = absurd (none-some ranks h)
-    by_next walks most home rank ranks (Some next) is h = next_is_waiting walks rank next (onward_in walks rank) refl is
+    by_next walks most home rank ranks (Some next) is h = next_is_waiting walks rank next (hop_in walks rank) refl is
 
 pub each_is_an_end : (walks : Walks) (cause : CauseView) → Among cause (causes_in walks) → HasStart walks cause
 each_is_an_end walks cause h =
@@ -82,7 +82,7 @@ each_is_an_end walks cause h =
         subst (λ (c : CauseView). HasStart walks c) (sym parts.is)
         (record {
           rank = found.0;
-          is_waiting = lacks_is_waiting walks found.0 parts.peer (onward_in walks found.0) refl parts.lacks;
+          is_waiting = lacks_is_waiting walks found.0 parts.peer (hop_in walks found.0) refl parts.lacks;
           ends = record { steps = 0; end = found.0; comes_there = refl; is_end = rw parts.lacks refl };
         })
 

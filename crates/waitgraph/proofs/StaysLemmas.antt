@@ -13,10 +13,10 @@ use Rattle.mpicall.specs.declared.call.Call.{Call}
 use Rattle.mpicall.specs.declared.call.Call.TheVariants.{Open}
 use Rattle.mpigroup.specs.Groups.{Groups}
 use Rattle.mpigroup.proofs.ListLemmas.{get_end}
-use Rattle.callnotes.specs.Recordings.{Lists, calls_of, GoesOn}
-use Rattle.callnotes.specs.Places.{places}
-use Rattle.callnotes.specs.Requests.{started_before}
-use Rattle.callnotes.proofs.PlaceLemmas.{nth_place, places-append, slice_get-front}
+use Rattle.callstore.specs.Recordings.{Lists, calls_of, GoesOn}
+use Rattle.callstore.specs.Places.{places}
+use Rattle.callstore.specs.Requests.{started_before}
+use Rattle.callstore.proofs.PlaceLemmas.{nth_place, places-append, slice_get-front}
 use Rattle.moves.specs.declared.need.Need.{Need}
 use Rattle.moves.specs.declared.need.Need.TheVariants.{At, Lacking}
 use Rattle.moves.specs.Runs.{State, start, moved, Step, AreSteps, last_state, IsReached}

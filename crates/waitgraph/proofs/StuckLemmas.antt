@@ -12,8 +12,8 @@ use Rattle.mpicall.specs.declared.call.Call.{Call}
 use Rattle.mpicall.specs.declared.call.Call.TheVariants.{Finalize, Open}
 use Rattle.mpigroup.specs.Groups.{Groups}
 use Rattle.mpigroup.proofs.ListLemmas.{get_end}
-use Rattle.callnotes.specs.Recordings.{Lists, calls_of, IsClosedList, IsClosed}
-use Rattle.callnotes.proofs.PlaceLemmas.{slice_get-front}
+use Rattle.callstore.specs.Recordings.{Lists, calls_of, IsClosedList, IsClosed}
+use Rattle.callstore.proofs.PlaceLemmas.{slice_get-front}
 use Rattle.moves.specs.declared.need.Need.{Need}
 use Rattle.moves.specs.declared.need.Need.TheVariants.{At}
 use Rattle.moves.specs.Needs.{needs_of, is_met, may_pass, can_move}

@@ -6,7 +6,7 @@ use Rattle.std.specs.List.{filter}
 use Rattle.std.proofs.lemmas.Option.{slice_get_past}
 use Rattle.std.proofs.lemmas.Bool.{cases_lt, not-true, not_from_false}
 use Rattle.mpigroup.specs.Groups.{Groups}
-use Rattle.callnotes.specs.Recordings.{Lists}
+use Rattle.callstore.specs.Recordings.{Lists}
 use Rattle.moves.specs.Runs.{State}
 use Rattle.moves.specs.Needs.{needs_of, is_met}
 use Rattle.moves.specs.Stands.{stands_of}

@@ -5,17 +5,17 @@ use Rattle.std.specs.List.{slice_get, list_all, filter_map, range_with_len}
 use Rattle.std.proofs.lemmas.Option.{none-some, same_Some, slice_get_past}
 use Rattle.std.proofs.lemmas.Bool.{cases_lt}
 use Rattle.waitgraph.specs.Causes.{CauseView, CycleOf, MissingOf, after_steps, IsCycle, ComesTo}
-use Rattle.waitgraph.specs.inner.Causes.{Walks, onward_in, to_of, lacked_by, next_in, lacks_in, way_home, cycle_at, missing_at, causes_in}
-use Rattle.waitgraph.specs.declared.onward.Onward.{Onward}
-use Rattle.waitgraph.specs.declared.onward.Onward.TheVariants.{To, Lacks}
+use Rattle.waitgraph.specs.inner.Causes.{Walks, hop_in, to_of, lacked_by, next_in, lacks_in, way_round, cycle_at, missing_at, causes_in}
+use Rattle.waitgraph.specs.declared.next_hop.NextHop.{NextHop}
+use Rattle.waitgraph.specs.declared.next_hop.NextHop.TheVariants.{To, Lacks}
 use Rattle.waitgraph.proofs.AmongLemmas.{Among, among_left, among_right, given_among, range_among}
 use Rattle.waitgraph.proofs.CycleLemmas.{way_home_is, way_is_cycle, HasWayHome, finds_way}
 use Rattle.waitgraph.proofs.PigeonLemmas.{twice, lowest_of}
 
 -- from a rank that waits the walk goes on, or ends at a missing call
 pub record IsWaiting (walks : Walks) (rank : ℕ) : Type 0 where
-  pub there : Onward
-  pub goes_there : onward_in walks rank ≡ Some there
+  pub there : NextHop
+  pub goes_there : hop_in walks rank ≡ Some there
 
 -- for whom a rank waits, waits too
 pub record WalkGoesOn (walks : Walks) : Type 0 where
@@ -59,7 +59,7 @@ record Stands (walks : Walks) (rank steps : ℕ) : Type 0 where
 record StepsOn (walks : Walks) (rank : ℕ) (most : ℕ) : Type 0 where
   at : (steps : ℕ) → steps ≤ most → Stands walks rank steps
 
-one_step : (walks : Walks) (rank : ℕ) (there : Onward) → onward_in walks rank ≡ Some there → ((peer : ℕ) × (lacks_in walks rank ≡ Some peer)) ⊎ ((next : ℕ) × (next_in walks rank ≡ Some next))
+one_step : (walks : Walks) (rank : ℕ) (there : NextHop) → hop_in walks rank ≡ Some there → ((peer : ℕ) × (lacks_in walks rank ≡ Some peer)) ⊎ ((next : ℕ) × (next_in walks rank ≡ Some next))
 one_step walks rank (To k) is = inr (k, rw is refl)
 one_step walks rank (Lacks k) is = inl (k, rw is refl)
 
@@ -162,7 +162,7 @@ pub record TellsCycle (walks : Walks) (rank : ℕ) (ranks : List ℕ) : Type 0 w
   pub begins : ranks ≡ rank ∷ rest
   pub is_cycle : IsCycle (next_in walks) rank rest
 
-pub told_by_way : (walks : Walks) (most rank : ℕ) (ranks : List ℕ) → way_home walks most rank rank ≡ Some ranks → list_all (nat_le rank) ranks ≡ true → TellsCycle walks rank ranks
+pub told_by_way : (walks : Walks) (most rank : ℕ) (ranks : List ℕ) → way_round walks most rank rank ≡ Some ranks → list_all (nat_le rank) ranks ≡ true → TellsCycle walks rank ranks
 told_by_way walks most rank ranks is_way all =
     let way = way_home_is walks most rank rank ranks is_way in
     record {
@@ -181,11 +181,11 @@ missing_listed walks rank cause is_rank is =
     among_right cause (filter_map (cycle_at walks) (range_with_len 0 (length walks))) (filter_map (missing_at walks) (range_with_len 0 (length walks)))
     (given_among rank cause (missing_at walks) (range_with_len 0 (length walks)) (range_among rank 0 (length walks) (omega arith) (omega arith)) is)
 
-pub lacks_is_waiting : (walks : Walks) (rank peer : ℕ) (o : Option Onward) → onward_in walks rank ≡ o → option_and_then lacked_by o ≡ Some peer → IsWaiting walks rank
+pub lacks_is_waiting : (walks : Walks) (rank peer : ℕ) (o : Option NextHop) → hop_in walks rank ≡ o → option_and_then lacked_by o ≡ Some peer → IsWaiting walks rank
 lacks_is_waiting walks rank peer None is h = absurd (none-some peer h)
 lacks_is_waiting walks rank peer (Some there) is h = record { there = there; goes_there = is }
 
-pub next_is_waiting : (walks : Walks) (rank next : ℕ) (o : Option Onward) → onward_in walks rank ≡ o → option_and_then to_of o ≡ Some next → IsWaiting walks rank
+pub next_is_waiting : (walks : Walks) (rank next : ℕ) (o : Option NextHop) → hop_in walks rank ≡ o → option_and_then to_of o ≡ Some next → IsWaiting walks rank
 next_is_waiting walks rank next None is h = absurd (none-some next h)
 next_is_waiting walks rank next (Some there) is h = record { there = there; goes_there = is }
 
@@ -214,7 +214,7 @@ walk_ends walks on rank waiting =
         record {
           cause = MissingOf found.end found.peer;
           is_listed = missing_listed walks found.end (MissingOf found.end found.peer)
-              (waiting_is_rank walks found.end (lacks_is_waiting walks found.end found.peer (onward_in walks found.end) refl found.lacks))
+              (waiting_is_rank walks found.end (lacks_is_waiting walks found.end found.peer (hop_in walks found.end) refl found.lacks))
               (rw found.lacks refl);
           ends = record { steps = found.steps; end = found.end; comes_there = found.comes_there; is_end = rw found.lacks refl };
         }

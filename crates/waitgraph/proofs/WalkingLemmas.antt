@@ -12,7 +12,7 @@ use Rattle.mpicall.specs.Ending.{ends_list}
 use Rattle.mpicall.specs.declared.call.Call.{Call}
 use Rattle.mpicall.specs.declared.call.Call.TheVariants.{Finalize, Open}
 use Rattle.mpigroup.specs.Groups.{Groups}
-use Rattle.callnotes.specs.Recordings.{Lists, calls_of, IsClosed}
+use Rattle.callstore.specs.Recordings.{Lists, calls_of, IsClosed}
 use Rattle.moves.specs.Runs.{State}
 use Rattle.moves.specs.Stands.{stands_of}
 use Rattle.moves.specs.declared.need.Need.{Need}
@@ -22,12 +22,12 @@ use Rattle.waitgraph.specs.Waits.{Waits, needs_in}
 use Rattle.waitgraph.specs.inner.Waits.{waits_of}
 use Rattle.pairing.specs.LeftOpen.{leaves_open, is_left_open}
 use Rattle.waitgraph.specs.inner.Held.{opened_of, standing_by, standing_at, standings_at, is_held}
-use Rattle.waitgraph.specs.inner.Loose.{standing_of, are_held, onward_by, onward_of, FitTogether, GoesOnOrEnds}
+use Rattle.waitgraph.specs.inner.Loose.{standing_of, are_held, hop_by, hop_of, FitTogether, GoesOnOrEnds}
 use Rattle.waitgraph.specs.Held.{Set}
-use Rattle.waitgraph.specs.inner.Causes.{onward_in, to_of, next_in, missing_at, walks_of, causes_of}
+use Rattle.waitgraph.specs.inner.Causes.{hop_in, to_of, next_in, missing_at, walks_of, causes_of}
 use Rattle.waitgraph.specs.Causes.{TellsCauses}
-use Rattle.waitgraph.specs.declared.onward.Onward.{Onward}
-use Rattle.waitgraph.specs.declared.onward.Onward.TheVariants.{To, Lacks}
+use Rattle.waitgraph.specs.declared.next_hop.NextHop.{NextHop}
+use Rattle.waitgraph.specs.declared.next_hop.NextHop.TheVariants.{To, Lacks}
 use Rattle.waitgraph.specs.declared.standing.Standing.{Standing}
 use Rattle.waitgraph.specs.declared.standing.Standing.TheVariants.{AtFinalize, AtOpen, Stuck}
 use Rattle.waitgraph.proofs.AmongLemmas.{Among, among_in, in_among}
@@ -104,25 +104,25 @@ fits reading groups recording closed = record {
 }
 
 -- how the walk goes on from a rank
-not_from : (opened held : Set) (waits : Waits) (rank : ℕ) (is : Bool) → held rank ≡ is → is ≡ false → (if held rank then onward_by opened held (needs_in waits rank) else None) ≡ None
+not_from : (opened held : Set) (waits : Waits) (rank : ℕ) (is : Bool) → held rank ≡ is → is ≡ false → (if held rank then hop_by opened held (needs_in waits rank) else None) ≡ None
 not_from opened held waits rank is h isnt = rw (h, isnt) refl
 
-pub walk_is : (reading : Reading) (groups : Groups) (recording : Lists) (rank : ℕ) → onward_in (walks_of reading groups recording) rank ≡ onward_of (opened_of recording) (standings_at recording (stands_of reading groups recording)) (waits_of reading groups recording) rank
+pub walk_is : (reading : Reading) (groups : Groups) (recording : Lists) (rank : ℕ) → hop_in (walks_of reading groups recording) rank ≡ hop_of (opened_of recording) (standings_at recording (stands_of reading groups recording)) (waits_of reading groups recording) rank
 walk_is reading groups recording rank =
     let standings = standings_at recording (stands_of reading groups recording) in
-    let f = onward_of (opened_of recording) (standings_at recording (stands_of reading groups recording)) (waits_of reading groups recording) in
+    let f = hop_of (opened_of recording) (standings_at recording (stands_of reading groups recording)) (waits_of reading groups recording) in
     let count : length (standings_at recording (stands_of reading groups recording)) ≡ length recording = length-map-range_with_len (standing_at recording (stands_of reading groups recording)) 0 (length recording) in
     ⊎_elim
     (λ (within : rank < length recording).
-    ap (λ (step : Option (Option Onward)). option_and_then (λ there. there) step) (in_table f (length (standings_at recording (stands_of reading groups recording))) rank None (omega (arith, count, within))))
+    ap (λ (step : Option (Option NextHop)). option_and_then (λ there. there) step) (in_table f (length (standings_at recording (stands_of reading groups recording))) rank None (omega (arith, count, within))))
     (λ (past : length recording ≤ rank).
-    ap (λ (step : Option (Option Onward)). option_and_then (λ there. there) step) (past_table f (length (standings_at recording (stands_of reading groups recording))) rank (omega (arith, count, past)))
+    ap (λ (step : Option (Option NextHop)). option_and_then (λ there. there) step) (past_table f (length (standings_at recording (stands_of reading groups recording))) rank (omega (arith, count, past)))
     ∙ sym (rw (no_standing recording (stands_of reading groups recording) rank past) refl))
     (cases_lt rank (length recording))
 
-some_onward : (opened held : Set) (o : Option Onward) → GoesOnOrEnds opened held o → (there : Onward) × (o ≡ Some there)
-some_onward opened held None h = absurd h
-some_onward opened held (Some there) h = (there, refl)
+some_hop : (opened held : Set) (o : Option NextHop) → GoesOnOrEnds opened held o → (there : NextHop) × (o ≡ Some there)
+some_hop opened held None h = absurd h
+some_hop opened held (Some there) h = (there, refl)
 
 -- a held rank waits, and a rank that waits is held
 pub held_waits : (reading : Reading) (groups : Groups) (recording : Lists) → IsClosed recording → (rank : ℕ) → is_held reading groups recording rank ≡ true → IsWaiting (walks_of reading groups recording) rank
@@ -130,7 +130,7 @@ held_waits reading groups recording closed rank held =
     let opened = opened_of recording in
     let standings = standings_at recording (stands_of reading groups recording) in
     let waits = waits_of reading groups recording in
-    let some = some_onward (opened_of recording) (are_held (opened_of recording) (standings_at recording (stands_of reading groups recording)) (waits_of reading groups recording)) (onward_of (opened_of recording) (standings_at recording (stands_of reading groups recording)) (waits_of reading groups recording) rank)
+    let some = some_hop (opened_of recording) (are_held (opened_of recording) (standings_at recording (stands_of reading groups recording)) (waits_of reading groups recording)) (hop_of (opened_of recording) (standings_at recording (stands_of reading groups recording)) (waits_of reading groups recording) rank)
     (held_ranks_go_on (opened_of recording) (standings_at recording (stands_of reading groups recording)) (waits_of reading groups recording) rank (fits reading groups recording closed) held) in
     record { there = some.0; goes_there = walk_is reading groups recording rank ∙ some.1 }
 
@@ -144,7 +144,7 @@ waiting_held reading groups recording rank waiting =
     ∙ sym (walk_is reading groups recording rank) ∙ waiting.goes_there)))
     (cases_Bool (is_held reading groups recording rank))
 
-next_held : (opened held : Set) (o : Option Onward) (next : ℕ) → GoesOnOrEnds opened held o → option_and_then to_of o ≡ Some next → held next ≡ true
+next_held : (opened held : Set) (o : Option NextHop) (next : ℕ) → GoesOnOrEnds opened held o → option_and_then to_of o ≡ Some next → held next ≡ true
 next_held opened held None next h is = absurd h
 next_held opened held (Some (To other)) next h is = subst (λ (k : ℕ). held k ≡ true) (same_Some other next is) h
 next_held opened held (Some (Lacks other)) next h is = absurd (none-some next is)
@@ -153,17 +153,17 @@ goes_on : (reading : Reading) (groups : Groups) (recording : Lists) → IsClosed
 goes_on reading groups recording closed =
     record {
       goes_on = λ rank next h.
-          let waiting = next_is_waiting (walks_of reading groups recording) rank next (onward_in (walks_of reading groups recording) rank) refl h in
+          let waiting = next_is_waiting (walks_of reading groups recording) rank next (hop_in (walks_of reading groups recording) rank) refl h in
           let held = waiting_held reading groups recording rank waiting in
           held_waits reading groups recording closed next
-          (next_held (opened_of recording) (is_held reading groups recording) (onward_of (opened_of recording) (standings_at recording (stands_of reading groups recording)) (waits_of reading groups recording) rank) next
+          (next_held (opened_of recording) (is_held reading groups recording) (hop_of (opened_of recording) (standings_at recording (stands_of reading groups recording)) (waits_of reading groups recording) rank) next
           (held_ranks_go_on (opened_of recording) (standings_at recording (stands_of reading groups recording)) (waits_of reading groups recording) rank (fits reading groups recording closed) held)
-          (ap (λ (step : Option Onward). option_and_then to_of step) (sym (walk_is reading groups recording rank)) ∙ h));
+          (ap (λ (step : Option NextHop). option_and_then to_of step) (sym (walk_is reading groups recording rank)) ∙ h));
     }
 
 pub walk_count : (reading : Reading) (groups : Groups) (recording : Lists) → length (walks_of reading groups recording) ≡ length recording
 walk_count reading groups recording =
-    length-map-range_with_len (onward_of (opened_of recording) (standings_at recording (stands_of reading groups recording)) (waits_of reading groups recording)) 0 (length (standings_at recording (stands_of reading groups recording)))
+    length-map-range_with_len (hop_of (opened_of recording) (standings_at recording (stands_of reading groups recording)) (waits_of reading groups recording)) 0 (length (standings_at recording (stands_of reading groups recording)))
     ∙ length-map-range_with_len (standing_at recording (stands_of reading groups recording)) 0 (length recording)
 
 -- the walks from the held ranks that the search finds end in the causes that it finds

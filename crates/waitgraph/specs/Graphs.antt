@@ -3,7 +3,7 @@ use Rattle.mpicall.specs.Names.{Rank}
 use Rattle.moves.specs.declared.reading.Reading.{Reading}
 use Rattle.std.specs.Prelude.{◌≡◌, ℕ, Bool, List}
 use Rattle.mpigroup.specs.Groups.{Groups}
-use Rattle.callnotes.specs.Recordings.{Lists}
+use Rattle.callstore.specs.Recordings.{Lists}
 use Rattle.waitgraph.specs.Causes.{CauseView, AreCauses}
 use Rattle.waitgraph.specs.Held.{ListsHeld, is_some_left_open}
 use Rattle.waitgraph.specs.Waits.{Waits, needs_in}

@@ -4,7 +4,7 @@ use Rattle.moves.specs.declared.reading.Reading.{Reading}
 use Rattle.std.specs.Prelude.{◌≡◌, ℕ, ◌-◌, false, Some, if◌then◌else◌, List, [], ◌++◌, length, take, slice_get, slice_index}
 use Rattle.mpicall.specs.declared.call.Call.{Call}
 use Rattle.mpigroup.specs.Groups.{Groups}
-use Rattle.callnotes.specs.Recordings.{Lists, calls_of}
+use Rattle.callstore.specs.Recordings.{Lists, calls_of}
 use Rattle.moves.specs.Stands.{stands_of}
 use Rattle.pairing.specs.LeftOpen.{is_left_open}
 use Rattle.waitgraph.specs.Held.{IsHeld}

@@ -4,7 +4,7 @@ use Rattle.moves.specs.declared.reading.Reading.{Reading}
 use Rattle.std.specs.Prelude.{◌≡◌, ℕ, ◌<◌, Bool, true, false, not, ◌&&◌, ◌||◌, ◌==◌, nat_lt, Some, List, [], ◌∷◌, ◌++◌, length, slice_get, slice_index}
 use Rattle.std.specs.List.{filter, fold, list_all, range_with_len}
 use Rattle.mpigroup.specs.Groups.{Groups}
-use Rattle.callnotes.specs.Recordings.{Lists, IsClosed}
+use Rattle.callstore.specs.Recordings.{Lists, IsClosed}
 use Rattle.moves.specs.Runs.{State}
 use Rattle.moves.specs.Needs.{needs_of, is_met}
 use Rattle.moves.specs.Stands.{stands_of, is_at_end}

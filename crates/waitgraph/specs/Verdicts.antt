@@ -5,7 +5,7 @@ use Rattle.mpicall.specs.Names.{Rank}
 use Rattle.moves.specs.declared.reading.Reading.{Reading}
 use Rattle.std.specs.Prelude.{◌≡◌, ◌↔◌, ℕ, ◌<◌, Bool, true, false, List, [], ◌∷◌, length}
 use Rattle.mpigroup.specs.Groups.{Groups}
-use Rattle.callnotes.specs.Recordings.{Lists, IsClosed}
+use Rattle.callstore.specs.Recordings.{Lists, IsClosed}
 use Rattle.waitgraph.specs.Stuck.{is_stuck}
 use Rattle.waitgraph.specs.Held.{IsHeld, is_some_left_open}
 use Rattle.waitgraph.specs.declared.verdict.Verdict.{Verdict}

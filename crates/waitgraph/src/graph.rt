@@ -2,7 +2,7 @@
 
 ghost use Rattle.std.specs.Prelude.{◌≡◌, ◌<◌, ℕ, length, map, IfOk};
 ghost use Rattle.std.specs.List.{filter, range_with_len};
-ghost use Rattle.callnotes.specs.Recordings.{IsClosed};
+ghost use Rattle.callstore.specs.Recordings.{IsClosed};
 ghost use Rattle.waitgraph.specs.Stuck.{stuck_of, unmet_of};
 ghost use Rattle.waitgraph.specs.inner.Stuck.{is_stuck_at, stuck_at};
 ghost use Rattle.waitgraph.specs.Causes.{view_of, AreCauses};

@@ -31,7 +31,7 @@
 pub mod cause;
 pub mod graph;
 pub mod loose;
-pub mod onward;
+pub mod next_hop;
 pub mod standing;
 pub mod unmet;
 pub mod verdict;

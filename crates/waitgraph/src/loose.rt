@@ -9,9 +9,9 @@ ghost use Rattle.std.specs.List.{filter, list_all, range_with_len};
 ghost use Rattle.waitgraph.specs.inner.Causes.{walks_in};
 ghost use Rattle.waitgraph.specs.Held.{TheHeldAreTheGreatest};
 ghost use Rattle.waitgraph.specs.Stays.{HeldRanksStay};
-ghost use Rattle.waitgraph.specs.inner.Loose.{set_of, standing_of, is_on, loosens, are_loose, are_held, goes_on, onward, onward_by, onward_of, Sweeps};
+ghost use Rattle.waitgraph.specs.inner.Loose.{set_of, standing_of, is_on, loosens, are_loose, are_held, goes_on, hop, hop_by, hop_of, Sweeps};
 
-use crate::onward::Onward;
+use crate::next_hop::NextHop;
 use crate::standing::Standing;
 use crate::waits::Waits;
 use moves::need::Need;
@@ -180,49 +180,49 @@ fn goes_on(
 }
 
 /// Where the walk goes on by the need.
-fn onward(opened: &[bool], need: &Need) -> Onward
-    ensures { result ≡ onward (set_of opened.now) need.now }
+fn hop(opened: &[bool], need: &Need) -> NextHop
+    ensures { result ≡ hop (set_of opened.now) need.now }
 {
     match *need {
-        Need::Lacking { rank } if !is_marked(opened, rank) => Onward::Lacks { rank },
-        Need::At { rank, .. } | Need::Lacking { rank } => Onward::To { rank },
+        Need::Lacking { rank } if !is_marked(opened, rank) => NextHop::Lacks { rank },
+        Need::At { rank, .. } | Need::Lacking { rank } => NextHop::To { rank },
     }
 }
 
 /// Where the walk goes on by the first of the needs by which it does.
-fn onward_by(
+fn hop_by(
     opened: &[bool],
     standings: &[Standing],
     waits: &Waits,
     loose: &[bool],
     needs: &[Need],
-) -> Option<Onward>
+) -> Option<NextHop>
     requires { (r : ℕ) → set_of loose.now r ≡ are_loose (set_of opened.now) standings.now waits.now r }
-    ensures { result ≡ onward_by (set_of opened.now) (are_held (set_of opened.now) standings.now waits.now) needs.now }
+    ensures { result ≡ hop_by (set_of opened.now) (are_held (set_of opened.now) standings.now waits.now) needs.now }
 {
     for need in needs {
         if goes_on(opened, standings, waits, loose, need) {
-            return Some(onward(opened, need));
+            return Some(hop(opened, need));
         }
     }
     None
 }
 
 /// Where the walk goes on from a rank.
-fn onward_of(
+fn hop_of(
     opened: &[bool],
     standings: &[Standing],
     waits: &Waits,
     loose: &[bool],
     rank: u16,
-) -> Option<Onward>
+) -> Option<NextHop>
     requires { (r : ℕ) → set_of loose.now r ≡ are_loose (set_of opened.now) standings.now waits.now r }
-    ensures { result ≡ onward_of (set_of opened.now) standings.now waits.now rank }
+    ensures { result ≡ hop_of (set_of opened.now) standings.now waits.now rank }
 {
     if !is_held(opened, standings, waits, loose, rank) {
         return None;
     }
-    onward_by(opened, standings, waits, loose, waits.get(rank))
+    hop_by(opened, standings, waits, loose, waits.get(rank))
 }
 
 /// How the walk goes on from each rank.
@@ -232,13 +232,13 @@ pub(crate) fn walks_in(
     standings: &[Standing],
     waits: &Waits,
     loose: &[bool],
-) -> Result<Vec<Option<Onward>>, AllocError>
+) -> Result<Vec<Option<NextHop>>, AllocError>
     requires few { length standings.now < 65536 }
     requires loose { (r : ℕ) → set_of loose.now r ≡ are_loose (set_of opened.now) standings.now waits.now r }
     ensures { IfOk result (λ walks. walks.items ≡ walks_in (set_of opened.now) standings.now waits.now) }
 {
     (0..standings.len() as u16)
-        .map(|rank| onward_of(opened, standings, waits, loose, rank))
+        .map(|rank| hop_of(opened, standings, waits, loose, rank))
         .collect(alloc)
 }
 

@@ -2,7 +2,7 @@
 
 /// Where the walk to a cause goes on from a rank that waits.
 #[derive(Clone, Copy, PartialEq, Eq)]
-pub enum Onward {
+pub enum NextHop {
     /// To the rank that it waits for.
     To { rank: u16 },
     /// Nowhere: this rank lacks the call that it waits for.

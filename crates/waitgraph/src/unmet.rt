@@ -1,12 +1,12 @@
 //! Needs that aren't met where the ranks stand.
 
 ghost use Rattle.std.specs.Prelude.{◌≡◌, [], ◌++◌, Some, map, flat_map, slice_get, option_to_list, IfOk, OnOk};
-ghost use Rattle.callnotes.specs.Recordings.{calls_of};
+ghost use Rattle.callstore.specs.Recordings.{calls_of};
 ghost use Rattle.std.specs.List.{filter};
 ghost use Rattle.std.specs.Option.{option_map_or};
 ghost use Rattle.std.specs.Ordering.{is_lt};
 ghost use Rattle.mpigroup.specs.Groups.{group_of};
-ghost use Rattle.callnotes.specs.Requests.{completes};
+ghost use Rattle.callstore.specs.Requests.{completes};
 ghost use Rattle.pairing.specs.Pairs.{completed_of};
 ghost use Rattle.pairing.specs.Seen.{call_seen};
 ghost use Rattle.moves.specs.Worlds.{IsSeenAt};

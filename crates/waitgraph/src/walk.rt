@@ -8,39 +8,39 @@ ghost use Rattle.std.specs.Prelude.{◌≡◌, ◌<◌, ◌++◌, nat_le, length
 ghost use Rattle.std.specs.Option.{option_to_list};
 ghost use Rattle.std.specs.List.{filter_map, range_with_len, list_all};
 ghost use Rattle.waitgraph.specs.Causes.{view_of, WalksEndInTheCauses, EachRecordingHasOneListOfCauses};
-ghost use Rattle.waitgraph.specs.inner.Causes.{next_in, lacks_in, way_home, cycle_at, missing_at, causes_in};
+ghost use Rattle.waitgraph.specs.inner.Causes.{next_in, lacks_in, way_round, cycle_at, missing_at, causes_in};
 
 use crate::cause::Cause;
-use crate::onward::Onward;
+use crate::next_hop::NextHop;
 use std::alloc::{AllocError, Global};
 
 /// The rank to which the walk goes on from a rank.
-fn next_in(walks: &[Option<Onward>], rank: u16) -> Option<u16>
+fn next_in(walks: &[Option<NextHop>], rank: u16) -> Option<u16>
     ensures { result ≡ next_in walks.now rank }
 {
     match walks.get(usize::from(rank)) {
-        Some(Some(Onward::To { rank: next })) => Some(*next),
+        Some(Some(NextHop::To { rank: next })) => Some(*next),
         _ => None,
     }
 }
 
 /// The rank that lacks the call for which a rank waits.
-fn lacks_in(walks: &[Option<Onward>], rank: u16) -> Option<u16>
+fn lacks_in(walks: &[Option<NextHop>], rank: u16) -> Option<u16>
     ensures { result ≡ lacks_in walks.now rank }
 {
     match walks.get(usize::from(rank)) {
-        Some(Some(Onward::Lacks { rank: peer })) => Some(*peer),
+        Some(Some(NextHop::Lacks { rank: peer })) => Some(*peer),
         _ => None,
     }
 }
 
 /// The ranks of the walk from `home` until it comes back; None where it doesn't.
-fn way_home(
+fn way_round(
     alloc: Global,
-    walks: &[Option<Onward>],
+    walks: &[Option<NextHop>],
     home: u16,
 ) -> Result<Option<Vec<u16>>, AllocError>
-    ensures { IfOk result (λ ranks. option_map (λ r. r.items) ranks ≡ way_home walks.now (length walks.now) home home) }
+    ensures { IfOk result (λ ranks. option_map (λ r. r.items) ranks ≡ way_round walks.now (length walks.now) home home) }
 {
     let mut ranks = Vec::new(alloc);
     let mut rank = home;
@@ -66,12 +66,12 @@ fn is_lowest(rank: u16, ranks: &[u16]) -> bool
 fn add_cycle(
     alloc: Global,
     causes: &mut Vec<Cause>,
-    walks: &[Option<Onward>],
+    walks: &[Option<NextHop>],
     rank: u16,
 ) -> Result<(), AllocError>
     ensures { OnOk result (map view_of causes.new.items ≡ map view_of causes.old.items ++ option_to_list (cycle_at walks.now rank)) }
 {
-    if let Some(ranks) = way_home(alloc, walks, rank)? {
+    if let Some(ranks) = way_round(alloc, walks, rank)? {
         if is_lowest(rank, &ranks) {
             causes.push(Cause::Cycle(ranks))?;
         }
@@ -83,7 +83,7 @@ fn add_cycle(
 fn add_cycles(
     alloc: Global,
     causes: &mut Vec<Cause>,
-    walks: &[Option<Onward>],
+    walks: &[Option<NextHop>],
 ) -> Result<(), AllocError>
     requires { length walks.now < 65536 }
     ensures { OnOk result (map view_of causes.new.items ≡ map view_of causes.old.items ++ filter_map (cycle_at walks.now) (range_with_len 0 (length walks.now))) }
@@ -97,7 +97,7 @@ fn add_cycles(
 /// Adds the missing call for which the rank waits, if it waits for one.
 fn add_missing(
     causes: &mut Vec<Cause>,
-    walks: &[Option<Onward>],
+    walks: &[Option<NextHop>],
     rank: u16,
 ) -> Result<(), AllocError>
     ensures { OnOk result (map view_of causes.new.items ≡ map view_of causes.old.items ++ option_to_list (missing_at walks.now rank)) }
@@ -109,7 +109,7 @@ fn add_missing(
 }
 
 #[tactic(auto, using(crate::proofs::RangeLemmas::one_given))]
-fn add_missing_calls(causes: &mut Vec<Cause>, walks: &[Option<Onward>]) -> Result<(), AllocError>
+fn add_missing_calls(causes: &mut Vec<Cause>, walks: &[Option<NextHop>]) -> Result<(), AllocError>
     requires { length walks.now < 65536 }
     ensures { OnOk result (map view_of causes.new.items ≡ map view_of causes.old.items ++ filter_map (missing_at walks.now) (range_with_len 0 (length walks.now))) }
 {
@@ -120,7 +120,7 @@ fn add_missing_calls(causes: &mut Vec<Cause>, walks: &[Option<Onward>]) -> Resul
 }
 
 /// The cycles by their lowest rank, and then the missing calls by the rank that waits.
-pub(crate) fn causes_in(alloc: Global, walks: &[Option<Onward>]) -> Result<Vec<Cause>, AllocError>
+pub(crate) fn causes_in(alloc: Global, walks: &[Option<NextHop>]) -> Result<Vec<Cause>, AllocError>
     requires { length walks.now < 65536 }
     ensures { IfOk result (λ causes. map view_of causes.items ≡ causes_in walks.now) }
 {

@@ -9,7 +9,7 @@ use Rattle.mpigroup.specs.declared.limits.TheConstants.{MOST_RANKS}
 use Rattle.std.proofs.lemmas.List.Elements.{All-push}
 use Rattle.std.proofs.lemmas.List.FromFn.{fill_by_all}
 use Rattle.mpigroup.specs.Groups.{Groups}
-use Rattle.callnotes.specs.Recordings.{Lists, GoesOn}
+use Rattle.callstore.specs.Recordings.{Lists, GoesOn}
 use Rattle.moves.specs.Runs.{start}
 use Rattle.moves.specs.Needs.{can_move}
 use Rattle.moves.specs.Stands.{stands_of}

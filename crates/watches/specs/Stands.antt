@@ -6,7 +6,7 @@ use Rattle.std.specs.Prelude.{◌≡◌, ℕ, Bool, ◌&&◌, nat_le, nat_lt, Li
 use Rattle.std.specs.List.{list_all, range_with_len}
 use Rattle.mpigroup.specs.Groups.{Groups}
 use Rattle.mpigroup.specs.declared.limits.TheConstants.{MOST_RANKS}
-use Rattle.callnotes.specs.Recordings.{Lists, GoesOn}
+use Rattle.callstore.specs.Recordings.{Lists, GoesOn}
 use Rattle.moves.specs.Runs.{State, IsReached}
 use Rattle.moves.specs.Needs.{can_move}
 

@@ -2,19 +2,19 @@
 use Rattle.std.specs.Prelude.{ℕ, ◌+◌, ◌*◌, ◌≤◌, Option, Some, None, IsSome, option_and_then, unwrap_or, List, [], ◌∷◌, map, length, take, drop, slice_get, IsTrue}
 use Rattle.std.specs.List.{All}
 use Rattle.mpicall.specs.declared.limits.TheConstants.{MOST_REQUESTS}
-use Rattle.mpicall.specs.inner.Laid.{call_from}
+use Rattle.mpicall.specs.inner.CallArgs.{call_from}
 use Rattle.mpicall.specs.Limits.{in_ranges}
 use Rattle.mpicall.specs.declared.call.Call.{Call}
 use Rattle.mpicall.specs.declared.call.Peer.TheVariants.{Rank}
 use Rattle.mpicall.specs.declared.call.Call.TheVariants as made
-use Rattle.mpicall.specs.declared.laid.Laid.TheVariants as laid
-use Rattle.callnotes.specs.declared.often.TheConstants.{ANY, SEND, RECV, ISEND, IRECV, COLL, WAIT, WAITALL}
-use Rattle.callnotes.specs.declared.packed.Packed.{Packed}
-use Rattle.callnotes.specs.declared.packed.Packed.TheVariants.{Send, Recv, Isend, Irecv, Wait, Waitall, Waitany, Coll, Icoll, Nothing, Message, Exchange, Copy, Split}
-use Rattle.callnotes.specs.declared.packed.Entry.{Entry}
-use Rattle.callnotes.specs.Limits.{most_calls}
-use Rattle.callnotes.specs.Notes.{Noted}
-use Rattle.callnotes.specs.Packed.{noted}
+use Rattle.mpicall.specs.declared.call_args.CallArgs.TheVariants as call_args
+use Rattle.callstore.specs.declared.hot.TheConstants.{ANY, SEND, RECV, ISEND, IRECV, COLL, WAIT, WAITALL}
+use Rattle.callstore.specs.declared.packed.Packed.{Packed}
+use Rattle.callstore.specs.declared.packed.Packed.TheVariants.{Send, Recv, Isend, Irecv, Wait, Waitall, Waitany, Coll, Icoll, Nothing, Message, Exchange, Copy, Split}
+use Rattle.callstore.specs.declared.packed.Entry.{Entry}
+use Rattle.callstore.specs.Limits.{most_calls}
+use Rattle.callstore.specs.Notes.{Noted}
+use Rattle.callstore.specs.Packed.{noted}
 
 -- the request that a stored call starts
 abbrev pub request_of : Packed → Option ℕ
@@ -24,15 +24,15 @@ request_of (Icoll req comm kind) = Some req
 request_of _ = None
 
 -- the number of the kind of a stored call
-abbrev pub kind_no_of : Packed → ℕ
-kind_no_of (Send mode comm dest tag bytes) = SEND
-kind_no_of (Recv comm (Rank source) tag) = RECV
-kind_no_of (Isend mode comm dest req tag bytes) = ISEND
-kind_no_of (Irecv req comm source tag) = IRECV
-kind_no_of (Coll comm kind) = COLL
-kind_no_of (Wait start) = WAIT
-kind_no_of (Waitall first count) = WAITALL
-kind_no_of _ = ANY
+abbrev pub hot_kind_of : Packed → ℕ
+hot_kind_of (Send mode comm dest tag bytes) = SEND
+hot_kind_of (Recv comm (Rank source) tag) = RECV
+hot_kind_of (Isend mode comm dest req tag bytes) = ISEND
+hot_kind_of (Irecv req comm source tag) = IRECV
+hot_kind_of (Coll comm kind) = COLL
+hot_kind_of (Wait start) = WAIT
+hot_kind_of (Waitall first count) = WAITALL
+hot_kind_of _ = ANY
 
 -- the request that the rank's call at the place starts
 abbrev pub request_at : List Entry → ℕ → Option ℕ
@@ -59,11 +59,11 @@ unpack_starts starts _ = []
 
 -- the call of a name and what follows it; none of an operation and of a wait
 abbrev pub plain_of : Packed → Option Call
-plain_of (Nothing name) = Some (call_from name laid.Nothing)
-plain_of (Message name comm source tag) = Some (call_from name (laid.Message comm source tag))
-plain_of (Exchange name comm dest source send_tag recv_tag bytes) = Some (call_from name (laid.Exchange comm dest send_tag source recv_tag bytes))
-plain_of (Copy name comm new) = Some (call_from name (laid.Copy comm new))
-plain_of (Split name comm colour key new) = Some (call_from name (laid.Split comm colour key new))
+plain_of (Nothing name) = Some (call_from name call_args.Nothing)
+plain_of (Message name comm source tag) = Some (call_from name (call_args.Message comm source tag))
+plain_of (Exchange name comm dest source send_tag recv_tag bytes) = Some (call_from name (call_args.Exchange comm dest send_tag source recv_tag bytes))
+plain_of (Copy name comm new) = Some (call_from name (call_args.Copy comm new))
+plain_of (Split name comm colour key new) = Some (call_from name (call_args.Split comm colour key new))
 plain_of _ = None
 
 -- the call: a wait names the requests that the calls at its starts start
@@ -86,7 +86,7 @@ end_of (Waitany chosen first count) = first + count
 end_of _ = 0
 
 abbrev pub noted_of : List Entry → List ℕ → Entry → Noted
-noted_of entries starts entry = noted (unpack entries starts entry.call) entry.beside (unpack_starts starts entry.call)
+noted_of entries starts entry = noted (unpack entries starts entry.call) entry.cached (unpack_starts starts entry.call)
 
 -- the calls at the places start requests
 abbrev pub StartRequests : List Entry → List ℕ → Type 0

@@ -2,17 +2,17 @@
 -- for standard error.
 use Rattle.std.specs.Prelude.{◌≡◌, ◌≢◌, ◌⊎◌, ℕ, Option, Result, Ok, Err, List, ⊤, string_bytes}
 use Rattle.clap.specs.Walk.{Text}
-use Rattle.command.specs.Ends.{EndsInFault, IsTried}
-use Rattle.command.specs.Faults.{status_of_fault}
-use Rattle.command.specs.FaultTexts.{line_of_fault}
-use Rattle.command.specs.Outputs.{Written, Nothing, Becomes, Writes, FailsToWrite, Tries}
-use Rattle.command.specs.inner.Outputs.{LeavesAtFault}
-use Rattle.command.specs.declared.fault.Fault.{Fault}
-use Rattle.command.specs.declared.fault.Fault.TheVariants.{Memory, Write}
-use Rattle.command.specs.declared.program.Complaint.{Complaint}
-use Rattle.command.specs.declared.program.Complaint.TheVariants as complaint
-use Rattle.command.specs.declared.status.Status.{Status}
-use Rattle.command.specs.declared.status.Status.TheVariants as status
+use Rattle.cli.specs.ExitContract.{EndsInFault, IsTried}
+use Rattle.cli.specs.Faults.{status_of_fault}
+use Rattle.cli.specs.FaultTexts.{line_of_fault}
+use Rattle.cli.specs.Outputs.{Written, Nothing, Becomes, Writes, FailsToWrite, Tries}
+use Rattle.cli.specs.inner.Outputs.{LeavesAtFault}
+use Rattle.cli.specs.declared.fault.Fault.{Fault}
+use Rattle.cli.specs.declared.fault.Fault.TheVariants.{Memory, Write}
+use Rattle.cli.specs.declared.program.Complaint.{Complaint}
+use Rattle.cli.specs.declared.program.Complaint.TheVariants as complaint
+use Rattle.cli.specs.declared.status.Status.{Status}
+use Rattle.cli.specs.declared.status.Status.TheVariants as status
 
 -- the statuses that go with standard error
 abbrev pub IsOfError : Status → Type 0

@@ -2,12 +2,12 @@
 use Rattle.std.specs.Prelude.{◌≡◌, Bool, true, Option, Some, None, map, string_bytes, not}
 use Rattle.clap.specs.Walk.{Text}
 use Rattle.clap.specs.declared.error.kind.ErrorKind.{ErrorKind}
-use Rattle.command.specs.declared.words.Words.{Words}
-use Rattle.command.specs.declared.words.Words.TheVariants.{Check, Lint, Judge, Close, Said, NoMemory}
-use Rattle.command.specs.Asked.{Task, is_text, CheckRun, LintTrace, JudgeJournals, CloseJournals}
+use Rattle.cli.specs.declared.command_line.CommandLine.{CommandLine}
+use Rattle.cli.specs.declared.command_line.CommandLine.TheVariants.{Check, Lint, Judge, Close, Said, NoMemory}
+use Rattle.cli.specs.CommandLine.{Task, is_text, CheckRun, LintTrace, JudgeJournals, CloseJournals}
 
 -- the answer has the task, says that there is none, or has no memory
-abbrev pub Names : Option Task → Words → Type 0
+abbrev pub Names : Option Task → CommandLine → Type 0
 Names task (Check head files options) = task ≡ Some (CheckRun head.now (map (λ file. file.now) files.items) options)
 Names task (Lint file) = task ≡ Some (LintTrace file.now)
 Names task (Judge folder manner) = task ≡ Some (JudgeJournals folder.now manner)
@@ -16,7 +16,7 @@ Names task (Said text is_error) = (task ≡ None) × (is_error ≡ true)
 Names task NoMemory = Unit {0}
 
 -- the text is said, or there is no memory for it
-abbrev pub Says : Text → Bool → Words → Type 0
+abbrev pub Says : Text → Bool → CommandLine → Type 0
 Says text is_error (Check head files options) = ⊥
 Says text is_error (Lint file) = ⊥
 Says text is_error (Judge folder manner) = ⊥
@@ -25,7 +25,7 @@ Says text is_error (Said said is_said) = (string_bytes said ≡ text) × (is_sai
 Says text is_error NoMemory = Unit {0}
 
 -- a text is said of an error of this kind, or there is no memory for it
-abbrev pub SaysError : ErrorKind → Words → Type 0
+abbrev pub SaysError : ErrorKind → CommandLine → Type 0
 SaysError kind (Check head files options) = ⊥
 SaysError kind (Lint file) = ⊥
 SaysError kind (Judge folder manner) = ⊥

@@ -2,8 +2,8 @@
 use Rattle.std.specs.Prelude.{◌≡◌, ℕ, Option, IfSome, List, take}
 use Rattle.mpicall.specs.Device.{one_more}
 use Rattle.mpigroup.specs.declared.limits.TheConstants.{DECIDING_BYTES}
-use Rattle.command.specs.declared.fault.Fault.{Fault}
-use Rattle.command.specs.declared.fault.Fault.TheVariants.{ReadHead, Memory}
+use Rattle.cli.specs.declared.fault.Fault.{Fault}
+use Rattle.cli.specs.declared.fault.Fault.TheVariants.{ReadHead, Memory}
 
 -- so many bytes of a head decide it
 abbrev pub deciding_bytes : ℕ

@@ -2,8 +2,8 @@
 use Rattle.std.specs.Prelude.{◌≡◌, ◌≢◌}
 use Rattle.judging.specs.declared.judge.JudgeFault.{JudgeFault}
 use Rattle.judging.specs.declared.judge.JudgeFault.TheVariants as judged
-use Rattle.command.specs.declared.fault.Fault.{Fault}
-use Rattle.command.specs.declared.fault.Fault.TheVariants.{Write}
+use Rattle.cli.specs.declared.fault.Fault.{Fault}
+use Rattle.cli.specs.declared.fault.Fault.TheVariants.{Write}
 
 -- a failed write is reported as one, and nothing else is
 abbrev pub IsWriteAs : JudgeFault → Fault → Type 0

@@ -1,8 +1,8 @@
 -- What proofs and private contracts cite, in addition to the definitions of `specs/Outputs.antt`.
 use Rattle.std.specs.Prelude.{◌≡◌, ℕ, Option, List}
-use Rattle.command.specs.declared.fault.Fault.{Fault}
-use Rattle.command.specs.declared.fault.Fault.TheVariants.{Write}
-use Rattle.command.specs.Outputs.{FailsToWrite}
+use Rattle.cli.specs.declared.fault.Fault.{Fault}
+use Rattle.cli.specs.declared.fault.Fault.TheVariants.{Write}
+use Rattle.cli.specs.Outputs.{FailsToWrite}
 
 -- an output of which is known what was written to it, and how many writes have failed
 module _ {O : Type 0} (written : O → Option (List ℕ)) (failures : O → ℕ) where

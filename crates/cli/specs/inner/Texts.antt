@@ -4,10 +4,10 @@ use Rattle.std.specs.Borrow.{Bor}
 use Rattle.std.specs.Io.KnownBytes.{Appends}
 use Rattle.mpigroup.specs.HeadText.{read_head}
 use Rattle.waitgraph.specs.declared.verdict.Verdict.{Verdict}
-use Rattle.command.specs.declared.options.Options.{Options}
-use Rattle.command.specs.declared.fault.Fault.{Fault}
-use Rattle.command.specs.declared.fault.Fault.TheVariants.{Open, ReadHead, Head, Memory}
-use Rattle.command.specs.Texts.{IsUnopened, IsReportOf}
+use Rattle.cli.specs.declared.options.Options.{Options}
+use Rattle.cli.specs.declared.fault.Fault.{Fault}
+use Rattle.cli.specs.declared.fault.Fault.TheVariants.{Open, ReadHead, Head, Memory}
+use Rattle.cli.specs.Texts.{IsUnopened, IsReportOf}
 
 -- the fault is one of opening or of reading the head, or the first fault of its text, where that is known
 abbrev pub IsFaultOfHead : (List ℕ → Option (List ℕ)) → List ℕ → Fault → Type 0

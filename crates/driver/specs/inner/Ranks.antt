@@ -9,11 +9,11 @@ use Rattle.mpigroup.specs.Groups.{Groups, ranks_of}
 use Rattle.std.specs.Io.KnownBytes.{Appends}
 use Rattle.moves.specs.declared.reading.Reading.{Reading}
 use Rattle.waitgraph.specs.declared.verdict.Verdict.{Verdict}
-use Rattle.reports.specs.Reports.{IsReport}
-use Rattle.reports.specs.declared.report.Format.{Format}
-use Rattle.callnotes.specs.Recordings.{Lists, calls_of, IsClosed}
-use Rattle.gather.specs.Answers.{fault_of_rank}
-use Rattle.runs.specs.Told.{is_from_outside}
+use Rattle.report.specs.Reports.{IsReport}
+use Rattle.report.specs.declared.write.Format.{Format}
+use Rattle.callstore.specs.Recordings.{Lists, calls_of, IsClosed}
+use Rattle.gather.specs.Outcomes.{fault_of_rank}
+use Rattle.driver.specs.VerdictContract.{is_from_outside}
 use Rattle.gather.specs.declared.fault.Refusal.{Refusal}
 use Rattle.gather.specs.declared.fault.RunFault.{RunFault}
 use Rattle.gather.specs.declared.fault.RunFault.TheVariants.{Memory, Unproved, Refused, Write}

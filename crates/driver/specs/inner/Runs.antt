@@ -8,7 +8,7 @@ use Rattle.rankfeed.specs.declared.item.Item.{Item}
 use Rattle.rankfeed.specs.declared.ring.Receipt.{Receipt}
 use Rattle.gather.specs.inner.Closes.{IsOutcomeOver}
 use Rattle.gather.specs.Collectors.{rings, kept}
-use Rattle.runs.specs.Threads.{IsFedOrNotStarted}
+use Rattle.driver.specs.Threads.{IsFedOrNotStarted}
 use Rattle.gather.specs.Receipts.{trace_of_items}
 use Rattle.gather.specs.declared.collector.Collector.{Collector}
 use Rattle.gather.specs.declared.fault.RunFault.{RunFault}
@@ -16,7 +16,7 @@ use Rattle.gather.specs.declared.fault.RunFault.TheVariants.{Memory, Unproved, R
 use Rattle.gather.specs.declared.outcome.CloseFault.{CloseFault}
 use Rattle.gather.specs.declared.outcome.CloseFault.TheVariants as close
 use Rattle.moves.specs.Analysed.{Analysed}
-use Rattle.runs.specs.declared.threads.Fed.{Fed}
+use Rattle.driver.specs.declared.threads.FeedResult.{FeedResult}
 
 -- a later time of the same session: its feeds, its reading and its head are as they were
 pub record IsSameSession (old new : Collector) : Type 0 where
@@ -29,7 +29,7 @@ abbrev pub receipt_in : {E : Type 0} → Result Receipt E → Option Receipt
 receipt_in (Ok receipt) = Some receipt
 receipt_in (Err fault) = None
 
-abbrev pub receipt_of : Fed → Option Receipt
+abbrev pub receipt_of : FeedResult → Option Receipt
 receipt_of fed = receipt_in fed.receipt
 
 -- the fault of a run whose session has no outcome

@@ -3,15 +3,15 @@ use Rattle.std.specs.Prelude.{◌≡◌, ℕ, Bool, true, false, Option, Some, N
 use Rattle.mpicall.specs.Source.{coming, ended}
 use Rattle.mpicall.specs.Trace.{Trace}
 use Rattle.mpicall.specs.declared.source.Source.{Source}
-use Rattle.callnotes.specs.Recordings.{is_ended}
+use Rattle.callstore.specs.Recordings.{is_ended}
 use Rattle.rankfeed.specs.Items.{calls_among, end_the_list, end_mark_of}
 use Rattle.mpicall.specs.declared.fault.Ending.TheVariants.{Sealed}
 use Rattle.rankfeed.specs.declared.item.Item.{Item}
 use Rattle.gather.specs.Collected.{Kept, IsKeptIn}
 use Rattle.gather.specs.inner.Collected.{LeavesOthers}
-use Rattle.gather.specs.Fed.{IsFed}
+use Rattle.gather.specs.FeedContract.{IsFed}
 use Rattle.gather.specs.Reads.{IsReading}
-use Rattle.runs.specs.declared.turn.Turn.{Turn}
+use Rattle.driver.specs.declared.turn.Turn.{Turn}
 
 -- a source, and how far it was read
 pub record AtTurn (I : Type 0) : Type 0 where

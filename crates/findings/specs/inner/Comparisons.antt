@@ -2,8 +2,8 @@
 use Rattle.std.specs.Prelude.{◌≡◌, ℕ, ◌+◌, ◌<◌, Option, None, option_and_then, List, get_or}
 use Rattle.mpicall.specs.declared.call.Kind.{Kind}
 use Rattle.mpigroup.specs.Groups.{Groups}
-use Rattle.callnotes.specs.Kinds.{kind_of}
-use Rattle.callnotes.specs.Recordings.{Lists}
+use Rattle.callstore.specs.Kinds.{kind_of}
+use Rattle.callstore.specs.Recordings.{Lists}
 use Rattle.findings.specs.Places.{call_of_member}
 use Rattle.findings.specs.declared.finding.wave.Compared.{Compared}
 use Rattle.findings.specs.declared.finding.wave.Compared.TheVariants.{Kinds, Roots}

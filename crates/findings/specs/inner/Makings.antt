@@ -5,7 +5,7 @@ use Rattle.std.specs.HashMap.{get}
 use Rattle.mpicall.specs.declared.call.Call.{Call}
 use Rattle.mpicall.specs.declared.call.Call.TheVariants.{Dup, Split}
 use Rattle.mpigroup.specs.Groups.{Groups}
-use Rattle.callnotes.specs.Recordings.{Lists}
+use Rattle.callstore.specs.Recordings.{Lists}
 use Rattle.findings.specs.Findings.{is_wrong_group}
 use Rattle.findings.specs.declared.finding.making.Making.{Making}
 use Rattle.findings.specs.declared.finding.group.Known.{Known}

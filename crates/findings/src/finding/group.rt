@@ -4,18 +4,18 @@ ghost use Rattle.std.specs.Prelude.{◌≡◌, ◌≤◌, ◌++◌, if◌then◌
 ghost use Rattle.std.specs.Str.{bytes_eq};
 ghost use Rattle.std.specs.Option.{option_map_or};
 ghost use Rattle.mpigroup.specs.Groups.{Groups, group_of};
-ghost use Rattle.callnotes.specs.Recordings.{Lists};
+ghost use Rattle.callstore.specs.Recordings.{Lists};
 ghost use Rattle.findings.specs.Places.{call_of_member, over_places};
 ghost use Rattle.findings.specs.Findings.{same_word, all_call_alike, choice_of, choices_in, split_ranks, in_world, member_makes, is_given, makes_given, is_wrong_group, is_wrong_at, group_at, wrong_groups_of};
 ghost use Rattle.findings.specs.inner.Makings.{is_wrong_making, is_same_making, known_of, IsKnown};
 ghost use Rattle.findings.specs.declared.finding.making.Making.{Making};
 
-use crate::extent::{calls, members, ranks};
+use crate::bounds::{calls, members, ranks};
 use crate::finding::Finding;
 use crate::finding::kind::is_same_word;
 use crate::finding::making::{Making, making_call, making_of};
 use crate::finding::wave::call_of_member;
-use callnotes::comm::makes;
+use callstore::comm::makes;
 use mpicall::call::Call;
 use mpigroup::split::colour_group;
 use pairing::pairs::Pairs;

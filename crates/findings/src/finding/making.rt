@@ -3,7 +3,7 @@
 ghost use Rattle.std.specs.Prelude.{◌≡◌, false};
 ghost use Rattle.std.specs.Option.{option_map_or};
 ghost use Rattle.mpigroup.specs.Groups.{Groups};
-ghost use Rattle.callnotes.specs.Recordings.{Lists};
+ghost use Rattle.callstore.specs.Recordings.{Lists};
 ghost use Rattle.findings.specs.Findings.{is_wrong_group};
 ghost use Rattle.findings.specs.inner.Makings.{making_call, is_wrong_making};
 

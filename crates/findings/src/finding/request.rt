@@ -2,12 +2,12 @@
 
 ghost use Rattle.std.specs.Prelude.{◌≡◌, ◌++◌, ◌==◌, Some, false, option_and_then, OnOk};
 ghost use Rattle.std.specs.Option.{option_map_or};
-ghost use Rattle.callnotes.specs.Recordings.{calls_of};
-ghost use Rattle.callnotes.specs.Requests.{starts, started_in};
+ghost use Rattle.callstore.specs.Recordings.{calls_of};
+ghost use Rattle.callstore.specs.Requests.{starts, started_in};
 ghost use Rattle.findings.specs.Places.{call_at, over_places};
 ghost use Rattle.findings.specs.Findings.{is_lost, lost_at, lost_requests};
 
-use crate::extent::{calls, ranks};
+use crate::bounds::{calls, ranks};
 use crate::finding::Finding;
 use pairing::left_open::is_left_open;
 use pairing::pairs::Pairs;

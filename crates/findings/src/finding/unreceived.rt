@@ -1,13 +1,13 @@
 //! Messages that are sent and that nobody receives, nor can any more.
 
 ghost use Rattle.std.specs.Prelude.{◌≡◌, ◌++◌, is_some, option_and_then, OnOk};
-ghost use Rattle.callnotes.specs.Envelopes.{message_of};
+ghost use Rattle.callstore.specs.Envelopes.{message_of};
 ghost use Rattle.findings.specs.Places.{call_at, over_places};
 ghost use Rattle.findings.specs.Findings.{is_unreceived, may_yet_receive, receiver_of, unreceived_at, unreceived_of};
 
-use crate::extent::{calls, ranks};
+use crate::bounds::{calls, ranks};
 use crate::finding::Finding;
-use callnotes::envelope::Half;
+use callstore::envelope::Half;
 use pairing::left_open::is_left_open;
 use pairing::pairs::Pairs;
 use std::alloc::AllocError;

@@ -7,19 +7,19 @@
 ghost use Rattle.std.specs.Prelude.{◌≡◌, ◌+◌, ◌<◌, ◌≤◌, ◌-◌, ◌++◌, ℕ, [], length, flat_map, is_some, option_to_list, IsTrue, IfOk, OnOk};
 ghost use Rattle.std.specs.List.{filter, range_with_len};
 ghost use Rattle.mpigroup.specs.Groups.{group_of};
-ghost use Rattle.callnotes.specs.Limits.{most_calls};
-ghost use Rattle.callnotes.specs.Waves.{member_of};
+ghost use Rattle.callstore.specs.Limits.{most_calls};
+ghost use Rattle.callstore.specs.Waves.{member_of};
 ghost use Rattle.findings.specs.Places.{call_of_member};
 ghost use Rattle.findings.specs.Findings.{found_of_member, found_in_comm, found_in_waves};
 ghost use Rattle.findings.specs.inner.Comparisons.{comparison_of, kind_in, AreFirstKinds};
 ghost use Rattle.findings.specs.declared.finding.wave.Compared.{Compared};
 ghost use Rattle.findings.specs.declared.finding.wave.TheConstants.{WAVES_A_BLOCK};
 
-use crate::extent::{comms, members, waves};
+use crate::bounds::{comms, members, waves};
 use crate::finding::Finding;
 use crate::finding::kind::kind_found;
 use crate::finding::root::root_found;
-use callnotes::call_ref::CallRef;
+use callstore::call_ref::CallRef;
 use mpicall::call::{Call, Kind};
 use mpicall::record::Record;
 use pairing::pairs::Pairs;

@@ -3,7 +3,7 @@ use Rattle.moves.specs.declared.reading.Reading.{Reading}
 use Rattle.std.specs.Prelude.{List}
 use Rattle.mpicall.specs.Trace.{Trace}
 use Rattle.mpigroup.specs.Groups.{Groups}
-use Rattle.gather.specs.Answers.{refusal_of, recording_of_traces}
+use Rattle.gather.specs.Outcomes.{refusal_of, recording_of_traces}
 use Rattle.moves.specs.Analysed.{Analysed}
 use Rattle.gather.specs.Closes.{IsOutcomeOf}
 

@@ -1,6 +1,6 @@
 -- What proofs and private contracts cite, in addition to the definitions of `specs/Collected.antt`.
 use Rattle.std.specs.Prelude.{◌≡◌, ◌≢◌, ℕ, false, List, length}
-use Rattle.callnotes.specs.Recordings.{calls_of}
+use Rattle.callstore.specs.Recordings.{calls_of}
 use Rattle.rankfeed.specs.declared.item.Item.{Item}
 use Rattle.gather.specs.Collected.{IsKeptOf, Kept, fault_at, items_of}
 

@@ -1,6 +1,6 @@
 -- What `Waiting` says, of a world (the calls with the reading of their sends) and of the positions of its ranks.
 use Rattle.std.specs.Prelude.{◌≡◌, ◌≤◌, ℕ, Option, Some, option_map, slice_get, IfSome}
-use Rattle.callnotes.specs.Recordings.{calls_of}
+use Rattle.callstore.specs.Recordings.{calls_of}
 use Rattle.pairing.specs.Seen.{call_seen, IsSeen}
 use Rattle.pairing.specs.declared.call_at.CallAt.{CallAt}
 use Rattle.mpicall.specs.declared.call.Call.{Call}

@@ -6,16 +6,16 @@ use Rattle.std.specs.List.{list_all}
 use Rattle.std.specs.Option.{option_map_or}
 use Rattle.mpicall.specs.declared.call.Call.{Call}
 use Rattle.mpigroup.specs.Groups.{Groups, group_of, world_rank_of}
-use Rattle.callnotes.specs.declared.envelope.Half.{Half}
-use Rattle.callnotes.specs.declared.envelope.Half.TheVariants.{Send as SendHalf, Recv as RecvHalf}
-use Rattle.callnotes.specs.Limits.{most_calls}
-use Rattle.callnotes.specs.Recordings.{Lists, calls_of, appended}
+use Rattle.callstore.specs.declared.envelope.Half.{Half}
+use Rattle.callstore.specs.declared.envelope.Half.TheVariants.{Send as SendHalf, Recv as RecvHalf}
+use Rattle.callstore.specs.Limits.{most_calls}
+use Rattle.callstore.specs.Recordings.{Lists, calls_of, appended}
 use Rattle.pairing.specs.Partners.{partner_of}
-use Rattle.callnotes.specs.Envelopes.{message_of}
+use Rattle.callstore.specs.Envelopes.{message_of}
 use Rattle.pairing.specs.Probed.{probed_of}
 use Rattle.pairing.specs.Pairs.{completed_of}
-use Rattle.callnotes.specs.Requests.{starts, completes}
-use Rattle.callnotes.specs.Waves.{place_in_wave, wave_of}
+use Rattle.callstore.specs.Requests.{starts, completes}
+use Rattle.callstore.specs.Waves.{place_in_wave, wave_of}
 use Rattle.moves.specs.declared.look.Look.{Look}
 use Rattle.moves.specs.declared.look.Look.TheVariants.{Over, Moves, Partner, Wave}
 use Rattle.moves.specs.declared.need.Need.{Need}

@@ -7,8 +7,8 @@ use Rattle.mpicall.specs.declared.word.Layout.{Layout}
 use Rattle.mpicall.specs.Line.{Shape, shape_by, shape_of, takes_count, all_in_form, Fixed}
 
 -- the forms of the fields after a name that is no wait's
-abbrev pub laid_forms : Layout → ℕ → List Form
-laid_forms layout count = forms_in (shape_by layout count)
+abbrev pub args_forms : Layout → ℕ → List Form
+args_forms layout count = forms_in (shape_by layout count)
   where
     forms_in : Shape → List Form
     forms_in (Fixed forms) = forms

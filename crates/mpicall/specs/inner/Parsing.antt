@@ -4,18 +4,18 @@ use Rattle.std.specs.List.{list_all}
 use Rattle.mpicall.specs.declared.limits.TheConstants.{MOST_REQUESTS}
 use Rattle.mpicall.specs.Limits.{in_ranges, names_enough, few_enough}
 use Rattle.mpicall.specs.Argument.{is_in_range, spell, Argument, Form, request_argument}
-use Rattle.mpicall.specs.Laid.{laid_arguments}
-use Rattle.mpicall.specs.inner.Laid.{layout_by}
+use Rattle.mpicall.specs.CallArgs.{args_in_line}
+use Rattle.mpicall.specs.inner.CallArgs.{layout_by}
 use Rattle.mpicall.specs.Spelling.{arguments_of, word_of_call, fields_of, spelling, line_feed}
 use Rattle.mpicall.specs.Line.{all_requests}
-use Rattle.mpicall.specs.inner.Line.{laid_forms, fits, fits_line}
+use Rattle.mpicall.specs.inner.Line.{args_forms, fits, fits_line}
 use Rattle.mpicall.specs.Lines.{most_bytes}
 use Rattle.mpicall.specs.declared.call.Call.{Call}
-use Rattle.mpicall.specs.declared.laid.Laid.{Laid}
+use Rattle.mpicall.specs.declared.call_args.CallArgs.{CallArgs}
 use Rattle.mpicall.specs.declared.word.Layout.{Layout}
 use Rattle.mpicall.specs.declared.word.Word.{Word}
 use Rattle.mpicall.specs.declared.fault.LineFault.{LineFault}
-use Rattle.mpicall.specs.Reading.{take_arguments}
+use Rattle.mpicall.specs.Parsing.{take_arguments}
 
 -- the arguments that were taken, where no fields are left
 abbrev pub all_taken : Option (List Argument × List (List ℕ)) → Option (List Argument)
@@ -24,10 +24,10 @@ all_taken (Some (arguments, [])) = Some arguments
 all_taken (Some (arguments, field ∷ fields)) = None
 
 -- a reader takes what follows a name of a layout, of all the fields
-abbrev pub TakesLaid : Layout → List (List ℕ) → Option Laid → Type 0
-TakesLaid wanted fields answer =
-    MatchOption answer (all_taken (take_arguments (laid_forms wanted (length fields)) fields) ≡ None)
-    (λ it. (take_arguments (laid_forms wanted (length fields)) fields ≡ Some (laid_arguments it, [])) × (layout_by it ≡ wanted))
+abbrev pub TakesArgs : Layout → List (List ℕ) → Option CallArgs → Type 0
+TakesArgs wanted fields answer =
+    MatchOption answer (all_taken (take_arguments (args_forms wanted (length fields)) fields) ≡ None)
+    (λ it. (take_arguments (args_forms wanted (length fields)) fields ≡ Some (args_in_line it, [])) × (layout_by it ≡ wanted))
 
 -- a reader leaves the call of a word that all the fields spell by its forms, or leaves its place alone
 abbrev pub ReadsWhole : Word → List Form → List (List ℕ) → Option (Unit {0}) → Call → Call → Type 0

@@ -9,8 +9,8 @@ abbrev pub Fills : List ℕ → List ℕ → ℕ → Type 0
 Fills old new count = (more : List ℕ) × (new ≡ old ++ more) × (length more ≡ count)
 
 -- the bytes of a buffer from one place up to another
-abbrev pub held_between : ℕ → ℕ → List ℕ → List ℕ
-held_between start end buffer = take (end - start) (drop start buffer)
+abbrev pub buffered_between : ℕ → ℕ → List ℕ → List ℕ
+buffered_between start end buffer = take (end - start) (drop start buffer)
 
 -- none of the first `n` bytes is a line feed
 abbrev pub NoFeedBelow : List ℕ → ℕ → Type 0
@@ -29,5 +29,5 @@ pub record HasNoFeed (bytes : List ℕ) (left : Option (List ℕ)) : Type 0 wher
 
 -- the next line has `n` of the held bytes: those through the first line feed, or all
 abbrev pub EndsLine : List ℕ → Option (List ℕ) → ℕ → Type 0
-EndsLine held left n =
-    ((place : ℕ) × (n ≡ place + 1) × FirstFeed held place) ⊎ ((n ≡ length held) × HasNoFeed held left)
+EndsLine buffered left n =
+    ((place : ℕ) × (n ≡ place + 1) × FirstFeed buffered place) ⊎ ((n ≡ length buffered) × HasNoFeed buffered left)

@@ -3,11 +3,11 @@
 use Rattle.std.specs.Prelude.{◌≡◌, ℕ, ◌+◌, ◌==◌, Bool, ◌&&◌, nat_lt, if◌then◌else◌, Option, Some, option_map, position, IfSome, List, []}
 use Rattle.std.specs.Option.{option_map_or}
 use Rattle.mpicall.specs.declared.call.Call.{Call}
-use Rattle.pairing.specs.declared.held.Holding.{Holding}
-use Rattle.callnotes.specs.Recordings.{Lists, calls_of}
-use Rattle.callnotes.specs.Places.{places}
-use Rattle.callnotes.specs.Waves.{joins, does_join}
-use Rattle.callnotes.specs.Seats.{Seats, list_in, HasRoomIn}
+use Rattle.pairing.specs.declared.made_comms.Holding.{Holding}
+use Rattle.callstore.specs.Recordings.{Lists, calls_of}
+use Rattle.callstore.specs.Places.{places}
+use Rattle.callstore.specs.Waves.{joins, does_join}
+use Rattle.callstore.specs.Seats.{Seats, list_in, HasRoomIn}
 
 -- The lists: first those of the world, one for each of its ranks, and after them one for each of the keys.
 pub record Joinings : Type 0 where

@@ -3,19 +3,19 @@
 use Rattle.std.specs.Prelude.{◌≡◌, ℕ, Some, option_map, List, map, length, take, slice_get}
 use Rattle.mpicall.specs.declared.call.Call.{Call}
 use Rattle.mpigroup.specs.Groups.{Groups}
-use Rattle.callnotes.specs.declared.envelope.Half.{Half}
-use Rattle.callnotes.specs.Beside.{wave_in}
-use Rattle.callnotes.specs.Notes.{Noted, notes_of, calls_in}
-use Rattle.callnotes.specs.inner.Notes.{recording_of, kept_at}
+use Rattle.callstore.specs.declared.envelope.Half.{Half}
+use Rattle.callstore.specs.CachedMatch.{wave_in}
+use Rattle.callstore.specs.Notes.{Noted, notes_of, calls_in}
+use Rattle.callstore.specs.inner.Notes.{recording_of, kept_at}
 use Rattle.pairing.specs.Partners.{partner_of}
-use Rattle.callnotes.specs.Places.{places}
-use Rattle.callnotes.specs.Requests.{waits_for, started_in}
-use Rattle.callnotes.specs.Waves.{joins, does_join}
+use Rattle.callstore.specs.Places.{places}
+use Rattle.callstore.specs.Requests.{waits_for, started_in}
+use Rattle.callstore.specs.Waves.{joins, does_join}
 
 -- What stands with a call of the rank, made after those before: how many collectives of the same communicator
 -- the rank had called; and the places that started the requests which the call waits for.
 pub record IsNoted (before : List Call) (noted : Noted) : Type 0 where
-  pub wave : (comm : ℕ) → joins noted.call ≡ Some comm → wave_in noted.beside ≡ length (places (does_join comm) before)
+  pub wave : (comm : ℕ) → joins noted.call ≡ Some comm → wave_in noted.cached ≡ length (places (does_join comm) before)
   pub started : map (λ start. Some start) noted.starts ≡ map (started_in before) (waits_for noted.call)
 
 -- each note of each rank is

@@ -5,16 +5,16 @@ use Rattle.arenalist.specs.Arena.{counted}
 use Rattle.arenalist.specs.Numbers.{list_at}
 use Rattle.mpicall.specs.declared.call.Call.{Call}
 use Rattle.mpigroup.specs.Groups.{Groups}
-use Rattle.callnotes.specs.declared.envelope.Envelope.{Envelope}
-use Rattle.callnotes.specs.declared.envelope.Half.{Half}
-use Rattle.callnotes.specs.declared.envelope.Half.TheVariants.{Send as SendHalf, Recv as RecvHalf}
+use Rattle.callstore.specs.declared.envelope.Envelope.{Envelope}
+use Rattle.callstore.specs.declared.envelope.Half.{Half}
+use Rattle.callstore.specs.declared.envelope.Half.TheVariants.{Send as SendHalf, Recv as RecvHalf}
 use Rattle.pairing.specs.declared.matches.Halves.{Halves}
-use Rattle.pairing.specs.declared.matches.Numbered.{Numbered}
-use Rattle.callnotes.specs.Recordings.{Lists}
-use Rattle.callnotes.specs.Envelopes.{envelope_of, other_half, same_envelope, rank_of_half}
+use Rattle.pairing.specs.declared.matches.NumberedEnvelope.{NumberedEnvelope}
+use Rattle.callstore.specs.Recordings.{Lists}
+use Rattle.callstore.specs.Envelopes.{envelope_of, other_half, same_envelope, rank_of_half}
 use Rattle.pairing.specs.Partners.{envelope_at}
-use Rattle.callnotes.specs.Notes.{Noted}
-use Rattle.callnotes.specs.inner.Notes.{recording_of, kept_at}
+use Rattle.callstore.specs.Notes.{Noted}
+use Rattle.callstore.specs.inner.Notes.{recording_of, kept_at}
 use Rattle.pairing.specs.inner.Kept.{AreNoted}
 use Rattle.pairing.specs.Work.{work_of}
 use Rattle.pairing.specs.Matched.{pending_of}
@@ -79,7 +79,7 @@ pub record IsMatched (groups : Groups) (recording : Lists) (matching : Matching)
   pub work : matching.work ≡ work_of groups recording
 
 -- the number next to the envelope of a half is its own
-abbrev pub HasNumber : Matching → Numbered → Type 0
+abbrev pub HasNumber : Matching → NumberedEnvelope → Type 0
 HasNumber matching half = number_in matching.keys half.envelope ≡ Some half.number
 
 -- the halves of the rank's call have numbers, and there is room for them

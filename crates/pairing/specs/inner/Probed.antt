@@ -1,10 +1,10 @@
 -- What proofs and private contracts cite, in addition to the definitions of `specs/Probed.antt`.
 use Rattle.std.specs.Prelude.{ℕ, Bool, true, false, Option, Some, None, option_map, option_and_then, slice_get}
 use Rattle.mpigroup.specs.Groups.{Groups}
-use Rattle.callnotes.specs.declared.envelope.Envelope.{Envelope}
-use Rattle.callnotes.specs.declared.envelope.Half.TheVariants.{Send as SendHalf, Recv as RecvHalf}
-use Rattle.callnotes.specs.Recordings.{Lists}
-use Rattle.callnotes.specs.Envelopes.{rank_of_half}
+use Rattle.callstore.specs.declared.envelope.Envelope.{Envelope}
+use Rattle.callstore.specs.declared.envelope.Half.TheVariants.{Send as SendHalf, Recv as RecvHalf}
+use Rattle.callstore.specs.Recordings.{Lists}
+use Rattle.callstore.specs.Envelopes.{rank_of_half}
 use Rattle.pairing.specs.Partners.{partner_of}
 use Rattle.pairing.specs.Matched.{pending_of}
 use Rattle.pairing.specs.Probed.{HasProbe, NoneIsProbed}

@@ -4,9 +4,9 @@ use Rattle.std.specs.Prelude.{◌≡◌, ℕ, ◌<◌, ◌≤◌, ◌==◌, ◌&
 use Rattle.std.specs.List.{sum_by}
 use Rattle.indexmap.specs.IndexMap.{get, spare}
 use Rattle.mpigroup.specs.Groups.{Groups}
-use Rattle.callnotes.specs.declared.envelope.Envelope.{Envelope}
-use Rattle.callnotes.specs.contracts.envelope.EnvelopePartialEq.TheImpl as envelope_eq
-use Rattle.callnotes.specs.Recordings.{Lists}
+use Rattle.callstore.specs.declared.envelope.Envelope.{Envelope}
+use Rattle.callstore.specs.contracts.envelope.EnvelopePartialEq.TheImpl as envelope_eq
+use Rattle.callstore.specs.Recordings.{Lists}
 use Rattle.pairing.specs.Probed.{probed_envelope_at, receive_behind, HasProbe}
 use Rattle.pairing.specs.declared.probes.Probes.{Probes}
 

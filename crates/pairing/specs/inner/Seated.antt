@@ -3,8 +3,8 @@ use Rattle.std.specs.Prelude.{◌<◌, ℕ, Bool, Option, IsSome}
 use Rattle.indexmap.specs.IndexMap.{get, spare}
 use Rattle.mpicall.specs.declared.call.Call.{Call}
 use Rattle.mpigroup.specs.Groups.{Groups}
-use Rattle.callnotes.specs.Recordings.{Lists}
-use Rattle.callnotes.specs.Envelopes.{probed_message}
+use Rattle.callstore.specs.Recordings.{Lists}
+use Rattle.callstore.specs.Envelopes.{probed_message}
 use Rattle.pairing.specs.inner.Probing.{AreSeated, HasRoomToSit}
 use Rattle.pairing.specs.declared.probing.Spot.{Spot}
 use Rattle.pairing.specs.declared.probing.Probing.{Probing}

@@ -3,11 +3,11 @@ use Rattle.std.specs.Option.{option_or}
 use Rattle.std.specs.Prelude.{◌≡◌, ◌<◌, ◌+◌, ◌*◌, ◌%◌, ◌==◌, if◌then◌else◌, ℕ, Bool, Option, None, Some, IsSome, is_some, slice_index_or}
 use Rattle.mpicall.specs.declared.call.Call.{Call}
 use Rattle.indexmap.specs.IndexMap.{get, spare}
-use Rattle.callnotes.specs.Recordings.{Lists, calls_of}
-use Rattle.callnotes.specs.Requests.{starts, started_in}
+use Rattle.callstore.specs.Recordings.{Lists, calls_of}
+use Rattle.callstore.specs.Requests.{starts, started_in}
 use Rattle.pairing.specs.declared.active.TheConstants.{REQUEST_CELLS}
 use Rattle.pairing.specs.declared.active.Request.{Request}
-use Rattle.pairing.specs.declared.active.Start.{Start}
+use Rattle.pairing.specs.declared.active.ActiveRequest.{ActiveRequest}
 use Rattle.pairing.specs.declared.active.Active.{Active}
 use Rattle.pairing.specs.contracts.active.RequestPartialEq.TheImpl as request_eq
 
@@ -20,11 +20,11 @@ abbrev pub cell_no : ℕ → ℕ → ℕ
 cell_no rank req = rank * REQUEST_CELLS + req % REQUEST_CELLS
 
 -- what stands in that cell
-abbrev pub cell_in : Active → ℕ → ℕ → Option Start
+abbrev pub cell_in : Active → ℕ → ℕ → Option ActiveRequest
 cell_in active rank req = slice_index_or active.cells.items (cell_no rank req) None
 
 -- the place that a cell has for the request
-abbrev pub place_at : ℕ → Option Start → Option ℕ
+abbrev pub place_at : ℕ → Option ActiveRequest → Option ℕ
 place_at req None = None
 place_at req (Some start) = if start.req == req then Some start.place else None
 

@@ -4,7 +4,7 @@ use Rattle.std.specs.Prelude.{◌≡◌, ℕ, Bool, true, false, Option, Result,
 use Rattle.std.specs.Io.KnownBytes.{Appends}
 use Rattle.mpicall.specs.Device.{one_more, AppendsBeginning}
 use Rattle.mpicall.specs.Spelling.{space}
-use Rattle.reports.specs.declared.report.printer.Printer.{Printer}
+use Rattle.report.specs.declared.write.printer.Printer.{Printer}
 
 -- the bytes with further fields after them, each after one space
 abbrev pub with_fields : List ℕ → List (List ℕ) → List ℕ

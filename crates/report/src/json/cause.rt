@@ -3,7 +3,7 @@
 ghost use Rattle.std.specs.Prelude.{◌≡◌, map, IfOk};
 ghost use Rattle.serde_json.specs.View.{view};
 ghost use Rattle.waitgraph.specs.Causes.{view_of};
-ghost use Rattle.reports.specs.JsonReport.{each, numeral, cause_data};
+ghost use Rattle.report.specs.JsonReport.{each, numeral, cause_data};
 
 use serde_json::{Value, json};
 use std::alloc::{AllocError, Global};

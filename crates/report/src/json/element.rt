@@ -3,7 +3,7 @@
 ghost use Rattle.std.specs.Prelude.{◌≡◌, ◌++◌, false, nat_lt, OnOk, string_bytes};
 ghost use Rattle.serde_json.specs.View.{view};
 ghost use Rattle.serde_json.specs.Written.{comma_if, compact_text, has_float};
-ghost use Rattle.reports.specs.inner.ArrayTexts.{key_text};
+ghost use Rattle.report.specs.inner.ArrayTexts.{key_text};
 
 use serde_json::{Value, json};
 use std::alloc::{AllocError, Global};

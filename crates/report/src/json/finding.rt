@@ -4,9 +4,9 @@ ghost use Rattle.std.specs.Prelude.{◌≡◌, ◌++◌, IfOk, OnOk, string_byte
 ghost use Rattle.std.specs.List.{join_with_byte};
 ghost use Rattle.serde_json.specs.View.{view};
 ghost use Rattle.mpicall.specs.Spelling.{space};
-ghost use Rattle.reports.specs.inner.ArrayTexts.{elements_text};
-ghost use Rattle.reports.specs.FindingTexts.{finding_fields};
-ghost use Rattle.reports.specs.JsonReport.{finding_data};
+ghost use Rattle.report.specs.inner.ArrayTexts.{elements_text};
+ghost use Rattle.report.specs.FindingTexts.{finding_fields};
+ghost use Rattle.report.specs.JsonReport.{finding_data};
 
 use crate::finding::push_finding;
 use crate::json::element::push_element;

@@ -2,8 +2,8 @@
 
 ghost use Rattle.std.specs.Prelude.{◌≡◌, ◌++◌, IfOk, OnOk, string_bytes};
 ghost use Rattle.serde_json.specs.View.{view};
-ghost use Rattle.reports.specs.inner.ArrayTexts.{elements_text};
-ghost use Rattle.reports.specs.Judged.{left_data, line_data};
+ghost use Rattle.report.specs.inner.ArrayTexts.{elements_text};
+ghost use Rattle.report.specs.Judged.{left_data, line_data};
 
 use crate::json::element::push_element;
 use crate::judged::{LeftAt, LineAt};

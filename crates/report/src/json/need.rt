@@ -2,7 +2,7 @@
 
 ghost use Rattle.std.specs.Prelude.{◌≡◌, IfOk};
 ghost use Rattle.serde_json.specs.View.{view};
-ghost use Rattle.reports.specs.JsonReport.{each, need_data};
+ghost use Rattle.report.specs.JsonReport.{each, need_data};
 
 use moves::need::Need;
 use serde_json::{Value, json};

@@ -5,10 +5,10 @@ ghost use Rattle.std.specs.List.{join_with_byte};
 ghost use Rattle.serde_json.specs.View.{view};
 ghost use Rattle.mpicall.specs.Spelling.{space, fields_of};
 ghost use Rattle.waitgraph.specs.Graphs.{IsGraphOf};
-ghost use Rattle.reports.specs.inner.ArrayTexts.{elements_text};
-ghost use Rattle.reports.specs.JsonReport.{rank_data};
+ghost use Rattle.report.specs.inner.ArrayTexts.{elements_text};
+ghost use Rattle.report.specs.JsonReport.{rank_data};
 ghost use Rattle.waitgraph.specs.Stuck.{stuck_of, unmet_of};
-ghost use Rattle.reports.specs.TextReport.{present_fields};
+ghost use Rattle.report.specs.TextReport.{present_fields};
 
 use crate::json::element::push_element;
 use crate::json::need::needs_value;

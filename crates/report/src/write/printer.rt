@@ -1,7 +1,7 @@
 //! What a report is printed by: a page of bytes that wait, and whether the output refused a write.
 
 ghost use Rattle.std.specs.Prelude.{◌≡◌, ◌+◌, ◌≤◌, ℕ, Option, List, [], false, length};
-ghost use Rattle.reports.specs.inner.Printing.{IsPrinted, KeepsPrinted, PrintsAll};
+ghost use Rattle.report.specs.inner.Printing.{IsPrinted, KeepsPrinted, PrintsAll};
 
 use mpicall::device::{DeviceFault, Output, write_all};
 use mpicall::page::{PAGE_BYTES, Page};

@@ -2,7 +2,7 @@
 use Rattle.moves.specs.declared.reading.Reading.{Reading}
 use Rattle.std.specs.Prelude.{◌≡◌, ℕ}
 use Rattle.mpigroup.specs.Groups.{Groups}
-use Rattle.callnotes.specs.Recordings.{Lists}
+use Rattle.callstore.specs.Recordings.{Lists}
 use Rattle.waitgraph.specs.Graphs.{GraphView}
 use Rattle.waitgraph.specs.Held.{is_some_left_open}
 use Rattle.waitgraph.specs.Waits.{needs_in}

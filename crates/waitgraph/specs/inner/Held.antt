@@ -5,7 +5,7 @@ use Rattle.std.specs.List.{filter, range_with_len}
 use Rattle.mpicall.specs.declared.call.Call.{Call}
 use Rattle.mpicall.specs.declared.call.Call.TheVariants.{Finalize, Open}
 use Rattle.mpigroup.specs.Groups.{Groups}
-use Rattle.callnotes.specs.Recordings.{Lists, calls_of}
+use Rattle.callstore.specs.Recordings.{Lists, calls_of}
 use Rattle.moves.specs.Runs.{State}
 use Rattle.moves.specs.Stands.{stands_of}
 use Rattle.pairing.specs.LeftOpen.{is_left_open}

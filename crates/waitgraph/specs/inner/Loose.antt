@@ -7,8 +7,8 @@ use Rattle.moves.specs.declared.need.Need.TheVariants.{At, Lacking}
 use Rattle.waitgraph.specs.Held.{Set}
 use Rattle.waitgraph.specs.inner.Least.{SetRule, after_rounds, IsWithin, IsClosedUnder}
 use Rattle.waitgraph.specs.Waits.{Waits, needs_in}
-use Rattle.waitgraph.specs.declared.onward.Onward.{Onward}
-use Rattle.waitgraph.specs.declared.onward.Onward.TheVariants.{To, Lacks}
+use Rattle.waitgraph.specs.declared.next_hop.NextHop.{NextHop}
+use Rattle.waitgraph.specs.declared.next_hop.NextHop.TheVariants.{To, Lacks}
 use Rattle.waitgraph.specs.declared.standing.Standing.{Standing}
 use Rattle.waitgraph.specs.declared.standing.Standing.TheVariants.{AtFinalize, AtOpen, Stuck}
 
@@ -53,20 +53,20 @@ abbrev pub goes_on : Set → Set → Need → Bool
 goes_on opened held (At rank place) = held rank
 goes_on opened held (Lacking rank) = not (opened rank) || held rank
 
-abbrev pub onward : Set → Need → Onward
-onward opened (At rank place) = To rank
-onward opened (Lacking rank) = if opened rank then To rank else Lacks rank
+abbrev pub hop : Set → Need → NextHop
+hop opened (At rank place) = To rank
+hop opened (Lacking rank) = if opened rank then To rank else Lacks rank
 
 -- by the first of some needs that does either
-abbrev pub onward_by : Set → Set → List Need → Option Onward
-onward_by opened held needs = option_map (onward opened) (find (goes_on opened held) needs)
+abbrev pub hop_by : Set → Set → List Need → Option NextHop
+hop_by opened held needs = option_map (hop opened) (find (goes_on opened held) needs)
 
 -- from a held rank; from another the walk doesn't go on
-abbrev pub onward_from : Set → Set → Waits → ℕ → Option Onward
-onward_from opened held waits rank = if held rank then onward_by opened held (needs_in waits rank) else None
+abbrev pub hop_from : Set → Set → Waits → ℕ → Option NextHop
+hop_from opened held waits rank = if held rank then hop_by opened held (needs_in waits rank) else None
 
-abbrev pub onward_of : Set → List Standing → Waits → ℕ → Option Onward
-onward_of opened standings waits = onward_from opened (are_held opened standings waits) waits
+abbrev pub hop_of : Set → List Standing → Waits → ℕ → Option NextHop
+hop_of opened standings waits = hop_from opened (are_held opened standings waits) waits
 
 -- What holds of the needs of a closed recording: whose call is needed at a place is stuck, and whose list was left
 -- open is stuck or stands at its open.
@@ -75,7 +75,7 @@ pub record FitTogether (opened : Set) (standings : List Standing) (waits : Waits
   pub left_open : (rank : ℕ) → opened rank ≡ true → (standing_of standings rank ≡ Stuck) ⊎ (standing_of standings rank ≡ AtOpen)
 
 -- what a held rank's walk does
-abbrev pub GoesOnOrEnds : Set → Set → Option Onward → Type 0
+abbrev pub GoesOnOrEnds : Set → Set → Option NextHop → Type 0
 GoesOnOrEnds opened held None = ⊥
 GoesOnOrEnds opened held (Some (To next)) = held next ≡ true
 GoesOnOrEnds opened held (Some (Lacks peer)) = opened peer ≡ false
@@ -85,7 +85,7 @@ abbrev pub HeldRanksGoOn : Type 0
 HeldRanksGoOn =
     (opened : Set) (standings : List Standing) (waits : Waits) (rank : ℕ) → FitTogether opened standings waits →
     are_held opened standings waits rank ≡ true →
-    GoesOnOrEnds opened (are_held opened standings waits) (onward_of opened standings waits rank)
+    GoesOnOrEnds opened (are_held opened standings waits) (hop_of opened standings waits rank)
 
 -- Law: the loose ranks are the least set that has each rank which it makes loose.
 abbrev pub TheLooseAreTheLeast : Type 0

@@ -1,7 +1,7 @@
 -- What proofs and private contracts cite, in addition to the definitions of `specs/Stuck.antt`.
 use Rattle.std.specs.Prelude.{ℕ, Bool, not, List, length}
 use Rattle.std.specs.List.{filter, fold, range_with_len}
-use Rattle.callnotes.specs.Recordings.{Lists}
+use Rattle.callstore.specs.Recordings.{Lists}
 use Rattle.moves.specs.Runs.{State}
 use Rattle.moves.specs.Needs.{is_met}
 use Rattle.moves.specs.Stands.{is_at_end}

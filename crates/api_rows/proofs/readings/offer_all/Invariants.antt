@@ -1,6 +1,6 @@
 -- Both have the same calls.
 use Rattle.std.proofs.Common.{◌≡◌}
-use Rattle.libraryrows.proofs.readings.offer_all.Given as goal
+use Rattle.api_rows.proofs.readings.offer_all.Given as goal
 
 abbrev pub invariant-loop-rank : goal.invariant-loop-rank
 invariant-loop-rank l = record {

@@ -1,10 +1,10 @@
 use Rattle.std.proofs.Common.{◌∙◌, ◌≤◌, length, length-set, arith}
 use Rattle.std.proofs.lemmas.List.{length-map}
 use Rattle.mpicall.specs.declared.limits.TheConstants.{MOST_REQUESTS}
-use Rattle.callnotes.specs.inner.Packed.{req_at, reqs_at}
-use Rattle.callnotes.proofs.PackedLemmas.{most_of}
-use Rattle.callnotes.proofs.StartLemmas.{written}
-use Rattle.callnotes.proofs.packing.reqs_at.Goals as goal
+use Rattle.callstore.specs.inner.Packed.{req_at, reqs_at}
+use Rattle.callstore.proofs.PackedLemmas.{most_of}
+use Rattle.callstore.proofs.StartLemmas.{written}
+use Rattle.callstore.proofs.packing.reqs_at.Goals as goal
 
 pub loop-i-preserved : goal.loop-i-preserved
 loop-i-preserved c =

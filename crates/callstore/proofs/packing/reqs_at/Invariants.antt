@@ -1,7 +1,7 @@
 use Rattle.std.proofs.Common.{◌≡◌, length, take}
 use Rattle.mpicall.specs.declared.limits.TheConstants.{MOST_REQUESTS}
-use Rattle.callnotes.specs.inner.Packed.{reqs_at}
-use Rattle.callnotes.proofs.packing.reqs_at.Given as goal
+use Rattle.callstore.specs.inner.Packed.{reqs_at}
+use Rattle.callstore.proofs.packing.reqs_at.Given as goal
 
 -- the requests that the calls at the places so far start are written
 abbrev pub invariant-loop-i : goal.invariant-loop-i

@@ -1,5 +1,5 @@
 use Rattle.std.proofs.Common.{◌≡◌, ◌+◌, ◌≤◌, ◌++◌, length, take, vec_len, vec_capacity}
-use Rattle.callnotes.proofs.rank_notes.push_all.Given as goal
+use Rattle.callstore.proofs.rank_notes.push_all.Given as goal
 
 -- what was put so far, and room for what is left
 abbrev pub invariant-loop-number : goal.invariant-loop-number

@@ -1,5 +1,5 @@
-use Rattle.callnotes.proofs.WaveLemmas.{no_other_call_is_in_a_wave}
-use Rattle.callnotes.proofs.wave.no_other_call_is_in_a_wave.Goals as goal
+use Rattle.callstore.proofs.WaveLemmas.{no_other_call_is_in_a_wave}
+use Rattle.callstore.proofs.wave.no_other_call_is_in_a_wave.Goals as goal
 
 pub returns : goal.returns
 returns c = no_other_call_is_in_a_wave

@@ -1,5 +1,5 @@
-use Rattle.callnotes.proofs.WaveLemmas.{waves_stay}
-use Rattle.callnotes.proofs.wave.waves_stay.Goals as goal
+use Rattle.callstore.proofs.WaveLemmas.{waves_stay}
+use Rattle.callstore.proofs.wave.waves_stay.Goals as goal
 
 pub returns : goal.returns
 returns c = waves_stay

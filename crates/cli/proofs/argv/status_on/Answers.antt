@@ -1,4 +1,4 @@
-use Rattle.command.proofs.given.status_on.Goals as goal
+use Rattle.cli.proofs.argv.status_on.Goals as goal
 
 pub returns-clause-ended : goal.returns-clause-ended
 returns-clause-ended g c = (_, c.program.ensures)

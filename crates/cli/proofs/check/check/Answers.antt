@@ -1,8 +1,8 @@
 -- The answer over the sources is that of the files' texts.
 use Rattle.std.proofs.Common.{map, rules, ℕ, List, Bor, ap, sym, ◌∙◌, length}
 use Rattle.std.proofs.lemmas.List.{length-map}
-use Rattle.command.proofs.TextLemmas.{head_of_told, report_says, run_fault_says, run_leaves, tells_texts}
-use Rattle.command.proofs.check.check.Goals as goal
+use Rattle.cli.proofs.TextLemmas.{head_of_told, report_says, run_fault_says, run_leaves, tells_texts}
+use Rattle.cli.proofs.check.check.Goals as goal
 
 pub returns-in-Ok-clause-verdict : goal.returns-in-Ok-clause-verdict
 returns-in-Ok-clause-verdict g c = λ text texts head_is files_are. record {

@@ -1,8 +1,8 @@
 use Rattle.std.proofs.Common.{rules, sym, subst, List, ℕ}
 use Rattle.std.proofs.lemmas.Result.{IfErr-weaker, IfOk-weaker}
-use Rattle.command.specs.inner.Front.{IsFrontOf}
-use Rattle.command.proofs.TextLemmas.{fault_says, head_says}
-use Rattle.command.proofs.check.open_head.Goals as goal
+use Rattle.cli.specs.inner.Front.{IsFrontOf}
+use Rattle.cli.proofs.TextLemmas.{fault_says, head_says}
+use Rattle.cli.proofs.check.open_head.Goals as goal
 
 pub returns-clause-head : goal.returns-clause-head
 returns-clause-head g c =

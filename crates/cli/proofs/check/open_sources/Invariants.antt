@@ -2,8 +2,8 @@
 use Rattle.std.proofs.Common.{◌≡◌, map, take, option_map}
 use Rattle.mpicall.specs.Source.{coming}
 use Rattle.mpicall.specs.Trace.{trace_of}
-use Rattle.runs.specs.Told.{AreFresh}
-use Rattle.command.proofs.check.open_sources.Given as goal
+use Rattle.driver.specs.VerdictContract.{AreFresh}
+use Rattle.cli.proofs.check.open_sources.Given as goal
 
 abbrev pub invariant-loop-path : goal.invariant-loop-path
 invariant-loop-path g l = record {

@@ -1,8 +1,8 @@
 -- The front is whole where no bytes are left, or once it is as long as it needs to be.
 use Rattle.std.proofs.Common.{arith, ℕ, ◌<◌, length}
 use Rattle.std.proofs.lemmas.List.{length-take}
-use Rattle.command.proofs.FrontLemmas.{stays_after, whole_after, whole_when_full}
-use Rattle.command.proofs.check.read_front.Goals as goal
+use Rattle.cli.proofs.FrontLemmas.{stays_after, whole_after, whole_when_full}
+use Rattle.cli.proofs.check.read_front.Goals as goal
 
 pub returns-then-count-eq0-clause-front : goal.returns-then-count-eq0-clause-front
 returns-then-count-eq0-clause-front g c =

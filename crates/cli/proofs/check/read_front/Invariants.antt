@@ -1,8 +1,8 @@
 -- What was read and what is left are the input's bytes, and no read failed.
 use Rattle.std.proofs.Common.{◌≡◌, ◌≤◌, ◌-◌, vec_len}
 use Rattle.std.specs.Io.KnownBytes.{Keeps, prepend_known}
-use Rattle.command.specs.inner.Front.{deciding_bytes}
-use Rattle.command.proofs.check.read_front.Given as goal
+use Rattle.cli.specs.inner.Front.{deciding_bytes}
+use Rattle.cli.proofs.check.read_front.Given as goal
 
 abbrev pub invariant-pieces : goal.invariant-pieces
 invariant-pieces g l = record {

@@ -1,9 +1,9 @@
 use Rattle.std.proofs.Common.{rules, ap, ap₂, codes, true, ◌≡◌, ◌∙◌}
 use Rattle.std.proofs.lemmas.Result.{IfOk-weaker}
 use Rattle.clap.specs.Simple.{App, app_of, app_of_fields, on_top, with_rule, new_app}
-use Rattle.command.specs.Asked.{folder_rule, with_rules}
-use Rattle.command.proofs.AskedLemmas.{no_global_added, no_globals_added, rules_added}
-use Rattle.command.proofs.words.judge_command.Goals as goal
+use Rattle.cli.specs.CommandLine.{folder_rule, with_rules}
+use Rattle.cli.proofs.AskedLemmas.{no_global_added, no_globals_added, rules_added}
+use Rattle.cli.proofs.command_line.judge_command.Goals as goal
 
 abbrev with_version : App → App
 with_version = on_top (λ s. record s { has_version = true })

@@ -1,7 +1,7 @@
 use Rattle.std.proofs.Common.{ap, ap₂, codes, true, ◌≡◌, ◌∙◌}
 use Rattle.std.proofs.lemmas.Result.{IfOk-weaker}
 use Rattle.clap.specs.Simple.{App, app_of, app_of_fields, on_top, with_rule, new_app}
-use Rattle.command.proofs.words.lint_command.Goals as goal
+use Rattle.cli.proofs.command_line.lint_command.Goals as goal
 
 abbrev with_version : App → App
 with_version = on_top (λ s. record s { has_version = true })

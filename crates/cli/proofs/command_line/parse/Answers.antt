@@ -1,8 +1,8 @@
 use Rattle.std.proofs.Common.{◌∙◌, ap, map}
 use Rattle.clap.specs.Simple.{is_simple, subcommand_of}
 use Rattle.clap.specs.Faults.{fault_of, is_simple_and_free}
-use Rattle.command.proofs.AskedLemmas.{program_is_simple, program_is_free, answers_named, answers_error}
-use Rattle.command.proofs.words.parse.Goals as goal
+use Rattle.cli.proofs.AskedLemmas.{program_is_simple, program_is_free, answers_named, answers_error}
+use Rattle.cli.proofs.command_line.parse.Goals as goal
 
 pub returns-in-Ok-try_get_matches_from : goal.returns-in-Ok-try_get_matches_from
 returns-in-Ok-try_get_matches_from c =

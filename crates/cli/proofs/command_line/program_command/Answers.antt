@@ -1,8 +1,8 @@
 use Rattle.std.proofs.Common.{ap, ap₂, true, ◌∙◌}
 use Rattle.std.proofs.lemmas.Result.{IfOk-weaker}
 use Rattle.clap.specs.Simple.{App, app_of_fields, on_top, with_subcommand}
-use Rattle.command.specs.Asked.{program}
-use Rattle.command.proofs.words.program_command.Goals as goal
+use Rattle.cli.specs.CommandLine.{program}
+use Rattle.cli.proofs.command_line.program_command.Goals as goal
 
 abbrev with_version : App → App
 with_version = on_top (λ s. record s { has_version = true })

@@ -1,6 +1,6 @@
 use Rattle.std.proofs.Common.{◌<◌, length}
 use Rattle.std.specs.Option.{IfSome}
-use Rattle.command.proofs.folder.lone_path.Given as goal
+use Rattle.cli.proofs.folder.lone_path.Given as goal
 
 -- the path found so far is one of the words
 abbrev pub invariant-loop-place : goal.invariant-loop-place

@@ -1,7 +1,7 @@
 -- The words and the texts are those of the lemmas.
 use Rattle.std.proofs.Common.{refl}
-use Rattle.command.proofs.HeadToHeadLemmas.{ends_in_hang}
-use Rattle.command.proofs.head_to_head.two_that_send_first.Goals as goal
+use Rattle.cli.proofs.HeadToHeadLemmas.{ends_in_hang}
+use Rattle.cli.proofs.head_to_head.two_that_send_first.Goals as goal
 
 pub returns-clause-hang : goal.returns-clause-hang
 returns-clause-hang g c other = (ends_in_hang c.program.ensures refl refl refl refl other).status_is

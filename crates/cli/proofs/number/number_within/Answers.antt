@@ -1,6 +1,6 @@
 use Rattle.std.proofs.Common.{sym, ◌∙◌, arith}
-use Rattle.command.proofs.NumberLemmas.{number_in, no_number_in}
-use Rattle.command.proofs.number.number_within.Goals as goal
+use Rattle.cli.proofs.NumberLemmas.{number_in, no_number_in}
+use Rattle.cli.proofs.number.number_within.Goals as goal
 
 pub returns-in-Ok-clause-value : goal.returns-in-Ok-clause-value
 returns-in-Ok-clause-value c = number_in c.args.least c.args.most c.args.word.now c.in-Ok.number (omega arith) c.in-Ok.ensures.value.0.0.0 c.in-Ok.ensures.value.0.1 c.if-least-number.true c.if-number-most.true

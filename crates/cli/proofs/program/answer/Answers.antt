@@ -1,34 +1,34 @@
 use Rattle.std.proofs.Common.{◌≡◌, ℕ, false, List, Bor, map, sym, subst}
-use Rattle.command.specs.inner.Answer.{IsAnswered, Shows}
-use Rattle.command.specs.Ends.{EndsInFiles, EndsInJudged, EndsInReport, IsDone, IsFaultOf}
-use Rattle.command.specs.Journals.{IsFaultOfClose, IsFaultOfJudge}
-use Rattle.command.specs.Texts.{IsFaultOfCheck}
-use Rattle.command.specs.declared.words.Words.{Words}
-use Rattle.command.specs.declared.words.Words.TheVariants.{Said}
-use Rattle.command.specs.declared.status.Status.TheVariants.{Free}
-use Rattle.command.proofs.EndLemmas.{shown}
-use Rattle.command.proofs.program.answer.Goals as goal
+use Rattle.cli.specs.inner.Answer.{IsAnswered, Shows}
+use Rattle.cli.specs.ExitContract.{EndsInFiles, EndsInJudged, EndsInReport, IsDone, IsFaultOf}
+use Rattle.cli.specs.Journals.{IsFaultOfClose, IsFaultOfJudge}
+use Rattle.cli.specs.Texts.{IsFaultOfCheck}
+use Rattle.cli.specs.declared.command_line.CommandLine.{CommandLine}
+use Rattle.cli.specs.declared.command_line.CommandLine.TheVariants.{Said}
+use Rattle.cli.specs.declared.status.Status.TheVariants.{Free}
+use Rattle.cli.proofs.EndLemmas.{shown}
+use Rattle.cli.proofs.program.answer.Goals as goal
 
 pub returns-in-Check : goal.returns-in-Check
 returns-in-Check g c =
     let told = g.P.Opener.told c.args.opener.now in
     let written = g.O.Output.written in
     let failures = g.O.Output.failures in
-    subst (λ (words : Words). IsAnswered written failures (IsDone told words) (IsFaultOf told words) c.args.out.now c.answer_check.new.out c.answer_check.result) (sym c.in-Check.is)
+    subst (λ (words : CommandLine). IsAnswered written failures (IsDone told words) (IsFaultOf told words) c.args.out.now c.answer_check.new.out c.answer_check.result) (sym c.in-Check.is)
     (subst (λ (files : List (Bor (List ℕ))). IsAnswered written failures (EndsInReport c.in-Check.options (told c.in-Check.head.now) (map (λ (file : Bor (List ℕ)). told file.now) files)) (IsFaultOfCheck told c.in-Check.head.now files) c.args.out.now c.answer_check.new.out c.answer_check.result)
     c.deref.ensures.value c.answer_check.ensures)
 
 pub returns-in-Lint : goal.returns-in-Lint
 returns-in-Lint g c =
     let told = g.P.Opener.told c.args.opener.now in
-    subst (λ (words : Words). IsAnswered g.O.Output.written g.O.Output.failures (IsDone told words) (IsFaultOf told words) c.args.out.now c.answer_lint.new.out c.answer_lint.result) (sym c.in-Lint.is) c.answer_lint.ensures
+    subst (λ (words : CommandLine). IsAnswered g.O.Output.written g.O.Output.failures (IsDone told words) (IsFaultOf told words) c.args.out.now c.answer_lint.new.out c.answer_lint.result) (sym c.in-Lint.is) c.answer_lint.ensures
 
 pub returns-in-Judge : goal.returns-in-Judge
 returns-in-Judge g c =
     let told = g.P.Opener.told c.args.opener.now in
     let written = g.O.Output.written in
     let failures = g.O.Output.failures in
-    subst (λ (words : Words). IsAnswered written failures (IsDone told words) (IsFaultOf told words) c.args.out.now c.answer_judge.new.out c.answer_judge.result) (sym c.in-Judge.is)
+    subst (λ (words : CommandLine). IsAnswered written failures (IsDone told words) (IsFaultOf told words) c.args.out.now c.answer_judge.new.out c.answer_judge.result) (sym c.in-Judge.is)
     (subst (λ (folder : Bor (List ℕ)). IsAnswered written failures (EndsInJudged c.in-Judge.manner) (IsFaultOfJudge folder.now) c.args.out.now c.answer_judge.new.out c.answer_judge.result)
     c.new-judged.ensures c.answer_judge.ensures)
 
@@ -37,7 +37,7 @@ returns-in-Close g c =
     let told = g.P.Opener.told c.args.opener.now in
     let written = g.O.Output.written in
     let failures = g.O.Output.failures in
-    subst (λ (words : Words). IsAnswered written failures (IsDone told words) (IsFaultOf told words) c.args.out.now c.answer_close.new.out c.answer_close.result) (sym c.in-Close.is)
+    subst (λ (words : CommandLine). IsAnswered written failures (IsDone told words) (IsFaultOf told words) c.args.out.now c.answer_close.new.out c.answer_close.result) (sym c.in-Close.is)
     (subst (λ (folder : Bor (List ℕ)). IsAnswered written failures EndsInFiles (IsFaultOfClose folder.now c.in-Close.path.now) c.args.out.now c.answer_close.new.out c.answer_close.result)
     c.new-journals.ensures
     (subst (λ (path : Bor (List ℕ)). IsAnswered written failures EndsInFiles (IsFaultOfClose c.new-journals.result.path.now path.now) c.args.out.now c.answer_close.new.out c.answer_close.result)
@@ -50,6 +50,6 @@ returns-in-Said-default-false g c =
     let said = c.in-Said-default-false.is in
     let asked_for = c.in-Said-default-false.is_error-test in
     let is : c.args.words ≡ Said c.in-Said-default-false.text false = cc in
-    subst (λ (words : Words). IsAnswered g.O.Output.written g.O.Output.failures (IsDone told words) (IsFaultOf told words) c.args.out.now c.show.new.out c.show.result) (sym is)
+    subst (λ (words : CommandLine). IsAnswered g.O.Output.written g.O.Output.failures (IsDone told words) (IsFaultOf told words) c.args.out.now c.show.new.out c.show.result) (sym is)
     (shown g.O.Output.written g.O.Output.failures told c.args.out.now c.show.new.out text c.show.result
     (subst (λ (bytes : List ℕ). Shows g.O.Output.written g.O.Output.failures c.args.out.now c.show.new.out bytes Free c.show.result) c.deref-in-Said-default-false.ensures c.show.ensures))

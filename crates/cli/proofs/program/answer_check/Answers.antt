@@ -1,10 +1,10 @@
 -- A report is on standard output, or the fault is told.
 use Rattle.std.proofs.Common.{ℕ, List, Bor, map, refl, inl}
-use Rattle.command.specs.Ends.{EndsInReport}
-use Rattle.command.specs.Outputs.{Whole}
-use Rattle.command.specs.Texts.{IsFaultOfCheck}
-use Rattle.command.proofs.EndLemmas.{refused}
-use Rattle.command.proofs.program.answer_check.Goals as goal
+use Rattle.cli.specs.ExitContract.{EndsInReport}
+use Rattle.cli.specs.Outputs.{Whole}
+use Rattle.cli.specs.Texts.{IsFaultOfCheck}
+use Rattle.cli.proofs.EndLemmas.{refused}
+use Rattle.cli.proofs.program.answer_check.Goals as goal
 
 pub returns-in-Ok : goal.returns-in-Ok
 returns-in-Ok g c = (

@@ -1,11 +1,11 @@
 -- Nothing is on standard output, or the fault is reported.
 use Rattle.std.proofs.Common.{refl, inl}
-use Rattle.command.specs.Ends.{EndsInFiles}
-use Rattle.command.specs.Journals.{IsFaultOfClose}
-use Rattle.command.specs.Outputs.{Nothing}
-use Rattle.command.proofs.EndLemmas.{refused}
-use Rattle.command.proofs.JournalLemmas.{as_left}
-use Rattle.command.proofs.program.answer_close.Goals as goal
+use Rattle.cli.specs.ExitContract.{EndsInFiles}
+use Rattle.cli.specs.Journals.{IsFaultOfClose}
+use Rattle.cli.specs.Outputs.{Nothing}
+use Rattle.cli.proofs.EndLemmas.{refused}
+use Rattle.cli.proofs.JournalLemmas.{as_left}
+use Rattle.cli.proofs.program.answer_close.Goals as goal
 
 pub returns-in-Ok : goal.returns-in-Ok
 returns-in-Ok g c = (Nothing, refl, inl (refl, refl, refl))

@@ -1,11 +1,11 @@
 -- A report is on standard output, or the fault is reported.
 use Rattle.std.proofs.Common.{refl, inl}
-use Rattle.command.specs.Ends.{EndsInJudged}
-use Rattle.command.specs.Journals.{IsFaultOfJudge}
-use Rattle.command.specs.Outputs.{Whole}
-use Rattle.command.proofs.EndLemmas.{refused}
-use Rattle.command.proofs.JournalLemmas.{judged_left}
-use Rattle.command.proofs.program.answer_judge.Goals as goal
+use Rattle.cli.specs.ExitContract.{EndsInJudged}
+use Rattle.cli.specs.Journals.{IsFaultOfJudge}
+use Rattle.cli.specs.Outputs.{Whole}
+use Rattle.cli.proofs.EndLemmas.{refused}
+use Rattle.cli.proofs.JournalLemmas.{judged_left}
+use Rattle.cli.proofs.program.answer_judge.Goals as goal
 
 pub returns-in-Ok : goal.returns-in-Ok
 returns-in-Ok g c = (

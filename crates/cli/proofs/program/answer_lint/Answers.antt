@@ -1,10 +1,10 @@
 -- The number of calls is on standard output, or the fault is told.
 use Rattle.std.proofs.Common.{refl, inl}
-use Rattle.command.specs.Ends.{EndsInCount}
-use Rattle.command.specs.Lints.{IsFaultOfLint}
-use Rattle.command.specs.Outputs.{Whole, lint_report}
-use Rattle.command.proofs.EndLemmas.{refused}
-use Rattle.command.proofs.program.answer_lint.Goals as goal
+use Rattle.cli.specs.ExitContract.{EndsInCount}
+use Rattle.cli.specs.Lints.{IsFaultOfLint}
+use Rattle.cli.specs.Outputs.{Whole, lint_report}
+use Rattle.cli.proofs.EndLemmas.{refused}
+use Rattle.cli.proofs.program.answer_lint.Goals as goal
 
 pub returns-in-Ok : goal.returns-in-Ok
 returns-in-Ok g c = (

@@ -1,6 +1,6 @@
 use Rattle.std.proofs.Common.{map, refl}
-use Rattle.command.proofs.EndLemmas.{ends_at_once, ends_in_complaint}
-use Rattle.command.proofs.program.program.Goals as goal
+use Rattle.cli.proofs.EndLemmas.{ends_at_once, ends_in_complaint}
+use Rattle.cli.proofs.program.program.Goals as goal
 
 pub returns-in-Ok : goal.returns-in-Ok
 returns-in-Ok g c =

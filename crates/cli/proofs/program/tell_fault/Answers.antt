@@ -1,6 +1,6 @@
 use Rattle.std.proofs.Common.{rules, ◌≢◌, refl, inr}
-use Rattle.command.specs.declared.fault.Fault.TheVariants.{Memory, Write}
-use Rattle.command.proofs.program.tell_fault.Goals as goal
+use Rattle.cli.specs.declared.fault.Fault.TheVariants.{Memory, Write}
+use Rattle.cli.proofs.program.tell_fault.Goals as goal
 
 pub returns-in-Err : goal.returns-in-Err
 returns-in-Err g c =

@@ -1,6 +1,6 @@
 -- The session is the same.
-use Rattle.runs.specs.inner.Runs.{IsSameSession}
-use Rattle.runs.proofs.sweep.take_all.Given as goal
+use Rattle.driver.specs.inner.Runs.{IsSameSession}
+use Rattle.driver.proofs.poll.take_all.Given as goal
 
 abbrev pub invariant-loop : goal.invariant-loop
 invariant-loop g l =

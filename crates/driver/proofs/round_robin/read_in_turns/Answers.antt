@@ -1,8 +1,8 @@
 -- All that was read of each source is kept.
 use Rattle.std.proofs.Common.{◌≡◌, ◌∙◌, All, List, map, replicate, length, ap, subst, sym, arith}
-use Rattle.runs.specs.inner.Turns.{AtTurn, at_turns, first_turn, source_of, IsBegun, IsReady}
-use Rattle.runs.proofs.TurnLemmas.{all_read, first_sources, first_begun, first_ready, turns_over}
-use Rattle.runs.proofs.turns.read_in_turns.Goals as goal
+use Rattle.driver.specs.inner.Turns.{AtTurn, at_turns, first_turn, source_of, IsBegun, IsReady}
+use Rattle.driver.proofs.TurnLemmas.{all_read, first_sources, first_begun, first_ready, turns_over}
+use Rattle.driver.proofs.round_robin.read_in_turns.Goals as goal
 
 pub take_all_turns-requires-clause-ready : goal.take_all_turns-requires-clause-ready
 take_all_turns-requires-clause-ready g c =

@@ -1,8 +1,8 @@
 -- One record more was read and entered; or the end came, and with it the fault, if it has one.
-use Rattle.runs.proofs.TurnLemmas.{later_record, later_sealed, later_torn}
-use Rattle.runs.specs.inner.Turns.{at_turn}
+use Rattle.driver.proofs.TurnLemmas.{later_record, later_sealed, later_torn}
+use Rattle.driver.specs.inner.Turns.{at_turn}
 use Rattle.std.proofs.Common.{Some, ap, refl}
-use Rattle.runs.proofs.turns.read_next.Goals as goal
+use Rattle.driver.proofs.round_robin.read_next.Goals as goal
 
 pub returns-in-None : goal.returns-in-None
 returns-in-None g c =

@@ -1,8 +1,8 @@
 -- One rank more had its turn.
 use Rattle.std.proofs.Common.{◌≡◌, ◌∙◌, ◌<◌, List, length, slice_set, refl, sym, ap, subst, arith}
-use Rattle.runs.specs.inner.Turns.{AtTurn, at_turn, at_turns, AreLater}
-use Rattle.runs.proofs.TurnLemmas.{set_later, are_later_still, ready_at, turns_count, turns_read, turns_set}
-use Rattle.runs.proofs.turns.take_a_round.Goals as goal
+use Rattle.driver.specs.inner.Turns.{AtTurn, at_turn, at_turns, AreLater}
+use Rattle.driver.proofs.TurnLemmas.{set_later, are_later_still, ready_at, turns_count, turns_read, turns_set}
+use Rattle.driver.proofs.round_robin.take_a_round.Goals as goal
 
 pub take_a_turn-requires-clause-ready : goal.take_a_turn-requires-clause-ready
 take_a_turn-requires-clause-ready g c =

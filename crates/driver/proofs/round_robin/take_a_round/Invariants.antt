@@ -1,7 +1,7 @@
 -- The turns are later ones.
 use Rattle.std.proofs.Common.{◌≡◌, vec_len}
-use Rattle.runs.specs.inner.Turns.{at_turns, AreLater}
-use Rattle.runs.proofs.turns.take_a_round.Given as goal
+use Rattle.driver.specs.inner.Turns.{at_turns, AreLater}
+use Rattle.driver.proofs.round_robin.take_a_round.Given as goal
 
 abbrev pub invariant-loop-rank : goal.invariant-loop-rank
 invariant-loop-rank g l = record {

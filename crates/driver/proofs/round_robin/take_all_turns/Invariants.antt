@@ -1,7 +1,7 @@
 -- The turns are later ones.
 use Rattle.std.proofs.Common.{◌≡◌, vec_len}
-use Rattle.runs.specs.inner.Turns.{at_turns, AreLater}
-use Rattle.runs.proofs.turns.take_all_turns.Given as goal
+use Rattle.driver.specs.inner.Turns.{at_turns, AreLater}
+use Rattle.driver.proofs.round_robin.take_all_turns.Given as goal
 
 abbrev pub invariant-loop : goal.invariant-loop
 invariant-loop g l = record {

@@ -1,7 +1,7 @@
 -- What the threads put is what the close answers by.
 use Rattle.std.proofs.Common.{arith}
-use Rattle.runs.proofs.HeldLemmas.{none_put, feeds_count, close_receipts, closes_well, closes_refusing}
-use Rattle.runs.proofs.run.outcome_in_threads.Goals as goal
+use Rattle.driver.proofs.HeldLemmas.{none_put, feeds_count, close_receipts, closes_well, closes_refusing}
+use Rattle.driver.proofs.run.outcome_in_threads.Goals as goal
 
 pub in_threads-collector-requires-clause-one_a_source : goal.in_threads-collector-requires-clause-one_a_source
 in_threads-collector-requires-clause-one_a_source g c κs =

@@ -1,8 +1,8 @@
 -- What was read of the sources is what the ledger concludes by.
 use Rattle.std.proofs.Common.{ap, ◌∙◌}
 use Rattle.gather.specs.Collected.{Kept}
-use Rattle.runs.proofs.WholeLemmas.{read_closed, concludes_well, concludes_refusing}
-use Rattle.runs.proofs.run.outcome_in_turns.Goals as goal
+use Rattle.driver.proofs.WholeLemmas.{read_closed, concludes_well, concludes_refusing}
+use Rattle.driver.proofs.run.outcome_in_turns.Goals as goal
 
 pub conclude-requires : goal.conclude-requires
 conclude-requires g c = read_closed g.I.Input.left (g.G.Gate.may_stop c.args.gate.now) c.args.sources.items c.read_in_turns.result c.read_in_turns.ensures.read

@@ -1,8 +1,8 @@
 -- The receipts so far, and those that are still to come, are all.
 use Rattle.std.proofs.Common.{◌≡◌, ◌+◌, ◌≤◌, ◌++◌, map, length, vec_len, vec_capacity}
 use Rattle.std.specs.Vec.Iter.{into_iter_items, into_iter_len}
-use Rattle.runs.specs.inner.Runs.{receipt_of}
-use Rattle.runs.proofs.run.receipts_of.Given as goal
+use Rattle.driver.specs.inner.Runs.{receipt_of}
+use Rattle.driver.proofs.run.receipts_of.Given as goal
 
 abbrev pub invariant-loop-one : goal.invariant-loop-one
 invariant-loop-one l = record {

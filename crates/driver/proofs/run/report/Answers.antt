@@ -3,11 +3,11 @@ use Rattle.std.proofs.Common.{◌≡◌, ℕ, List, rules, subst}
 use Rattle.std.specs.Io.KnownBytes.{Appends}
 use Rattle.moves.specs.Analysed.{Analysed}
 use Rattle.waitgraph.specs.Verdicts.{verdict_by}
-use Rattle.reports.specs.Reports.{report_of}
+use Rattle.report.specs.Reports.{report_of}
 use Rattle.gather.specs.declared.fault.RunFault.TheVariants.{Memory, Write}
-use Rattle.runs.specs.inner.Ranks.{LeavesRunReport}
-use Rattle.runs.proofs.RunLemmas.{graph_reported, graph_not_reported}
-use Rattle.runs.proofs.run.report.Goals as goal
+use Rattle.driver.specs.inner.Ranks.{LeavesRunReport}
+use Rattle.driver.proofs.RunLemmas.{graph_reported, graph_not_reported}
+use Rattle.driver.proofs.run.report.Goals as goal
 
 pub returns-in-Ok-clause-written : goal.returns-in-Ok-clause-written
 returns-in-Ok-clause-written g c =

@@ -1,5 +1,5 @@
 -- The same clauses.
-use Rattle.runs.proofs.run.run.Goals as goal
+use Rattle.driver.proofs.run.run.Goals as goal
 
 pub returns-clause-accepted : goal.returns-clause-accepted
 returns-clause-accepted g c = c.run_by.ensures.accepted

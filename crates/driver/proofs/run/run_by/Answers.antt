@@ -1,8 +1,8 @@
 -- The answer of the report is that of the run, and a session without an outcome that of its close.
 use Rattle.std.proofs.lemmas.Result.{IfErr-weaker}
-use Rattle.runs.proofs.HeldLemmas.{accepts_all}
-use Rattle.runs.proofs.RunLemmas.{close_output, close_refuses, report_feeds, report_refuses, report_stops, run_accepted, run_output, run_verdict, run_written}
-use Rattle.runs.proofs.run.run_by.Goals as goal
+use Rattle.driver.proofs.HeldLemmas.{accepts_all}
+use Rattle.driver.proofs.RunLemmas.{close_output, close_refuses, report_feeds, report_refuses, report_stops, run_accepted, run_output, run_verdict, run_written}
+use Rattle.driver.proofs.run.run_by.Goals as goal
 
 pub returns-in-Ok-clause-accepted : goal.returns-in-Ok-clause-accepted
 returns-in-Ok-clause-accepted g c =

@@ -1,6 +1,6 @@
 -- The scope's closure asks for what the function asks for.
 use denote.Param.Send.{sendable}
-use Rattle.runs.proofs.gathering.in_threads.Goals as goal
+use Rattle.driver.proofs.threaded.in_threads.Goals as goal
 
 pub scoped-requires : goal.scoped-requires
 scoped-requires g c = record {

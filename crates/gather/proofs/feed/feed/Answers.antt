@@ -3,7 +3,7 @@ use Rattle.std.proofs.Common.{rules, ap, refl, subst, sym, ◌∙◌, Some, [], 
 use Rattle.mpicall.specs.Device.{count_if}
 use Rattle.rankfeed.specs.Rings.{sent_by}
 use Rattle.rankfeed.specs.declared.item.Item.TheVariants.{Mark}
-use Rattle.gather.specs.Fed.{is_failed_read}
+use Rattle.gather.specs.FeedContract.{is_failed_read}
 use Rattle.gather.specs.Reads.{IsReading}
 use Rattle.gather.proofs.FedLemmas.{counted_behind, receipt_counts, taken_open}
 use Rattle.gather.proofs.feed.feed.Goals as goal

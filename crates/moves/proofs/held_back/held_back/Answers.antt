@@ -1,6 +1,6 @@
 use Rattle.std.proofs.Common.{◌≡◌, ℕ, true, List, [], ◌∷◌, ◌++◌, length, sym, ap, subst, ◌∙◌}
 use Rattle.mpigroup.specs.Groups.{Groups}
-use Rattle.callnotes.specs.Recordings.{Lists}
+use Rattle.callstore.specs.Recordings.{Lists}
 use Rattle.moves.specs.Analysed.{Analysed}
 use Rattle.moves.specs.Runs.{IsTheEnd, StandsNoLater}
 use Rattle.moves.specs.Needs.{can_move}

@@ -1,7 +1,7 @@
 -- What started the request is what is seen with the call.
 use Rattle.std.proofs.Common.{◌≡◌, ◌∙◌, ℕ, Some, None, refl, sym}
 use Rattle.mpigroup.specs.Groups.{Groups}
-use Rattle.callnotes.specs.Recordings.{Lists}
+use Rattle.callstore.specs.Recordings.{Lists}
 use Rattle.pairing.specs.Pairs.{completed_of}
 use Rattle.moves.specs.Runs.{State}
 use Rattle.moves.specs.inner.Waiting.{TellsOperation, TellsRequest}

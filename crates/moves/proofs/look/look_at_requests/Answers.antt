@@ -1,6 +1,6 @@
 use Rattle.std.proofs.Common.{◌∙◌, ap, length, arith}
 use Rattle.mpicall.specs.declared.call.Call.{Call}
-use Rattle.callnotes.specs.Requests.{completes}
+use Rattle.callstore.specs.Requests.{completes}
 use Rattle.pairing.specs.Seen.{call_seen}
 use Rattle.moves.proofs.WaitLemmas.{request_passes, requests_pass}
 use Rattle.moves.proofs.look.look_at_requests.Goals as goal

@@ -1,6 +1,6 @@
 use Rattle.std.proofs.Common.{◌≡◌, true, take}
 use Rattle.std.specs.List.{list_all}
-use Rattle.callnotes.specs.Requests.{completes}
+use Rattle.callstore.specs.Requests.{completes}
 use Rattle.pairing.specs.Seen.{call_seen}
 use Rattle.moves.specs.Needs.{request_needs, is_met}
 use Rattle.moves.proofs.look.look_at_requests.Given as goal

@@ -2,9 +2,9 @@ use Rattle.std.proofs.Common.{◌≡◌, ◌+◌, ◌<◌, ℕ, Option, Some, No
 use Rattle.std.specs.Prelude.{IfSome}
 use Rattle.std.proofs.lemmas.Option.{none-some, same_Some}
 use Rattle.mpigroup.specs.Groups.{Groups}
-use Rattle.callnotes.specs.Recordings.{Lists}
+use Rattle.callstore.specs.Recordings.{Lists}
 use Rattle.pairing.specs.Partners.{partner_of}
-use Rattle.callnotes.specs.declared.envelope.Half.TheVariants.{Send as SendHalf, Recv as RecvHalf}
+use Rattle.callstore.specs.declared.envelope.Half.TheVariants.{Send as SendHalf, Recv as RecvHalf}
 use Rattle.moves.specs.inner.Waiting.{WaitLists, woken_partner, woken_peers, woken_comm, comm_list}
 use Rattle.moves.proofs.WakeLemmas.{all_woken, one_by_one, wave_if}
 use Rattle.moves.proofs.SettleLemmas.{partners_room, reach_hand, reach_counts}

@@ -2,10 +2,10 @@
 use Rattle.std.proofs.Common.{◌≡◌, ◌∙◌, None, refl, sym, ap}
 use Rattle.std.specs.Prelude.{option_map}
 use Rattle.std.specs.List.{slice_get}
-use Rattle.callnotes.specs.Recordings.{calls_of}
+use Rattle.callstore.specs.Recordings.{calls_of}
 use Rattle.pairing.specs.Partners.{partner_of}
 use Rattle.pairing.specs.Seen.{call_seen}
-use Rattle.callnotes.specs.declared.envelope.Half.TheVariants.{Send as SendHalf, Recv as RecvHalf}
+use Rattle.callstore.specs.declared.envelope.Half.TheVariants.{Send as SendHalf, Recv as RecvHalf}
 use Rattle.moves.specs.inner.Waiting.{sent_to}
 use Rattle.moves.proofs.WakeLemmas.{no_peers}
 use Rattle.moves.proofs.settle.wake_peers.Goals as goal

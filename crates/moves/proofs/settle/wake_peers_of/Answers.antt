@@ -1,7 +1,7 @@
 -- Each message's partner is what is seen with the call; who has no message wakes nobody by one.
 use Rattle.std.proofs.Common.{◌≡◌, ◌∙◌, None, refl, ap}
 use Rattle.pairing.specs.Partners.{partner_of}
-use Rattle.callnotes.specs.declared.envelope.Half.TheVariants.{Send as SendHalf, Recv as RecvHalf}
+use Rattle.callstore.specs.declared.envelope.Half.TheVariants.{Send as SendHalf, Recv as RecvHalf}
 use Rattle.moves.specs.inner.Waiting.{WaitLists, sent_to, woken_partner, woken_prober}
 use Rattle.moves.proofs.WakeLemmas.{no_peers}
 use Rattle.moves.proofs.settle.wake_peers_of.Goals as goal

@@ -1,14 +1,14 @@
 -- What is noted of a call, with its starts.
 use Rattle.std.proofs.Common.{◌∙◌, List, length, map, refl, ap, subst}
 use Rattle.mpicall.specs.declared.call.Call.{Call}
-use Rattle.callnotes.specs.Recordings.{calls_of}
-use Rattle.callnotes.specs.Places.{places}
-use Rattle.callnotes.specs.Waves.{does_join}
-use Rattle.callnotes.specs.Requests.{waits_for, started_in}
-use Rattle.callnotes.specs.inner.Notes.{recording_of}
-use Rattle.callnotes.specs.Notes.{AreStarts}
+use Rattle.callstore.specs.Recordings.{calls_of}
+use Rattle.callstore.specs.Places.{places}
+use Rattle.callstore.specs.Waves.{does_join}
+use Rattle.callstore.specs.Requests.{waits_for, started_in}
+use Rattle.callstore.specs.inner.Notes.{recording_of}
+use Rattle.callstore.specs.Notes.{AreStarts}
 use Rattle.pairing.proofs.NotedLemmas.{calls_of-recorded}
-use Rattle.callnotes.proofs.StartLemmas.{are_starts}
+use Rattle.callstore.proofs.StartLemmas.{are_starts}
 use Rattle.pairing.proofs.kept.note_call.Goals as goal
 
 pub note-requires-clause-starts : goal.note-requires-clause-starts
@@ -22,12 +22,12 @@ pub returns : goal.returns
 returns c =
     let recorded = calls_of-recorded c.args.notes.now.lists c.args.rank in
     record {
-      noted = record { call = c.args.call.now; beside = c.args.beside; starts = c.args.starts.now };
+      noted = record { call = c.args.call.now; cached = c.args.cached; starts = c.args.starts.now };
       added = rw c.record.ensures at c.note.ensures;
       is_call = refl;
       is_noted = record {
-        wave = λ comm joined. c.requires.beside.wave comm joined ∙ ap (λ (before : List Call). length (places (does_join comm) before)) recorded;
+        wave = λ comm joined. c.requires.cached.wave comm joined ∙ ap (λ (before : List Call). length (places (does_join comm) before)) recorded;
         started = c.requires.starts ∙ ap (λ (before : List Call). map (started_in before) (waits_for c.args.call.now)) recorded;
       };
-      alone = c.requires.beside.alone;
+      alone = c.requires.cached.alone;
     }

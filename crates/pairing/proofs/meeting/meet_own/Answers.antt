@@ -1,5 +1,5 @@
 use Rattle.std.proofs.Common.{◌∙◌, sym, refl}
-use Rattle.callnotes.specs.Envelopes.{other_half, rank_of_half}
+use Rattle.callstore.specs.Envelopes.{other_half, rank_of_half}
 use Rattle.pairing.proofs.PairedLemmas.{met_by, waits_paired}
 use Rattle.pairing.proofs.meeting.meet_own.Goals as goal
 

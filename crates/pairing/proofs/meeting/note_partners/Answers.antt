@@ -1,6 +1,6 @@
 use Rattle.std.proofs.Common.{◌∙◌, ap, List}
-use Rattle.callnotes.specs.Notes.{Noted}
-use Rattle.callnotes.specs.inner.Notes.{recording_of}
+use Rattle.callstore.specs.Notes.{Noted}
+use Rattle.callstore.specs.inner.Notes.{recording_of}
 use Rattle.pairing.proofs.PartneredLemmas.{recording_partnered}
 use Rattle.pairing.proofs.meeting.note_partners.Goals as goal
 

@@ -2,8 +2,8 @@ use Rattle.std.proofs.Common.{◌++◌, sym, ap, ◌∙◌}
 use Rattle.std.specs.List.{join_with_byte}
 use Rattle.mpicall.specs.Spelling.{space}
 use Rattle.findings.specs.declared.finding.Finding.{Finding}
-use Rattle.reports.specs.FindingTexts.{finding_fields}
-use Rattle.reports.proofs.finding.push_finding.Goals as goal
+use Rattle.report.specs.FindingTexts.{finding_fields}
+use Rattle.report.proofs.finding.push_finding.Goals as goal
 
 pub returns-in-Unreceived-clause-value : goal.returns-in-Unreceived-clause-value
 returns-in-Unreceived-clause-value c =

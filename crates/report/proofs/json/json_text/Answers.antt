@@ -8,11 +8,11 @@ use Rattle.waitgraph.specs.Stuck.{stuck_of}
 use Rattle.waitgraph.specs.Verdicts.{verdict_by}
 use Rattle.findings.specs.declared.finding.Finding.{Finding}
 use Rattle.waitgraph.specs.declared.verdict.Verdict.{Verdict}
-use Rattle.reports.specs.inner.ArrayTexts.{elements_text, key_text}
-use Rattle.reports.specs.JsonReport.{each, cause_data, finding_data, rank_data}
-use Rattle.reports.specs.TextReport.{verdict_text}
-use Rattle.reports.proofs.ArrayLemmas.{report_parts, nine}
-use Rattle.reports.proofs.json.json_text.Goals as goal
+use Rattle.report.specs.inner.ArrayTexts.{elements_text, key_text}
+use Rattle.report.specs.JsonReport.{each, cause_data, finding_data, rank_data}
+use Rattle.report.specs.TextReport.{verdict_text}
+use Rattle.report.proofs.ArrayLemmas.{report_parts, nine}
+use Rattle.report.proofs.json.json_text.Goals as goal
 
 pub returns : goal.returns
 returns c =

@@ -6,12 +6,12 @@ use Rattle.waitgraph.specs.Causes.{CauseView}
 use Rattle.waitgraph.specs.Stuck.{stuck_of}
 use Rattle.waitgraph.specs.Verdicts.{verdict_by}
 use Rattle.waitgraph.specs.declared.verdict.Verdict.{Verdict}
-use Rattle.reports.specs.inner.ArrayTexts.{elements_text, key_text}
-use Rattle.reports.specs.JsonReport.{each, cause_data, finding_data, rank_data}
-use Rattle.reports.specs.Judged.{left_data, line_data}
-use Rattle.reports.specs.TextReport.{verdict_text}
-use Rattle.reports.proofs.JudgedLemmas.{judged_parts, thirteen}
-use Rattle.reports.proofs.json.judged_json_text.Goals as goal
+use Rattle.report.specs.inner.ArrayTexts.{elements_text, key_text}
+use Rattle.report.specs.JsonReport.{each, cause_data, finding_data, rank_data}
+use Rattle.report.specs.Judged.{left_data, line_data}
+use Rattle.report.specs.TextReport.{verdict_text}
+use Rattle.report.proofs.JudgedLemmas.{judged_parts, thirteen}
+use Rattle.report.proofs.json.judged_json_text.Goals as goal
 
 pub returns : goal.returns
 returns c =

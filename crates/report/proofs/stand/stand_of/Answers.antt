@@ -1,7 +1,7 @@
 use Rattle.std.proofs.Common.{ℕ, Option, List, slice_index, ap, ◌∙◌}
 use Rattle.std.specs.Prelude.{unwrap_or}
 use Rattle.std.proofs.lemmas.Option.{unwrap_or-slice_get}
-use Rattle.reports.proofs.stand.stand_of.Goals as goal
+use Rattle.report.proofs.stand.stand_of.Goals as goal
 
 pub returns : goal.returns
 returns c =

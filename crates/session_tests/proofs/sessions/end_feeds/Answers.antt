@@ -2,8 +2,8 @@ use Rattle.std.proofs.Common.{rules, length, map, sym, ap, ◌∙◌, subst, ari
 use Rattle.std.specs.Vec.Iter.{into_iter_items}
 use Rattle.std.proofs.lemmas.List.{nil_from_length}
 use Rattle.rankfeed.specs.Rings.{feed_ring}
-use Rattle.runtests.proofs.ReceiptLemmas.{ReceiptsTo, one_receipt_more, all_receipts}
-use Rattle.runtests.proofs.sessions.end_feeds.Goals as goal
+use Rattle.session_tests.proofs.ReceiptLemmas.{ReceiptsTo, one_receipt_more, all_receipts}
+use Rattle.session_tests.proofs.sessions.end_feeds.Goals as goal
 
 pub loop-feed-preserved : goal.loop-feed-preserved
 loop-feed-preserved c =

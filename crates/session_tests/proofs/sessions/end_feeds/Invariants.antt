@@ -2,8 +2,8 @@
 use Rattle.std.proofs.Common.{◌≡◌, length, map}
 use Rattle.std.specs.Vec.Iter.{into_iter_items, into_iter_len}
 use Rattle.rankfeed.specs.Rings.{feed_ring}
-use Rattle.runtests.proofs.ReceiptLemmas.{ReceiptsTo}
-use Rattle.runtests.proofs.sessions.end_feeds.Given as goal
+use Rattle.session_tests.proofs.ReceiptLemmas.{ReceiptsTo}
+use Rattle.session_tests.proofs.sessions.end_feeds.Given as goal
 
 abbrev pub invariant-loop-feed : goal.invariant-loop-feed
 invariant-loop-feed l = record {

@@ -1,7 +1,7 @@
 -- The feed is still the same one.
 use Rattle.std.proofs.Common.{◌≡◌}
 use Rattle.rankfeed.specs.Rings.{feed_ring}
-use Rattle.runtests.proofs.sessions.put_all.Given as goal
+use Rattle.session_tests.proofs.sessions.put_all.Given as goal
 
 abbrev pub invariant-loop-rank : goal.invariant-loop-rank
 invariant-loop-rank g l = feed_ring l.feed ≡ feed_ring l.fn.feed

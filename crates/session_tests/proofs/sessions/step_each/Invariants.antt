@@ -1,7 +1,7 @@
 -- The feeds are the same.
 use Rattle.std.proofs.Common.{◌≡◌}
 use Rattle.gather.specs.Collectors.{rings}
-use Rattle.runtests.proofs.sessions.step_each.Given as goal
+use Rattle.session_tests.proofs.sessions.step_each.Given as goal
 
 abbrev pub invariant-loop-rank : goal.invariant-loop-rank
 invariant-loop-rank l = rings l.collector ≡ rings l.fn.collector

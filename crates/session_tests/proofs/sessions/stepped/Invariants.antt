@@ -1,7 +1,7 @@
 -- The feeds are the same.
 use Rattle.std.proofs.Common.{◌≡◌}
 use Rattle.gather.specs.Collectors.{rings}
-use Rattle.runtests.proofs.sessions.stepped.Given as goal
+use Rattle.session_tests.proofs.sessions.stepped.Given as goal
 
 abbrev pub invariant-loop : goal.invariant-loop
 invariant-loop g l =

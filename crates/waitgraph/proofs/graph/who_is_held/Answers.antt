@@ -4,7 +4,7 @@ use Rattle.pairing.specs.LeftOpen.{is_left_open}
 use Rattle.waitgraph.proofs.VerdictLemmas.{some_marked}
 use Rattle.std.proofs.lemmas.List.FromFn.{length-map-range_with_len}
 use Rattle.waitgraph.specs.inner.Causes.{Walks, walks_in, causes_in}
-use Rattle.waitgraph.specs.inner.Loose.{set_of, onward_of}
+use Rattle.waitgraph.specs.inner.Loose.{set_of, hop_of}
 use Rattle.waitgraph.proofs.graph.who_is_held.Goals as goal
 
 pub causes_in-requires : goal.causes_in-requires
@@ -13,7 +13,7 @@ causes_in-requires c =
       arith,
       c.requires.few,
       ap (λ (walks : Walks). length walks) (c.deref-6.ensures.value ∙ c.in_ok-walks.ensures)
-          ∙ length-map-range_with_len (onward_of (set_of c.deref-4.result.now) c.args.standings.now c.args.waits.now) 0 (length c.args.standings.now),
+          ∙ length-map-range_with_len (hop_of (set_of c.deref-4.result.now) c.args.standings.now c.args.waits.now) 0 (length c.args.standings.now),
     )
 
 pub returns-clause-left_open : goal.returns-clause-left_open

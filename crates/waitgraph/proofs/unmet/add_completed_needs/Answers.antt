@@ -4,7 +4,7 @@ use Rattle.std.specs.Option.{option_map_or}
 use Rattle.std.proofs.lemmas.List.{take_all}
 use Rattle.std.proofs.lemmas.Option.{slice_get-get_or}
 use Rattle.mpicall.specs.declared.call.Call.{Call}
-use Rattle.callnotes.specs.Requests.{completes}
+use Rattle.callstore.specs.Requests.{completes}
 use Rattle.pairing.specs.Seen.{call_seen}
 use Rattle.moves.specs.declared.need.Need.{Need}
 use Rattle.moves.specs.Needs.{request_needs, operation_needs_at}

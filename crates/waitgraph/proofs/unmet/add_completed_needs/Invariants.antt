@@ -1,6 +1,6 @@
 use Rattle.std.proofs.Common.{◌≡◌, ◌++◌, flat_map, take}
 use Rattle.std.specs.List.{filter}
-use Rattle.callnotes.specs.Requests.{completes}
+use Rattle.callstore.specs.Requests.{completes}
 use Rattle.pairing.specs.Seen.{call_seen}
 use Rattle.moves.specs.Needs.{request_needs}
 use Rattle.waitgraph.specs.inner.Stuck.{is_unmet}

@@ -1,10 +1,10 @@
 use Rattle.std.proofs.Common.{◌≡◌, ◌++◌, ◌-◌, length}
 use Rattle.std.specs.Prelude.{option_map}
-use Rattle.waitgraph.specs.inner.Causes.{way_home}
-use Rattle.waitgraph.proofs.walk.way_home.Given as goal
+use Rattle.waitgraph.specs.inner.Causes.{way_round}
+use Rattle.waitgraph.proofs.walk.way_round.Given as goal
 
 -- the whole way is the ranks so far and the way from here
 abbrev pub invariant-loop-step : goal.invariant-loop-step
 invariant-loop-step l =
-    way_home l.walks (length l.walks) l.home l.home
-    ≡ option_map (λ more. l.ranks.items ++ more) (way_home l.walks (length l.walks - l._step) l.home l.rank)
+    way_round l.walks (length l.walks) l.home l.home
+    ≡ option_map (λ more. l.ranks.items ++ more) (way_round l.walks (length l.walks - l._step) l.home l.rank)

@@ -1,8 +1,8 @@
 -- The first start whose call starts the request stands with the first such request.
 use Rattle.std.proofs.Common.{ℕ, ◌==◌, find, List, sym, ap, ◌∙◌}
-use Rattle.callnotes.specs.inner.Packed.{req_at}
-use Rattle.callnotes.proofs.StartLemmas.{start_found}
-use Rattle.callnotes.proofs.note.Note.start_of.Goals as goal
+use Rattle.callstore.specs.inner.Packed.{req_at}
+use Rattle.callstore.proofs.StartLemmas.{start_found}
+use Rattle.callstore.proofs.note.Note.start_of.Goals as goal
 
 pub returns : goal.returns
 returns c =

@@ -4,10 +4,10 @@ use Rattle.std.specs.Option.{unwrap_or}
 use Rattle.std.specs.List.{slice_get}
 use Rattle.std.proofs.Math.Seq.{map-set_same}
 use Rattle.std.proofs.lemmas.List.{length-map}
-use Rattle.callnotes.specs.Notes.{Notebook, NoteRoom, Holds, no_room}
-use Rattle.callnotes.specs.inner.Notes.{NotedList}
-use Rattle.callnotes.proofs.NoteLemmas.{room_set}
-use Rattle.callnotes.proofs.notes.Notes.reserve.Goals as goal
+use Rattle.callstore.specs.Notes.{Notebook, NoteRoom, Holds, no_room}
+use Rattle.callstore.specs.inner.Notes.{NotedList}
+use Rattle.callstore.proofs.NoteLemmas.{room_set}
+use Rattle.callstore.proofs.notes.Notes.reserve.Goals as goal
 
 pub returns-clause-lists : goal.returns-clause-lists
 returns-clause-lists c =

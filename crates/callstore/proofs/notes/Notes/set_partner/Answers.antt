@@ -1,7 +1,7 @@
 use Rattle.std.proofs.Common.{◌∙◌, ◌<◌, length, ap, arith}
-use Rattle.callnotes.specs.Notes.{Notebook, partnered}
-use Rattle.callnotes.proofs.NoteLemmas.{partnered_set}
-use Rattle.callnotes.proofs.notes.Notes.set_partner.Goals as goal
+use Rattle.callstore.specs.Notes.{Notebook, partnered}
+use Rattle.callstore.proofs.NoteLemmas.{partnered_set}
+use Rattle.callstore.proofs.notes.Notes.set_partner.Goals as goal
 
 pub returns-then-from-len : goal.returns-then-from-len
 returns-then-from-len c =

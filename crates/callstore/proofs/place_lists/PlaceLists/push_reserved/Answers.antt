@@ -1,7 +1,7 @@
 use Rattle.std.proofs.Common.{◌∙◌, ◌<◌, length, ap, subst, sym}
-use Rattle.callnotes.specs.Seats.{Seats, with_place_in, HasRoomIn}
-use Rattle.callnotes.proofs.SeatLemmas.{place_more, room_within}
-use Rattle.callnotes.proofs.place_lists.PlaceLists.push_reserved.Goals as goal
+use Rattle.callstore.specs.Seats.{Seats, with_place_in, HasRoomIn}
+use Rattle.callstore.proofs.SeatLemmas.{place_more, room_within}
+use Rattle.callstore.proofs.place_lists.PlaceLists.push_reserved.Goals as goal
 
 pub returns : goal.returns
 returns c =

@@ -1,11 +1,11 @@
 use Rattle.std.proofs.Common.{◌∙◌, ◌<◌, length, map, ap, arith}
 use Rattle.std.proofs.lemmas.List.{length-map}
 use Rattle.std.proofs.Math.Seq.{map-set_same}
-use Rattle.callnotes.specs.Seats.{Seats}
-use Rattle.callnotes.specs.inner.Seats.{Listed}
-use Rattle.callnotes.proofs.SeatLemmas.{room_set, places_set}
-use Rattle.callnotes.proofs.NumberLemmas.{on_ok_then}
-use Rattle.callnotes.proofs.place_lists.PlaceLists.reserve.Goals as goal
+use Rattle.callstore.specs.Seats.{Seats}
+use Rattle.callstore.specs.inner.Seats.{Listed}
+use Rattle.callstore.proofs.SeatLemmas.{room_set, places_set}
+use Rattle.callstore.proofs.NumberLemmas.{on_ok_then}
+use Rattle.callstore.proofs.place_lists.PlaceLists.reserve.Goals as goal
 
 pub returns-clause-places : goal.returns-clause-places
 returns-clause-places c =

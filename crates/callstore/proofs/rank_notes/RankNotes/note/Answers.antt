@@ -1,14 +1,14 @@
 use Rattle.std.proofs.Common.{◌≡◌, ◌∙◌, ◌-◌, ◌≤◌, vec_len, vec_capacity, ◌<◌, ◌++◌, ◌∷◌, [], List, length, map, ap, arith}
 use Rattle.std.proofs.lemmas.List.{length-map}
 use Rattle.mpicall.specs.declared.call.Call.{Call}
-use Rattle.callnotes.specs.declared.packed.Entry.{Entry}
-use Rattle.callnotes.specs.Limits.{most_calls}
-use Rattle.callnotes.specs.Notes.{Noted, calls_in, listed, AreStarts}
-use Rattle.callnotes.specs.inner.Notes.{NotedList}
-use Rattle.callnotes.specs.Packed.{noted}
-use Rattle.callnotes.specs.inner.Packed.{noted_of, listed_starts}
-use Rattle.callnotes.proofs.PackedLemmas.{listed_few, notes_push, stored_push, names_more, few_listed, as_many_starts, packed_stored, packed_noted}
-use Rattle.callnotes.proofs.rank_notes.RankNotes.note.Goals as goal
+use Rattle.callstore.specs.declared.packed.Entry.{Entry}
+use Rattle.callstore.specs.Limits.{most_calls}
+use Rattle.callstore.specs.Notes.{Noted, calls_in, listed, AreStarts}
+use Rattle.callstore.specs.inner.Notes.{NotedList}
+use Rattle.callstore.specs.Packed.{noted}
+use Rattle.callstore.specs.inner.Packed.{noted_of, listed_starts}
+use Rattle.callstore.proofs.PackedLemmas.{listed_few, notes_push, stored_push, names_more, few_listed, as_many_starts, packed_stored, packed_noted}
+use Rattle.callstore.proofs.rank_notes.RankNotes.note.Goals as goal
 
 pub invariant_of-self : goal.invariant_of-self
 invariant_of-self c =
@@ -16,7 +16,7 @@ invariant_of-self c =
     let entries = c.self.inside.entries.items in
     let starts = c.self.inside.starts.items in
     let places = c.args.starts.now in
-    let entry : Entry = record { call = c.pack-packed.result; beside = c.args.beside } in
+    let entry : Entry = record { call = c.pack-packed.result; cached = c.args.cached } in
     let first : length starts ≡ c.len.result = cc in
     let same : map (noted_of entries starts) entries ≡ c.args.self.now.calls = ap (λ (list : NotedList). list.calls) c.self.view_is in
     let are_starts : AreStarts (calls_in (map (noted_of entries starts) entries)) call places = rw (same, c.as_call-call.ensures.value) c.requires.starts in
@@ -34,7 +34,7 @@ returns c =
     let entries = c.self.inside.entries.items in
     let starts = c.self.inside.starts.items in
     let places = c.args.starts.now in
-    let entry : Entry = record { call = c.pack-packed.result; beside = c.args.beside } in
+    let entry : Entry = record { call = c.pack-packed.result; cached = c.args.cached } in
     let first : length starts ≡ c.len.result = cc in
     let same : map (noted_of entries starts) entries ≡ c.args.self.now.calls = ap (λ (list : NotedList). list.calls) c.self.view_is in
     let are_starts : AreStarts (calls_in (map (noted_of entries starts) entries)) call places = rw (same, c.as_call-call.ensures.value) c.requires.starts in
@@ -43,8 +43,8 @@ returns c =
     rw (c.push_reserved.ensures.items, c.push_all.ensures, c.listed_starts.ensures)
     (notes_push entries starts (listed_starts call places) entry c.self.invariant
     ∙ ap (λ (note : Noted). map (noted_of entries starts) entries ++ note ∷ []) is
-    ∙ ap (λ (notes : List Noted). notes ++ noted call c.args.beside places ∷ []) same
-    ∙ ap (λ (it : Call). c.args.self.now.calls ++ noted it c.args.beside places ∷ []) c.as_call-call.ensures.value)
+    ∙ ap (λ (notes : List Noted). notes ++ noted call c.args.cached places ∷ []) same
+    ∙ ap (λ (it : Call). c.args.self.now.calls ++ noted it c.args.cached places ∷ []) c.as_call-call.ensures.value)
 
 pub push_all-requires : goal.push_all-requires
 push_all-requires c =

@@ -1,8 +1,8 @@
 -- One thread more has ended.
 use Rattle.std.proofs.Common.{rules, arith, length, ap}
 use Rattle.std.specs.Vec.Iter.{into_iter_items}
-use Rattle.runs.proofs.ThreadLemmas.{comes_next, comes_last}
-use Rattle.runs.proofs.threads.Started.finish_all.Goals as goal
+use Rattle.driver.proofs.ThreadLemmas.{comes_next, comes_last}
+use Rattle.driver.proofs.threads.Started.finish_all.Goals as goal
 
 pub loop-thread-preserved : goal.loop-thread-preserved
 loop-thread-preserved g c =

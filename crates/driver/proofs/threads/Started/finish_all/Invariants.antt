@@ -1,8 +1,8 @@
 -- What the threads that ended promised has come; the rest still promise it.
 use Rattle.std.proofs.Common.{◌≡◌, ◌+◌, ◌≤◌, length, vec_len, vec_capacity}
 use Rattle.std.specs.Vec.Iter.{into_iter_items, into_iter_len}
-use Rattle.runs.proofs.ThreadLemmas.{Comes}
-use Rattle.runs.proofs.threads.Started.finish_all.Given as goal
+use Rattle.driver.proofs.ThreadLemmas.{Comes}
+use Rattle.driver.proofs.threads.Started.finish_all.Given as goal
 
 abbrev pub invariant-loop-thread : goal.invariant-loop-thread
 invariant-loop-thread g l = record {

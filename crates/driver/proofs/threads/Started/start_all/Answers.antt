@@ -4,9 +4,9 @@ use Rattle.std.specs.Vec.Iter.{into_iter_items}
 use Rattle.std.proofs.lemmas.List.Elements.{All-rest}
 use Rattle.mpicall.specs.Source.{ended}
 use Rattle.rankfeed.specs.Rings.{sent_by}
-use Rattle.runs.specs.Threads.{Promises}
-use Rattle.runs.proofs.AlongLemmas.{first_of_all, along_next, along_end}
-use Rattle.runs.proofs.threads.Started.start_all.Goals as goal
+use Rattle.driver.specs.Threads.{Promises}
+use Rattle.driver.proofs.AlongLemmas.{first_of_all, along_next, along_end}
+use Rattle.driver.proofs.threads.Started.start_all.Goals as goal
 
 pub start-thread-requires-clause-nothing_put : goal.start-thread-requires-clause-nothing_put
 start-thread-requires-clause-nothing_put g c κs within = first_of_all (λ feed. sent_by feed ≡ []) _ c.in-Some-next.feed_end _ c.in-Some-next.ensures.cases.0 c.loop-source.invariant.nothing_put

@@ -4,9 +4,9 @@ use Rattle.std.proofs.Common.{◌≡◌, ◌+◌, ◌≤◌, [], None, All, leng
 use Rattle.std.specs.Vec.Iter.{into_iter_items, into_iter_len}
 use Rattle.mpicall.specs.Source.{ended}
 use Rattle.rankfeed.specs.Rings.{sent_by}
-use Rattle.runs.specs.Threads.{Promises}
-use Rattle.runs.proofs.AlongLemmas.{AlongTo}
-use Rattle.runs.proofs.threads.Started.start_all.Given as goal
+use Rattle.driver.specs.Threads.{Promises}
+use Rattle.driver.proofs.AlongLemmas.{AlongTo}
+use Rattle.driver.proofs.threads.Started.start_all.Given as goal
 
 abbrev pub invariant-loop-source : goal.invariant-loop-source
 invariant-loop-source g l = record {

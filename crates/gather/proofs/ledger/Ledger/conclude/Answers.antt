@@ -1,6 +1,6 @@
 -- Where no fault is kept, the records are closed.
 use Rattle.std.proofs.Common.{sym, subst}
-use Rattle.callnotes.specs.Recordings.{IsClosed}
+use Rattle.callstore.specs.Recordings.{IsClosed}
 use Rattle.gather.proofs.CloseLemmas.{of_outcome}
 use Rattle.gather.proofs.ledger.Ledger.conclude.Goals as goal
 

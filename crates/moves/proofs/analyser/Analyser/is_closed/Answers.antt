@@ -1,5 +1,5 @@
 use Rattle.std.proofs.Common.{◌≡◌, ◌↔◌, true, subst}
-use Rattle.callnotes.specs.Recordings.{IsClosed}
+use Rattle.callstore.specs.Recordings.{IsClosed}
 use Rattle.moves.specs.Analysed.{Analysed}
 use Rattle.moves.proofs.analyser.Analyser.is_closed.Goals as goal
 

@@ -1,7 +1,7 @@
 -- What the next line is, by what is held of it.
 use Rattle.std.proofs.Common.{sym, ap, ◌∙◌, take, List, ℕ}
 use Rattle.mpicall.specs.Source.{coming}
-use Rattle.mpicall.specs.Reading.{record_of_line}
+use Rattle.mpicall.specs.Parsing.{record_of_line}
 use Rattle.mpicall.proofs.GivesLemmas.{gives_read_failed, gives_no_finalize, gives_record, gives_line_fault}
 use Rattle.mpicall.proofs.CutLemmas.{cut_in_line}
 use Rattle.mpicall.proofs.source.Source.read_other.Goals as goal
@@ -18,14 +18,14 @@ returns-then-len-eq0-clause-trace g c =
 pub returns-in-Ok-read-clause-trace : goal.returns-in-Ok-read-clause-trace
 unfolding coming
 returns-in-Ok-read-clause-trace g c =
-    let read = ap (λ (held : List ℕ). record_of_line (take c.in-Ok.len held)) (sym c.held.ensures) ∙ c.in-Ok-read.ensures.reading in
+    let read = ap (λ (buffered : List ℕ). record_of_line (take c.in-Ok.len buffered)) (sym c.buffered.ensures) ∙ c.in-Ok-read.ensures.reading in
     rw (c.requires, c.stage_behind-self.ensures, c.drop_front.ensures)
     (gives_record _ _ c.line_end.new.window c.in-Ok.len c.read.new.into c.in-Ok.ensures.known c.in-Ok.ensures.ends read)
 
 pub returns-in-Err-read-clause-trace : goal.returns-in-Err-read-clause-trace
 unfolding coming
 returns-in-Err-read-clause-trace g c =
-    let read = ap (λ (held : List ℕ). record_of_line (take c.in-Ok.len held)) (sym c.held.ensures) ∙ c.in-Err-read.ensures.reading.0 in
+    let read = ap (λ (buffered : List ℕ). record_of_line (take c.in-Ok.len buffered)) (sym c.buffered.ensures) ∙ c.in-Err-read.ensures.reading.0 in
     rw c.requires
     (gives_line_fault _ _ c.line_end.new.window c.in-Ok.len c.in-Err-read.fault c.in-Ok.ensures.known c.in-Ok.ensures.ends c.if-len-eq0.false read)
 

@@ -6,12 +6,12 @@ use Rattle.mpicall.proofs.source.Source.read_record.Goals as goal
 pub returns-in-Some-clause-trace : goal.returns-in-Some-clause-trace
 unfolding coming
 returns-in-Some-clause-trace g c =
-    let begins = rw c.held.ensures at c.in-Some.ensures in
+    let begins = rw c.buffered.ensures at c.in-Some.ensures in
     rw (c.requires, c.stage_behind-self.ensures, c.drop_front.ensures) (gives_spelled _ _ _ _ begins)
 
 pub returns-in-Some-clause-line : goal.returns-in-Some-clause-line
 returns-in-Some-clause-line g c =
-    let begins = rw c.held.ensures at c.in-Some.ensures in
+    let begins = rw c.buffered.ensures at c.in-Some.ensures in
     λ given. rw c.drop_front.ensures (held_spelling _ _ _ _ begins)
 
 pub returns-clause-trace : goal.returns-clause-trace

@@ -7,5 +7,5 @@ pub returns : goal.returns
 returns c =
     let i = c.self.inside in
     let told = c.self.told in
-    let held = ap length (sym c.self.view_is) ∙ window_length i.start i.end i.buffer c.self.invariant.0 (omega arith) in
+    let buffered = ap length (sym c.self.view_is) ∙ window_length i.start i.end i.buffer c.self.invariant.0 (omega arith) in
     dropped i.start i.end c.args.count i.buffer (omega arith) ∙ ap (drop c.args.count) c.self.view_is

@@ -1,6 +1,6 @@
 use Rattle.std.proofs.Common.{◌≡◌, ◌≤◌, ◌==◌, ◌&&◌, None, take, ℕ, if◌then◌else◌}
 use Rattle.indexmap.specs.IndexMap.{spare}
-use Rattle.callnotes.specs.Requests.{is_among}
+use Rattle.callstore.specs.Requests.{is_among}
 use Rattle.pairing.specs.inner.Starts.{place_in}
 use Rattle.pairing.proofs.active.Active.complete.Given as goal
 

@@ -3,7 +3,7 @@ use Rattle.std.proofs.Common.{◌*◌, arith, rules}
 use Rattle.std.proofs.lemmas.Grind.{common_steps}
 use Rattle.pairing.specs.inner.Starts.{cell_no}
 use Rattle.pairing.proofs.ActiveLemmas.{no_cell}
-use Rattle.callnotes.proofs.PlacesLemmas.{no_calls}
+use Rattle.callstore.proofs.PlacesLemmas.{no_calls}
 use Rattle.pairing.proofs.active.Active.new.Goals as goal
 
 pub returns : goal.returns

@@ -1,5 +1,5 @@
 use Rattle.std.proofs.Common.{◌≡◌}
-use Rattle.callnotes.specs.Requests.{completes}
+use Rattle.callstore.specs.Requests.{completes}
 use Rattle.pairing.proofs.ActiveLemmas.{active_more}
 use Rattle.pairing.proofs.active.Active.put.Goals as goal
 

@@ -1,9 +1,9 @@
 use Rattle.std.proofs.Common.{◌≡◌, ◌∙◌, length, take, refl, sym, arith}
 use Rattle.std.proofs.lemmas.List.{take_all}
 use Rattle.std.proofs.lemmas.Bool.{eq-eqb}
-use Rattle.callnotes.specs.Recordings.{calls_of}
-use Rattle.callnotes.specs.Requests.{started_in}
-use Rattle.callnotes.proofs.OptionLemmas.{same_map}
+use Rattle.callstore.specs.Recordings.{calls_of}
+use Rattle.callstore.specs.Requests.{started_in}
+use Rattle.callstore.proofs.OptionLemmas.{same_map}
 use Rattle.pairing.specs.inner.Starts.{place_in}
 use Rattle.pairing.proofs.ActiveLemmas.{one_inactive, all_started}
 use Rattle.pairing.proofs.active.Active.starts_of.Goals as goal

@@ -1,10 +1,10 @@
 -- The envelope with that number is this one.
 use Rattle.std.proofs.Common.{◌≡◌, ◌∙◌, List, Some, ap, sym}
 use Rattle.std.specs.List.{slice_get}
-use Rattle.callnotes.specs.declared.envelope.Envelope.{Envelope}
+use Rattle.callstore.specs.declared.envelope.Envelope.{Envelope}
 use Rattle.pairing.proofs.MatchedLemmas.{own_number}
 use Rattle.pairing.proofs.PartnerLemmas.{same_envelope_true}
-use Rattle.pairing.proofs.numbering.Numbering.known.Goals as goal
+use Rattle.pairing.proofs.envelope_index.EnvelopeIndex.known.Goals as goal
 
 pub returns-in-Some : goal.returns-in-Some
 returns-in-Some c =

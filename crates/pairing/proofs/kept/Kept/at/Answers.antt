@@ -1,7 +1,7 @@
 -- What is noted of a call is what the recording has there.
 use Rattle.std.proofs.Common.{◌≡◌, Some, sym, ◌∙◌}
 use Rattle.std.specs.List.{slice_get}
-use Rattle.callnotes.specs.Notes.{notes_of}
+use Rattle.callstore.specs.Notes.{notes_of}
 use Rattle.pairing.proofs.KeptLemmas.{its_call, no_call, partner_noted, wave_there, completed_noted}
 use Rattle.pairing.proofs.kept.Kept.at.Goals as goal
 

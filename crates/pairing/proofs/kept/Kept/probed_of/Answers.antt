@@ -1,6 +1,6 @@
 use Rattle.std.proofs.Common.{◌≡◌, Some, None, sym, ap, ◌∙◌}
 use Rattle.std.specs.Prelude.{option_and_then}
-use Rattle.callnotes.specs.inner.Notes.{recording_of}
+use Rattle.callstore.specs.inner.Notes.{recording_of}
 use Rattle.pairing.specs.Probed.{probed_envelope, probed_envelope_at, probed_by}
 use Rattle.pairing.specs.inner.Seated.{seat_in}
 use Rattle.pairing.proofs.KeptLemmas.{its_call}

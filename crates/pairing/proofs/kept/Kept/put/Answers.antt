@@ -2,9 +2,9 @@
 use Rattle.std.proofs.Common.{◌<◌, ◌∙◌, ap, subst, sym, length, arith}
 use Rattle.pairing.specs.Matched.{halves_of}
 use Rattle.pairing.specs.inner.Matched.{Matching, filed_halves, ArePaired}
-use Rattle.callnotes.specs.Recordings.{calls_of}
-use Rattle.callnotes.specs.inner.Notes.{recording_of}
-use Rattle.callnotes.specs.declared.envelope.Half.TheVariants.{Send as SendHalf, Recv as RecvHalf}
+use Rattle.callstore.specs.Recordings.{calls_of}
+use Rattle.callstore.specs.inner.Notes.{recording_of}
+use Rattle.callstore.specs.declared.envelope.Half.TheVariants.{Send as SendHalf, Recv as RecvHalf}
 use Rattle.pairing.proofs.FaultLemmas.{fault_none}
 use Rattle.pairing.proofs.FiledLemmas.{come_next}
 use Rattle.pairing.proofs.KeptLemmas.{count_noted, ranks_noted, goes_on_as, kept_on, paired_as}
@@ -18,11 +18,11 @@ note_call-requires-clause-few c =
       (fault_none c.args.self.now.head c.args.at.0 (calls_of (recording_of c.args.self.now.notes.lists) c.args.at.0) c.args.call.now c.requires.lawful).has_room,
     )
 
-pub note_call-requires-clause-beside : goal.note_call-requires-clause-beside
-note_call-requires-clause-beside c =
+pub note_call-requires-clause-cached : goal.note_call-requires-clause-cached
+note_call-requires-clause-cached c =
     let notes = c.args.self.now.notes.lists in
     let has_room = (fault_none c.args.self.now.head c.args.at.0 (calls_of (recording_of notes) c.args.at.0) c.args.call.now c.requires.lawful).has_room in
-    c.beside-beside.ensures c.args.self.now.head (recording_of notes) c.args.at.0 c.args.call.now c.requires.kept.tables c.requires.room.joined.is_list (omega (arith, has_room))
+    c.cached-cached.ensures c.args.self.now.head (recording_of notes) c.args.at.0 c.args.call.now c.requires.kept.tables c.requires.room.joined.is_list (omega (arith, has_room))
 
 pub returns-clause-recording : goal.returns-clause-recording
 returns-clause-recording c =
@@ -46,4 +46,4 @@ returns-clause-kept c =
     c.requires.is_rank c.requires.is_next c.requires.kept c.requires.lawful c.note_call.ensures room.send room.recv c.meet_halves.ensures.recording
     (subst (λ (m : Matching). ArePaired groups c.meet_halves.new.notes.lists (filed_halves c.args.room.now.halves c.args.at.1 (halves_of groups recording)) m) (sym c.put.ensures.matches) paired)
     (ap (λ (m : Matching). m.work) c.put.ensures.matches ∙ c.meet_halves.ensures.work)
-    (c.put.ensures.others recording (record { joined = others.joined; held = others.held; active = others.active }) in_recording c.requires.is_next)
+    (c.put.ensures.others recording (record { joined = others.joined; made_comms = others.made_comms; active = others.active }) in_recording c.requires.is_next)

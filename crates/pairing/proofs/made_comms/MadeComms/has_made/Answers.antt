@@ -1,7 +1,7 @@
 use Rattle.std.proofs.Common.{arith}
 use Rattle.std.proofs.lemmas.Grind.{common_steps}
 use Rattle.pairing.proofs.HoldingLemmas.{none_made, some_made}
-use Rattle.pairing.proofs.held.Held.has_made.Goals as goal
+use Rattle.pairing.proofs.made_comms.MadeComms.has_made.Goals as goal
 
 pub returns-clause-none : goal.returns-clause-none
 returns-clause-none c recording is_held says_no = none_made recording c.args.self.now (grind (arith, common_steps, c.is_empty.ensures)) is_held

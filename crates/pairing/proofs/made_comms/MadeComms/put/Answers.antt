@@ -1,7 +1,7 @@
 use Rattle.std.proofs.Common.{◌≡◌, Some, None}
-use Rattle.callnotes.specs.Communicators.{makes}
+use Rattle.callstore.specs.Communicators.{makes}
 use Rattle.pairing.proofs.HoldingLemmas.{held_more, held_same}
-use Rattle.pairing.proofs.held.Held.put.Goals as goal
+use Rattle.pairing.proofs.made_comms.MadeComms.put.Goals as goal
 
 pub returns-in-Some : goal.returns-in-Some
 returns-in-Some c recording is_held is_rank =

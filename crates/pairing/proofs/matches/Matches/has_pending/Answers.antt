@@ -2,8 +2,8 @@ use Rattle.std.proofs.Common.{◌≡◌, ◌∙◌, ℕ, List, [], length, ap, s
 use Rattle.std.specs.List.{IsDistinct}
 use Rattle.std.specs.Option.{is_some}
 use borrow.Author.Count.{below_more}
-use Rattle.callnotes.specs.declared.envelope.Envelope.{Envelope}
-use Rattle.callnotes.specs.Envelopes.{same_envelope}
+use Rattle.callstore.specs.declared.envelope.Envelope.{Envelope}
+use Rattle.callstore.specs.Envelopes.{same_envelope}
 use Rattle.pairing.specs.inner.Matched.{Matching, pending_at}
 use Rattle.pairing.proofs.MatchedLemmas.{no_first, none_pending, pending_there}
 use Rattle.pairing.proofs.matches.Matches.has_pending.Goals as goal

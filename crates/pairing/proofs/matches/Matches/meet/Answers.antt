@@ -3,7 +3,7 @@ use Rattle.std.specs.List.{slice_get}
 use Rattle.arenalist.specs.Arena.{Arena, first_value, linked}
 use Rattle.arenalist.specs.inner.Arena.{contents}
 use Rattle.arenalist.specs.Numbers.{list_at}
-use Rattle.callnotes.specs.Envelopes.{other_half}
+use Rattle.callstore.specs.Envelopes.{other_half}
 use Rattle.pairing.specs.inner.Matched.{Matching, list_no, pending_at, met}
 use Rattle.pairing.proofs.MatchedLemmas.{met_popped, met_pushed, first_pending}
 use Rattle.pairing.proofs.matches.Matches.meet.Goals as goal

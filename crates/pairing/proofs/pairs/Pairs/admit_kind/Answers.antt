@@ -5,10 +5,10 @@ use Rattle.std.proofs.lemmas.Bool.{eqb-true}
 use Rattle.std.proofs.lemmas.List.{take_all}
 use Rattle.mpigroup.specs.Groups.{Groups, ranks_of}
 use Rattle.mpigroup.specs.declared.limits.TheConstants.{MOST_RANKS}
-use Rattle.callnotes.specs.Notes.{Noted}
-use Rattle.callnotes.specs.inner.Notes.{recording_of}
-use Rattle.callnotes.specs.Recordings.{calls_of}
-use Rattle.callnotes.specs.Requests.{is_active, started_in, waits_for}
+use Rattle.callstore.specs.Notes.{Noted}
+use Rattle.callstore.specs.inner.Notes.{recording_of}
+use Rattle.callstore.specs.Recordings.{calls_of}
+use Rattle.callstore.specs.Requests.{is_active, started_in, waits_for}
 use Rattle.pairing.specs.inner.Seated.{IsProbing}
 use Rattle.pairing.specs.inner.Tables.{IsKept}
 use Rattle.pairing.proofs.CallCountLemmas.{few_seats}

@@ -2,9 +2,9 @@ use Rattle.std.proofs.Common.{◌≡◌, ◌<◌, ℕ, Option, Some, None, sym, 
 use Rattle.std.specs.Prelude.{IfSome, option_map}
 use Rattle.std.specs.List.{slice_get}
 use Rattle.mpigroup.specs.Groups.{Groups}
-use Rattle.callnotes.specs.Limits.{most_calls}
-use Rattle.callnotes.specs.inner.Notes.{recording_of}
-use Rattle.callnotes.specs.Recordings.{Lists, calls_of}
+use Rattle.callstore.specs.Limits.{most_calls}
+use Rattle.callstore.specs.inner.Notes.{recording_of}
+use Rattle.callstore.specs.Recordings.{Lists, calls_of}
 use Rattle.pairing.specs.Faults.{IsLawful}
 use Rattle.pairing.specs.Pairs.{Paired}
 use Rattle.pairing.specs.Seen.{call_seen, IsSeen}

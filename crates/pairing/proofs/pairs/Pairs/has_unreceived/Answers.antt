@@ -1,7 +1,7 @@
 use Rattle.std.proofs.Common.{◌∙◌, ℕ, List, sym, ap, subst}
 use Rattle.std.specs.List.{slice_get}
-use Rattle.callnotes.specs.declared.envelope.Half.TheVariants.{Send as SendHalf}
-use Rattle.callnotes.specs.inner.Notes.{recording_of}
+use Rattle.callstore.specs.declared.envelope.Half.TheVariants.{Send as SendHalf}
+use Rattle.callstore.specs.inner.Notes.{recording_of}
 use Rattle.pairing.specs.Pairs.{Paired}
 use Rattle.pairing.specs.Partners.{EachIsReceived, HasUnreceived}
 use Rattle.pairing.proofs.ReceivedLemmas.{each_is_received, some_unreceived}

@@ -1,9 +1,9 @@
 -- Without notes nothing is wrong.
 use Rattle.std.proofs.Common.{ℕ, ap, sym, subst, ◌∙◌, List, [], replicate}
 use Rattle.mpigroup.specs.Groups.{ranks_of}
-use Rattle.callnotes.specs.Recordings.{Lists}
-use Rattle.callnotes.specs.Notes.{Noted}
-use Rattle.callnotes.specs.inner.Notes.{recording_of}
+use Rattle.callstore.specs.Recordings.{Lists}
+use Rattle.callstore.specs.Notes.{Noted}
+use Rattle.callstore.specs.inner.Notes.{recording_of}
 use Rattle.pairing.specs.inner.Seated.{IsProbing}
 use Rattle.pairing.proofs.KeptLemmas.{nothing_kept, recording_of-none}
 use Rattle.pairing.proofs.pairs.Pairs.new.Goals as goal

@@ -1,5 +1,5 @@
 use Rattle.std.proofs.Common.{◌≡◌, Some, None, length, ◌∙◌}
-use Rattle.callnotes.specs.Recordings.{calls_of, appended}
+use Rattle.callstore.specs.Recordings.{calls_of, appended}
 use Rattle.pairing.specs.Probed.{probed_envelope}
 use Rattle.pairing.specs.inner.Probing.{seat_for, seated}
 use Rattle.pairing.specs.inner.Seated.{seat_in}

@@ -4,13 +4,13 @@ use Rattle.pairing.proofs.tables.Tables.reserve.Goals as goal
 pub returns-in_err-halves-clause-kept : goal.returns-in_err-halves-clause-kept
 returns-in_err-halves-clause-kept c recording tables = record {
   matched = matched_grown c.args.head.now recording c.args.self.now.matches c.reserve.new.self c.reserve.ensures.grown tables.matched;
-  others = record { joined = tables.others.joined; held = tables.others.held; active = tables.others.active };
+  others = record { joined = tables.others.joined; made_comms = tables.others.made_comms; active = tables.others.active };
 }
 
 pub returns-in_err-list-clause-kept : goal.returns-in_err-list-clause-kept
 returns-in_err-list-clause-kept c recording tables = record {
   matched = matched_grown c.args.head.now recording c.args.self.now.matches c.reserve.new.self c.reserve.ensures.grown tables.matched;
-  others = record { joined = c.reserve-2.ensures.joined recording tables.others.joined; held = tables.others.held; active = tables.others.active };
+  others = record { joined = c.reserve-2.ensures.joined recording tables.others.joined; made_comms = tables.others.made_comms; active = tables.others.active };
 }
 
 pub returns-in_err-reserve-clause-kept : goal.returns-in_err-reserve-clause-kept
@@ -18,7 +18,7 @@ returns-in_err-reserve-clause-kept c recording tables = record {
   matched = matched_grown c.args.head.now recording c.args.self.now.matches c.reserve.new.self c.reserve.ensures.grown tables.matched;
   others = record {
     joined = c.reserve-2.ensures.joined recording tables.others.joined;
-    held = c.reserve-3.ensures.kept recording tables.others.held;
+    made_comms = c.reserve-3.ensures.kept recording tables.others.made_comms;
     active = tables.others.active;
   };
 }
@@ -28,7 +28,7 @@ returns-in_err-reserve-2-clause-kept c recording tables = record {
   matched = matched_grown c.args.head.now recording c.args.self.now.matches c.reserve.new.self c.reserve.ensures.grown tables.matched;
   others = record {
     joined = c.reserve-2.ensures.joined recording tables.others.joined;
-    held = c.reserve-3.ensures.kept recording tables.others.held;
+    made_comms = c.reserve-3.ensures.kept recording tables.others.made_comms;
     active = c.reserve-4.ensures.kept recording tables.others.active;
   };
 }
@@ -38,7 +38,7 @@ returns-clause-kept c recording tables = record {
   matched = matched_grown c.args.head.now recording c.args.self.now.matches c.reserve.new.self c.reserve.ensures.grown tables.matched;
   others = record {
     joined = c.reserve-2.ensures.joined recording tables.others.joined;
-    held = c.reserve-3.ensures.kept recording tables.others.held;
+    made_comms = c.reserve-3.ensures.kept recording tables.others.made_comms;
     active = c.reserve-4.ensures.kept recording tables.others.active;
   };
 }

@@ -1,9 +1,9 @@
 use Rattle.std.proofs.Common.{◌≡◌, ◌∙◌, ◌++◌, ◌∷◌, ℕ, Some, None, List, [], length, ap, sym, length-append, arith}
 use Rattle.indexmap.specs.IndexSet.{insert_key}
-use Rattle.pairing.specs.declared.held.Holding.{Holding}
+use Rattle.pairing.specs.declared.made_comms.Holding.{Holding}
 use Rattle.pairing.specs.inner.Joined.{Joinings, list_number, list_of}
 use Rattle.pairing.proofs.JoinedLemmas.{same_fields, key_more, grown_places, grown_number}
-use Rattle.pairing.proofs.joined.Waves.add_list.Goals as goal
+use Rattle.pairing.proofs.waves.Waves.add_list.Goals as goal
 
 one_key : (c : goal.After-unwrap) → c.insert.new.self.keys ≡ c.self.inside.joined.keys ++ record { rank = c.args.rank; comm = c.args.comm } ∷ []
 one_key c =

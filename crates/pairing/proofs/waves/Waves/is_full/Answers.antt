@@ -3,9 +3,9 @@ use Rattle.std.specs.Prelude.{is_some}
 use Rattle.std.specs.List.{list_all}
 use Rattle.std.proofs.lemmas.List.{take_all}
 use Rattle.mpigroup.specs.Groups.{group_of}
-use Rattle.callnotes.specs.Waves.{member_of, place_in_wave}
-use Rattle.callnotes.proofs.WaveLemmas.{size_is, full_more, full_not}
-use Rattle.pairing.proofs.joined.Waves.is_full.Goals as goal
+use Rattle.callstore.specs.Waves.{member_of, place_in_wave}
+use Rattle.callstore.proofs.WaveLemmas.{size_is, full_more, full_not}
+use Rattle.pairing.proofs.waves.Waves.is_full.Goals as goal
 
 pub returns-then-is_none : goal.returns-then-is_none
 returns-then-is_none c recording joined =

@@ -3,9 +3,9 @@ use Rattle.std.specs.List.{list_all}
 use Rattle.std.specs.Option.{is_some}
 use Rattle.mpigroup.specs.Groups.{group_of}
 use Rattle.pairing.specs.inner.Joined.{IsJoined}
-use Rattle.callnotes.specs.Recordings.{Lists}
-use Rattle.callnotes.specs.Waves.{place_in_wave}
-use Rattle.pairing.proofs.joined.Waves.is_full.Given as goal
+use Rattle.callstore.specs.Recordings.{Lists}
+use Rattle.callstore.specs.Waves.{place_in_wave}
+use Rattle.pairing.proofs.waves.Waves.is_full.Given as goal
 
 -- each member so far has its call
 abbrev pub invariant-loop-g : goal.invariant-loop-g

@@ -1,12 +1,12 @@
 use Rattle.std.proofs.Common.{◌≡◌, ◌∙◌, ℕ, Option, List, [], length, ap, sym, arith}
 use Rattle.std.specs.Option.{option_map_or}
-use Rattle.callnotes.specs.Places.{places}
-use Rattle.callnotes.specs.Recordings.{calls_of}
+use Rattle.callstore.specs.Places.{places}
+use Rattle.callstore.specs.Recordings.{calls_of}
 use Rattle.pairing.specs.inner.Joined.{Joinings}
-use Rattle.callnotes.specs.Seats.{list_in}
-use Rattle.callnotes.specs.Waves.{does_join}
-use Rattle.callnotes.proofs.PlacesLemmas.{places_most}
-use Rattle.pairing.proofs.joined.Waves.number.Goals as goal
+use Rattle.callstore.specs.Seats.{list_in}
+use Rattle.callstore.specs.Waves.{does_join}
+use Rattle.callstore.proofs.PlacesLemmas.{places_most}
+use Rattle.pairing.proofs.waves.Waves.number.Goals as goal
 
 pub returns : goal.returns
 returns c recording rank comm joined numbered most =

@@ -1,7 +1,7 @@
 use Rattle.std.proofs.Common.{◌≡◌, Some, ℕ, Option, subst, sym}
 use Rattle.pairing.specs.inner.Joined.{Joinings, list_number, IsListFor, IsJoined}
 use Rattle.pairing.proofs.JoinedLemmas.{put_in, put_none, its_wave, no_wave}
-use Rattle.pairing.proofs.joined.Waves.put.Goals as goal
+use Rattle.pairing.proofs.waves.Waves.put.Goals as goal
 
 pub returns-in-Some : goal.returns-in-Some
 returns-in-Some c recording rank call is_list joined is_rank next =

@@ -3,10 +3,10 @@ use Rattle.std.proofs.lemmas.List.{take_all}
 use Rattle.serde_json.specs.Data.{Data, array}
 use Rattle.serde_json.specs.View.{items_of}
 use Rattle.waitgraph.specs.Causes.{view_of}
-use Rattle.reports.specs.JsonReport.{cause_data}
+use Rattle.report.specs.JsonReport.{cause_data}
 use Rattle.waitgraph.specs.declared.cause.Cause.{Cause}
-use Rattle.reports.proofs.JsonLemmas.{told_as_seen}
-use Rattle.reports.proofs.json.cause.causes_value.Goals as goal
+use Rattle.report.proofs.JsonLemmas.{told_as_seen}
+use Rattle.report.proofs.json.cause.causes_value.Goals as goal
 
 pub returns : goal.returns
 returns c =

@@ -1,8 +1,8 @@
 use Rattle.std.proofs.Common.{◌≡◌, map, take}
 use Rattle.serde_json.specs.View.{view}
 use Rattle.waitgraph.specs.Causes.{view_of}
-use Rattle.reports.specs.JsonReport.{cause_data}
-use Rattle.reports.proofs.json.cause.causes_value.Given as goal
+use Rattle.report.specs.JsonReport.{cause_data}
+use Rattle.report.proofs.json.cause.causes_value.Given as goal
 
 -- the causes so far
 abbrev pub invariant-loop-cause : goal.invariant-loop-cause

@@ -1,7 +1,7 @@
 use Rattle.std.proofs.Common.{◌≡◌, map, take}
 use Rattle.serde_json.specs.View.{view}
-use Rattle.reports.specs.JsonReport.{numeral}
-use Rattle.reports.proofs.json.cause.cycle_value.Given as goal
+use Rattle.report.specs.JsonReport.{numeral}
+use Rattle.report.proofs.json.cause.cycle_value.Given as goal
 
 -- the ranks so far
 abbrev pub invariant-loop-rank : goal.invariant-loop-rank

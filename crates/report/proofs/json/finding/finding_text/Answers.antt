@@ -2,8 +2,8 @@ use Rattle.std.proofs.Common.{ℕ, List, ◌++◌, ap, ◌∙◌}
 use Rattle.std.proofs.lemmas.Result.{IfOk-weaker}
 use Rattle.std.specs.List.{join_with_byte}
 use Rattle.mpicall.specs.Spelling.{space}
-use Rattle.reports.specs.FindingTexts.{finding_fields}
-use Rattle.reports.proofs.json.finding.finding_text.Goals as goal
+use Rattle.report.specs.FindingTexts.{finding_fields}
+use Rattle.report.proofs.json.finding.finding_text.Goals as goal
 
 pub returns : goal.returns
 returns c =

@@ -1,9 +1,9 @@
 use Rattle.std.proofs.Common.{◌++◌, nat_lt, string_bytes, ap, ◌∙◌, arith}
 use Rattle.serde_json.specs.Data.{Data}
 use Rattle.serde_json.specs.Written.{comma_if, compact_text}
-use Rattle.reports.specs.JsonReport.{finding_data}
-use Rattle.reports.proofs.ArrayLemmas.{one_written}
-use Rattle.reports.proofs.json.finding.push_findings.Goals as goal
+use Rattle.report.specs.JsonReport.{finding_data}
+use Rattle.report.proofs.ArrayLemmas.{one_written}
+use Rattle.report.proofs.json.finding.push_findings.Goals as goal
 
 pub loop-index-preserved : goal.loop-index-preserved
 loop-index-preserved c =

@@ -1,7 +1,7 @@
 use Rattle.std.proofs.Common.{◌≡◌, ◌++◌, string_bytes, take}
-use Rattle.reports.specs.inner.ArrayTexts.{elements_text}
-use Rattle.reports.specs.JsonReport.{finding_data}
-use Rattle.reports.proofs.json.finding.push_findings.Given as goal
+use Rattle.report.specs.inner.ArrayTexts.{elements_text}
+use Rattle.report.specs.JsonReport.{finding_data}
+use Rattle.report.proofs.json.finding.push_findings.Given as goal
 
 -- the findings so far
 abbrev pub invariant-loop-index : goal.invariant-loop-index

@@ -1,7 +1,7 @@
 use Rattle.std.proofs.Common.{◌≡◌, ◌++◌, string_bytes, take}
-use Rattle.reports.specs.inner.ArrayTexts.{elements_text}
-use Rattle.reports.specs.Judged.{line_data}
-use Rattle.reports.proofs.json.judged.push_lines.Given as goal
+use Rattle.report.specs.inner.ArrayTexts.{elements_text}
+use Rattle.report.specs.Judged.{line_data}
+use Rattle.report.proofs.json.judged.push_lines.Given as goal
 
 -- the elements so far
 abbrev pub invariant-loop-index : goal.invariant-loop-index

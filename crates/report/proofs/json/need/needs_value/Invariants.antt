@@ -1,7 +1,7 @@
 use Rattle.std.proofs.Common.{◌≡◌, map, take}
 use Rattle.serde_json.specs.View.{view}
-use Rattle.reports.specs.JsonReport.{need_data}
-use Rattle.reports.proofs.json.need.needs_value.Given as goal
+use Rattle.report.specs.JsonReport.{need_data}
+use Rattle.report.proofs.json.need.needs_value.Given as goal
 
 -- the needs so far
 abbrev pub invariant-loop-need : goal.invariant-loop-need

@@ -1,10 +1,10 @@
 use Rattle.std.proofs.Common.{◌++◌, nat_lt, string_bytes, ap, ◌∙◌, arith}
 use Rattle.serde_json.specs.Data.{Data}
 use Rattle.serde_json.specs.Written.{comma_if, compact_text, has_float}
-use Rattle.reports.specs.JsonReport.{rank_data}
-use Rattle.reports.proofs.ArrayLemmas.{one_written}
-use Rattle.reports.proofs.JsonLemmas.{no_float_rank}
-use Rattle.reports.proofs.json.rank.push_ranks.Goals as goal
+use Rattle.report.specs.JsonReport.{rank_data}
+use Rattle.report.proofs.ArrayLemmas.{one_written}
+use Rattle.report.proofs.JsonLemmas.{no_float_rank}
+use Rattle.report.proofs.json.rank.push_ranks.Goals as goal
 
 pub push_element-requires : goal.push_element-requires
 push_element-requires c =

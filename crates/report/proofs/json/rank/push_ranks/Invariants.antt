@@ -1,7 +1,7 @@
 use Rattle.std.proofs.Common.{◌≡◌, ◌++◌, string_bytes, take}
-use Rattle.reports.specs.inner.ArrayTexts.{elements_text}
-use Rattle.reports.specs.JsonReport.{rank_data}
-use Rattle.reports.proofs.json.rank.push_ranks.Given as goal
+use Rattle.report.specs.inner.ArrayTexts.{elements_text}
+use Rattle.report.specs.JsonReport.{rank_data}
+use Rattle.report.proofs.json.rank.push_ranks.Given as goal
 
 -- the ranks so far
 abbrev pub invariant-loop-index : goal.invariant-loop-index

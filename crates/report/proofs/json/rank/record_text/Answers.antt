@@ -3,7 +3,7 @@ use Rattle.std.proofs.lemmas.Result.{IfOk-weaker}
 use Rattle.std.specs.List.{join_with_byte}
 use Rattle.mpicall.specs.Spelling.{space, fields_of}
 use Rattle.mpicall.specs.declared.call.Call.{Call}
-use Rattle.reports.proofs.json.rank.record_text.Goals as goal
+use Rattle.report.proofs.json.rank.record_text.Goals as goal
 
 pub returns : goal.returns
 returns c =

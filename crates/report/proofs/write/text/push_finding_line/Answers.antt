@@ -3,9 +3,9 @@ use Rattle.std.specs.List.{join_with_byte}
 use Rattle.mpicall.specs.Spelling.{space, line_feed}
 use Rattle.findings.specs.declared.finding.Finding.{Finding}
 use Rattle.findings.specs.declared.finding.Finding.TheVariants.{Kind, Root, Unreceived, Request, Group}
-use Rattle.reports.specs.FindingTexts.{finding_fields}
-use Rattle.reports.specs.TextReport.{finding_line}
-use Rattle.reports.proofs.report.text.push_finding_line.Goals as goal
+use Rattle.report.specs.FindingTexts.{finding_fields}
+use Rattle.report.specs.TextReport.{finding_line}
+use Rattle.report.proofs.write.text.push_finding_line.Goals as goal
 
 regroup : (page word fields : List ℕ) → ((page ++ word) ++ fields) ++ line_feed ∷ [] ≡ page ++ ((word ++ fields) ++ line_feed ∷ [])
 regroup page word fields =

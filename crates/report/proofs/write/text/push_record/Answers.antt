@@ -2,8 +2,8 @@ use Rattle.std.proofs.Common.{ℕ, List, [], ◌∷◌, ◌++◌, ap, ◌∙◌}
 use Rattle.std.specs.List.{join_with_byte}
 use Rattle.mpicall.specs.Spelling.{space, fields_of}
 use Rattle.mpicall.specs.declared.call.Call.{Call}
-use Rattle.reports.proofs.SpelledLemmas.{call_put}
-use Rattle.reports.proofs.report.text.push_record.Goals as goal
+use Rattle.report.proofs.SpelledLemmas.{call_put}
+use Rattle.report.proofs.write.text.push_record.Goals as goal
 
 pub returns-clause-value : goal.returns-clause-value
 returns-clause-value c =

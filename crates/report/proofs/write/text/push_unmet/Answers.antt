@@ -3,10 +3,10 @@ use Rattle.std.proofs.Common.{◌≡◌, List, ℕ, ◌∷◌, [], ◌++◌, cod
 use Rattle.std.specs.Fmt.{decimal}
 use Rattle.mpicall.specs.Spelling.{space, line_feed}
 use Rattle.moves.specs.Stands.{stands_of}
-use Rattle.reports.specs.inner.Printing.{with_fields}
-use Rattle.reports.specs.TextReport.{need_fields, present_fields}
-use Rattle.reports.proofs.SpelledLemmas.{line_put, fields-append}
-use Rattle.reports.proofs.report.text.push_unmet.Goals as goal
+use Rattle.report.specs.inner.Printing.{with_fields}
+use Rattle.report.specs.TextReport.{need_fields, present_fields}
+use Rattle.report.proofs.SpelledLemmas.{line_put, fields-append}
+use Rattle.report.proofs.write.text.push_unmet.Goals as goal
 
 pub returns : goal.returns
 returns c =

@@ -1,5 +1,5 @@
-use Rattle.reports.proofs.PrintingLemmas.{prints_cycle}
-use Rattle.reports.proofs.report.text.write_cycle.Goals as goal
+use Rattle.report.proofs.PrintingLemmas.{prints_cycle}
+use Rattle.report.proofs.write.text.write_cycle.Goals as goal
 
 pub returns : goal.returns
 returns g c =

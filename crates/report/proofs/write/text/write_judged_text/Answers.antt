@@ -3,18 +3,18 @@ use Rattle.std.proofs.Common.{◌≡◌, ℕ, List, [], ◌∷◌, ◌++◌, fla
 use Rattle.std.proofs.KnownBytes.{Appends-nil}
 use Rattle.moves.specs.declared.reading.Reading.{Reading}
 use Rattle.mpigroup.specs.Groups.{Groups}
-use Rattle.callnotes.specs.Recordings.{Lists}
+use Rattle.callstore.specs.Recordings.{Lists}
 use Rattle.waitgraph.specs.Causes.{CauseView, view_of}
 use Rattle.waitgraph.specs.Stuck.{stuck_of}
 use Rattle.waitgraph.specs.Verdicts.{verdict_by}
 use Rattle.waitgraph.specs.declared.verdict.Verdict.{Verdict}
 use Rattle.waitgraph.specs.declared.cause.Cause.{Cause}
 use Rattle.findings.specs.declared.finding.Finding.{Finding}
-use Rattle.reports.specs.inner.Printing.{IsPrinted, PrintsAll}
-use Rattle.reports.specs.TextReport.{cause_line, finding_line, rank_lines, verdict_line}
-use Rattle.reports.specs.Judged.{judged_text, left_line}
-use Rattle.reports.specs.declared.judged.LeftAt.{LeftAt}
-use Rattle.reports.proofs.report.text.write_judged_text.Goals as goal
+use Rattle.report.specs.inner.Printing.{IsPrinted, PrintsAll}
+use Rattle.report.specs.TextReport.{cause_line, finding_line, rank_lines, verdict_line}
+use Rattle.report.specs.Judged.{judged_text, left_line}
+use Rattle.report.specs.declared.judged.LeftAt.{LeftAt}
+use Rattle.report.proofs.write.text.write_judged_text.Goals as goal
 
 lines_of_views : (causes : List Cause) → flat_map (λ cause. cause_line (view_of cause)) causes ≡ flat_map cause_line (map view_of causes)
 lines_of_views [] = refl

@@ -3,7 +3,7 @@ use Rattle.std.proofs.Common.{◌≡◌, ℕ, List, [], ◌∷◌, ◌++◌, fla
 use Rattle.std.proofs.KnownBytes.{Appends-nil}
 use Rattle.moves.specs.declared.reading.Reading.{Reading}
 use Rattle.mpigroup.specs.Groups.{Groups}
-use Rattle.callnotes.specs.Recordings.{Lists}
+use Rattle.callstore.specs.Recordings.{Lists}
 use Rattle.waitgraph.specs.Causes.{CauseView, view_of}
 use Rattle.findings.specs.Findings.{findings_of}
 use Rattle.waitgraph.specs.Stuck.{stuck_of}
@@ -11,9 +11,9 @@ use Rattle.waitgraph.specs.Verdicts.{verdict_by}
 use Rattle.waitgraph.specs.declared.verdict.Verdict.{Verdict}
 use Rattle.waitgraph.specs.declared.cause.Cause.{Cause}
 use Rattle.findings.specs.declared.finding.Finding.{Finding}
-use Rattle.reports.specs.inner.Printing.{IsPrinted, PrintsAll}
-use Rattle.reports.specs.TextReport.{cause_line, finding_line, rank_lines, text_report, verdict_line}
-use Rattle.reports.proofs.report.text.write_text.Goals as goal
+use Rattle.report.specs.inner.Printing.{IsPrinted, PrintsAll}
+use Rattle.report.specs.TextReport.{cause_line, finding_line, rank_lines, text_report, verdict_line}
+use Rattle.report.proofs.write.text.write_text.Goals as goal
 
 lines_of_views : (causes : List Cause) → flat_map (λ cause. cause_line (view_of cause)) causes ≡ flat_map cause_line (map view_of causes)
 lines_of_views [] = refl

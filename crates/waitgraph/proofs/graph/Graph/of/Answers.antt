@@ -1,7 +1,7 @@
 use Rattle.moves.specs.declared.reading.Reading.{Reading}
 use Rattle.std.proofs.Common.{ℕ, List, sym, ap, subst, ◌∙◌}
 use Rattle.mpigroup.specs.Groups.{Groups}
-use Rattle.callnotes.specs.Recordings.{Lists}
+use Rattle.callstore.specs.Recordings.{Lists}
 use Rattle.moves.specs.declared.need.Need.{Need}
 use Rattle.moves.specs.Stands.{stands_of}
 use Rattle.waitgraph.specs.inner.Causes.{causes_in, walks_at}
