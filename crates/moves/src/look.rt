@@ -4,16 +4,16 @@
 //! A call that its rank hasn't reached meets no need of anybody, so no look follows it. A look at a wave
 //! compares two numbers: how many waves of the communicator are complete, and the number of the wave.
 
-ghost use Rattle.std.specs.Prelude.{◌≡◌, ◌<◌, slice_index};
+ghost use Rattle.std.specs.Prelude.{◌≡◌, ◌<◌, slice_index, option_to_list};
 ghost use Rattle.std.specs.List.{list_all};
 ghost use Rattle.callstore.specs.Limits.{most_calls};
 ghost use Rattle.moves.specs.Needs.{is_met};
 ghost use Rattle.pairing.specs.Seen.{call_seen};
 ghost use Rattle.moves.specs.inner.Waiting.{message_needs};
-ghost use Rattle.moves.specs.Worlds.{IsSeenAt, needs_for};
+ghost use Rattle.moves.specs.Worlds.{IsSeenAt};
 ghost use Rattle.moves.specs.inner.Positions.{IsCallAt, KnowWaves, OperationTells, RequestTells, RequestsTell, CallTells, RankTells};
 
-use crate::need::{At, Part, is_met, need_for};
+use crate::need::{At, Need, is_met, need_to_probe, need_to_receive, need_to_send};
 use crate::world::{Positions, World};
 use callstore::hot::{COLL, IRECV, ISEND, RECV, SEND, WAIT, WAITALL};
 use pairing::call_at::CallAt;
@@ -32,27 +32,26 @@ pub(crate) enum Look {
     Wave { comm: u16 },
 }
 
-/// Whether the call has what it needs for one of its messages.
+/// Whether a need is met, where there is one.
 #[inline(always)]
-fn is_met_for(world: &World, positions: &Positions, at: At, part: Part, call: &CallAt<'_>) -> bool
-    requires { IsSeenAt world.now at call.now }
-    ensures { result ≡ list_all (is_met positions.now.stands.items) (needs_for world.now at part (call_seen call.now)) }
+fn is_none_or_met(positions: &Positions, need: Option<Need>) -> bool
+    ensures { result ≡ list_all (is_met positions.now.stands.items) (option_to_list need) }
 {
-    match need_for(world, at, part, call) {
+    match need {
         Some(need) => is_met(&positions.stands, &need),
         None => true,
     }
 }
 
-/// Whether each message of the call has what it needs.
+/// Whether each message of the call has what it needs. Not by `need_for`: three of it are too large to be inlined.
 #[inline(always)]
 fn are_messages_met(world: &World, positions: &Positions, at: At, call: &CallAt<'_>) -> bool
     requires { IsSeenAt world.now at call.now }
     ensures { result ≡ list_all (is_met positions.now.stands.items) (message_needs world.now.reading world.now.pairs.groups world.now.pairs.recording at.0 at.1 (call_seen call.now)) }
 {
-    is_met_for(world, positions, at, Part::Sent, call)
-        && is_met_for(world, positions, at, Part::Received, call)
-        && is_met_for(world, positions, at, Part::Probed, call)
+    is_none_or_met(positions, need_to_send(world, at, call))
+        && is_none_or_met(positions, need_to_receive(world, at, call))
+        && is_none_or_met(positions, need_to_probe(world, at, call))
 }
 
 /// What is told of the operation of the call at the place.

@@ -3,7 +3,8 @@
 ghost use Rattle.std.specs.Prelude.{◌≡◌, Some, length, slice_index, option_to_list};
 ghost use Rattle.std.specs.Option.{option_map_or};
 ghost use Rattle.mpigroup.specs.Groups.{group_of, world_rank_of};
-ghost use Rattle.moves.specs.Needs.{world_of, half_needs, probe_needs, member_need, is_met};
+ghost use Rattle.moves.specs.Needs.{world_of, half_needs, probe_need, member_need, is_met};
+ghost use Rattle.moves.specs.declared.need.Part.TheVariants.{Sent, Received, Probed};
 ghost use Rattle.moves.specs.Worlds.{needs_for, IsSeenAt};
 ghost use Rattle.pairing.specs.Seen.{call_seen, IsSeen};
 
@@ -64,6 +65,15 @@ pub fn is_met(stands: &[u32], need: &Need) -> bool
     }
 }
 
+/// The rank of the world from which a message lacks its other half.
+#[inline(never)]
+fn lacking_rank(head: &Head, message: &Message) -> u16
+    ensures { result ≡ world_of head.now message.now.comm message.now.peer }
+{
+    head.world_rank(message.comm, message.peer)
+        .unwrap_or(message.peer)
+}
+
 /// What a message needs: that the call is reached that it goes with; where there is none, its peer lacks it.
 #[inline(always)]
 fn message_need(head: &Head, call: Option<At>, message: &Message) -> Need
@@ -72,9 +82,7 @@ fn message_need(head: &Head, call: Option<At>, message: &Message) -> Need
     match call {
         Some((rank, place)) => Need::At { rank, place },
         None => Need::Lacking {
-            rank: head
-                .world_rank(message.comm, message.peer)
-                .unwrap_or(message.peer),
+            rank: lacking_rank(head, message),
         },
     }
 }
@@ -90,27 +98,54 @@ fn half_need(pairs: &Pairs, at: At, half: Half, call: &CallAt<'_>) -> Option<Nee
     Some(message_need(pairs.head(), call.partner(half), &message))
 }
 
-/// What a probe needs: the send that the next receive of its envelope would get. Every other call needs nothing.
-fn probe_need(pairs: &Pairs, at: At, call: &CallAt<'_>) -> Option<Need>
-    ensures { option_to_list result ≡ probe_needs pairs.now.groups pairs.now.recording at.0 at.1 (call_seen call.now) }
+/// What the probe of the message at the place needs.
+fn probe_need(pairs: &Pairs, at: At, message: &Message) -> Need
+    ensures { result ≡ probe_need pairs.now.groups pairs.now.recording at.0 at.1 message.now }
+{
+    message_need(pairs.head(), pairs.probed(at.0, at.1), message)
+}
+
+/// What the operation of the call at the place needs for the message that it sends; nothing where it sends none, or
+/// sends freely.
+#[inline(always)]
+pub(crate) fn need_to_send(world: &World, at: At, call: &CallAt<'_>) -> Option<Need>
+    requires { IsSeenAt world.now at call.now }
+    ensures { option_to_list result ≡ needs_for world.now at Sent (call_seen call.now) }
+{
+    if sends_freely(world.reading, &call.call()) {
+        None
+    } else {
+        half_need(&world.pairs, at, Half::Send, call)
+    }
+}
+
+/// The same for the message that it receives.
+#[inline(always)]
+pub(crate) fn need_to_receive(world: &World, at: At, call: &CallAt<'_>) -> Option<Need>
+    requires { IsSeenAt world.now at call.now }
+    ensures { option_to_list result ≡ needs_for world.now at Received (call_seen call.now) }
+{
+    half_need(&world.pairs, at, Half::Recv, call)
+}
+
+/// The same for the message that it probes for: the send that the next receive of its envelope would get.
+pub(crate) fn need_to_probe(world: &World, at: At, call: &CallAt<'_>) -> Option<Need>
+    ensures { option_to_list result ≡ needs_for world.now at Probed (call_seen call.now) }
 {
     let message = call.call().probed()?;
-    let sent = pairs.probed(at.0, at.1);
-    Some(message_need(pairs.head(), sent, &message))
+    Some(probe_need(&world.pairs, at, &message))
 }
 
 /// What the operation of the call at the place needs for one of its messages before it is done; nothing where it has no
 /// such message, or sends freely.
-#[inline(always)]
 pub fn need_for(world: &World, at: At, part: Part, call: &CallAt<'_>) -> Option<Need>
     requires { IsSeenAt world.now at call.now }
     ensures { option_to_list result ≡ needs_for world.now at part (call_seen call.now) }
 {
     match part {
-        Part::Sent if sends_freely(world.reading, &call.call()) => None,
-        Part::Sent => half_need(&world.pairs, at, Half::Send, call),
-        Part::Received => half_need(&world.pairs, at, Half::Recv, call),
-        Part::Probed => probe_need(&world.pairs, at, call),
+        Part::Sent => need_to_send(world, at, call),
+        Part::Received => need_to_receive(world, at, call),
+        Part::Probed => need_to_probe(world, at, call),
     }
 }
 

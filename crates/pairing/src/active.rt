@@ -198,10 +198,8 @@ impl Active {
         self.others.get(&Request { rank, req }).copied()
     }
 
-    /// Writes the places that started the rank's requests of these numbers, in order, up to the first that
-    /// is not active, and answers how many it wrote.
-    #[inline(always)]
-    pub(crate) fn starts_of(&self, rank: u16, reqs: &[u32], into: &mut [u32]) -> usize
+    /// What `starts_of` does, by a look-up of each.
+    fn each_start_of(&self, rank: u16, reqs: &[u32], into: &mut [u32]) -> usize
         requires { length reqs.now ≤ length into.old }
         ensures most { result ≤ length reqs.now }
         ensures written { (recording : Lists) → IsActive recording self.now →
@@ -216,6 +214,24 @@ impl Active {
             }
         }
         reqs.len()
+    }
+
+    /// Writes the places that started the rank's requests of these numbers, in order, up to the first that
+    /// is not active, and answers how many it wrote. Most calls wait for none, and ask nothing.
+    #[inline(always)]
+    pub(crate) fn starts_of(&self, rank: u16, reqs: &[u32], into: &mut [u32]) -> usize
+        requires { length reqs.now ≤ length into.old }
+        ensures most { result ≤ length reqs.now }
+        ensures written { (recording : Lists) → IsActive recording self.now →
+            map Some (take result into.new) ≡ map (started_in (calls_of recording rank)) (take result reqs.now) }
+        ensures all { (recording : Lists) → IsActive recording self.now →
+            list_all (is_active (calls_of recording rank)) reqs.now ≡ (result == length reqs.now) }
+    {
+        if reqs.is_empty() {
+            0
+        } else {
+            self.each_start_of(rank, reqs, into)
+        }
     }
 
     /// The request that the cell has of those which belong there.

@@ -6,7 +6,7 @@ use Rattle.callstore.specs.Requests.{started_in}
 use Rattle.callstore.proofs.OptionLemmas.{same_map}
 use Rattle.pairing.specs.inner.Starts.{place_in}
 use Rattle.pairing.proofs.ActiveLemmas.{one_inactive, all_started}
-use Rattle.pairing.proofs.active.Active.starts_of.Goals as goal
+use Rattle.pairing.proofs.active.Active.each_start_of.Goals as goal
 
 pub returns-in-None-clause-written : goal.returns-in-None-clause-written
 returns-in-None-clause-written c recording is_active =
