@@ -17,3 +17,6 @@ pub mod Views
 pub mod Words
 pub mod Outcomes
 pub mod Standings
+pub mod Walks
+pub mod Walked
+pub mod Told

@@ -1,8 +1,9 @@
 //! What a journal reports of its requests, anywhere.
 
-ghost use Rattle.std.specs.Prelude.{◌≡◌, ◌<◌, ◌==◌, ℕ, OnOk, option_map, if◌then◌else◌};
+ghost use Rattle.std.specs.Prelude.{◌≡◌, ◌<◌, ◌==◌, ℕ, OnOk, IfOk, option_map, slice_get, if◌then◌else◌};
 ghost use Rattle.std.specs.Vec.{vec_len};
-ghost use Rattle.closing.specs.inner.Outcomes.{is_gone, is_settled, kept_at, message_by, outcome_at, outcome_by, outcome_in};
+ghost use Rattle.closing.specs.inner.Outcomes.{is_gone, is_settled, kept_at, message_by, outcome_at, outcome_at_line, outcome_by, outcome_in};
+ghost use Rattle.closing.specs.inner.Told.{AreReadable, Tells};
 ghost use Rattle.closing.specs.inner.Views.{message_view};
 ghost use Rattle.closing.specs.declared.outcomes.Outcome.TheVariants.{Unknown};
 
@@ -70,14 +71,27 @@ impl Outcomes {
     }
 
     /// What these lines report.
-    pub(crate) fn of(alloc: Global, lines: &Lines) -> Result<Outcomes, AllocError> {
+    #[tactic(auto, using(crate::proofs::ToldLemmas::outcome_step, crate::proofs::ToldLemmas::tells_all))]
+    pub(crate) fn of(alloc: Global, lines: &Lines) -> Result<Outcomes, AllocError>
+        ensures { IfOk result (λ outcomes. AreReadable lines.now → Tells lines.now outcomes) }
+    {
         let mut outcomes = Outcomes::of_none(alloc, lines.count());
         for line in 0..count_of(lines) {
-            if let Some(Word::Report(word)) = lines.word(line) {
-                outcomes.take(word, lines.fields(line), line)?;
-            }
+            outcomes.take_line(lines, line)?;
         }
         Ok(outcomes)
+    }
+
+    /// Takes the line at a place, where that is a report.
+    #[tactic(auto, using(crate::proofs::ToldLemmas::report_here, crate::proofs::ToldLemmas::call_here, crate::proofs::ToldLemmas::nothing_here))]
+    fn take_line(&mut self, lines: &Lines, line: u32) -> Result<(), AllocError>
+        ensures { OnOk result ((other : ℕ) → outcome_at self.new other ≡ outcome_at_line (slice_get lines.now line) line other (outcome_at self.old other)) }
+    {
+        match lines.word(line) {
+            Some(Word::Report(word)) => self.take(word, lines.fields(line), line),
+            Some(Word::Call(_)) => Ok(()),
+            None => Ok(()),
+        }
     }
 
     /// Has a place for a request that isn't far.

@@ -1,5 +1,11 @@
 //! The list of a rank, made entry by entry of its journal.
 
+ghost use Rattle.std.specs.Prelude.{◌≡◌, ◌+◌, ◌<◌};
+ghost use Rattle.closing.specs.inner.Endings.{breaks_off};
+ghost use Rattle.closing.specs.inner.Recording.{is_end};
+ghost use Rattle.closing.specs.inner.Views.{called_view};
+ghost use Rattle.closing.specs.inner.Walked.{number_at, number_or, size_at};
+
 use crate::called::{Called, read_call};
 use crate::choice::{Calls, Choice};
 use crate::held::Held;
@@ -48,7 +54,9 @@ struct At<'a> {
 
 impl At<'_> {
     /// How many members the communicator has.
-    fn size(&self) -> u32 {
+    fn size(&self) -> u32
+        ensures { result ≡ size_at self.now }
+    {
         match self.named {
             Some(named) => named.size,
             None => 0,
@@ -56,7 +64,9 @@ impl At<'_> {
     }
 
     /// The number of the communicator, where what the call names can be.
-    fn number_if(&self, can_be: bool) -> Result<u16, Stop> {
+    fn number_if(&self, can_be: bool) -> Result<u16, Stop>
+        ensures { result ≡ number_or can_be (number_at self.now) }
+    {
         if !can_be {
             return Err(Stop::Left(Why::CannotBe));
         }
@@ -103,12 +113,16 @@ pub struct Walk {
 }
 
 /// The number of a line in the journal, by its place after the header.
-fn line_number(place: u32) -> u32 {
+fn line_number(place: u32) -> u32
+    ensures { place + 2 < 4294967296 → result ≡ place + 2 }
+{
     place.saturating_add(2)
 }
 
 /// Why a call ends the list whatever is reported of it.
-fn breaks_off(it: &Called<'_>) -> Option<Why> {
+fn breaks_off(it: &Called<'_>) -> Option<Why>
+    ensures { result ≡ breaks_off (called_view it.now) }
+{
     match it {
         Called::Stops => Some(Why::Stopped),
         Called::Aborts => Some(Why::Aborted),
@@ -117,7 +131,9 @@ fn breaks_off(it: &Called<'_>) -> Option<Why> {
     }
 }
 
-fn is_end(it: &Called<'_>) -> bool {
+fn is_end(it: &Called<'_>) -> bool
+    ensures { result ≡ is_end (called_view it.now) }
+{
     matches!(it, Called::Finalizes | Called::Exits)
 }
 

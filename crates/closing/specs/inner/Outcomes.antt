@@ -45,6 +45,11 @@ abbrev pub outcome_with : Word → List Field → ℕ → ℕ → Outcome → Ou
 outcome_with (Report word) fields place request before = outcome_by word fields place request before
 outcome_with word fields place request before = before
 
+-- after the line at a place, if there is one
+abbrev pub outcome_at_line : Option Line → ℕ → ℕ → Outcome → Outcome
+outcome_at_line None place request before = before
+outcome_at_line (Some line) place request before = outcome_with line.word line.fields place request before
+
 -- after lines, the first of which has this place
 abbrev pub outcome_after : List Line → ℕ → ℕ → Outcome → Outcome
 outcome_after [] place request before = before

@@ -1,5 +1,9 @@
 //! Entries that call or start collectives.
 
+ghost use Rattle.std.specs.Prelude.{◌≡◌, IsTrue};
+ghost use Rattle.closing.specs.inner.Entry.{kind_of};
+ghost use Rattle.closing.specs.inner.Reported.{root_can_be};
+
 use super::{At, Walk};
 use crate::list::Start;
 use crate::message::{root_can_be, root_of};
@@ -8,7 +12,9 @@ use mpicall::call::{Call, Kind};
 use mpicall::word::Collective;
 
 /// What a collective is in the trace.
-fn kind_of(collective: Collective, root: Option<i32>) -> Kind {
+fn kind_of(collective: Collective, root: Option<i32>) -> Kind
+    ensures { IsTrue (root_can_be 1024 collective root) → result ≡ kind_of collective root }
+{
     match collective {
         Collective::Barrier => Kind::Barrier,
         Collective::Bcast => Kind::Bcast(root_of(root)),

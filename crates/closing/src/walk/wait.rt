@@ -1,5 +1,8 @@
 //! Entries that wait, test or cancel.
 
+ghost use Rattle.std.specs.Prelude.{◌≡◌};
+ghost use Rattle.closing.specs.inner.Entry.{passes_tests};
+
 use super::{At, Walk};
 use crate::called::Called;
 use crate::choice::{Calls, Tests};
@@ -34,7 +37,9 @@ impl Walk {
     }
 
     /// Whether sends that tests completed are waited for at the end.
-    fn passes_tests(&self) -> bool {
+    fn passes_tests(&self) -> bool
+        ensures { result ≡ passes_tests self.now.choice.tests self.now.choice.calls }
+    {
         self.choice.tests == Tests::Pass && self.choice.calls == Calls::Strict
     }
 
