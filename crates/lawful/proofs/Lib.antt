@@ -1,0 +1,10 @@
+pub mod RequestLemmas
+pub mod StepLemmas
+pub mod TableLemmas
+pub mod ListLemmas
+pub mod ClosedLemmas
+pub mod KeyLemmas
+pub mod PassLemmas
+pub mod NameLemmas
+pub mod CallLemmas
+pub mod FaultLemmas

@@ -1,0 +1,40 @@
+-- Laws of the lists of recordings, and of the numbers of communicators.
+use Rattle.std.specs.Prelude.{◌≡◌, ◌⊎◌, ◌<◌, ℕ, Some, length, map, take, slice_get}
+use Rattle.mpicall.specs.declared.call.Call.{Call}
+use Rattle.mpigroup.specs.Groups.{ranks_of}
+use Rattle.callstore.specs.Recordings.{IsClosed, calls_of as calls_of_rank}
+use Rattle.pairing.specs.Faults.{fault_of}
+use Rattle.pairing.specs.declared.fault.CallFault.{CallFault}
+use Rattle.pairing.specs.declared.fault.CallFault.TheVariants.{CommunicatorNotHeld, WrongNewCommunicator}
+use Rattle.closing.specs.inner.Entries.{Run}
+use Rattle.closing.specs.inner.Entry.{Choice}
+use Rattle.closing.specs.inner.Keys.{Key}
+use Rattle.closing.specs.inner.Numbers.{number_of}
+use Rattle.closing.specs.inner.Recording.{Recording, calls_of, recording_of}
+
+-- there is a list for each rank of the head, and each is closed
+pub record IsClosedRecording (it : Recording) : Type 0 where
+  pub one_a_rank : length it.lists ≡ ranks_of it.groups
+  pub closed : IsClosed (map calls_of it.lists)
+
+-- Law: each recording of journals is closed.
+abbrev pub EachRecordingIsClosed : Type 0
+EachRecordingIsClosed = (run : Run) (choice : Choice) → IsClosedRecording (recording_of run choice)
+
+-- Law: two communicators with one number are the same.
+abbrev pub OneNumberIsOneCommunicator : Type 0
+OneNumberIsOneCommunicator =
+    (run : Run) (key other : Key) (number : ℕ) → number_of run key ≡ Some number → number_of run other ≡ Some number → key ≡ other
+
+-- no call has another fault than one of the communicators that its rank holds
+abbrev pub FaultsAreOfHolding : Recording → Type 0
+FaultsAreOfHolding it =
+    (rank place : ℕ) (call : Call) (fault : CallFault) → rank < length it.lists →
+    slice_get (calls_of_rank (map calls_of it.lists) rank) place ≡ Some call →
+    fault_of it.groups rank (take place (calls_of_rank (map calls_of it.lists) rank)) call ≡ Some fault →
+    (fault ≡ CommunicatorNotHeld) ⊎ (fault ≡ WrongNewCommunicator)
+
+-- Law: each call of a recording names a communicator and ranks that there are, starts a request that isn't active and
+-- waits for those that are; none comes after the end or is one too many.
+abbrev pub NoOtherFault : Type 0
+NoOtherFault = (run : Run) (choice : Choice) → FaultsAreOfHolding (recording_of run choice)

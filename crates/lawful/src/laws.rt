@@ -1,0 +1,18 @@
+//! The laws that are proved.
+
+ghost use Rattle.lawful.specs.Closed.{EachRecordingIsClosed, OneNumberIsOneCommunicator, NoOtherFault};
+
+/// There is a list for each rank of the head, each has an end, and nothing comes after it.
+pub fn each_recording_is_closed()
+    ensures { EachRecordingIsClosed }
+{}
+
+/// Two communicators with one number in the head are the same.
+pub fn one_number_is_one_communicator()
+    ensures { OneNumberIsOneCommunicator }
+{}
+
+/// Calls name communicators and ranks that there are, start requests that aren't active and wait for those that are.
+pub fn no_other_fault()
+    ensures { NoOtherFault }
+{}
