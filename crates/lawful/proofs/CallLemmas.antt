@@ -29,7 +29,7 @@ use Rattle.lawful.proofs.NameLemmas.{Names, steps_names}
 -- ---- What can be ----
 
 -- a list goes on, or ends with a receive that was never reported: then the call can be
-abbrev passed : Option Why → Bool
+abbrev pub passed : Option Why → Bool
 passed None = true
 passed (Some NeverReported) = true
 passed (Some why) = false
@@ -45,7 +45,7 @@ goes_past Aborts o h = absurd (false≢true h)
 goes_past Fills o h = absurd (false≢true h)
 goes_past _ o h = h
 
-can_at : (run : Run) (placed : Placed) → passed (why_at run placed) ≡ true → can_be run placed ≡ true
+pub can_at : (run : Run) (placed : Placed) → passed (why_at run placed) ≡ true → can_be run placed ≡ true
 can_at run placed h =
     can_of (has_report report.Failed placed.entry) (can_be run placed) (lacks_number run placed) (is_unreported placed placed.called)
     (is_unknown placed placed.called) (goes_past placed.called _ h)

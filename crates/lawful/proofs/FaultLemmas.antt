@@ -33,13 +33,13 @@ few true false fault h = inr (sym (same_Some WrongNewCommunicator fault h))
 few true true fault h = absurd (none-some fault h)
 
 -- the tests of a call that pass
-record Passes (groups : Groups) (calls : List Call) (call : Call) : Type 0 where
-  is_open : has_end calls ≡ false
-  has_room : nat_lt (length calls) most_calls ≡ true
-  names : Names groups call
-  afresh : starts_afresh calls call ≡ true
-  distinct : are_distinct (waits_for call) ≡ true
-  active : waits_for_active calls call ≡ true
+pub record Passes (groups : Groups) (calls : List Call) (call : Call) : Type 0 where
+  pub is_open : has_end calls ≡ false
+  pub has_room : nat_lt (length calls) most_calls ≡ true
+  pub names : Names groups call
+  pub afresh : starts_afresh calls call ≡ true
+  pub distinct : are_distinct (waits_for call) ≡ true
+  pub active : waits_for_active calls call ≡ true
 
 two_left : (groups : Groups) (rank : ℕ) (calls : List Call) (call : Call) (fault : CallFault) → Passes groups calls call → fault_of groups rank calls call ≡ Some fault → (fault ≡ CommunicatorNotHeld) ⊎ (fault ≡ WrongNewCommunicator)
 unfolding fault_of
@@ -49,7 +49,7 @@ two_left groups rank calls call fault passes h =
 
 -- ---- Places ----
 
-at_end : {A : Type 0} (xs : List A) (y : A) (i : ℕ) (x : A) → slice_get (xs ++ y ∷ []) i ≡ Some x → ((i < length xs) × (slice_get xs i ≡ Some x)) ⊎ ((i ≡ length xs) × (y ≡ x))
+pub at_end : {A : Type 0} (xs : List A) (y : A) (i : ℕ) (x : A) → slice_get (xs ++ y ∷ []) i ≡ Some x → ((i < length xs) × (slice_get xs i ≡ Some x)) ⊎ ((i ≡ length xs) × (y ≡ x))
 at_end [] y zero x h = inr (refl, same_Some y x h)
 at_end [] y (suc i) x h = absurd (none-some x h)
 at_end (z ∷ zs) y zero x h = inl (omega arith, h)
@@ -59,7 +59,7 @@ at_end (z ∷ zs) y (suc i) x h =
     (λ last. inr (omega (arith, last.0), last.1))
     (at_end zs y i x h)
 
-take_whole : {A : Type 0} (xs ys : List A) → take (length xs) (xs ++ ys) ≡ xs
+pub take_whole : {A : Type 0} (xs ys : List A) → take (length xs) (xs ++ ys) ≡ xs
 take_whole [] ys = refl
 take_whole (x ∷ xs) ys = ap (λ zs. x ∷ zs) (take_whole xs ys)
 
@@ -88,7 +88,7 @@ same_length : (b : Bool) (it : Listed) → length (without_journal b it).records
 same_length true it = refl
 same_length false it = refl
 
-records_short : (run : Run) (choice : Choice) (rank : ℕ) → length (list_of run choice rank).records < most_records
+pub records_short : (run : Run) (choice : Choice) (rank : ℕ) → length (list_of run choice rank).records < most_records
 records_short run choice rank =
     let whole = whole_list run choice rank in
     subst (λ (n : ℕ). n < most_records) (sym (same_length (is_none (journal_at run rank)) (cut whole))) (cut_short whole)
@@ -110,7 +110,7 @@ end_active calls Finalize h = refl
 end_active calls Open h = refl
 end_active calls _ h = absurd (false≢true h)
 
-list_passes : (run : Run) (choice : Choice) (rank place : ℕ) (call : Call) → slice_get (calls_of (list_of run choice rank)) place ≡ Some call → Passes (groups_of run) (take place (calls_of (list_of run choice rank))) call
+pub list_passes : (run : Run) (choice : Choice) (rank place : ℕ) (call : Call) → slice_get (calls_of (list_of run choice rank)) place ≡ Some call → Passes (groups_of run) (take place (calls_of (list_of run choice rank))) call
 list_passes run choice rank place call h =
     let it = list_of run choice rank in
     let calls : List Call = map (λ one. one.call) it.records in

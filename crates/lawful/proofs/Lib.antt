@@ -8,3 +8,12 @@ pub mod PassLemmas
 pub mod NameLemmas
 pub mod CallLemmas
 pub mod FaultLemmas
+pub mod LineFacts
+pub mod RunFacts
+pub mod CalledLemmas
+pub mod ReadLemmas
+pub mod GroupFacts
+pub mod FullFacts
+pub mod RunFull
+pub mod KeyGroups
+pub mod HeadLemmas

@@ -1,5 +1,5 @@
 -- Each call of a list names a communicator of the head, and ranks of its group.
-use Rattle.std.proofs.Common.{◌≡◌, ℕ, ◌+◌, ◌-◌, ◌&&◌, ℤ, pos, negsuc, Bool, true, false, if◌then◌else◌, Option, Some, None, List, [], ◌∷◌, ◌++◌, get_or, length, map, refl, ap, ◌∙◌}
+use Rattle.std.proofs.Common.{◌≡◌, ℕ, ◌+◌, ◌-◌, ◌&&◌, ℤ, pos, negsuc, Bool, true, false, if◌then◌else◌, Option, Some, None, List, [], ◌∷◌, ◌++◌, get_or, length, map, refl, ap, subst, ◌∙◌}
 use Rattle.std.specs.Prelude.{nat_lt, slice_get}
 use Rattle.std.specs.List.{position}
 use Rattle.std.specs.Option.{option_and_then, option_map, option_map_or}
@@ -245,7 +245,7 @@ numbered_by : (run : Run) (o : Option Key) (number : ℕ) → option_and_then (n
 numbered_by run None number h = absurd (none-some number h)
 numbered_by run (Some key) number h = record { key = key; is_key = refl; group = record { is = numbered_group run key number h } }
 
-message_fits : (group : List ℕ) (o : Option (Awaited × Option Message)) (it : Message) → option_map_or (awaited_can_be (length group)) o true ≡ true → option_and_then (λ a. message_of a.0 a.1) o ≡ Some it → FitsMessage group it
+pub message_fits : (group : List ℕ) (o : Option (Awaited × Option Message)) (it : Message) → option_map_or (awaited_can_be (length group)) o true ≡ true → option_and_then (λ a. message_of a.0 a.1) o ≡ Some it → FitsMessage group it
 message_fits group None it fits is = absurd (none-some it is)
 message_fits group (Some (awaited, reported)) it fits is =
     let last = (and_parts (peer_can_be (length group) awaited.source && tag_can_be awaited.tag) (message_can_be (length group) (message_of awaited reported)) fits).1 in
@@ -260,7 +260,7 @@ any_names P lines [] wanted = one_names P (ids_of lines wanted) (ids_of lines []
 any_names P lines (request ∷ []) wanted = (tt, tt)
 any_names P lines (request ∷ other ∷ others) wanted = one_names P (ids_of lines wanted) (ids_of lines (request ∷ other ∷ others))
 
-none_names : (P : Call → Type 0) (choice : Choice) (placed : Placed) (lines : List Line) (it : Called) → AreSteps P (on_none choice placed lines it)
+pub none_names : (P : Call → Type 0) (choice : Choice) (placed : Placed) (lines : List Line) (it : Called) → AreSteps P (on_none choice placed lines it)
 none_names P choice placed lines (ReceivesMatched message) = (tt, tt)
 none_names P choice placed lines (Waits requests) = (tt, tt)
 none_names P choice placed lines (Tests requests) =

@@ -64,13 +64,13 @@ wait_passes P [] waits = tt
 wait_passes P (one ∷ []) waits = (waits.wait one, tt)
 wait_passes P (one ∷ two ∷ others) waits = (waits.waitall (one ∷ two ∷ others), tt)
 
-waits_pass : (P : Call → Type 0) (most : ℕ) (numbers : List ℕ) → PassWaits P → AllCalls P (waits_for most numbers)
+pub waits_pass : (P : Call → Type 0) (most : ℕ) (numbers : List ℕ) → PassWaits P → AllCalls P (waits_for most numbers)
 waits_pass P zero numbers waits = tt
 waits_pass P (suc most) numbers waits =
     calls_append P (wait_for (take MOST_REQUESTS numbers)) (waits_for most (drop MOST_REQUESTS numbers))
     (wait_passes P (take MOST_REQUESTS numbers) waits) (waits_pass P most (drop MOST_REQUESTS numbers) waits)
 
-chosen_passes : (P : Call → Type 0) (number : ℕ) (numbers : List ℕ) (o : Option ℕ) → PassWaits P → P (chosen_at number numbers o)
+pub chosen_passes : (P : Call → Type 0) (number : ℕ) (numbers : List ℕ) (o : Option ℕ) → PassWaits P → P (chosen_at number numbers o)
 chosen_passes P number numbers None waits = waits.wait number
 chosen_passes P number numbers (Some place) waits = waits.waitany place numbers
 

@@ -1,7 +1,13 @@
 -- Laws of the lists of recordings, and of the numbers of communicators.
-use Rattle.std.specs.Prelude.{◌≡◌, ◌⊎◌, ◌<◌, ℕ, Some, length, map, take, slice_get}
+use Rattle.std.specs.Prelude.{◌≡◌, ◌⊎◌, ◌<◌, ◌≤◌, ℕ, true, Some, length, map, take, slice_get, Contains}
+use Rattle.std.specs.List.{list_all}
+use Rattle.mpicall.specs.Limits.{in_ranges}
+use Rattle.mpicall.specs.Trace.{trace_of}
+use Rattle.mpicall.specs.declared.fault.Ending.TheVariants.{Sealed}
 use Rattle.mpicall.specs.declared.call.Call.{Call}
 use Rattle.mpigroup.specs.Groups.{ranks_of}
+use Rattle.mpigroup.specs.HeadText.{is_group}
+use Rattle.mpigroup.specs.declared.limits.TheConstants.{MOST_RANKS, MOST_COMMS}
 use Rattle.callstore.specs.Recordings.{IsClosed, calls_of as calls_of_rank}
 use Rattle.pairing.specs.Faults.{fault_of}
 use Rattle.pairing.specs.declared.fault.CallFault.{CallFault}
@@ -10,7 +16,9 @@ use Rattle.closing.specs.inner.Entries.{Run}
 use Rattle.closing.specs.inner.Entry.{Choice}
 use Rattle.closing.specs.inner.Keys.{Key}
 use Rattle.closing.specs.inner.Numbers.{number_of}
-use Rattle.closing.specs.inner.Recording.{Recording, calls_of, recording_of}
+use Rattle.closing.specs.inner.Recording.{Recording, Listed, calls_of, recording_of}
+use Rattle.closing.specs.inner.Texts.{trace_text}
+use Rattle.lawful.specs.Laws.{IsRead}
 
 -- there is a list for each rank of the head, and each is closed
 pub record IsClosedRecording (it : Recording) : Type 0 where
@@ -38,3 +46,20 @@ FaultsAreOfHolding it =
 -- waits for those that are; none comes after the end or is one too many.
 abbrev pub NoOtherFault : Type 0
 NoOtherFault = (run : Run) (choice : Choice) → FaultsAreOfHolding (recording_of run choice)
+
+-- Law: a list of a recording whose calls are all in their ranges is what its text reads as.
+abbrev pub EachListInRangesReadsBack : Type 0
+EachListInRangesReadsBack =
+    (run : Run) (choice : Choice) (list : Listed) → Contains (recording_of run choice).lists list →
+    list_all in_ranges (calls_of list) ≡ true →
+    trace_of (trace_text list) ≡ record { records = calls_of list; end = Sealed }
+
+-- a head may have so many ranks and communicators, and each group is some ranks of the run, none of them twice
+pub record IsHead (it : Recording) : Type 0 where
+  pub ranks_fit : (1 ≤ ranks_of it.groups) × (ranks_of it.groups ≤ MOST_RANKS)
+  pub few : length it.groups ≤ MOST_COMMS
+  pub are_groups : list_all (is_group (ranks_of it.groups)) it.groups ≡ true
+
+-- Law: the groups of a recording are those of a head.
+abbrev pub EachHeadIsAHead : Type 0
+EachHeadIsAHead = (run : Run) (choice : Choice) → IsRead run → IsHead (recording_of run choice)

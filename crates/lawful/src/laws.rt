@@ -1,6 +1,6 @@
 //! The laws that are proved.
 
-ghost use Rattle.lawful.specs.Closed.{EachRecordingIsClosed, OneNumberIsOneCommunicator, NoOtherFault};
+ghost use Rattle.lawful.specs.Closed.{EachRecordingIsClosed, OneNumberIsOneCommunicator, NoOtherFault, EachListInRangesReadsBack, EachHeadIsAHead};
 
 /// There is a list for each rank of the head, each has an end, and nothing comes after it.
 pub fn each_recording_is_closed()
@@ -15,4 +15,14 @@ pub fn one_number_is_one_communicator()
 /// Calls name communicators and ranks that there are, start requests that aren't active and wait for those that are.
 pub fn no_other_fault()
     ensures { NoOtherFault }
+{}
+
+/// The text of a list whose calls are all in their ranges reads as that list.
+pub fn each_list_in_ranges_reads_back()
+    ensures { EachListInRangesReadsBack }
+{}
+
+/// The groups of a recording of journals that were read are those of a head.
+pub fn each_head_is_a_head()
+    ensures { EachHeadIsAHead }
 {}
