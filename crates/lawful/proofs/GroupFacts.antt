@@ -63,7 +63,7 @@ abbrev pub cost : (ℕ → ℕ) → List ℕ → ℕ
 cost each [] = 0
 cost each (number ∷ numbers) = each number + cost each numbers
 
-abbrev pub cost_below : (ℕ → ℕ) → ℕ → ℕ
+unfoldable pub cost_below : (ℕ → ℕ) → ℕ → ℕ
 cost_below each zero = 0
 cost_below each (suc n) = each n + cost_below each n
 
@@ -85,6 +85,7 @@ none_below (number ∷ numbers) all =
 
 -- distinct numbers below a bound cost no more than all numbers below it
 pub few_cost : (each : ℕ → ℕ) (n : ℕ) (numbers : List ℕ) → are_distinct numbers ≡ true → list_all (λ (k : ℕ). nat_lt k n) numbers ≡ true → cost each numbers ≤ cost_below each n
+unfolding cost_below
 few_cost each zero numbers once all = rw (none_below numbers all) (omega arith)
 few_cost each (suc n) numbers once all =
     let rest = few_cost each n (but n numbers) (but_once n numbers once) (but_below n numbers all) in
@@ -96,6 +97,7 @@ cost_length [] = refl
 cost_length (number ∷ numbers) = let rest = cost_length numbers in omega (arith, rest)
 
 ones_below : (n : ℕ) → cost_below (λ (k : ℕ). 1) n ≡ n
+unfolding cost_below
 ones_below zero = refl
 ones_below (suc n) = let rest = ones_below n in omega (arith, rest)
 

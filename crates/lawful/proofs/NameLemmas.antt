@@ -108,7 +108,7 @@ rooted_fits group collective None rooted fits = absurd (false≢true (rw rooted 
 rooted_fits group collective (Some (pos root)) rooted fits = fits
 rooted_fits group collective (Some (negsuc n)) rooted fits = absurd (false≢true fits)
 
-kind_fits : (group : List ℕ) (collective : Collective) (root : Option ℤ) → root_can_be (length group) collective root ≡ true → KindFits group (kind_of collective root)
+pub kind_fits : (group : List ℕ) (collective : Collective) (root : Option ℤ) → root_can_be (length group) collective root ≡ true → KindFits group (kind_of collective root)
 kind_fits group coll.Bcast root fits = rooted_fits group coll.Bcast root refl fits
 kind_fits group coll.Gather root fits = rooted_fits group coll.Gather root refl fits
 kind_fits group coll.Scatter root fits = rooted_fits group coll.Scatter root refl fits

@@ -31,7 +31,7 @@ range_each (call ∷ calls) h =
 
 -- ---- Lines ----
 
-line_first : (body rest : List ℕ) → WithoutFeed body → lines_of (body ++ line_feed ∷ rest) ≡ (body ++ line_feed ∷ []) ∷ lines_of rest
+pub line_first : (body rest : List ℕ) → WithoutFeed body → lines_of (body ++ line_feed ∷ rest) ≡ (body ++ line_feed ∷ []) ∷ lines_of rest
 line_first [] rest clean = refl
 line_first (byte ∷ body) rest clean =
     let parts = and_parts (not (byte == line_feed)) (list_all (λ b. not (b == line_feed)) body) clean in

@@ -1,6 +1,7 @@
 //! The laws that are proved.
 
 ghost use Rattle.lawful.specs.Closed.{EachRecordingIsClosed, OneNumberIsOneCommunicator, NoOtherFault, EachListInRangesReadsBack, EachHeadIsAHead};
+ghost use Rattle.lawful.specs.Laws.{EachRecordingIsLawful};
 
 /// There is a list for each rank of the head, each has an end, and nothing comes after it.
 pub fn each_recording_is_closed()
@@ -15,6 +16,11 @@ pub fn one_number_is_one_communicator()
 /// Calls name communicators and ranks that there are, start requests that aren't active and wait for those that are.
 pub fn no_other_fault()
     ensures { NoOtherFault }
+{}
+
+/// No call of a recording of journals that were read has a fault.
+pub fn each_recording_is_lawful()
+    ensures { EachRecordingIsLawful }
 {}
 
 /// The text of a list whose calls are all in their ranges reads as that list.

@@ -1,14 +1,18 @@
-//! Laws of the recordings that journals stand for. `specs/Closed` has those that the functions of `laws` prove: each
-//! recording is closed, one number is one communicator, and calls have no other fault than of the communicators that
-//! their rank holds; the groups of a recording are those of a head, and a list whose calls are in their ranges is what
-//! its text reads as.
+//! Laws of the recordings that journals stand for. `specs/Closed` has laws of any run: each recording is closed, one
+//! number is one communicator, calls have no other fault than of the communicators that their rank holds, and a list
+//! whose calls are in their ranges is what its text reads as. Of a run that was read the groups of its recording are
+//! those of a head, and, by `specs/Laws`, no call has a fault. The functions of `laws` prove them.
 //!
-//! `specs/Laws` has those that aren't: that recordings are lawful, and that what is written of one reads as it again.
+//! One law of `specs/Laws` isn't proved: that what is written of a recording reads as it again. The ranges of calls and
+//! the text of the head are still to be shown.
 //!
 //! Lemmas: `RequestLemmas` what one call changes about requests, `StepLemmas` what a step adds, `TableLemmas` that
 //! entries give such steps, `ListLemmas` all calls of a list, `PassLemmas` lists whose records pass a test, `NameLemmas`
-//! and `CallLemmas` what calls name, `FaultLemmas` the tests together; `LineFacts`, `FullFacts`, `RunFacts` and
-//! `RunFull` what the lines of journals that were read have, `KeyGroups` and `HeadLemmas` the groups of the head.
+//! and `CallLemmas` what calls name, `FaultLemmas` the tests together. `HoldLemmas` has lists whose calls pass the tests
+//! of holding, `LineFacts`, `RunFacts`, `FullFacts` and `RunFull` what the lines of journals that were read have,
+//! `KeyFacts` and `PrefaceFacts` the communicators of the preface, `KeptLemmas` what a list keeps along its journal,
+//! `SafeLemmas`, `MakerLemmas` and `EntryLemmas` its entries, `WalkLemmas` its lines, `LawfulLemmas` all together;
+//! `KeyGroups` and `HeadLemmas` the groups of the head.
 #![tactic(auto)]
 
 pub mod laws;
