@@ -2,6 +2,7 @@
 
 import importlib.machinery
 import importlib.util
+import os
 import re
 import subprocess
 import sys
@@ -11,8 +12,14 @@ from pathlib import Path
 
 TOP = Path(__file__).resolve().parents[2]
 TOOLS = TOP / "tools"
-sys.path.insert(0, str(TOOLS))
+sys.path[:0] = [str(TOOLS), str(TOP / "bench")]
 sys.dont_write_bytecode = True
+
+from companions.story import Story  # noqa: E402
+from companions.runs import Judge  # noqa: E402
+
+# The place N in the program is line N of /a.py.
+SITES = "".join(f"{line}\t/a.py:{line}\n" for line in range(1, 30)).encode()
 
 
 def script(name, folder=TOOLS):
@@ -22,6 +29,14 @@ def script(name, folder=TOOLS):
     sys.modules[loader.name] = module
     loader.exec_module(module)
     return module
+
+
+class Stored(Judge):
+    """Answers by what is stored."""
+
+    def run(self, command, folder):
+        status, said = script("judge", TOP / "tests/tools").answer(command[1:], folder)
+        return subprocess.CompletedProcess(command, status, said, "")
 
 
 def lines(text):
@@ -54,13 +69,14 @@ class Folders(unittest.TestCase):
         self.folder = Path(folder.name)
 
     def run_of(self, *ranks, state="i", after=()):
-        """Writes the journals of a run; None for a rank without one. `after` has the words that some ranks
-        have after the library."""
+        """Writes the journals of a run; None for a rank without one. `state' has a letter for all or for each;
+        `after' has the words that some ranks have after the library."""
+        states = state if len(state) > 1 else state * len(ranks)
         (self.folder / "journal").mkdir()
         for rank, calls in enumerate(ranks):
             if calls is not None:
                 library = "a library" + dict(after).get(rank, "")
-                self.write(f"journal/journal{rank}", journal(rank, len(ranks), calls, state, library))
+                self.write(f"journal/journal{rank}", journal(rank, len(ranks), calls, states[rank], library))
 
     def write(self, name, text):
         (self.folder / name).write_bytes(text if isinstance(text, bytes) else text.encode())
@@ -68,8 +84,25 @@ class Folders(unittest.TestCase):
     def read(self, name):
         return (self.folder / name).read_text(encoding="utf-8")
 
+    def judged(self, *ranks, program_status=0, sites=SITES, **words):
+        """A run with these calls, judged."""
+        if not (self.folder / "journal").exists():
+            self.run_of(*ranks, **words)
+        for rank in range(len(ranks)):
+            if not (self.folder / f"journal/sites{rank}").exists():
+                self.write(f"journal/sites{rank}", sites)
+        return Story(self.folder / "journal", Stored(), program_status=program_status)
+
+    def sections(self, *ranks, **words):
+        return dict(self.judged(*ranks, **words).sections)
+
+    def again(self):
+        """Another folder."""
+        self.doCleanups()
+        self.setUp()
+
     def command(self, name, *words, **environment):
-        """Runs a script of tools/ to its end."""
+        """Runs a script of tools/, or of another folder, to its end."""
         words = [sys.executable, str(TOOLS / name), *map(str, words)]
         return subprocess.run(
             words, capture_output=True, text=True, check=False, cwd=self.folder, **environment

@@ -4,7 +4,8 @@
 # What the program and its launcher wrote comes before the report; how often a test found nothing differs from
 # run to run, and so do the names of folders.
 report_in() {
-    sed -n '/^Run 1 of \|^verdict \|^no verdict/,$p' "$1" | sed "/^Only counted/,/^\$/d; s:$work:WORK:g" |
+    sed -n '/^Run 1 of \|^verdict \|^no verdict\|^not judged\|^refused /,$p' "$1" |
+        sed "/^Only counted/,/^\$/d; s:$work:WORK:g" |
         sed -E 's/\([0-9,]+ times, found nothing\)/(N times, found nothing)/'
 }
 
@@ -14,7 +15,8 @@ check_journals() {
     for folder in "$work/run/journal" "$work/run/journal"/run-*; do
         [[ -e $folder/journal0 ]] || continue
         recordings=$((recordings + 1))
-        "$here/check-journals" "$folder" || fails "$name: these journals are none"
+        # A release has no bench/.
+        [[ ! -d $here/../bench ]] || "$here/../bench/check-journals" "$folder" || fails "$name: these journals are none"
     done
 }
 
@@ -117,7 +119,7 @@ try_hold() {
 }
 
 try_texts() {
-    local program=$here/../crates/mpiwait/out/mpiwait name words
+    local program=${MPIWAIT:-$here/../crates/mpiwait/out/mpiwait} name words
     if [[ ! -x $program ]]; then
         echo "texts: passed over: the program isn't built"
         return
@@ -137,5 +139,11 @@ check-h check -h
 check-version check --version
 lint-help lint --help
 lint-version lint --version
+judge-help judge --help
+judge-help judge -h
+judge-version judge --version
+close-help close --help
+close-help close -h
+close-version close --version
 END
 }

@@ -1,0 +1,435 @@
+"""How tools/run takes its words, runs a command, and ends; and what it says while the run goes on."""
+
+import contextlib
+import fcntl
+import io
+import json
+import os
+import signal
+import subprocess
+import sys
+import time
+import unittest
+from pathlib import Path
+from unittest import mock
+
+from support import TOOLS, TOP, Folders, Stored, journal
+from companions import recorder, run, watching
+from companions.watching import Alarm
+from companions.runs import Answer, Judge
+from companions.script import Stopped
+
+BOTH = ("send 0 1 0 4 @7 / recv 0 1 0 @8 / finalize", "send 0 0 0 4 @7 / recv 0 0 0 @8 / finalize")
+CHECKER = {"MPIWAIT": str(TOP / "tests/tools/judge")}
+HERE = " on a-host"
+
+
+class Words(Folders):
+    def test_wrong_ones(self):
+        for words in ([], ["--again", "mpirun"], ["--again", "--for", "3"], ["--for", "0", "x"], ["--for", "-1", "x"],
+                      ["--frames", "17", "x"], ["--mpi", "lam", "x"], ["--fast", "x"], ["--eager", "2147483648", "x"],
+                      ["--eager", "-1", "x"], ["--quiet", "no", "x"], ["--again", "--stop"], ["--for"]):  # fmt: skip
+            with self.subTest(words), contextlib.redirect_stderr(io.StringIO()):
+                with self.assertRaises(Stopped) as stopped:
+                    run.words_of(words)
+                self.assertEqual(stopped.exception.status, 3)
+
+    def test_right_ones(self):
+        words = run.words_of(["--eager", "8", "--stop", "--", "mpirun", "-n", "4", "./a", "--eager"])
+        self.assertEqual((words.eager, words.stop, words.quiet), (8, True, 10))
+        self.assertEqual(words.command, ["mpirun", "-n", "4", "./a", "--eager"])
+
+    def test_a_program_that_is_nothing(self):
+        done = self.command("run", "./nothing", env=os.environ | CHECKER)
+        self.assertEqual((done.returncode, done.stdout), (3, ""))
+        self.assertIn("no word of `./nothing' is a program that loads MPICH or Open MPI", done.stderr)
+
+    def test_help(self):
+        done = self.command("run", "--help", env=os.environ | CHECKER)
+        self.assertEqual(done.returncode, 0)
+        for option in ("again", "eager", "folder", "for", "frames", "html", "json", "junit", "mpi", "quiet", "sarif", "stop",
+                       "strict", "svg", "unproved"):  # fmt: skip
+            self.assertIn(f"--{option}", done.stdout)
+
+
+class Again(Folders):
+    """The verdict of a recording that is there: the status, the outputs, and what fails."""
+
+    def again(self, *words, **environment):
+        (self.folder / "mpiwait-run").mkdir(exist_ok=True)
+        if (self.folder / "journal").exists():
+            (self.folder / "journal").rename(self.folder / "mpiwait-run/journal")
+        return self.command("run", "--again", *words, env=os.environ | CHECKER | environment)
+
+    def test_a_hang_and_all_outputs(self):
+        self.run_of(*BOTH)
+        outputs = {"json": "a.json", "html": "a.html", "junit": "a.xml", "sarif": "a.sarif"}
+        done = self.again(*[f"--{kind}={name}" for kind, name in outputs.items()])
+        self.assertEqual((done.returncode, done.stderr), (1, ""))
+        self.assertTrue(done.stdout.startswith("verdict hang: 2 of 2 ranks wait\n"))
+        self.assertEqual(json.loads(self.read("a.json"))["status"], 1)
+        self.assertIn('failures="1"', self.read("a.xml"))
+        self.assertEqual(json.loads(self.read("a.sarif"))["version"], "2.1.0")
+        self.assertIn("<h1>verdict hang", self.read("a.html"))
+
+    def test_several_runs(self):
+        self.run_of("finalize")
+        (self.folder / "journal/run-b").mkdir()
+        for rank, calls in enumerate(BOTH):
+            self.write(f"journal/run-b/journal{rank}", journal(rank, 2, calls))
+        done = self.again("--json", "a.json", "--junit", "a.xml")
+        self.assertEqual(done.returncode, 1)
+        self.assertIn("Run 2 of 2\n==========\nverdict hang", done.stdout)
+        self.assertEqual(json.loads(self.read("a-2.json"))["status"], 1)
+        for count in ('tests="2"', 'failures="1"'):
+            self.assertIn(count, self.read("a.xml"))
+
+    def test_an_output_that_cannot_be_written(self):
+        self.run_of(*BOTH)
+        done = self.again("--json", "none/a.json")
+        self.assertEqual(done.returncode, 4)
+        self.assertIn("verdict hang", done.stdout)
+        self.assertIn("none/a.json", done.stderr)
+
+    def test_a_full_output(self):
+        self.run_of(*BOTH)
+        self.again()
+        with open("/dev/full", "w") as full:
+            words = [sys.executable, str(TOOLS / "run"), "--again"]
+            done = subprocess.run(
+                words, stdout=full, stderr=subprocess.PIPE, cwd=self.folder, env=os.environ | CHECKER
+            )
+        self.assertEqual(done.returncode, 4)
+
+    def test_a_reader_that_wants_no_more(self):
+        self.run_of(*BOTH)
+        self.again()
+        words = [sys.executable, str(TOOLS / "run"), "--again", "--json", "a.json"]
+        reading, writing = os.pipe()
+        os.close(reading)
+        done = subprocess.run(
+            words, stdout=writing, stderr=subprocess.PIPE, cwd=self.folder, env=os.environ | CHECKER
+        )
+        os.close(writing)
+        self.assertEqual((done.returncode, done.stderr), (1, b""))
+        self.assertEqual(json.loads(self.read("a.json"))["verdict"], "hang")
+
+    def test_a_checker_is_tried_before_the_run(self):
+        self.write("checker", "#!/bin/sh\nexit 4\n")
+        os.chmod(self.folder / "checker", 0o755)
+        with mock.patch.dict(os.environ, {"MPIWAIT": str(self.folder / "checker")}):
+            with self.assertRaises(Stopped) as stopped:
+                Judge().try_out()
+        self.assertEqual(stopped.exception.status, 4)
+
+    def test_a_checker_that_is_not_there(self):
+        self.run_of(*BOTH)
+        done = self.again(MPIWAIT="./none")
+        self.assertEqual((done.returncode, done.stdout), (4, ""))
+        self.assertIn("can't be run", done.stderr)
+
+    def test_folders(self):
+        self.assertEqual(self.command("run", "--again", env=os.environ | CHECKER).returncode, 3)
+        (self.folder / "mpiwait-run/journal").mkdir(parents=True)
+        done = self.command("run", "--again", env=os.environ | CHECKER)
+        self.assertEqual(done.returncode, 4)
+        self.assertIn("nothing was recorded", done.stderr)
+
+    def test_a_folder_in_use(self):
+        self.run_of(*BOTH)
+        self.again()
+        held = os.open(self.folder / "mpiwait-run", os.O_RDONLY)
+        fcntl.flock(held, fcntl.LOCK_EX)
+        done = self.again()
+        os.close(held)
+        self.assertEqual(done.returncode, 3)
+        self.assertIn("in use", done.stderr)
+
+    def test_a_folder_whose_name_is_no_text(self):
+        name = os.fsdecode(b"a\n\xff ")
+        self.run_of(*BOTH)
+        os.mkdir(self.folder / name)
+        (self.folder / "journal").rename(self.folder / name / "journal")
+        done = self.command("run", "--again", "--folder", name, env=os.environ | CHECKER)
+        self.assertEqual(done.returncode, 1, done.stderr)
+
+    def test_any_byte_of_a_file_in_any_locale(self):
+        self.run_of(*BOTH)
+        for rank in (0, 1):
+            self.write(
+                f"journal/sites{rank}",
+                b"7\t/a \\x09\\x0a\\x0c\xe2\x80\xa8\xff\\x5c.py:7\n8\t/\xc3\xa9.py:8\n",
+            )
+        more = {"LC_ALL": "C", "PYTHONUTF8": "0", "PYTHONCOERCECLOCALE": "0"}
+        done = self.again("--json=a.json", "--html=a.html", "--junit=a.xml", "--sarif=a.sarif", **more)
+        self.assertEqual((done.returncode, done.stderr), (1, ""))
+        self.assertIn("\\x0c\\xe2\\x80\\xa8\\xff", done.stdout)
+        self.assertIn("/a%20%09%0A%0C%E2%80%A8%FF%5C.py", self.read("a.sarif"))
+
+
+class OwnFolder(Folders):
+    def test_one_of_the_program_is_never_touched(self):
+        self.write("mine", "")
+        with self.assertRaises(Stopped) as stopped:
+            run.make_folder(self.folder)
+        self.assertEqual(stopped.exception.status, 3)
+        self.assertTrue((self.folder / "mine").exists())
+
+    def test_one_of_a_run_is_emptied(self):
+        folder = self.folder / "a"
+        os.close(run.make_folder(folder))
+        self.write("a/journal/journal0", "")
+        os.symlink(self.folder, folder / "link")
+        os.close(run.make_folder(folder))
+        self.assertEqual(sorted(os.listdir(folder)), [".mpiwait-run", "journal"])
+        self.assertEqual(os.listdir(folder / "journal"), [])
+
+
+class Recorders(unittest.TestCase):
+    """Which library, and how the recorder is handed to the ranks."""
+
+    def test_the_library(self):
+        for loaded, said, wanted in (
+            ("libmpich.so.12 => /x\n", "HYDRA", "mpich"), ("libmpi.so.40 => /libmpich-build/x\n", "Open MPI", "openmpi"),
+            ("libmpi.so.12 => x\n", "", "mpich"), ("libc.so.6 => /x\n", "mpirun (Open MPI) 4.1", "openmpi"),
+            ("libc.so.6\n", "HYDRA build details", "mpich"),
+        ):  # fmt: skip
+            with mock.patch.object(recorder, "said_by", lambda tool, *_, **more: loaded if tool == "ldd" else said):
+                self.assertEqual(recorder.library_of(["mpirun", "-n", "2", sys.executable]), wanted)
+
+    def test_libraries_that_do_not_go_together(self):
+        with mock.patch.object(
+            recorder, "said_by", lambda tool, *_: "libmpich.so.12 => /x\n" if tool == "ldd" else "Open MPI"
+        ):
+            with self.assertRaises(Stopped):
+                recorder.library_of(["mpirun", sys.executable])
+
+    def test_other_tools_in_ld_preload(self):
+        def given(*command):
+            return recorder.after_others(list(command), "/r.so", ["LD_PRELOAD", "MPIWAIT_JOURNAL"])
+
+        self.assertEqual(given("env", "LD_PRELOAD=/t.so", "a")[1], "LD_PRELOAD=/t.so:/r.so")
+        self.assertEqual(given("mpirun", "-genv", "LD_PRELOAD", "/t.so", "a")[3], "/t.so:/r.so")
+        self.assertEqual(given("mpirun", "-x", "LD_PRELOAD=/t.so", "a")[2], "LD_PRELOAD=/t.so:/r.so")
+        self.assertEqual(given("mpirun", "-genvlist", "HOME", "a")[2], "HOME,LD_PRELOAD,MPIWAIT_JOURNAL")
+        self.assertEqual(given("mpirun", "LD_PRELOAD", "a"), ["mpirun", "LD_PRELOAD", "a"])
+
+    def test_variables_for_open_mpi(self):
+        environment = {"OMPI_MCA_mca_base_env_list": "A"}
+        self.assertEqual(recorder.for_open_mpi(["mpirun", "a"], ["B", "C"], environment), ["mpirun", "a"])
+        self.assertEqual(environment, {"OMPI_MCA_mca_base_env_list": "A;B;C"})
+        command = ["mpirun", "-x", "B=1", "a"]
+        self.assertEqual(
+            recorder.for_open_mpi(command, ["B", "C"], {}), ["mpirun", "-x", "C", "-x", "B=1", "a"]
+        )
+
+
+class Processes(unittest.TestCase):
+    def test_the_status(self):
+        self.assertEqual(watching.run_command(["sh", "-c", "exit 3"], None), (3, False))
+        self.assertEqual(
+            watching.run_command(["sh", "-c", "kill -SEGV $$"], None), (128 + signal.SIGSEGV, False)
+        )
+
+    def test_a_limit(self):
+        with contextlib.redirect_stderr(io.StringIO()) as said:
+            began = time.monotonic()
+            status, was_ended = watching.run_command(["sh", "-c", "sleep 60 & sleep 60"], None, 0.3)
+        self.assertTrue(was_ended)
+        self.assertLess(time.monotonic() - began, 10)
+        self.assertIn("ended after 0.3 seconds", said.getvalue())
+
+    def test_signals_end_the_command_and_not_the_script(self):
+        for number in (signal.SIGTERM, signal.SIGHUP):
+            words = ["sh", "-c", f"kill -{int(number)} {os.getpid()}; sleep 60"]
+            self.assertTrue(watching.run_command(words, None)[1])
+
+    def test_a_terminal_that_interrupts(self):
+        words = ["sh", "-c", f"kill -{int(signal.SIGINT)} {os.getpid()}; exit 130"]
+        with mock.patch.object(watching, "is_in_front", lambda: True):
+            self.assertEqual(watching.run_command(words, None), (130, True))
+
+    def test_what_does_not_end_by_itself(self):
+        words = ["sh", "-c", "trap '' TERM; sleep 0.2; while :; do sleep 1; done"]
+        with contextlib.redirect_stderr(io.StringIO()):
+            self.assertTrue(watching.run_command(words, None, 0.5)[1])
+
+    def test_a_watch(self):
+        self.assertTrue(watching.run_command(["sleep", "60"], None, None, lambda: True)[1])
+
+
+class Alarms(Folders):
+    """Ranks that stood still are reported if they are held whatever the others do."""
+
+    def setUp(self):
+        super().setUp()
+        self.now = 1000.0
+        self.enterContext(mock.patch("time.monotonic", lambda: self.now))
+        self.enterContext(mock.patch("socket.gethostname", lambda: "a-host"))
+        self.said = self.enterContext(contextlib.redirect_stderr(io.StringIO()))
+
+    def enterContext(self, context):
+        value = context.__enter__()
+        self.addCleanup(context.__exit__, None, None, None)
+        return value
+
+    def alarm(self, *ranks, state="i", stops=True, after=(), host=HERE):
+        after = {rank: dict(after).get(rank, "") + host for rank in range(len(ranks))}
+        self.run_of(*ranks, state=state, after=after)
+        return Alarm(self.folder / "journal", Stored(), 10, stops)
+
+    def answers(self, alarm, seconds=60):
+        """When it says that the run is to be ended."""
+        for second in range(seconds):
+            if alarm.look():
+                return second
+            self.now += 1
+        return None
+
+    HANG = ("recv 0 1 5 @7", "recv 0 0 5 @7")
+
+    def test_a_hang(self):
+        alarm = self.alarm(*self.HANG)
+        self.assertLessEqual(self.answers(alarm), 12)
+        self.assertIn(
+            "ranks 0 and 1 wait for ever, whatever the other ranks do; the run is ended:",
+            self.said.getvalue(),
+        )
+        self.assertIn("rank 0 waits in MPI_Recv", self.said.getvalue())
+
+    def test_once_for_each_standstill(self):
+        alarm = self.alarm(*self.HANG, stops=False)
+        self.assertIsNone(self.answers(alarm))
+        self.assertEqual(self.said.getvalue().count("wait for ever"), 1)
+        self.assertIn("the run goes on", self.said.getvalue())
+
+    def test_a_third_rank_that_goes_on(self):
+        alarm = self.alarm(*self.HANG, "send 0 null 0 4")
+        path = self.folder / "journal/journal2"
+        for second in range(30):
+            with open(path, "ab") as file:
+                file.write(b"send 0 null 0 4\n")
+            if alarm.look():
+                break
+            self.now += 1
+        self.assertIn("ranks 0 and 1 wait for ever", self.said.getvalue())
+
+    def test_a_partner_that_computes(self):
+        self.assertIsNone(self.answers(self.alarm("recv 0 1 5 @7", "barrier 1 @7", state="io")))
+        self.assertEqual(self.said.getvalue(), "")
+
+    def test_ranks_that_poll(self):
+        polls = " polls {:08x} {:02x} {:016x}"
+        alarm = self.alarm("recv 0 1 5 @7", "barrier 1 @7", state="io", after={1: ""})
+        for count in range(40):
+            text = journal(1, 2, "barrier 1 @7", "o", "a library" + HERE + polls.format(1, 1, count))
+            self.write("journal/journal1", text)
+            self.assertFalse(alarm.look())
+            self.now += 1
+        self.assertEqual(self.said.getvalue(), "")
+
+    def test_an_exchange_that_takes_long(self):
+        self.assertIsNone(self.answers(self.alarm("send 0 1 5 1000 @7", "recv 0 0 5 @7")))
+
+    def test_a_rank_whose_journal_is_full(self):
+        self.assertIsNone(self.answers(self.alarm("recv 0 1 5 @7", "full")))
+
+    def test_ranks_that_may_call_by_another_thread(self):
+        self.assertIsNone(self.answers(self.alarm(*self.HANG, after={1: " multiple"})))
+        self.assertEqual(self.said.getvalue(), "")
+
+    def test_doubts(self):
+        alarm = self.alarm(*self.HANG)
+        self.write("journal/left1", "P 000000000003 calls of another thread\n")
+        self.assertIsNone(self.answers(alarm))
+        self.assertEqual(self.said.getvalue(), "")
+
+    def test_another_rank_that_stands_still_later(self):
+        alarm = self.alarm(*self.HANG, "send 0 null 0 4 @3 / barrier 1 @4", state="iio", stops=False)
+        self.answers(alarm, 20)
+        self.write(
+            "journal/journal2", journal(2, 3, "send 0 null 0 4 @3 / barrier 1 @4", "i", "a library" + HERE)
+        )
+        self.answers(alarm, 100)
+        self.assertEqual(self.said.getvalue().count("ranks 0 and 1 wait for ever"), 1)
+
+    def test_other_machines(self):
+        self.assertIsNone(self.answers(self.alarm(*self.HANG, host=" on elsewhere")))
+        self.assertIn("on other machines, so nothing is reported before the run ends", self.said.getvalue())
+        self.assertEqual(self.said.getvalue().count("other machines"), 1)
+
+    def test_ranks_that_go_on_while_they_are_judged(self):
+        alarm = self.alarm(*self.HANG)
+        ask = alarm.judge.ask
+
+        def ask_and_go_on(*words, **more):
+            answer = ask(*words, **more)
+            for rank in (0, 1):
+                self.write(f"journal/journal{rank}", self.read(f"journal/journal{rank}") + "barrier 1\n")
+            return answer
+
+        with mock.patch.object(alarm.judge, "ask", ask_and_go_on):
+            self.assertIsNone(self.answers(alarm, 12))
+        self.assertEqual(self.said.getvalue(), "")
+
+    def test_a_third_rank_that_calls_while_they_are_judged(self):
+        alarm = self.alarm(*self.HANG, "send 0 null 0 4")
+        ask = alarm.judge.ask
+
+        def call_and_ask(*words, **more):
+            text = self.read("journal/journal2")
+            self.write("journal/journal2", text.removesuffix("recv 0 0 9\n") + "recv 0 0 9\n")
+            return ask(*words, **more)
+
+        with mock.patch.object(alarm.judge, "ask", call_and_ask):
+            self.assertLessEqual(self.answers(alarm), 12)
+        self.assertIn("ranks 0 and 1 wait for ever", self.said.getvalue())
+
+    def test_longer_pauses(self):
+        alarm = self.alarm("recv 0 1 5 @7", "barrier 1 @7", state="io")
+        asked = []
+        ask = alarm.judge.ask
+        with mock.patch.object(
+            alarm.judge, "ask", lambda *words, **more: (asked.append(self.now), ask(*words, **more))[1]
+        ):
+            self.answers(alarm, 100)
+        pauses = [after - before for before, after in zip(asked, asked[1:])]
+        self.assertTrue(all(later >= 1.5 * first for first, later in zip(pauses, pauses[1:])), pauses)
+        self.assertLessEqual(len(asked), 4)
+
+    def test_another_standstill_does_not_wait_for_those_pauses(self):
+        alarm = self.alarm("recv 0 1 5 @7", "barrier 1 @7", state="io")
+        self.assertIsNone(self.answers(alarm, 200))
+        for rank, calls in enumerate(self.HANG):
+            self.write(f"journal/journal{rank}", journal(rank, 2, calls, "i", "a library" + HERE))
+        self.assertLessEqual(self.answers(alarm), 12)
+
+    def test_long_judgements_are_rare(self):
+        alarm = self.alarm("recv 0 1 5 @7", "barrier 1 @7", state="io")
+        asked = []
+
+        def ask_for_long(*_, **__):
+            asked.append(self.now)
+            self.now += 5
+            return Answer(5)
+
+        with mock.patch.object(alarm.judge, "ask", ask_for_long):
+            for second in range(200):
+                text = f"{'send 0 null 0 4 / ' * (second // 20)}recv 0 1 5 @7"
+                self.write("journal/journal0", journal(0, 2, text, "i", "a library" + HERE))
+                alarm.look()
+                self.now += 1
+        self.assertTrue(all(after - before >= 50 for before, after in zip(asked, asked[1:])), asked)
+
+    def test_lines_that_are_taken_out_again(self):
+        alarm = self.alarm("barrier 1 @1 / recv 0 1 5 @7", "recv 0 0 5 @7")
+        self.answers(alarm, 5)
+        text = self.read("journal/journal0").replace("recv 0 1 5 @7\n", "")
+        self.write("journal/journal0", text.encode() + b"\0" * 20)
+        watched = alarm.watched[self.folder / "journal"]
+        watched.look(self.now)
+        self.assertEqual(watched.since[0], self.now)
+
+
+if __name__ == "__main__":
+    unittest.main()

@@ -1,0 +1,147 @@
+"""Which ranks wait for which, and what else is wrong with a run, in words."""
+
+from .journals import MAKERS
+from .script import counted, grouped, listed, plural, ranks_named, shortened
+
+MOST_NAMES, MOST_LINES = 8, 60  # ranks of one cycle, and lines of the causes
+IN_TURN = ", each for the next and the last for the first"
+# The words of traces that the calls which make communicators may have.
+MADE = dict.fromkeys(MAKERS, ("dup", "split", "barrier")) | {"comm_idup": ("ibarrier",)}
+FINDINGS = {
+    "unreceived": "nobody receives what rank {0.rank} sends in {1}",
+    "request": "rank {0.rank} never waits for what it starts in {2}",
+    "group": "rank {0.rank}'s {2} makes another group than the others say",
+}
+
+
+def place_key(stuck):
+    return (stuck.call.name, stuck.call.where) if stuck.call.where else stuck.rank
+
+
+def alike_key(stuck):
+    """Stuck ranks with the same key share a line."""
+    needs = tuple((rank, call is None) for rank, call in stuck.needs)
+    return stuck.call.name, stuck.call.where, stuck.call.message(), needs
+
+
+def need_words(stuck, rank, call):
+    if call is not None:
+        return f"until rank {rank} comes to {call.placed()}"
+    answers = {"receive" if half.is_send else "send" for half in stuck.lacking(rank)}
+    never = "never makes" if stuck.view.is_closed(rank) else "hasn't made so far"
+    return f"for a {answers.pop() if len(answers) == 1 else 'matching call'} that rank {rank} {never}"
+
+
+def stuck_lines(first, *others):
+    """Some stuck ranks that wait alike."""
+    needs = [need_words(first, *need) for need in first.needs]
+    if len(first.waited) > 2 or others and any(call for _, call in first.needs):
+        needs = [f"for {ranks_named(first.waited)}"]
+    waits = f"{ranks_named(one.rank for one in (first, *others))} {'wait' if others else 'waits'}"
+    yield f"{waits} in {first.call.text()}, {needs[0]}"
+    yield from (f"    and {need}" for need in needs[1:])
+    peers = [(one, {half.rank for half in one.halves}) for one in ([] if others else first.starts)]
+    starts = [one.text() for one, ranks in peers if not ranks or ranks & first.waited]
+    yield from (f"    started by {start}" for start in shortened(counted(starts), 4))
+    if len(first.waited) <= 2:
+        yield from near_misses(first)
+
+
+def near_misses(stuck):
+    """What the awaited rank sends or receives that differs by the tag or the communicator."""
+    label = stuck.view.run.label
+    for rank in sorted({rank for rank, call in stuck.needs if call is None}):
+        for wanted in stuck.lacking(rank)[:2]:
+            found = []
+            for call, half in stuck.view.offers(rank, stuck.rank):
+                labels = label(rank, half.comm), label(stuck.rank, wanted.comm)
+                but = f"on {labels[0]} and not on {labels[1]}" if labels[0] != labels[1] else ""
+                is_near = half.tag in (wanted.tag, "any")  # then it differs by its communicator, or its order
+                but = but if is_near else f"with tag {half.tag} and not {wanted.tag}"
+                side = "sends to it" if half.is_send else "receives from it"
+                if but and half.is_send != wanted.is_send:
+                    found.append(f"    rank {rank} {side} in {call.placed()}, but {but}")
+            yield from found[:3]
+
+
+def cycle_lines(view, cycle):
+    ranks, is_long = [view.stuck[rank] for rank in cycle], len(cycle) > MOST_NAMES
+    if is_long:
+        named = [*map(str, cycle[:4]), "..", str(cycle[-1])]
+        yield f"{len(cycle)} ranks wait in a cycle{IN_TURN}: {', '.join(named)}:"
+    elif len(cycle) > 1:
+        yield f"ranks {listed(list(map(str, cycle)))} wait for each other{IN_TURN if len(cycle) > 2 else ''}:"
+    else:
+        yield f"rank {cycle[0]} waits for a later call of its own:"
+    groups = grouped(ranks, place_key if is_long else id)
+    for first, *others in groups[:MOST_NAMES]:
+        yield from (f"    {line}" for line in stuck_lines(first))
+        if others:
+            yield f"    and so {ranks_named(one.rank for one in others)} in the same line"
+    if len(groups) > MOST_NAMES:
+        yield f"    and so {plural(len(groups) - MOST_NAMES, 'more rank')} of the cycle"
+
+
+def cause_lines(view):
+    """The causes, and the ranks that they name."""
+    lines, named = [], set()
+    cycles = [cause["cycle"] for cause in view.report["causes"] if "cycle" in cause]
+    for first, *others in grouped(cycles, lambda cycle: tuple(place_key(view.stuck[rank]) for rank in cycle)):
+        lines += cycle_lines(view, first)
+        named.update(first, *others)
+        if others:
+            lines.append("and so " + listed(shortened(map(ranks_named, others), MOST_NAMES)))
+    missing = [cause["missing"][0] for cause in view.report["causes"] if "missing" in cause]
+    keys = {place_key(view.stuck[rank]) for rank in missing}
+    # A rank that waits in the same line for a missing call belongs to the cause, also if another is named.
+    alike = [one for one in view.stuck.values() if one.rank in view.held - named and place_key(one) in keys]
+    for group in grouped([one for one in alike if any(not call for _, call in one.needs)], alike_key):
+        lines += stuck_lines(*group)
+        named.update(one.rank for one in group)
+    return lines, named
+
+
+def cause_sections(view, cause="The cause", is_alone=True):
+    """The causes and who else waits. `cause` is the title of the former."""
+    lines, named = cause_lines(view)
+    if lines:
+        several = len(view.report["causes"]) > 1 and cause == "The cause"
+        yield cause + ("s" if several else ""), shortened(lines, MOST_LINES)
+    others = grouped([one for one in view.stuck.values() if one.rank not in named], alike_key)
+    if others and is_alone:
+        lines = [line for group in others for line in stuck_lines(*group)]
+        yield "Who else waits" if named else "Who waits", shortened(lines, MOST_LINES)
+
+
+def pair_words(view, kind, comm, member, first, other):
+    """A finding about two calls that meet: different calls, or one with different roots."""
+    def candidates(rank, wanted):
+        for call in view.calls[rank].values():
+            words = [call.root] if kind == "root" else MADE.get(call.word, (call.word,))
+            if wanted in words and call.comm is not None and (call.comm == 0) == (comm == 0):
+                yield call, view.run.made(rank, call.comm)[0]
+
+    what, end = ("different calls", "") if kind == "kind" else ("different roots", " with root {}")
+    for one, members in (one for rank in view.run.ranks for one in candidates(rank, first)):
+        is_whole = members[:1] == (one.rank,) and member < len(members)
+        met = candidates(members[member], other) if is_whole else ()
+        for two in [two for two, others in met if others == members][:1]:
+            both = [f"rank {call.rank}'s {call.placed()}{end.format(call.root)}" for call in (one, two)]
+            return f"{what} meet on {view.run.label(one.rank, one.comm)}: {both[0]} and {both[1]}"
+    return f"{what} meet: {first} and {other}"
+
+
+def finding_lines(view):
+    """The findings of a report: the first of each kind, and how many are alike."""
+    counts, words = {}, {}
+    for text in view.report["findings"]:
+        kind, *fields = text.split(" ")
+        call = view.call(int(fields[0]), int(fields[1])) if kind in FINDINGS else None
+        key = (kind, call.word, call.where) if call else (kind, fields[0], *fields[3:])
+        counts[key] = counts.get(key, 0) + 1
+        if key not in words and call:
+            words[key] = FINDINGS[kind].format(call, call.text(), call.placed())
+        elif key not in words:
+            words[key] = pair_words(view, kind, int(fields[0]), int(fields[2]), *fields[3:])
+    alike = {key: f" ({count - 1:,} more alike)" if count > 1 else "" for key, count in counts.items()}
+    return [words[key] + alike[key] for key in words]

@@ -1,0 +1,206 @@
+"""What the recorder wrote of a run, read only where it is asked for; and its calls in the words of MPI.
+
+tools/record/journal.h has the forms of these texts. A line is looked up by its number, which a report names.
+"""
+
+import mmap
+import os
+import re
+from collections import namedtuple
+from pathlib import Path
+
+BLOCK, TAIL = 1 << 20, 1 << 16  # bytes that are read at once: of lines by number, and of the last calls
+HEADER = re.compile(
+    rb"journal 2 \d{1,4} (\d{1,4}) \S+ ([io]) .+?( strict)?( multiple)?(?: on (\S+))?"
+    rb"(?: polls ([0-9a-f]{8}) ([0-9a-f]{2}) ([0-9a-f]{16}))?", re.DOTALL
+)  # fmt: skip
+POLLS = (None, "MPI_Test", "MPI_Testall", "MPI_Testany", "MPI_Testsome", "MPI_Iprobe", "MPI_Improbe")
+STARTS = re.compile(r"i(?!probe|mprobe|mrecv|nit)\w+|comm_idup")
+ROOTED = {"bcast", "gather", "scatter", "reduce"}
+COLLECTIVES = ROOTED | {"barrier", "allgather", "alltoall", "allreduce", "scan", "exscan"}
+STARTED_COLLECTIVES = {"i" + word for word in COLLECTIVES}
+MAKERS = {"comm_dup", "comm_split", "comm_make"}
+STARTED_SENDS = {"isend", "issend", "ibsend", "irsend"}
+SENDS = STARTED_SENDS | {"send", "ssend", "bsend", "rsend", "sendrecv", "isendrecv"}
+RECEIVES = {"recv", "irecv", "sendrecv", "isendrecv", "probe", "iprobe", "mprobe", "improbe"}
+STANDARD = {"send", "isend", "rsend", "irsend", "sendrecv", "isendrecv"}
+WAITS = {"wait", "test", "waitany", "waitsome", "mrecv"}
+# How many requests or messages come before the communicator of a call that is on one.
+BEFORE = dict.fromkeys(COLLECTIVES | MAKERS | SENDS | RECEIVES, 0) | {"isendrecv": 2}
+BEFORE |= dict.fromkeys(STARTED_COLLECTIVES | STARTED_SENDS, 1)
+BEFORE |= dict.fromkeys(["irecv", "mprobe", "improbe", "comm_idup"], 1)
+NAMES = {"exit": "the end of the process", "comm_make": "a call that makes communicators", "full": "a call"}
+
+
+def mapped(path):
+    """The text of a file in memory, and where it ends: before the first zero byte, after a whole line."""
+    try:
+        with open(path, "rb") as file:
+            data = mmap.mmap(file.fileno(), 0, access=mmap.ACCESS_READ)
+    except (FileNotFoundError, ValueError):  # there is none, or it is empty
+        return b"", 0
+    end = data.find(b"\0")
+    return data, data.rfind(b"\n", 0, end if end >= 0 else len(data)) + 1
+
+
+def written(path):
+    """The lines of a small text."""
+    data, end = mapped(path)
+    return [os.fsdecode(line) for line in data[:end].split(b"\n")[:-1]]
+
+
+def unescaped(name):
+    """A name with its bytes as they were: the recorder writes blanks, control bytes and `\\` as `\\xHH`."""
+    text = re.sub(rb"\\x([0-9a-fA-F]{2})", lambda found: bytes.fromhex(found[1].decode()), os.fsencode(name))
+    return os.fsdecode(text)
+
+
+class Header:
+    def __init__(self, found):
+        self.ranks, self.is_inside, self.host = int(found[1]), found[2] == b"i", found[5]
+        self.is_strict, self.is_multiple = bool(found[3]), bool(found[4])
+        site, call, count = (int(digits or b"0", 16) for digits in found.groups()[5:])
+        self.polls = (POLLS[call], site, count) if 0 < call < len(POLLS) and count else None
+
+
+class Journal:
+    def __init__(self, folder, rank, run=None):
+        self.folder, self.rank, self.run, self.names = Path(folder), rank, run, {}
+        self.data, self.end = mapped(self.folder / f"journal{rank}")
+        found = HEADER.fullmatch(self.data[: max(self.data.find(b"\n", 0, self.end), 0)])
+        self.header = Header(found) if found else None
+        self.last = self._call_at(self.end - 1)
+        self.has_ended = self.last is not None and self.last.word in ("finalize", "exit")
+        # The last of the tests and probes that found nothing, if the last calls were such.
+        self.polls = self.header.polls if self.header and not self.has_ended else None
+
+    def calls(self, numbers):
+        """The calls in the lines with these numbers, block by block."""
+        found, first, start, lines = {}, 1, 0, 0
+        for number in sorted(set(numbers)):
+            while number >= first + lines and start < self.end:
+                first, stop = first + lines, self.data.find(b"\n", min(start + BLOCK, self.end) - 1) + 1
+                block, start = self.data[start:stop], stop
+                lines = block.count(b"\n")
+                texts = block.split(b"\n") if number < first + lines else []
+            if first <= number < first + lines:
+                found[number] = Call(self.run, self.rank, texts[number - first].decode("latin-1"), number)
+        return found
+
+    def tail(self):
+        """The last calls, as far as they are read at once."""
+        start = max(self.end - TAIL, 0)
+        calls = []
+        for line in self.data[start : self.end].decode("latin-1").split("\n")[1:-1]:
+            if not line.startswith("="):
+                calls.append(Call(self.run, self.rank, line))
+            elif calls:
+                calls[-1].reports.append(line.split(" "))
+        return calls
+
+    def open_requests(self):
+        """The calls among the last ones that started requests which nothing completed."""
+        started = {}
+        for entry in self.tail():
+            if STARTS.fullmatch(entry.word):
+                started[entry.fields[0]] = entry
+            ended = list(entry.fields) if entry.word in ("wait", "test", "request_free") else []
+            for word, *fields in entry.reports:
+                ended += fields if word == "=chose" else fields[:1] if word == "=done" else []
+            for request in ended:
+                started.pop(request, None)
+        return list(started.values())
+
+    def _call_at(self, place):
+        """The call in the line at a place, or in the first one before it that is no report."""
+        while place > 0 and (start := self.data.rfind(b"\n", 0, place) + 1):  # the header is no call
+            if self.data[start : start + 1] != b"=":
+                line = self.data[start : self.data.find(b"\n", place, self.end)]
+                return Call(self.run, self.rank, line.decode("latin-1"))
+            place = start - 1
+        return None
+
+    def made(self, number):
+        """How a communicator came: its members, the call that made it, and how many that line made before.
+        There may be no call."""
+        found = re.compile(rb"\n=(comm|idup|apart) %d ([\d ]+)" % number).search(self.data, 0, self.end)
+        if not found:
+            return (), None, 0
+        fields, place = found[2].split(), found.start() if found[1] == b"comm" else -1
+        if found[1] == b"idup":
+            place = self.data.find(b"\ncomm_idup %s " % fields.pop(0), 0, self.end) + 1
+        entry = self._call_at(place)
+        before = b" @%d\n=comm " % entry.site if entry and entry.site else None
+        return tuple(map(int, fields)), entry, self.data[: found.start()].count(before) if before else 0
+
+    def sites(self):
+        """The places in the program: lists of frames, by number."""
+        lines = (line.split("\t") for line in written(self.folder / f"sites{self.rank}"))
+        return {int(number): [unescaped(frame) for frame in frames] for number, *frames in lines}
+
+    def name(self, comm):
+        """The name that the program gave to a communicator, or None."""
+        if not self.names:
+            lines = (line.partition(" ") for line in written(self.folder / f"names{self.rank}"))
+            self.names = {0: None} | {int(number): unescaped(name) for number, _, name in lines}
+        return self.names.get(comm)
+
+
+def journals_in(folder, run=None):
+    """The journals of all ranks, by rank: as many as the first one that is there says."""
+    ranks = [int(name[7:]) for name in os.listdir(folder) if re.fullmatch(r"journal\d{1,4}", name)]
+    journals = {rank: Journal(folder, rank, run) for rank in sorted(ranks)}
+    count = next((one.header.ranks for one in journals.values() if one.header), 0)
+    return [journals.get(rank) or Journal(folder, rank, run) for rank in range(max([count - 1, *ranks]) + 1)]
+
+
+def name_of(word, fields=()):
+    """The MPI name of a call. One word is that of several calls if they wait for the same."""
+    several = "all" if word in ("wait", "test") and len(fields) != 1 else ""
+    return NAMES.get(word) or f"MPI_{word.capitalize()}{several}"
+
+
+class Half(namedtuple("Half", "is_send peer rank tag comm")):
+    """What a call sends or receives. Its rank is that in the world, None for nobody and anybody."""
+    def text(self):
+        peer = {"null": "nobody", "any": "anybody"}.get(self.peer, f"rank {self.rank}")
+        tag = "any tag" if self.tag == "any" else f"tag {self.tag}"
+        return f"{'to' if self.is_send else 'from'} {peer} with {tag}"
+
+
+class Call:
+    """A call line of a rank: its word, its fields, its site, and what was reported after it."""
+    def __init__(self, run, rank, text, number=None):
+        text, _, site = (text, "", "") if text.startswith("stopped") else text.partition(" @")
+        self.word, *self.fields = text.split(" ")
+        self.site, self.number, self.reports = int(site) if site.isdecimal() else 0, number, []
+        self.run, self.rank, self.name = run, rank, name_of(self.word, self.fields)
+        before = BEFORE.get(self.word)
+        self.arguments = self.fields[before + 1 :] if before is not None else []
+        self.comm = int(self.fields[before]) if self.fields[before or 0 :] and before is not None else None
+        self.requests = self.fields if self.word in WAITS else self.fields[: before or self.word == "imrecv"]
+        self.root = self.arguments[0] if self.arguments and self.word.removeprefix("i") in ROOTED else None
+
+    @property
+    def where(self):
+        return self.run.places.where(self.rank, self.site) if self.site else ""
+
+    @property
+    def halves(self):
+        kinds = [kind for kind, words in ((True, SENDS), (False, RECEIVES)) if self.word in words]
+        for is_send, peer, tag in zip(kinds, self.arguments[::2], self.arguments[1::2]):
+            yield Half(is_send, peer, self.run.world_rank(self.rank, self.comm, peer), tag, self.comm)
+
+    def placed(self):
+        line = f" (line {self.number} of journal{self.rank})" if self.number else ""
+        return self.name + (f" at {self.where}" if self.where else line)
+
+    def message(self):
+        """Its messages, its root and its communicator in words."""
+        parts = [", ".join(half.text() for half in self.halves)]
+        parts += [f"with root {self.root}"] if self.root is not None else []
+        parts += [f"on {self.run.label(self.rank, self.comm)}"] if self.comm else []
+        return " ".join(filter(None, parts))
+
+    def text(self):
+        return f"{self.placed()} {self.message()}".rstrip()

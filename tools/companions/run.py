@@ -1,0 +1,164 @@
+"""What the scripts do: tools/run records a run, judges it and reports; tools/limits judges it by limits."""
+
+import bisect
+import fcntl
+import os
+import re
+import shlex
+import shutil
+import time
+from pathlib import Path
+
+from .outputs import OUTPUTS, report, runs_in
+from .recorder import library_of, with_recorder
+from .runs import MOST_BYTES, VERDICTS, Judge, Run
+from .script import HERE, Status, Stopped, Words, say
+from .story import Story
+from .watching import Alarm, run_command
+
+TEXT = """Records a run of an MPI program, judges it, and reports which calls wait, with lines of code.
+
+    tools/run [OPTIONS] mpirun -n 4 ./program
+    tools/run [OPTIONS] --again
+
+The status is 0 free, 1 hang, 2 refused, 3 words or installation, 4 nothing could be judged, 5 unfinished,
+6 not judged, 7 calls or roots of one collective differ, 8 the program failed. MPIWAIT names a checker."""
+LIMITS = """Finds the least N of --eager N at which a recorded run can't hang. FOLDER is that of tools/run.
+
+It judges by 0 and by sizes of standard sends, since between two of these no verdict changes: by halves, or
+all if ranks were cut off. The status is 0 if some limit is free, else 1; 2, 3 and 4 are as for tools/run."""
+# The bytes of a standard send are its last field; three come before them, after those that differ.
+BEFORE = rb"\n(?:r?send|ir?send \d+|sendrecv \d+ \S+|isendrecv \d+ \d+ \d+ \S+)"
+SIZE = re.compile(BEFORE + rb"(?: \S+){3} (\d+)(?= @|\n)")
+
+
+def words_of(argv):
+    parser = Words(TEXT, prog="run", usage="run [OPTIONS] (COMMAND .. | --again)")
+    add = parser.add_argument
+    add("--again", action="store_true", help="judge the recording in FOLDER, and run nothing")
+    add("--unproved", action="store_true", help="judge by the checker's code before its proof")
+    add("--folder", type=Path, default="mpiwait-run", help="where the recording goes")
+    add("--for", type=float, dest="limit", metavar="SECONDS", help="end the run after that time")
+    add("--quiet", type=float, default=10, metavar="SECONDS", help="report ranks that wait so long")
+    add("--stop", action="store_true", help="end the run when ranks wait for ever")
+    add("--frames", type=int, choices=range(17), metavar="N", help="note N callers of each call (default: 1)")
+    add("--mpi", choices=("mpich", "openmpi"), help="the MPI library, if the command doesn't show it")
+    add("--strict", action="store_true", help="pass standard sends on as synchronous ones")
+    add("--eager", metavar="N", type=int, help="sends of at most N bytes are buffered")
+    for name, (*_, text) in OUTPUTS.items():
+        add(f"--{name}", metavar="FILE", type=Path, help=f"write {text} to FILE")
+    add("command", nargs="...", metavar="COMMAND", help="what runs the program")
+    words = parser.parse_args(argv)
+    words.files = {name: getattr(words, name) for name in OUTPUTS if getattr(words, name)}
+    words.unproved = words.unproved and not os.environ.get("MPIWAIT")
+    words.command = words.command[words.command[:1] == ["--"] :]
+    if (1 if words.limit is None else words.limit) <= 0 or words.quiet <= 0:
+        parser.error("--for and --quiet take a number of seconds above 0")
+    if not 0 <= (words.eager or 0) <= MOST_BYTES:
+        parser.error(f"--eager takes a number of bytes up to {MOST_BYTES}")
+    if not words.again and not words.command:
+        parser.error("which run? As in: tools/run mpirun -n 4 ./program; --help says more")
+    given = [words.command, words.limit, words.frames is not None, words.mpi, words.strict, words.stop]
+    if words.again and any(given):
+        parser.error("--again runs nothing: it takes no command, --for, --frames, --mpi, --strict or --stop")
+    return words
+
+
+def hold(folder):
+    """The folder is this script's alone until it ends. What it runs doesn't inherit the lock."""
+    held = os.open(folder, os.O_RDONLY | os.O_CLOEXEC)
+    try:
+        fcntl.flock(held, fcntl.LOCK_EX | fcntl.LOCK_NB)
+    except BlockingIOError:
+        why = f"another tools/run has {folder} in use: wait for its end, or name another folder by --folder"
+        raise Stopped(why, Status.WORDS) from None
+    except OSError:  # this file system has no locks
+        pass
+    return held
+
+
+def make_folder(folder):
+    """An empty folder. One of the program's own is never touched."""
+    mark = folder / ".mpiwait-run"
+    if os.path.lexists(folder) and not mark.exists():
+        raise Stopped(f"{folder} is there, and no run made it: name another by --folder", Status.WORDS)
+    folder.mkdir(parents=True, exist_ok=True)
+    held = hold(folder)
+    for one in folder.iterdir():
+        if one != mark:
+            shutil.rmtree(one) if one.is_dir() and not one.is_symlink() else one.unlink()
+    mark.touch()
+    (folder / "journal").mkdir()
+    return held
+
+
+def main(argv):
+    words, began, status = words_of(argv), time.monotonic(), 0
+    folder, program = Path(os.path.abspath(words.folder)), HERE.parent.parent / "crates/mpiwait/out/mpiwait"
+    if words.unproved and not os.access(program, os.X_OK) and not shutil.which("rt"):
+        raise Stopped("there is no command rt of the Rattle kit, which builds the checker", Status.WORDS)
+    if not words.again:
+        make_folder(folder)
+        library = words.mpi or library_of(words.command)
+        frames = 1 if words.frames is None else words.frames
+        run = with_recorder(words.command, library, folder / "journal", frames, words.strict)
+        if not words.unproved:
+            Judge().try_out()
+        alarm = Alarm(folder / "journal", Judge(nice=10), words.quiet, words.stop)
+        status, was_ended = run_command(*run, words.limit, None if words.unproved else alarm.look)
+        if status and not was_ended:
+            say(f"the run ended with status {status}")
+        status = 0 if was_ended else status
+    elif (folder / "journal").is_dir():
+        hold(folder)
+    else:
+        raise Stopped(f"{folder} has no recording", Status.WORDS)
+    runs = runs_in(folder / "journal")
+    if not runs:
+        raise Stopped("nothing was recorded: no rank came through MPI_Init with the recorder; if it runs on "
+                      "other machines, see `several machines' in tools/README.md")  # fmt: skip
+    judge, name = Judge(words.unproved), shlex.join(words.command) or str(folder)
+    more = {"eager": words.eager, "is_short": words.unproved, "program_status": status}
+    more |= {"name": name, "seconds": time.monotonic() - began}
+    return report([Story(one, judge, **more) for one in runs], words.files)
+
+
+def sizes_in(run):
+    found = (one for journal in run.journals for one in SIZE.finditer(journal.data, 0, journal.end))
+    return sorted({0, *(int(one[1]) for one in found)})
+
+
+def try_limits(run):
+    """Judges a run with some limits, and prints each verdict. Answers the limits that are free."""
+    sizes, judge, free = sizes_in(run), Judge(), []
+
+    def is_free(limit):
+        answer = judge.ask(run.folder, eager=limit)
+        if answer.report is None:
+            print(answer.said, flush=True)
+            raise Stopped("this run can't be judged", answer.status)
+        print(f"{'none' if limit is None else limit:<7} {VERDICTS[answer.status]}", flush=True)
+        free.extend([limit] if answer.status == Status.FREE else [])
+        return answer.status == Status.FREE
+
+    print("limit   verdict")
+    if not is_free(None) and run.has_ended:  # the limits at which the run is free are the last ones
+        bisect.bisect_left(sizes, True, key=is_free)
+    elif not run.has_ended:
+        list(map(is_free, sizes))
+    return free
+
+
+def limits_main(argv):
+    parser = Words(LIMITS, prog="limits")
+    parser.add_argument("folder", metavar="FOLDER", type=Path)
+    folder = parser.parse_args(argv).folder
+    folder = folder / "journal" if (folder / "journal").is_dir() else folder
+    if folder not in runs_in(folder):
+        raise Stopped(f"{folder} has no journals", Status.WORDS)
+    free = try_limits(Run(folder))
+    if not free or None in free:
+        print("the verdict is free without a limit" if free else "no limit has the verdict free")
+    else:
+        print(f"the least limit with the verdict free is {min(free)}")
+    return Status.FREE if free else Status.HANG

@@ -1,0 +1,220 @@
+"""A recorded run: its journals, what is asked of `mpiwait judge', and what the answers say of them."""
+
+import json
+import os
+import subprocess
+import sys
+import tempfile
+from collections import Counter, namedtuple
+from functools import lru_cache
+from pathlib import Path
+
+from .journals import STANDARD, Call, journals_in, written
+from .places import Places, printable
+from .script import HERE, Status, Stopped, worst
+
+MOST_BYTES = 2147483647
+VERDICTS = {0: "free", 1: "hang", 5: "unfinished"}
+# What was answered: a report, or the words of a refusal or a fault.
+Answer = namedtuple("Answer", "status report said", defaults=(None, ""))
+MATCHED = {"mprobe", "improbe"}  # they take messages, for which other requests may stand
+
+
+class Run:
+    def __init__(self, folder):
+        self.folder, self.journals = Path(folder), journals_in(folder, self)
+        self.ranks, self.places = range(len(self.journals)), Places(self.journals)
+        self.unrecorded = Counter(written(self.folder / "unrecorded"))
+        self.has_ended = all(journal.has_ended for journal in self.journals)
+        # Whether the recorded ranks were strict; None if only some of them were.
+        strict = {journal.header.is_strict for journal in self.journals if journal.header}
+        self.is_strict = None if len(strict) > 1 else True in strict
+        # What was only counted: by meaning, what, how often by rank.
+        self.left_out = {"P": {}, "W": {}, "N": {}}
+        for rank in self.ranks:
+            for meaning, count, call in (line.split(" ", 2) for line in written(self.folder / f"left{rank}")):
+                self.left_out[meaning].setdefault(call, {})[rank] = int(count)
+        self.made, self._calls = lru_cache(None)(self._made), {}
+
+    def count(self, meaning):
+        """How many calls weren't recorded; with P they may match recorded ones."""
+        return sum(sum(ranks.values()) for ranks in self.left_out[meaning].values())
+
+    def calls(self, rank, numbers):
+        known = self._calls.setdefault(rank, {})
+        known |= self.journals[rank].calls(set(numbers) - set(known))
+        return known
+
+    def _made(self, rank, comm):
+        """The members of a rank's communicator, the call that made it, and how many that line made before."""
+        if comm < 2:
+            return (rank,) if comm else tuple(self.ranks), None, 0
+        return self.journals[rank].made(comm)
+
+    def label(self, rank, comm):
+        """A communicator in a few words."""
+        name = self.journals[rank].name(comm)
+        if name or comm < 2:
+            return f"`{printable(name)}'" if name else ("MPI_COMM_WORLD", "MPI_COMM_SELF")[comm]
+        _, maker, before = self.made(rank, comm)
+        where = maker and self.places.own(rank, maker.site)
+        place = f"the {before + 1}. communicator" if before else "the communicator"
+        return f"{place} of {where.text()}" if where else f"its communicator {comm}"
+
+    def world_rank(self, rank, comm, peer):
+        members = () if peer in ("null", "any") else self.made(rank, comm)[0]
+        return members[int(peer)] if members and 0 <= int(peer) < len(members) else None
+
+
+class Stuck:
+    """A rank that waits in one call, and what that call waits for."""
+    def __init__(self, view, entry):
+        self.view, self.rank, self.call = view, entry["rank"], view.call(entry["rank"], entry["at"])
+        self.needs = [(rank, None if at is None else view.call(rank, at)) for rank, at in entry["needs"]]
+        self.waited = {rank for rank, _ in self.needs}
+        # The calls that started the requests which it waits for.
+        wanted = set(self.call.requests)
+        places = view.calls[self.rank].items() if wanted else ()
+        calls = dict.fromkeys(call for at, call in places if at < entry["at"])
+        self.starts = [one for one in calls if one.word in MATCHED or wanted & set(one.requests)]
+        self.calls = [self.call, *self.starts]
+
+    def lacking(self, rank):
+        """The messages that it exchanges with a rank, but for those for which that rank has a call."""
+        calls = [call for needed, call in self.needs if needed == rank and call]
+        met = {(half.is_send, half.tag) for call in calls for half in call.halves}
+        halves = [half for call in self.calls for half in call.halves if half.rank == rank]
+        return [half for half in halves if (not half.is_send, half.tag) not in met]
+
+
+class View:
+    """A run as one answer reports it. `strict' is the view of strict waiting, if there is another one."""
+    def __init__(self, run, report, strict=None):
+        self.run, self.report, self.strict = run, report, strict
+        numbers = {rank: {} for rank in run.ranks}
+        for rank, at, number in sorted(report["lines"]):
+            numbers[rank] |= {at: number} if number else {}
+        self.calls = {}  # those that the report names, but for calls since `run' was opened
+        for rank, places in numbers.items():
+            found = run.calls(rank, places.values()) if places else {}
+            self.calls[rank] = {at: found[number] for at, number in places.items() if number in found}
+        self.stuck = {entry["rank"]: Stuck(self, entry) for entry in report["ranks"]}
+        self.held = self.held_among(set(self.stuck))
+        self.unreceived = {}  # the sends that nobody receives, by rank
+        for _, rank, at in (text.split(" ") for text in report["findings"] if text.startswith("unreceived ")):
+            self.unreceived.setdefault(int(rank), []).append(self.call(int(rank), int(at)))
+
+    def call(self, rank, at):
+        return self.calls[rank].get(at) or Call(self.run, rank, "init")
+
+    def is_closed(self, rank):
+        """Whether all calls of the rank are known, to its end."""
+        return self.run.journals[rank].has_ended and all(left[0] != rank for left in self.report["left"])
+
+    def held_among(self, ranks):
+        """The stuck ranks that no further calls of others let move on, if only these may be held."""
+        held, loose = ranks & set(self.stuck), {None}
+        while loose:
+            needs = [(rank, *need) for rank in held for need in self.stuck[rank].needs]
+            stay = {rank for rank, who, call in needs if who in held or not call and self.is_closed(who)}
+            held, loose = stay, held - stay
+        return held
+
+    def offers(self, rank, other):
+        """What a rank sends to another, or receives from it, that meets no call: each call with its half."""
+        stuck = self.stuck.get(rank)
+        lacking = stuck.lacking(other) if stuck and (other, None) in stuck.needs else []
+        calls = stuck.calls if lacking else []
+        found = [(call, half) for call in calls for half in call.halves if half in lacking]
+        for call in self.unreceived.get(rank, ()):
+            found += [(call, half) for half in call.halves if half.is_send and half.rank == other]
+        return list(dict.fromkeys(found + (self.strict.offers(rank, other) if self.strict else [])))
+
+    def rests_on(self, words):
+        """Whether ranks wait in such calls, or for what such calls started."""
+        return any(call.word in words for one in self.stuck.values() for call in one.calls)
+
+
+class Judge:
+    """The program that MPIWAIT names, or else the repository's."""
+    def __init__(self, unproved=False, nice=0):
+        path = os.environ.get("MPIWAIT") or str(HERE.parent.parent / "mpiwait")
+        self.path = os.path.abspath(path) if "/" in path else path
+        self.words = ["nice", "-n", str(nice)] if nice else []
+        self.words += [self.path, "--unproved"] if unproved else [self.path]
+
+    def run(self, command, folder):
+        more = {"stdin": subprocess.DEVNULL, "capture_output": True, "text": True, "errors": "replace"}
+        return subprocess.run(command, cwd=folder, check=False, **more)
+
+    def try_out(self):
+        """Judges a run of one rank that makes no call. It may have to be built for that."""
+        with tempfile.TemporaryDirectory() as folder:
+            Path(folder, "journal0").write_bytes(b"journal 2 0 1 a-run o a-library\nfinalize\n")
+            answer = self.ask(folder)
+        if answer.status != Status.FREE:
+            raise Stopped(f"the checker {self.path} can't be run: {answer.said}")
+
+    def ask(self, folder, **options):
+        """Judges the journals of a folder. It is named from there, since the program takes UTF-8 alone."""
+        words = [f"--{name}={value}" for name, value in options.items() if value is not None]
+        try:
+            done = self.run([*self.words, "judge", "--json", *words, "."], folder)
+        except OSError as fault:
+            raise Stopped(f"the checker {self.path} can't be run: {fault.strerror}") from None
+        if done.returncode in VERDICTS:
+            sys.stderr.write(done.stderr)  # that the checker isn't proved
+            return Answer(done.returncode, json.loads(done.stdout))
+        status = done.returncode if done.returncode in (Status.REFUSED, Status.WORDS) else 4
+        return Answer(status, None, (done.stdout + done.stderr).strip())
+
+
+class Judgement:
+    """The answers for one run, and the views of those that are reports, by the names of the questions:
+
+    strict: the calls wait as long as MPI lets them; went: where the ranks were when recording was cut off;
+    pass: as strict, but tests wait for nothing; buffered: as strict, with all messages buffered."""
+
+    def __init__(self, judge, run, eager=None, is_short=False, program_status=0):
+        self.judge, self.run, self.eager, self.is_short = judge, run, eager, is_short
+        self.answers, self.views = {}, {}
+        if not run.has_ended:
+            self._ask("went", calls="went")
+        if all(answer.report for answer in self.answers.values()):
+            self._ask("strict")
+        self.main = next(iter(self.answers.values()))  # the answer that the report is about
+        self.strict, self.went = self.views.get("strict"), self.views.get("went")
+        if self.strict and self.strict.report["verdict"] == "hang":
+            if any(one.call.word == "test" for one in self.strict.stuck.values()):
+                self._ask("pass", tests="pass")
+            if eager is None and self.strict.rests_on(STANDARD):
+                self._ask("buffered", eager=MOST_BYTES)
+        if self.went:
+            self.went.strict = self.strict
+        # What the rules of MPI allow, without tests taken as waits if the strict reading rests on these.
+        self.rules = self.views.get("pass") or self.strict
+        self.by_tests = self.verdicts().get("pass", "hang") != "hang"
+        self.is_hang = bool(self.rules) and self.rules.report["verdict"] == "hang"
+        # The run was cut off and nothing held it, but it may hang.
+        self.may_hang = self.is_hang and self.verdicts().get("went") == "unfinished"
+        self.shown = self.went if self.went and not self.may_hang else self.rules
+        self.verdict = self.shown.report["verdict"] if self.shown else None
+        self.status = self._status(program_status)
+
+    def _ask(self, name, **options):
+        if not (self.is_short and self.answers):
+            self.answers[name] = self.judge.ask(self.run.folder, **{"eager": self.eager, **options})
+            if self.answers[name].report is not None:
+                self.views[name] = View(self.run, self.answers[name].report)
+
+    def verdicts(self):
+        return {name: VERDICTS.get(answer.status) for name, answer in self.answers.items()}
+
+    def _status(self, program_status):
+        """The status of the run, of all that was found of it."""
+        found = [Status[self.verdict.upper()] if self.shown else self.main.status]
+        if self.shown:
+            found = [Status.NOT_JUDGED] if self.run.count("P") else found
+            kinds = {text.split(" ")[0] for text in (self.strict or self.shown).report["findings"]}
+            found += [Status.DIFFERENT] if kinds & {"kind", "root"} else []
+        return worst(found + ([Status.FAILED] if program_status else []))

@@ -1,0 +1,119 @@
+"""How the scripts of tools/ take their words and end; and ranks, counts and lists in words."""
+
+import argparse
+import os
+import sys
+import traceback
+from collections import Counter
+from contextlib import suppress
+from enum import IntEnum
+from itertools import groupby
+from pathlib import Path
+
+HERE = Path(__file__).resolve().parent
+# The statuses of all tools. `mpiwait judge` has those up to UNFINISHED.
+Status = IntEnum("S", "FREE HANG REFUSED WORDS IMPOSSIBLE UNFINISHED NOT_JUDGED DIFFERENT FAILED", start=0)
+MOST = 12  # lines of one section, and parts of a list of ranks
+ORDER = "432167580"  # of several statuses the first of these is the script's
+
+
+def worst(statuses):
+    return min(statuses, key=lambda status: ORDER.index(str(int(status))))
+
+
+class Stopped(Exception):
+    """A script can't do what it was asked for: why, and its status."""
+    def __init__(self, why, status=Status.IMPOSSIBLE):
+        super().__init__(why)
+        self.status = status
+
+
+class Words(argparse.ArgumentParser):
+    """The words of a script. Wrong ones end it with status 3."""
+    def __init__(self, text, **more):
+        form = argparse.RawDescriptionHelpFormatter
+        super().__init__(description=text, formatter_class=form, allow_abbrev=False, **more)
+
+    def error(self, message):
+        self.print_usage(sys.stderr)
+        raise Stopped(message, Status.WORDS)
+
+
+def say(text):
+    """Writes to standard error, which may be closed."""
+    with suppress(OSError, ValueError, AttributeError):
+        print(f"tools/{Path(sys.argv[0]).name}: {text}", file=sys.stderr, flush=True)
+
+
+def drop_output():
+    os.dup2(os.open(os.devnull, os.O_WRONLY), 1)
+
+
+def why_of(fault):
+    if isinstance(fault, (Stopped, KeyboardInterrupt)):
+        return str(fault) or "it was interrupted"
+    if isinstance(fault, OSError):
+        return f"{fault.strerror}: {fault.filename}" if fault.filename else str(fault)
+    at = traceback.extract_tb(fault.__traceback__)[-1]
+    return f"it failed, most likely by the form of what it was given: {fault!r} at {at.filename}:{at.lineno}"
+
+
+def run_script(main):
+    """Runs a script and ends it: with 4, if a file, the output or what it was given fails it."""
+    try:
+        if sys.stdout is None:
+            raise Stopped("there is no standard output")
+        sys.stdout.reconfigure(errors="backslashreplace")
+        status = main(sys.argv[1:])
+        sys.stdout.flush()
+    except (Exception, KeyboardInterrupt) as fault:
+        status = getattr(fault, "status", Status.IMPOSSIBLE)
+        if not isinstance(fault, BrokenPipeError):  # then the reader wants no more
+            say(why_of(fault))
+        if sys.stdout is not None:
+            drop_output()
+    sys.exit(int(status))
+
+
+def plural(count, one, many=None):
+    return f"{count:,} {one if count == 1 else many or one + 's'}"
+
+
+def listed(parts):
+    return " and ".join(filter(None, [", ".join(parts[:-1]), parts[-1]]))
+
+
+def numbers(ranks):
+    """`0 to 36 and 38`: three or more in a row in short."""
+    ranks = sorted(ranks)
+    parts, named = [], 0
+    for _, row in groupby(enumerate(ranks), lambda pair: pair[1] - pair[0]):
+        row = [rank for _, rank in row]
+        if len(parts) >= MOST:
+            return listed([*parts, f"{len(ranks) - named} more"])
+        parts += [f"{row[0]} to {row[-1]}"] if len(row) > 2 else map(str, row)
+        named += len(row)
+    return listed(parts)
+
+
+def ranks_named(ranks):
+    ranks = list(ranks)
+    return f"rank {ranks[0]}" if len(ranks) == 1 else f"ranks {numbers(ranks)}" if ranks else "no rank"
+
+
+def shortened(lines, most=MOST):
+    lines = list(lines)
+    return lines if len(lines) <= most else lines[:most] + [f".. and {len(lines) - most:,} more"]
+
+
+def counted(texts):
+    """Each text once, with how many are alike."""
+    return [text + (f" ({count:,} alike)" if count > 1 else "") for text, count in Counter(texts).items()]
+
+
+def grouped(items, key_of):
+    """Lists of items with the same key, in the order of their first ones."""
+    groups = {}
+    for item in items:
+        groups.setdefault(key_of(item), []).append(item)
+    return list(groups.values())

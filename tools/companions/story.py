@@ -1,0 +1,195 @@
+"""What is said of a run: a title and sections of lines."""
+
+import re
+
+from .causes import cause_lines, cause_sections, finding_lines
+from .journals import COLLECTIVES, STANDARD, STARTED_COLLECTIVES
+from .runs import Judgement, Run
+from .script import counted, grouped, plural, ranks_named, shortened
+
+MEANINGS = {
+    "P": "Not recorded, and recorded calls may match these calls, so no verdict can be trusted",
+    "W": "Not recorded: a hang stays one, but a free says nothing of these waits",
+    "N": "Only counted, since it waits for nobody",
+}
+STRICT = ("This run was strict: standard sends were passed on as synchronous ones, and blocking collectives "
+          "were followed by a barrier{}. A test that completed a send waited for its receive.")  # fmt: skip
+UNFOLLOWED = "collectives of a strict run without a barrier after them"
+SEND = ("A standard send of {} waits until it is received. MPI allows that, and a library that buffers the "
+        "message goes on.")  # fmt: skip
+EAGER = " --eager N takes messages of at most N bytes as buffered."
+COLLECTIVE = ("A collective call waits until every member calls it. MPI allows that, and asks it only of a "
+              "barrier and of those that need all data.")  # fmt: skip
+FREE = " If all messages are buffered, this run is free: tools/limits finds the size from which on it is."
+HANG = " No buffer would cure this: it hangs too if all messages are buffered."
+UNFORCED = ("{} on waits for nonblocking collectives ({}). A strict run can't force these to wait for all "
+            "members: MPI lets those that don't need all data complete sooner.")  # fmt: skip
+THREADS = ("With MPI_THREAD_MULTIPLE another thread of a rank may call MPI while one waits: nothing is known "
+           "of a call that wasn't made when the recording ended.")  # fmt: skip
+UNRECORDED = "Processes that weren't recorded, and of which no verdict speaks"
+UNTIL_TESTS = "It hangs only if nothing else is done until a test succeeds"
+MANY = "made more than 1,000,000 calls"
+WHYS = {
+    "never came back": "{0} never came back, and what it would have taken isn't known",
+    "never told": "{0} never completed, and what it would have matched isn't known",
+    "failed": "{0} answered with an error",
+    "no number": "{0} is on a communicator that has no number",
+    "cannot be": "{1} names a rank or a tag that can't be",
+    "cancel": "{0} was never answered: whether it cancelled anything isn't known",
+}
+TIMES = "\0"  # how often ranks asked
+
+
+class Story(Judgement):
+    """A run that was judged, and what is said of it."""
+    def __init__(self, folder, judge, name="a run", seconds=0.0, **more):
+        super().__init__(judge, Run(folder), **more)
+        self.name, self.seconds = name, seconds
+        self.stuck = list(self.shown.stuck.values()) if self.shown else []
+        # The places of all calls that are named are looked up at once.
+        stuck = [one for view in self.views.values() for one in view.stuck.values()]
+        calls = [call for one in stuck for call in [*one.calls, *(call for _, call in one.needs)] if call]
+        cut = [one for one in self.run.journals if one.last and not one.has_ended]
+        sites = {(one.rank, one.polls[1] if one.polls else one.last.site) for one in cut}
+        self.run.places.look_up(sites | {(call.rank, call.site) for call in calls})
+        self.found = finding_lines(self.strict or self.shown) if self.shown else []
+        self.sections = list(self._sections())
+        self.title = self._title() if self.shown else self._refused(self.main.said)
+        parts = ["\n".join([f"{name}:", *("  " + line for line in lines)]) for name, lines in self.sections]
+        self.text = "\n\n".join([self.title, *parts]) + "\n"
+
+    def _title(self):
+        """The verdict in words; in doubt, that there is none."""
+        words, doubts = getattr(self, f"_{self.verdict}")(), self.run.count("P")
+        calls = plural(doubts, "call that wasn't", "calls that weren't")
+        doubted = f"not judged: recorded calls may match {calls} recorded (without these: {words})"
+        return doubted if doubts else f"verdict {words}"
+
+    def _refused(self, said):
+        """With the line of code of the line that is refused, which may have any form."""
+        found = re.match(r"refused rank (\d+) line (\d+) ", said)
+        rank, line = map(int, found.groups()) if found else (0, 0)
+        call = self.run.journals[rank].calls([line]).get(line) if line > 1 else None
+        return f"{said}: {call.placed()}" if call and call.where else said or "no verdict"
+
+    def _free(self):
+        unsaid = self.run.count("W")
+        waits = f", as far as recorded: nothing is said of the waits of {plural(unsaid, 'other call')}"
+        by_tests = ", unless it waits for a test" if self.by_tests else ""
+        return f"free: every rank comes to its MPI_Finalize{by_tests}{waits if unsaid else ''}"
+
+    def _hang(self):
+        many = f"{len(self.stuck)} of {len(self.run.ranks)}"
+        may = f"nothing held the ranks when they were cut off, but {many} may wait"
+        return "hang: " + (may if self.may_hang else f"{many} ranks wait")
+
+    def _unfinished(self):
+        full = [one.rank for one in self.run.journals if one.last and one.last.word == "full"]
+        cut = [one.rank for one in self.run.journals if not one.has_ended and one.rank not in full]
+        parts = [f"{ranks_named(full)} {MANY}"] if full else []
+        parts += [f"{ranks_named(cut)} cut off before MPI_Finalize"] if cut else []
+        said = ", ".join(parts) or "not all calls could be judged"
+        return f"unfinished: {said}; nothing recorded holds anybody"
+
+    def _sections(self):
+        found, counts = {}, self.run.unrecorded.items()
+        if self.shown:
+            yield from self._causes()
+            found = {"Findings, which change no verdict": self.found,
+                     "Communicators": self._communicators(), "What this assumes": list(self._assumptions()),
+                     "Where the ranks were that didn't come to MPI_Finalize": list(self._where()),
+                     "Calls at which the judgement of a rank ends": self._stops()}  # fmt: skip
+        for meaning, title in MEANINGS.items():
+            calls = sorted(self.run.left_out[meaning].items(), key=lambda one: -sum(one[1].values()))
+            found[title] = [f"{sum(ranks.values()):,} {call} ({ranks_named(ranks)})" for call, ranks in calls]
+        found[UNRECORDED] = [f"{plural(count, 'process', 'processes')}: {why}" for why, count in counts]
+        yield from ((title, shortened(lines, 24)) for title, lines in found.items() if lines)
+
+    def _causes(self):
+        went, rules = self.went, self.rules
+        yield from cause_sections(went, "It hung here") if went else cause_sections(rules)
+        if went and self.is_hang and cause_lines(rules) != cause_lines(went):
+            yield from cause_sections(rules, f"It may hang here{' too' if went.held else ''}", False)
+        if self.by_tests:
+            yield from cause_sections(self.strict, UNTIL_TESTS, False)
+
+    def _communicators(self):
+        """The communicators of stuck calls, but for the world."""
+        lines = {}
+        for call in (call for one in self.stuck for call in one.calls if call.comm):
+            members, maker, _ = self.run.made(call.rank, call.comm)
+            made = f", made by {maker.placed()}" if maker else ""
+            lines[self.run.label(call.rank, call.comm)] = ranks_named(members) + made
+        return [f"{label}: {words}" for label, words in lines.items()]
+
+    def _assumptions(self):
+        if self.run.is_strict is None:
+            strict = [one.rank for one in self.run.journals if one.header and one.header.is_strict]
+            yield f"Only {ranks_named(strict)} ran strictly, so this is reported as a run that wasn't strict."
+        elif self.run.is_strict and self.stuck:
+            is_unfollowed = any(UNFOLLOWED in calls for calls in self.run.left_out.values())
+            yield STRICT.format(", except those that are counted below" if is_unfollowed else "")
+            yield from self._unforced(self.shown)
+        if self.shown.rests_on(STANDARD) and self.shown is not self.went:  # else it wasn't buffered
+            size = "any size" if self.eager is None else f"more than {self.eager} bytes"
+            cure = {"free": FREE, "hang": HANG}.get(self.verdicts().get("buffered"), "")
+            yield SEND.format(size) + cure + (EAGER if self.eager is None else "")
+        elif self.verdict == "hang" and not self.shown.rests_on(STANDARD):
+            yield "No buffer would cure this: no standard send is among these calls."
+        if any(self.run.journals[one.rank].header.is_multiple for one in self.stuck):
+            yield THREADS
+        if self.shown.rests_on(COLLECTIVES - {"barrier"} | STARTED_COLLECTIVES):
+            yield COLLECTIVE
+
+    def _unforced(self, view):
+        """Causes of a strict run that need a nonblocking collective to wait for all its members."""
+        causes = [cause.get("cycle") or cause["missing"][:1] for cause in view.report["causes"]]
+        unforced = STARTED_COLLECTIVES - {"ibarrier"} | {"comm_idup"}
+        named = {rank for cause in causes for rank in cause}
+        ranks = {rank for rank in named if any(start.word in unforced for start in view.stuck[rank].starts)}
+        resting = sum(not ranks.isdisjoint(cause) for cause in causes)
+        rests = "The hang rests" if resting == len(causes) else f"{resting} of {len(causes)} causes rest"
+        yield from [UNFORCED.format(rests, ranks_named(ranks))] if resting else []
+
+    def _where(self):
+        """A line for all ranks of which the same is said but for how often they asked."""
+        cut = [one.rank for one in self.run.journals if not one.last or one.last.word != "finalize"]
+        for ranks in grouped(cut, self._place_of):
+            polls = [self.run.journals[rank].polls for rank in ranks]
+            counts = sorted(one[2] for one in polls if one)
+            asked = " to ".join(f"{count:,}" for count in dict.fromkeys(counts[:1] + counts[-1:]))
+            yield f"{ranks_named(ranks)}: {self._place_of(ranks[0]).replace(TIMES, f'{asked} times')}"
+
+    def _place_of(self, rank):
+        journal, last = self.run.journals[rank], self.run.journals[rank].last
+        if last is None:
+            return "never came through MPI_Init"
+        if journal.polls:
+            return self._polling(rank, *journal.polls)
+        before = [call.placed() for call in journal.tail()[-2:-1]]
+        words = {
+            "exit": f"its process ended without MPI_Finalize{', after ' + before[0] if before else ''}",
+            "full": f"{MANY}; those after them aren't judged", "abort": f"called {last.placed()}",
+            "stopped": f"{', and '.join([*before, ''])}recorded no further: {' '.join(last.fields)}",
+        }  # fmt: skip
+        is_inside = journal.header.is_inside and last.word != "test"
+        computes = f"back from {last.placed()}, and computing or in a call that isn't recorded"
+        return words.get(last.word) or (f"inside {last.placed()}" if is_inside else computes)
+
+    def _polling(self, rank, name, site, count):
+        where = self.run.places.where(rank, site)
+        asked = ("asked again and again", f"{TIMES}, ") if count > 1 else ("asked once", "")
+        text = f"{asked[0]}: {name}{' at ' + where if where else ''} ({asked[1]}found nothing)"
+        pending = [call.text() for call in self.run.journals[rank].open_requests()]
+        if pending and "probe" not in name:
+            text += "; started and not complete: " + "; ".join(shortened(counted(pending), 4))
+        return f"{text}; before that {self.run.journals[rank].last.placed()}"
+
+    def _stops(self):
+        """What a rank's list ends at, or leaves out."""
+        words = {}
+        for rank, line, why in (self.strict or self.shown).report["left"]:
+            call = self.run.calls(rank, [line])[line] if why in WHYS else None
+            if call:
+                words[rank] = WHYS.get(call.word, WHYS[why]).format(call.placed(), call.text())
+        return [f"{ranks_named(ranks)}: {words[ranks[0]]}" for ranks in grouped(words, words.get)]

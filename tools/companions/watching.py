@@ -1,0 +1,146 @@
+"""Runs a command to its end, or for as long as it may, and looks meanwhile for ranks that wait for ever."""
+
+import bisect
+import os
+import signal
+import socket
+import subprocess
+import time
+from contextlib import suppress
+
+from .causes import stuck_lines
+from .outputs import runs_in
+from .runs import Run, View
+from .script import ranks_named, say
+
+STEP, PAUSE = 0.2, 1.0  # seconds between two looks at the command, and at the journals
+
+
+def mark_of(path):
+    """What a journal has at a time, by its content: the header with its letter, and where the text ends."""
+    with open(path, "rb", buffering=0) as file:
+        number, size = file.fileno(), os.fstat(file.fileno()).st_size
+        end = bisect.bisect_left(range(size), True, key=lambda at: os.pread(number, 1, at) == b"\0")
+        return os.pread(number, 1024, 0).partition(b"\n")[0], end
+
+
+class Watched:
+    """The ranks of a run, and since when each stands still."""
+    def __init__(self, folder):
+        self.folder, self.marks, self.since, self.reported, self.still = folder, {}, {}, None, None
+        # Until when nothing is judged, and that for any standstill; and how long the next pause is.
+        self.until, self.rest, self.pause = 0.0, 0.0, 0.0
+
+    def look(self, now):
+        for path in self.folder.glob("journal[0-9]*"):
+            rank, mark = int(path.name[7:]), mark_of(path)
+            if self.marks.get(rank) != mark:
+                self.marks[rank], self.since[rank] = mark, now
+
+
+class Alarm:
+    def __init__(self, folder, judge, quiet, stops):
+        self.folder, self.judge, self.quiet, self.stops = folder, judge, quiet, stops
+        self.next, self.is_off, self.watched = 0.0, False, {}
+
+    def look(self):
+        """Looks at all ranks. Answers whether the run is to be ended."""
+        now = time.monotonic()
+        if now < self.next or self.is_off:
+            return False
+        self.next = now + PAUSE
+        for folder in runs_in(self.folder):
+            self.watched.setdefault(folder, Watched(folder))
+        return any([self._look_at(run, now) for run in self.watched.values()]) and self.stops
+
+    def _look_at(self, watched, now):
+        watched.look(now)
+        still = {rank: mark for rank, mark in watched.marks.items()
+                 if watched.since[rank] <= now - self.quiet and b" i " in mark[0]}  # fmt: skip
+        if still != watched.still:  # another standstill doesn't wait for the pauses of the last one
+            watched.still, watched.until, watched.pause = still, watched.rest, self.quiet
+        if not still or now < watched.until:
+            return False
+        run = Run(watched.folder)
+        hosts = {one.header.host for one in run.journals if one.header}
+        self.is_off = hosts != {os.fsencode(socket.gethostname())}
+        if self.is_off:
+            say("some ranks are on other machines, so nothing is reported before the run ends")
+            return False
+        answer, held = self.judge.ask(watched.folder, calls="went"), set()
+        if answer.report is not None and not run.count("P"):  # with MULTIPLE another thread may call
+            view = View(run, answer.report)
+            held = view.held_among({rank for rank in still if not run.journals[rank].header.is_multiple})
+        marks = {rank: watched.marks[rank] for rank in held}
+        watched.rest = time.monotonic() + 9 * (time.monotonic() - now)  # one tenth of the time judges
+        watched.look(now)
+        have_moved = any(watched.marks[rank] != mark for rank, mark in marks.items())
+        if not held or have_moved or marks == watched.reported:
+            watched.until = max(watched.rest, time.monotonic() + watched.pause)
+            watched.pause *= 2
+            return False
+        watched.reported = marks
+        end = "the run is ended" if self.stops else "the run goes on; --stop would end it"
+        said = [f"{ranks_named(held)} wait for ever, whatever the other ranks do; {end}:"]
+        said += ["  " + line for rank in sorted(held)[:8] for line in stuck_lines(view.stuck[rank])]
+        say("\n".join(said))
+        return True
+
+
+def fields_of(process):
+    """What the system says of a process after its name: its state, its parent, .."""
+    try:
+        with open(f"/proc/{process}/stat", encoding="ascii", errors="replace") as file:
+            return file.read().rpartition(")")[2].split()
+    except OSError:
+        return ["X", ""]
+
+
+def end_tree(root):
+    """Ends what was started on this machine, the launcher and the ranks. It ends those on other machines."""
+    parents = {int(one): fields_of(one)[1] for one in os.listdir("/proc") if one.isdecimal()}
+    tree, until = [root], time.monotonic() + 5
+    for process in tree:  # which grows
+        tree += [one for one, parent in parents.items() if parent == str(process)]
+    for number in (signal.SIGTERM, signal.SIGKILL):
+        for process in tree:
+            with suppress(OSError):
+                os.kill(process, number)
+        while tree and time.monotonic() < until:
+            time.sleep(0.1)
+            tree = [process for process in tree if fields_of(process)[0] not in "ZX"]
+
+
+def is_in_front():
+    """Whether a terminal interrupts all that run with this script by itself."""
+    fields = fields_of(os.getpid())
+    return len(fields) > 5 and fields[2] == fields[5]
+
+
+def run_command(command, environment, limit=None, watch=None):
+    """Its status, and whether it was ended. `watch' is called now and then, and answers whether to end it.
+    Signals end the command and not this script, so that what was recorded is judged."""
+    seen, asked, began = [], [], time.monotonic()
+
+    def end(number, _):
+        seen.append(number)
+        asked.extend([] if number == signal.SIGINT and is_in_front() else [number])
+
+    before = {one: signal.signal(one, end) for one in (signal.SIGTERM, signal.SIGHUP, signal.SIGINT)}
+    try:
+        child = subprocess.Popen(command, env=environment)
+        while child.returncode is None:
+            with suppress(subprocess.TimeoutExpired):
+                child.wait(STEP)
+                break
+            if limit is not None and time.monotonic() - began > limit:
+                say(f"the run was ended after {limit:g} seconds")
+                limit = asked.append(limit)  # once
+            if asked or watch and watch():
+                asked.clear()
+                seen.append(True)
+                end_tree(child.pid)
+    finally:
+        for number, handler in before.items():
+            signal.signal(number, handler or signal.SIG_DFL)
+    return child.returncode if child.returncode >= 0 else 128 - child.returncode, bool(seen)
