@@ -257,6 +257,18 @@ class Processes(unittest.TestCase):
     def test_a_watch(self):
         self.assertTrue(watching.run_command(["sleep", "60"], None, None, lambda: True)[1])
 
+    def test_a_watch_that_fails_leaves_nothing_behind(self):
+        begin, begun = subprocess.Popen, []
+
+        def begin_and_note(*words, **more):
+            begun.append(begin(*words, **more))
+            return begun[0]
+
+        with mock.patch.object(subprocess, "Popen", begin_and_note), self.assertRaises(ZeroDivisionError):
+            watching.run_command(["sh", "-c", "sleep 60 & sleep 60"], None, None, lambda: 1 / 0)
+        self.assertIn(watching.fields_of(begun[0].pid)[0], "ZX")
+        begun[0].wait()
+
 
 class Alarms(Folders):
     """Ranks that stood still are reported if they are held whatever the others do."""
@@ -355,8 +367,19 @@ class Alarms(Folders):
 
     def test_other_machines(self):
         self.assertIsNone(self.answers(self.alarm(*self.HANG, host=" on elsewhere")))
-        self.assertIn("on other machines, so nothing is reported before the run ends", self.said.getvalue())
+        wanted = "nothing is reported before the run ends: some ranks are on other machines"
+        self.assertIn(wanted, self.said.getvalue())
         self.assertEqual(self.said.getvalue().count("other machines"), 1)
+
+    def test_what_fails_does_not_fail_the_run(self):
+        for fault in (OSError(24, "Too many open files"), Stopped("the checker can't be run"), KeyError(7)):
+            with self.subTest(fault):
+                self.again()
+                alarm = self.alarm(*self.HANG)
+                with mock.patch.object(alarm.judge, "ask", side_effect=fault) as asked:
+                    self.assertIsNone(self.answers(alarm))
+                self.assertEqual(asked.call_count, 1)
+                self.assertIn("nothing is reported before the run ends: ", self.said.getvalue())
 
     def test_ranks_that_go_on_while_they_are_judged(self):
         alarm = self.alarm(*self.HANG)

@@ -40,6 +40,7 @@ def mapped(path):
     except (FileNotFoundError, ValueError):  # there is none, or it is empty
         return b"", 0
     end = data.find(b"\0")
+    data.madvise(mmap.MADV_DONTNEED)  # what was read for that needn't stay in memory
     return data, data.rfind(b"\n", 0, end if end >= 0 else len(data)) + 1
 
 
@@ -89,8 +90,7 @@ class Journal:
 
     def tail(self):
         """The last calls, as far as they are read at once."""
-        start = max(self.end - TAIL, 0)
-        calls = []
+        start, calls = max(self.end - TAIL, 0), []
         for line in self.data[start : self.end].decode("latin-1").split("\n")[1:-1]:
             if not line.startswith("="):
                 calls.append(Call(self.run, self.rank, line))

@@ -151,10 +151,8 @@ def as_svg(story):
     graph = "\n".join(dot_of(story)).encode(errors="replace")
     try:
         return subprocess.run(["dot", "-Tsvg"], input=graph, capture_output=True, check=True).stdout.decode()
-    except FileNotFoundError:
-        raise Stopped("there is no command dot; the Debian package graphviz has it") from None
-    except subprocess.CalledProcessError:
-        raise Stopped("dot made no picture") from None
+    except (OSError, subprocess.CalledProcessError) as fault:
+        raise Stopped(f"`dot' of the Debian package graphviz made no picture: {fault}") from None
 
 
 STYLE = """body { font-family: sans-serif; max-width: 75em; margin: 2em auto; padding: 0 1em; color: #222; }
@@ -240,6 +238,5 @@ def report(stories, files):
 
 def runs_in(folder):
     """The folders with journals: the folder of the first run and those of others in it, as they began."""
-    others = [one for one in Path(folder).glob("run-*") if one.is_dir()]
-    found = [Path(folder), *sorted(others, key=lambda one: one.stat().st_mtime_ns)]
-    return [one for one in found if any(one.glob("journal[0-9]*"))]
+    others = sorted(Path(folder).glob("run-*"), key=lambda one: one.stat().st_mtime_ns)
+    return [one for one in [Path(folder), *others] if any(one.glob("journal[0-9]*"))]

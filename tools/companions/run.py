@@ -99,8 +99,7 @@ def main(argv):
         raise Stopped("there is no command rt of the Rattle kit, which builds the checker", Status.WORDS)
     if not words.again:
         make_folder(folder)
-        library = words.mpi or library_of(words.command)
-        frames = 1 if words.frames is None else words.frames
+        library, frames = words.mpi or library_of(words.command), 1 if words.frames is None else words.frames
         run = with_recorder(words.command, library, folder / "journal", frames, words.strict)
         if not words.unproved:
             Judge().try_out()

@@ -11,7 +11,7 @@ from contextlib import suppress
 from .causes import stuck_lines
 from .outputs import runs_in
 from .runs import Run, View
-from .script import ranks_named, say
+from .script import Stopped, ranks_named, say, why_of
 
 STEP, PAUSE = 0.2, 1.0  # seconds between two looks at the command, and at the journals
 
@@ -44,14 +44,19 @@ class Alarm:
         self.next, self.is_off, self.watched = 0.0, False, {}
 
     def look(self):
-        """Looks at all ranks. Answers whether the run is to be ended."""
+        """Looks at all ranks. Answers whether the run is to be ended. It goes on whatever fails here."""
         now = time.monotonic()
         if now < self.next or self.is_off:
             return False
         self.next = now + PAUSE
-        for folder in runs_in(self.folder):
-            self.watched.setdefault(folder, Watched(folder))
-        return any([self._look_at(run, now) for run in self.watched.values()]) and self.stops
+        try:
+            for folder in runs_in(self.folder):
+                self.watched.setdefault(folder, Watched(folder))
+            return any([self._look_at(run, now) for run in self.watched.values()]) and self.stops
+        except Exception as fault:
+            self.is_off = True
+            say(f"nothing is reported before the run ends: {why_of(fault)}")
+            return False
 
     def _look_at(self, watched, now):
         watched.look(now)
@@ -62,11 +67,8 @@ class Alarm:
         if not still or now < watched.until:
             return False
         run = Run(watched.folder)
-        hosts = {one.header.host for one in run.journals if one.header}
-        self.is_off = hosts != {os.fsencode(socket.gethostname())}
-        if self.is_off:
-            say("some ranks are on other machines, so nothing is reported before the run ends")
-            return False
+        if {os.fsencode(socket.gethostname())} != {one.header.host for one in run.journals if one.header}:
+            raise Stopped("some ranks are on other machines")
         answer, held = self.judge.ask(watched.folder, calls="went"), set()
         if answer.report is not None and not run.count("P"):  # with MULTIPLE another thread may call
             view = View(run, answer.report)
@@ -120,7 +122,7 @@ def is_in_front():
 def run_command(command, environment, limit=None, watch=None):
     """Its status, and whether it was ended. `watch' is called now and then, and answers whether to end it.
     Signals end the command and not this script, so that what was recorded is judged."""
-    seen, asked, began = [], [], time.monotonic()
+    seen, asked, began, child = [], [], time.monotonic(), None
 
     def end(number, _):
         seen.append(number)
@@ -141,6 +143,8 @@ def run_command(command, environment, limit=None, watch=None):
                 seen.append(True)
                 end_tree(child.pid)
     finally:
+        if child and child.returncode is None:  # something failed
+            end_tree(child.pid)
         for number, handler in before.items():
             signal.signal(number, handler or signal.SIG_DFL)
     return child.returncode if child.returncode >= 0 else 128 - child.returncode, bool(seen)

@@ -5,8 +5,8 @@
 expect_quiet() {
     local name=$1
     shift
-    run_with --quiet 4 --stop --for 100 "${command[@]}" "$@"
-    if [[ $status != [056] ]] || grep -q 'wait for ever\|was ended' "$work/errors"; then
+    run_with --stop --for 150 "${command[@]}" "$@"
+    if [[ $status != [056] ]] || grep -q 'wait for ever\|was ended\|nothing is reported' "$work/errors"; then
         cat -- "$work/said" "$work/errors" >&2
         fails "$name: status $status"
     else
@@ -14,22 +14,51 @@ expect_quiet() {
     fi
 }
 
-try_alarm() {
-    local library=$1 way name began=$SECONDS
-    name="$library: two ranks that wait for each other, and a third that goes on"
-    prepare "$library" quiet.c 3
-    run_with --quiet 4 --stop "${command[@]}" hang 5
-    if [[ $status == 1 ]] && grep -q 'ranks 0 and 1 wait for ever' "$work/errors" &&
-        ((SECONDS - began < 60)) && wait_until is_left_over; then
-        echo "$name: reported and ended after $((SECONDS - began)) seconds"
+# Ranks 0 and 1 wait for each other after 30 seconds of work, also while a third one goes on.
+try_alarm_of_a_hang() {
+    local library=$1 ranks=$2 name="$1: a hang of two ranks among $2 after 30 seconds" began=$SECONDS after
+    prepare "$library" quiet.c "$ranks"
+    run_with --stop "${command[@]}" hang 30
+    after=$((SECONDS - began - 30))
+    if [[ $status == 1 && $after -le 15 ]] && wait_until is_left_over &&
+        grep -q 'ranks 0 and 1 wait for ever.*; the run is ended' "$work/errors"; then
+        echo "$name: reported and ended $after seconds after that"
     else
         cat -- "$work/said" "$work/errors" >&2
-        fails "$name: status $status after $((SECONDS - began)) seconds"
+        fails "$name: status $status, $after seconds after that"
     fi
-    for way in computes polls exchange full threads; do
+}
+
+# Without --stop it is reported once, and the run goes on.
+try_alarm_without_stop() {
+    local library=$1 name="$1: a hang without --stop" reported
+    prepare "$library" quiet.c 3
+    run_with --quiet 2 --for 20 "${command[@]}" hang 1
+    reported=$(grep -c 'wait for ever.*; the run goes on; --stop would end it' "$work/errors" || :)
+    if [[ $status == 1 && $reported == 1 ]] && grep -q 'was ended after 20 seconds' "$work/errors"; then
+        echo "$name: reported once"
+    else
+        cat -- "$work/said" "$work/errors" >&2
+        fails "$name: status $status"
+    fi
+}
+
+try_alarm() {
+    local library=$1 way seconds
+    try_alarm_of_a_hang "$library" 2
+    try_alarm_of_a_hang "$library" 3
+    try_alarm_without_stop "$library"
+    while read -r way seconds; do
         prepare "$library" quiet.c 2
-        expect_quiet "$library: quiet.c $way" "$way" 12
-    done
+        expect_quiet "$library: quiet.c $way $seconds" "$way" "$seconds"
+    done <<'END'
+between 60
+computes 60
+polls 30
+exchange 15
+full 30
+threads 30
+END
     prepare "$library" quiet.py 1 || return 0
-    expect_quiet "$library: quiet.py" threads 12
+    expect_quiet "$library: quiet.py threads 30" threads 30
 }

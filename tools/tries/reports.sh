@@ -16,7 +16,8 @@ check_journals() {
         [[ -e $folder/journal0 ]] || continue
         recordings=$((recordings + 1))
         # A release has no bench/.
-        [[ ! -d $here/../bench ]] || "$here/../bench/check-journals" "$folder" || fails "$name: these journals are none"
+        [[ ! -d $here/../bench ]] || "$here/../bench/check-journals" "$folder" ||
+            fails "$name: these journals are none"
     done
 }
 

@@ -16,9 +16,7 @@ static void compute(void) {
         ;
 }
 
-static void receive(int source) {
-    MPI_Recv(&data, 1, MPI_INT, source, 4, MPI_COMM_WORLD, MPI_STATUS_IGNORE);
-}
+static void receive(int source) { MPI_Recv(&data, 1, MPI_INT, source, 4, MPI_COMM_WORLD, MPI_STATUS_IGNORE); }
 
 static void send(int dest) { MPI_Send(&data, 1, MPI_INT, dest, 4, MPI_COMM_WORLD); }
 
@@ -43,6 +41,13 @@ static void computes(void) {
     } else if (rank == 1) {
         receive(0);
     }
+}
+
+/* All compute between two calls. */
+static void between(void) {
+    MPI_Barrier(MPI_COMM_WORLD);
+    compute();
+    MPI_Barrier(MPI_COMM_WORLD);
 }
 
 /* Rank 0 asks for a message that rank 1 sends late. */
@@ -97,8 +102,8 @@ static void threads(void) {
 static const struct {
     const char *name;
     void (*run)(void);
-} ways[] = {{"hang", hang},         {"computes", computes}, {"polls", polls},
-            {"exchange", exchange}, {"full", full},         {"threads", threads}};
+} ways[] = {{"hang", hang},   {"computes", computes}, {"between", between}, {"exchange", exchange},
+            {"polls", polls}, {"full", full},         {"threads", threads}};
 
 int main(int argc, char **argv) {
     int level, wanted = MPI_THREAD_SINGLE;
