@@ -32,9 +32,15 @@ def script(name, folder=TOOLS):
 
 
 class Stored(Judge):
-    """Answers by what is stored."""
+    """Answers by what is stored; but questions with one of some words by a fault."""
+
+    def __init__(self, *faults):
+        super().__init__()
+        self.faults = faults
 
     def run(self, command, folder):
+        if set(self.faults) & set(command):
+            return subprocess.CompletedProcess(command, 4, "", "out of memory")
         status, said = script("judge", TOP / "tests/tools").answer(command[1:], folder)
         return subprocess.CompletedProcess(command, status, said, "")
 
@@ -84,14 +90,14 @@ class Folders(unittest.TestCase):
     def read(self, name):
         return (self.folder / name).read_text(encoding="utf-8")
 
-    def judged(self, *ranks, program_status=0, sites=SITES, **words):
+    def judged(self, *ranks, program_status=0, sites=SITES, faults=(), **words):
         """A run with these calls, judged."""
         if not (self.folder / "journal").exists():
             self.run_of(*ranks, **words)
         for rank in range(len(ranks)):
             if not (self.folder / f"journal/sites{rank}").exists():
                 self.write(f"journal/sites{rank}", sites)
-        return Story(self.folder / "journal", Stored(), program_status=program_status)
+        return Story(self.folder / "journal", Stored(*faults), program_status=program_status)
 
     def sections(self, *ranks, **words):
         return dict(self.judged(*ranks, **words).sections)

@@ -9,7 +9,7 @@ from unittest import mock
 
 from support import Folders, journal
 from companions import places
-from companions.causes import finding_lines
+from companions.causes import finding_lines, near_misses
 from companions.journals import Call, Journal, journals_in, unescaped
 from companions.runs import Run, View
 
@@ -116,6 +116,20 @@ class Speed(Folders):
         self.assertTrue(
             lines[0].endswith("MPI_Bsend at /a.py:1 to rank 1 with tag 4 (49,999 more alike)"), lines
         )
+
+    def test_many_sends_that_nobody_receives_and_many_ranks_that_wait(self):
+        ranks, many = 1000, 100_000
+        sends = " / ".join(f"bsend 0 {1 + at % (ranks - 1)} 4 @1" for at in range(many))
+        self.run_of(f"{sends} / finalize", *["recv 0 0 5 @2"] * (ranks - 1))
+        report = {"causes": [], "left": [], "verdict": "hang",
+                  "ranks": [{"rank": rank, "at": 0, "needs": [[0, None]]} for rank in range(1, ranks)],
+                  "lines": [[0, at, at + 2] for at in range(many)] + [[rank, 0, 2] for rank in range(1, ranks)],
+                  "findings": [f"unreceived 0 {at}" for at in range(many)]}  # fmt: skip
+        began = time.process_time()
+        view = View(Run(self.folder / "journal"), report)
+        lines = [line for one in view.stuck.values() for line in near_misses(one)]
+        self.assertLess(time.process_time() - began, 10)
+        self.assertEqual(len(lines), 3 * (ranks - 1))
 
     def test_a_report_of_few_lines_of_a_long_journal(self):
         text = journal(0, 1, "barrier 0") + "send 0 0 1 4 @1\n" * 1_000_000

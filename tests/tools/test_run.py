@@ -175,6 +175,14 @@ class OwnFolder(Folders):
         self.assertEqual(stopped.exception.status, 3)
         self.assertTrue((self.folder / "mine").exists())
 
+    def test_words_that_fail_leave_the_last_recording(self):
+        self.run_of(*BOTH)
+        (self.folder / "mpiwait-run").mkdir()
+        (self.folder / "journal").rename(self.folder / "mpiwait-run/journal")
+        self.write("mpiwait-run/.mpiwait-run", "")
+        self.assertEqual(self.command("run", "./nothing", env=os.environ | CHECKER).returncode, 3)
+        self.assertTrue((self.folder / "mpiwait-run/journal/journal0").exists())
+
     def test_one_of_a_run_is_emptied(self):
         folder = self.folder / "a"
         os.close(run.make_folder(folder))

@@ -49,6 +49,19 @@ class Statuses(Folders):
         self.again()
         self.assertEqual(self.judged("barrier 0 @1", "barrier 0 @1", program_status=3).status, 5)
 
+    def test_questions_that_fail(self):
+        title = "Questions that the checker didn't answer"
+        found = self.judged(*CutOff.MASKED, faults=["--tests=pass"])
+        self.assertEqual((found.status, dict(found.sections).get(title)), (1, None))
+        self.again()
+        cut = [f"isend 1 0 {1 - rank} 0 4 @4 / test 1 @5 / recv 0 {1 - rank} 0 @6" for rank in (0, 1)]
+        found = self.judged(*cut, state="o", faults=["--tests=pass"])
+        self.assertEqual((found.status, dict(found.sections)[title]), (4, ["pass: out of memory"]))
+        self.assertNotIn(UNTIL_TESTS, found.text)
+        self.again()
+        found = self.judged(*FREE, faults=["judge"])
+        self.assertEqual((found.status, found.title), (4, "out of memory"))
+
     def test_doubts_of_a_free_run(self):
         self.run_of(*FREE)
         self.write("journal/left0", "P 000000000003 calls of another thread\n")

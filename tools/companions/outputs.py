@@ -166,19 +166,17 @@ def linked(lines, ranks):
     return re.sub(rf"\brank ({named})\b", r'<a href="#rank-\1">rank \1</a>', text) if named else text
 
 
-def folded(title, body, is_open=False):
-    return f"<details{' open' * is_open}><summary><b>{html.escape(title)}</b></summary>\n{body}</details>"
+def folded(title, body):
+    return f"<details><summary><b>{html.escape(title)}</b></summary>\n{body}</details>"
 
 
 def as_html(story):
     """The page begins with the cause; the picture follows, and the rest is folded."""
-    sections = [(title, f"<pre>{linked(lines, story.stuck)}</pre>") for title, lines in story.sections]
-    first, *others = sections or [("Nothing else", "<pre>there is nothing else to say</pre>")]
-    body = [folded(*first, True)]
+    parts = [folded(title, f"<pre>{linked(lines, story.stuck)}</pre>") for title, lines in story.sections]
+    body = [part.replace("<details", "<details open", 1) for part in parts[:1]]
     if story.stuck:
         try:
-            drawn = as_svg(story)
-            drawn = drawn[drawn.find("<svg") :]
+            drawn = "<svg" + as_svg(story).partition("<svg")[2]
         except Stopped as why:
             drawn = f"<p>{html.escape(str(why))}</p>"
         body += ["<h2>Who waits for whom</h2>", drawn, "<h2>Each rank</h2>"]
@@ -186,8 +184,7 @@ def as_html(story):
             texts = {one.rank: linked(stuck_lines(one), story.stuck) for one in group}
             rows = [f'<pre id="rank-{rank}">{text}</pre>' for rank, text in texts.items()]
             body.append(folded(f"{ranks_named(texts)}: {group[0].call.text()}", "".join(rows)))
-    body += [folded(*section) for section in others]
-    title = html.escape(story.title)
+    title, body = html.escape(story.title), body + parts[1:]
     head = f'<meta charset="utf-8">\n<title>{title}</title>\n<style>\n{STYLE}\n</style>'
     top = f'<!DOCTYPE html>\n<html lang="en">\n<head>\n{head}\n</head>\n<body>\n<h1>{title}</h1>\n'
     return "\n".join([top, *body, "</body>\n</html>\n"])

@@ -98,11 +98,11 @@ def main(argv):
     if words.unproved and not os.access(program, os.X_OK) and not shutil.which("rt"):
         raise Stopped("there is no command rt of the Rattle kit, which builds the checker", Status.WORDS)
     if not words.again:
-        make_folder(folder)
         library, frames = words.mpi or library_of(words.command), 1 if words.frames is None else words.frames
         run = with_recorder(words.command, library, folder / "journal", frames, words.strict)
         if not words.unproved:
             Judge().try_out()
+        make_folder(folder)
         alarm = Alarm(folder / "journal", Judge(nice=10), words.quiet, words.stop)
         status, was_ended = run_command(*run, words.limit, None if words.unproved else alarm.look)
         if status and not was_ended:

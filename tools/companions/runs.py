@@ -100,9 +100,11 @@ class View:
             self.calls[rank] = {at: found[number] for at, number in places.items() if number in found}
         self.stuck = {entry["rank"]: Stuck(self, entry) for entry in report["ranks"]}
         self.held = self.held_among(set(self.stuck))
-        self.unreceived = {}  # the sends that nobody receives, by rank
+        self.unreceived = {}  # the sends that nobody receives, with what they send, by both ranks
         for _, rank, at in (text.split(" ") for text in report["findings"] if text.startswith("unreceived ")):
-            self.unreceived.setdefault(int(rank), []).append(self.call(int(rank), int(at)))
+            call = self.call(int(rank), int(at))
+            for half in (half for half in call.halves if half.is_send):
+                self.unreceived.setdefault((call.rank, half.rank), []).append((call, half))
 
     def call(self, rank, at):
         return self.calls[rank].get(at) or Call(self.run, rank, "init")
@@ -124,10 +126,8 @@ class View:
         """What a rank sends to another, or receives from it, that meets no call: each call with its half."""
         stuck = self.stuck.get(rank)
         lacking = stuck.lacking(other) if stuck and (other, None) in stuck.needs else []
-        calls = stuck.calls if lacking else []
-        found = [(call, half) for call in calls for half in call.halves if half in lacking]
-        for call in self.unreceived.get(rank, ()):
-            found += [(call, half) for half in call.halves if half.is_send and half.rank == other]
+        found = [(call, half) for half in lacking for call in stuck.calls if half in call.halves]
+        found += self.unreceived.get((rank, other), [])
         return list(dict.fromkeys(found + (self.strict.offers(rank, other) if self.strict else [])))
 
     def rests_on(self, words):
@@ -193,7 +193,8 @@ class Judgement:
             self.went.strict = self.strict
         # What the rules of MPI allow, without tests taken as waits if the strict reading rests on these.
         self.rules = self.views.get("pass") or self.strict
-        self.by_tests = self.verdicts().get("pass", "hang") != "hang"
+        self.by_tests = self.verdicts().get("pass") in ("free", "unfinished")
+        self.unanswered = [f"{name}: {one.said}" for name, one in self.answers.items() if not one.report]
         self.is_hang = bool(self.rules) and self.rules.report["verdict"] == "hang"
         # The run was cut off and nothing held it, but it may hang.
         self.may_hang = self.is_hang and self.verdicts().get("went") == "unfinished"
@@ -217,4 +218,5 @@ class Judgement:
             found = [Status.NOT_JUDGED] if self.run.count("P") else found
             kinds = {text.split(" ")[0] for text in (self.strict or self.shown).report["findings"]}
             found += [Status.DIFFERENT] if kinds & {"kind", "root"} else []
+            found += [Status.IMPOSSIBLE] if self.unanswered else []
         return worst(found + ([Status.FAILED] if program_status else []))

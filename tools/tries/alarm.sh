@@ -16,10 +16,11 @@ expect_quiet() {
 
 # Ranks 0 and 1 wait for each other after 30 seconds of work, also while a third one goes on.
 try_alarm_of_a_hang() {
-    local library=$1 ranks=$2 name="$1: a hang of two ranks among $2 after 30 seconds" began=$SECONDS after
+    local library=$1 ranks=$2 name="$1: a hang of two ranks among $2 after 30 seconds" begun after
     prepare "$library" quiet.c "$ranks"
     run_with --stop "${command[@]}" hang 30
-    after=$((SECONDS - began - 30))
+    begun=$(sed -n 's/^hang at \([0-9]*\)$/\1/p' "$work/errors")
+    after=$(($(date +%s) - ${begun:-0}))
     if [[ $status == 1 && $after -le 15 ]] && wait_until is_left_over &&
         grep -q 'ranks 0 and 1 wait for ever.*; the run is ended' "$work/errors"; then
         echo "$name: reported and ended $after seconds after that"

@@ -86,8 +86,9 @@ try_options() {
     prepare "$library" head-to-head.c 2
     run_with "${words[@]}" "${command[@]}"
     expect_status "$library: all outputs" 1
-    for kind in json html junit sarif; do
-        grep -q 'head-to-head.c' "$work/out.$kind" || fails "$library: --$kind: no line of code"
+    for kind in json html junit sarif svg; do
+        [[ $kind == svg ]] && ! has dot || grep -q 'head[.]c' "$work/out.$kind" ||
+            fails "$library: --$kind: no line of code"
     done
     run_with --eager 4 "${command[@]}"
     expect_status "$library: --eager 4" 0

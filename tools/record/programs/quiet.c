@@ -20,11 +20,14 @@ static void receive(int source) { MPI_Recv(&data, 1, MPI_INT, source, 4, MPI_COM
 
 static void send(int dest) { MPI_Send(&data, 1, MPI_INT, dest, 4, MPI_COMM_WORLD); }
 
-/* Ranks 0 and 1 receive from each other, and rank 2 goes on for much longer than that is waited for. */
+/* Ranks 0 and 1 receive from each other, and rank 2 goes on for much longer than that is waited for. Rank 0
+ * writes when. */
 static void hang(void) {
     MPI_Barrier(MPI_COMM_WORLD);
     sleep(seconds);
     MPI_Barrier(MPI_COMM_WORLD);
+    if (rank == 0)
+        fprintf(stderr, "hang at %ld\n", (long)time(NULL));
     if (rank < 2)
         receive(1 - rank);
     for (int i = 0; i < 90; i++) {
