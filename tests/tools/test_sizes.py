@@ -44,9 +44,8 @@ class Sizes(unittest.TestCase):
                     self.assertLessEqual(length, MOST_IN_A_FUNCTION, f"{path}: {name}")
 
     def test_columns(self):
-        for path in scripts():
-            for number, line in enumerate(path.read_text(encoding="utf-8").split("\n"), 1):
-                self.assertLessEqual(len(line), MOST_COLUMNS, f"{path}:{number}")
+        lines = ((path, *one) for path in scripts() for one in enumerate(path.read_text("utf-8").split("\n"), 1))
+        self.assertEqual([f"{path}:{at}" for path, at, line in lines if len(line) > MOST_COLUMNS], [])
 
 
 if __name__ == "__main__":

@@ -50,7 +50,7 @@ class Statuses(Folders):
         self.assertEqual(self.judged("barrier 0 @1", "barrier 0 @1", program_status=3).status, 5)
 
     def test_questions_that_fail(self):
-        title = "Questions that the checker didn't answer"
+        title = "Unanswered questions"
         found = self.judged(*CutOff.MASKED, faults=["--tests=pass"])
         self.assertEqual((found.status, dict(found.sections).get(title)), (1, None))
         self.again()
@@ -58,6 +58,9 @@ class Statuses(Folders):
         found = self.judged(*cut, state="o", faults=["--tests=pass"])
         self.assertEqual((found.status, dict(found.sections)[title]), (4, ["pass: out of memory"]))
         self.assertNotIn(UNTIL_TESTS, found.text)
+        self.again()
+        found = self.judged(*BOTH, faults=["--eager=2147483647"])
+        self.assertEqual((found.status, dict(found.sections)[title]), (1, ["buffered: out of memory"]))
         self.again()
         found = self.judged(*FREE, faults=["judge"])
         self.assertEqual((found.status, found.title), (4, "out of memory"))

@@ -194,7 +194,7 @@ class Judgement:
         # What the rules of MPI allow, without tests taken as waits if the strict reading rests on these.
         self.rules = self.views.get("pass") or self.strict
         self.by_tests = self.verdicts().get("pass") in ("free", "unfinished")
-        self.unanswered = [f"{name}: {one.said}" for name, one in self.answers.items() if not one.report]
+        self.unanswered = {name: one.said for name, one in self.answers.items() if not one.report}
         self.is_hang = bool(self.rules) and self.rules.report["verdict"] == "hang"
         # The run was cut off and nothing held it, but it may hang.
         self.may_hang = self.is_hang and self.verdicts().get("went") == "unfinished"
@@ -218,5 +218,5 @@ class Judgement:
             found = [Status.NOT_JUDGED] if self.run.count("P") else found
             kinds = {text.split(" ")[0] for text in (self.strict or self.shown).report["findings"]}
             found += [Status.DIFFERENT] if kinds & {"kind", "root"} else []
-            found += [Status.IMPOSSIBLE] if self.unanswered else []
+            found += [Status.IMPOSSIBLE] if set(self.unanswered) - {"buffered"} else []
         return worst(found + ([Status.FAILED] if program_status else []))

@@ -99,7 +99,7 @@ class Story(Judgement):
                      "Communicators": self._communicators(), "What this assumes": list(self._assumptions()),
                      "Where the ranks were that didn't come to MPI_Finalize": list(self._where()),
                      "Calls at which the judgement of a rank ends": self._stops(),
-                     "Questions that the checker didn't answer": self.unanswered}  # fmt: skip
+                     "Unanswered questions": [": ".join(one) for one in self.unanswered.items()]}  # fmt: skip
         for meaning, title in MEANINGS.items():
             calls = sorted(self.run.left_out[meaning].items(), key=lambda one: -sum(one[1].values()))
             found[title] = [f"{sum(ranks.values()):,} {call} ({ranks_named(ranks)})" for call, ranks in calls]

@@ -46,7 +46,8 @@ try_cuts() {
             for calls in strict went; do
                 status=0
                 "${MPIWAIT:-$here/../mpiwait}" judge "--calls=$calls" "$work/cut" >"$work/said" || status=$?
-                [[ $status == [05] ]] || fails "$name after line $at of ${journal##*/}, $calls: status $status"
+                [[ $status == [05] ]] ||
+                    fails "$name after line $at of ${journal##*/}, $calls: status $status"
             done
             cuts=$((cuts + 1))
         done
