@@ -44,11 +44,32 @@ try_alarm_without_stop() {
     fi
 }
 
+# A rank whose machine has another name, as far as it is concerned.
+try_alarm_of_other_machines() {
+    local library=$1 name="$1: a rank on another machine"
+    if ! unshare --uts true 2>/dev/null; then
+        echo "$name: passed over: no process may have another name for this machine"
+        return
+    fi
+    prepare "$library" quiet.c 1
+    # shellcheck disable=SC2016
+    run_with --quiet 2 --stop --for 15 "${command[@]}" hang 1 : -n 1 \
+        unshare --uts sh -c 'hostname elsewhere && exec "$@"' sh "$work/program" hang 1
+    if [[ $status == 1 ]] && ! grep -q 'wait for ever' "$work/errors" &&
+        grep -q 'nothing is reported before .*: some ranks are on other machines' "$work/errors"; then
+        echo "$name: nothing is reported while it runs, and that is reported"
+    else
+        cat -- "$work/said" "$work/errors" >&2
+        fails "$name: status $status"
+    fi
+}
+
 try_alarm() {
     local library=$1 way seconds
     try_alarm_of_a_hang "$library" 2
     try_alarm_of_a_hang "$library" 3
     try_alarm_without_stop "$library"
+    try_alarm_of_other_machines "$library"
     while read -r way seconds; do
         prepare "$library" quiet.c 2
         expect_quiet "$library: quiet.c $way $seconds" "$way" "$seconds"
