@@ -111,7 +111,7 @@ class Speed(Folders):
                   "findings": [f"unreceived 0 {at}" for at in range(many)]}  # fmt: skip
         began = time.process_time()
         lines = finding_lines(View(Run(self.folder), report))
-        self.assertLess(time.process_time() - began, 4)  # 2 seconds on a machine without other work
+        self.assertLess(time.process_time() - began, 6)  # 1 second on a machine without other work
         self.assertEqual(len(lines), 2)
         self.assertTrue(
             lines[0].endswith("MPI_Bsend at /a.py:1 to rank 1 with tag 4 (49,999 more alike)"), lines
@@ -128,7 +128,7 @@ class Speed(Folders):
         began = time.process_time()
         view = View(Run(self.folder / "journal"), report)
         lines = [line for one in view.stuck.values() for line in near_misses(one)]
-        self.assertLess(time.process_time() - began, 10)
+        self.assertLess(time.process_time() - began, 20)  # 2 seconds on a machine without other work
         self.assertEqual(len(lines), 3 * (ranks - 1))
 
     def test_a_report_of_few_lines_of_a_long_journal(self):
