@@ -2,4 +2,4 @@ mod Rows
 pub mod OutcomeLemmas
 pub mod PlaceLemmas
 pub mod StandingLemmas
-pub mod ToldLemmas
+pub mod RequestReportLemmas

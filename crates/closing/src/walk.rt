@@ -1,8 +1,8 @@
 //! The list of a rank, made entry by entry of its journal.
 
 ghost use Rattle.std.specs.Prelude.{◌≡◌, ◌+◌, ◌<◌};
-ghost use Rattle.closing.specs.inner.Endings.{breaks_off};
-ghost use Rattle.closing.specs.inner.Recording.{is_end};
+ghost use Rattle.closing.specs.Endings.{breaks_off};
+ghost use Rattle.closing.specs.Recording.{is_end};
 ghost use Rattle.closing.specs.inner.Views.{called_view};
 ghost use Rattle.closing.specs.inner.Walked.{number_at, number_or, size_at};
 

@@ -11,14 +11,14 @@ use Rattle.mpicall.specs.declared.call.Call.TheVariants.{Split, Finalize, Open}
 use Rattle.mpigroup.specs.Groups.{Groups}
 use Rattle.journals.specs.Known.{has_report}
 use Rattle.journals.specs.declared.word.ReportWord.TheVariants as report
-use Rattle.closing.specs.inner.Called.{Called, StartsExchange, Stops, Aborts, Fills}
-use Rattle.closing.specs.inner.Keys.{Key, has_member}
-use Rattle.closing.specs.inner.Entries.{Run, Placed, journal_at, entries_at}
-use Rattle.closing.specs.inner.Numbers.{groups_of, number_of, rank_in, preface_split, preface_lines, preface_of}
-use Rattle.closing.specs.inner.Steps.{Written, Progress, WaitsForLate, after_steps}
-use Rattle.closing.specs.inner.Endings.{breaks_off, can_be, first_of, is_unknown, is_unreported, lacks_number, why_at}
-use Rattle.closing.specs.inner.Entry.{Choice, steps_of}
-use Rattle.closing.specs.inner.Recording.{Listed, Outcome, GoesOn, Ends, is_end, steps_before, outcome_by, outcome_of, go_on, list_from, progress_first, whole_list, most_records, line_of, cut, without_journal, list_of, calls_of}
+use Rattle.closing.specs.Called.{Called, StartsExchange, Stops, Aborts, Fills}
+use Rattle.closing.specs.Keys.{Key, has_member}
+use Rattle.closing.specs.Entries.{Run, Placed, journal_at, entries_at}
+use Rattle.closing.specs.Numbers.{groups_of, number_of, rank_in, preface_split, preface_lines, preface_of}
+use Rattle.closing.specs.Steps.{Written, Progress, WaitsForLate, after_steps}
+use Rattle.closing.specs.Endings.{breaks_off, can_be, first_of, is_unknown, is_unreported, lacks_number, why_at}
+use Rattle.closing.specs.Entry.{Choice, steps_of}
+use Rattle.closing.specs.Recording.{Listed, Outcome, GoesOn, Ends, is_end, steps_before, outcome_by, outcome_of, go_on, list_from, progress_first, whole_list, most_records, line_of, cut, without_journal, list_of, calls_of}
 use Rattle.closing.specs.declared.why.Why.{Why}
 use Rattle.closing.specs.declared.why.Why.TheVariants.{NeverCameBack, NeverReported, Failed, NoNumber, CannotBe, TooLong}
 use Rattle.lawful.proofs.StepLemmas.{calls_in, plain_calls}

@@ -13,7 +13,7 @@ use Rattle.journals.specs.declared.word.Word.TheVariants.{Call as CallLine}
 use Rattle.journals.specs.declared.word.CallWord.{CallWord}
 use Rattle.journals.specs.declared.word.CallWord.TheVariants as call
 use Rattle.journals.proofs.LineForms.{same_numbers}
-use Rattle.closing.specs.inner.Called.{Called, Awaited, Receives, StartsReceive, Probes, ProbesMatching, ReceivesMatched, StartsMatched, Cancels, FreesRequest, Collects, StartsCollective, Duplicates, StartsDuplicate, Makes, MakesOfGroup, FreesComm, called, awaited, naturals_in, sends, starts_send, awaits, starts_awaiting, exchanges, starts_exchange, one_number, two_numbers, rooted, starts_rooted, unrooted, starts_unrooted, splits}
+use Rattle.closing.specs.Called.{Called, Awaited, Receives, StartsReceive, Probes, ProbesMatching, ReceivesMatched, StartsMatched, Cancels, FreesRequest, Collects, StartsCollective, Duplicates, StartsDuplicate, Makes, MakesOfGroup, FreesComm, called, awaited, naturals_in, sends, starts_send, awaits, starts_awaiting, exchanges, starts_exchange, one_number, two_numbers, rooted, starts_rooted, unrooted, starts_unrooted, splits}
 
 -- the group of which the call makes a communicator passes a test
 abbrev pub GroupIs : (List ℕ → Type 0) → Called → Type 0

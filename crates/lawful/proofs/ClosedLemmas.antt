@@ -7,9 +7,9 @@ use Rattle.mpicall.specs.Ending.{ends_list}
 use Rattle.mpicall.specs.declared.call.Call.{Call}
 use Rattle.mpigroup.specs.Groups.{or_empty}
 use Rattle.callstore.specs.Recordings.{IsClosedList}
-use Rattle.closing.specs.inner.Entries.{Run, ranks_of}
-use Rattle.closing.specs.inner.Entry.{Choice}
-use Rattle.closing.specs.inner.Recording.{Listed, calls_of, list_of, recording_of}
+use Rattle.closing.specs.Entries.{Run, ranks_of}
+use Rattle.closing.specs.Entry.{Choice}
+use Rattle.closing.specs.Recording.{Listed, calls_of, list_of, recording_of}
 use Rattle.lawful.specs.Closed.{EachRecordingIsClosed}
 use Rattle.lawful.proofs.RequestLemmas.{AllFit}
 use Rattle.lawful.proofs.ListLemmas.{FitsAll, list_of_fits}

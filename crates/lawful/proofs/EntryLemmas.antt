@@ -12,13 +12,13 @@ use Rattle.journals.specs.Lines.{Line}
 use Rattle.journals.specs.Entries.{group_in}
 use Rattle.journals.specs.Known.{report_of}
 use Rattle.journals.specs.declared.word.ReportWord.TheVariants as report
-use Rattle.closing.specs.inner.Called.{Called, Duplicates, Splits, Makes}
-use Rattle.closing.specs.inner.Keys.{Key, World, Made, same_key, has_member, key_count}
-use Rattle.closing.specs.inner.Held.{Wave, makes_comm, wave_next, made_in, with_some}
-use Rattle.closing.specs.inner.Entries.{Run, Placed}
-use Rattle.closing.specs.inner.Made.{wave_at, reported_key, key_made}
-use Rattle.closing.specs.inner.Numbers.{number_of, groups_of}
-use Rattle.closing.specs.inner.Entry.{giving_line, bare_line, maker_by, maker}
+use Rattle.closing.specs.Called.{Called, Duplicates, Splits, Makes}
+use Rattle.closing.specs.Keys.{Key, World, Made, same_key, has_member, key_count}
+use Rattle.closing.specs.Held.{Wave, makes_comm, wave_next, made_in, with_some}
+use Rattle.closing.specs.Entries.{Run, Placed}
+use Rattle.closing.specs.Made.{wave_at, reported_key, key_made}
+use Rattle.closing.specs.Numbers.{number_of, groups_of}
+use Rattle.closing.specs.Entry.{giving_line, bare_line, maker_by, maker}
 use Rattle.lawful.proofs.KeyLemmas.{one_number_is_one_communicator}
 use Rattle.lawful.proofs.HoldLemmas.{Holds, hold_more, any_more, any_last, holds_more, held_made}
 use Rattle.lawful.proofs.LineFacts.{LinesFit}

@@ -14,10 +14,10 @@ use Rattle.callstore.specs.Requests.{waits_for}
 use Rattle.pairing.specs.Faults.{holds_comm, starts_afresh, are_distinct, waits_for_active, makes_afresh, first_failed, fault_of}
 use Rattle.pairing.specs.declared.fault.CallFault.{CallFault}
 use Rattle.pairing.specs.declared.fault.CallFault.TheVariants.{CallAfterFinalize, TooManyCalls, UnknownCommunicator, CommunicatorNotHeld, PeerOutOfGroup, RequestInUse, RequestRepeated, RequestNotActive, WrongNewCommunicator}
-use Rattle.closing.specs.inner.Entries.{Run, journal_at, ranks_of}
-use Rattle.closing.specs.inner.Entry.{Choice}
-use Rattle.closing.specs.inner.Numbers.{groups_of}
-use Rattle.closing.specs.inner.Recording.{Listed, most_records, whole_list, cut, without_journal, list_of, calls_of, recording_of}
+use Rattle.closing.specs.Entries.{Run, journal_at, ranks_of}
+use Rattle.closing.specs.Entry.{Choice}
+use Rattle.closing.specs.Numbers.{groups_of}
+use Rattle.closing.specs.Recording.{Listed, most_records, whole_list, cut, without_journal, list_of, calls_of, recording_of}
 use Rattle.lawful.specs.Closed.{NoOtherFault}
 use Rattle.lawful.proofs.RequestLemmas.{Fits, AllFit}
 use Rattle.lawful.proofs.ListLemmas.{fits_take, list_of_fits}

@@ -9,11 +9,11 @@ use Rattle.mpicall.specs.declared.limits.TheConstants.{GREATEST_COMM}
 use Rattle.mpigroup.specs.Groups.{ranks_of}
 use Rattle.mpigroup.specs.HeadText.{has_twice, is_group}
 use Rattle.journals.specs.Known.{is_among, are_distinct}
-use Rattle.closing.specs.inner.Keys.{Key, group_of_key, each_once}
-use Rattle.closing.specs.inner.Entries.{Run, ranks_of as ranks_in}
-use Rattle.closing.specs.inner.Made.{keys_at}
-use Rattle.closing.specs.inner.Numbers.{is_named, numbered_keys, groups_of}
-use Rattle.closing.specs.inner.Recording.{recording_of}
+use Rattle.closing.specs.Keys.{Key, group_of_key, each_once}
+use Rattle.closing.specs.Entries.{Run, ranks_of as ranks_in}
+use Rattle.closing.specs.Made.{keys_at}
+use Rattle.closing.specs.Numbers.{is_named, numbered_keys, groups_of}
+use Rattle.closing.specs.Recording.{recording_of}
 use Rattle.lawful.specs.Laws.{IsRead}
 use Rattle.lawful.specs.Closed.{IsHead, EachHeadIsAHead}
 use Rattle.lawful.proofs.GroupFacts.{IsGroupOf}

@@ -11,7 +11,7 @@ use Rattle.mpicall.specs.declared.limits.TheConstants.{MOST_REQUESTS}
 use Rattle.mpigroup.specs.Groups.{Groups}
 use Rattle.callstore.specs.Communicators.{comm_of, makes, does_make, holds}
 use Rattle.pairing.specs.Faults.{is_member, holds_comm, makes_afresh}
-use Rattle.closing.specs.inner.Steps.{Step, Does, Starts, WaitsForAll, WaitsForOne, PutsOff, WaitsForLate, Written, Progress, number_in, numbers_of, least_free, waits_for, wait_for_one, wait_one, plain, after_step, after_steps}
+use Rattle.closing.specs.Steps.{Step, Does, Starts, WaitsForAll, WaitsForOne, PutsOff, WaitsForLate, Written, Progress, number_in, numbers_of, least_free, waits_for, wait_for_one, wait_one, plain, after_step, after_steps}
 use Rattle.lawful.proofs.StepLemmas.{calls_in, added_plain}
 use Rattle.lawful.proofs.PassLemmas.{IsStep, AreSteps, AllCalls, PassWaits, waits_pass, chosen_passes}
 

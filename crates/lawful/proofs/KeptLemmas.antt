@@ -18,11 +18,11 @@ use Rattle.journals.specs.declared.word.Word.{Word}
 use Rattle.journals.specs.declared.word.Word.TheVariants.{Call as CallLine, Report}
 use Rattle.journals.specs.declared.word.ReportWord.{ReportWord}
 use Rattle.journals.specs.declared.word.ReportWord.TheVariants as report
-use Rattle.closing.specs.inner.Called.{Called, MakesOfGroup, wave_comm}
-use Rattle.closing.specs.inner.Keys.{Key, World, Alone, Made, Duplicated, OfGroup, Apart, same_key, has_member, key_count, group_count}
-use Rattle.closing.specs.inner.Held.{Wave, Held, held_first, under, wave_on, wave_next, key_next, key_under, with_some, with_key, made_in, duplicated_in, with_made, with_duplicated, with_apart, after_report}
-use Rattle.closing.specs.inner.Entries.{Run}
-use Rattle.closing.specs.inner.Numbers.{is_of_call, number_of, groups_of}
+use Rattle.closing.specs.Called.{Called, MakesOfGroup, wave_comm}
+use Rattle.closing.specs.Keys.{Key, World, Alone, Made, Duplicated, OfGroup, Apart, same_key, has_member, key_count, group_count}
+use Rattle.closing.specs.Held.{Wave, Held, held_first, under, wave_on, wave_next, key_next, key_under, with_some, with_key, made_in, duplicated_in, with_made, with_duplicated, with_apart, after_report}
+use Rattle.closing.specs.Entries.{Run}
+use Rattle.closing.specs.Numbers.{is_of_call, number_of, groups_of}
 use Rattle.lawful.proofs.HoldLemmas.{Holds, AllHold, Keeps, hold_more, any_more, holds_more, held_made}
 use Rattle.lawful.proofs.LineFacts.{BeginsNatural, WordFits, LineFits}
 use Rattle.lawful.proofs.KeyFacts.{same_key_self, member_is, in_the_world, world_number}

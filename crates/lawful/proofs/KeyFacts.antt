@@ -10,10 +10,10 @@ use Rattle.mpicall.specs.declared.call.Call.{Call}
 use Rattle.callstore.specs.Communicators.{does_make, holds}
 use Rattle.pairing.specs.Faults.{is_member, is_fresh_comm}
 use Rattle.journals.proofs.GroupLemmas.{in_world}
-use Rattle.closing.specs.inner.Keys.{Key, World, Alone, Made, Duplicated, OfGroup, Apart, same_key, group_of_key, has_member, is_key_among, each_once}
-use Rattle.closing.specs.inner.Entries.{Run, ranks_of}
-use Rattle.closing.specs.inner.Made.{keys_at}
-use Rattle.closing.specs.inner.Numbers.{is_named, is_of_call, numbered_keys, number_of, groups_of, preface_keys}
+use Rattle.closing.specs.Keys.{Key, World, Alone, Made, Duplicated, OfGroup, Apart, same_key, group_of_key, has_member, is_key_among, each_once}
+use Rattle.closing.specs.Entries.{Run, ranks_of}
+use Rattle.closing.specs.Made.{keys_at}
+use Rattle.closing.specs.Numbers.{is_named, is_of_call, numbered_keys, number_of, groups_of, preface_keys}
 use Rattle.std.specs.List.{flat_map}
 use Rattle.lawful.proofs.KeyLemmas.{same_key_is_equal, one_number_is_one_communicator}
 use Rattle.lawful.proofs.NameLemmas.{numbered_group}

@@ -18,12 +18,12 @@ use Rattle.journals.specs.declared.word.CallWord.{CallWord}
 use Rattle.journals.specs.declared.word.CallWord.TheVariants as call
 use Rattle.journals.specs.declared.word.ReportWord.{ReportWord}
 use Rattle.journals.specs.declared.word.ReportWord.TheVariants as report
-use Rattle.closing.specs.inner.Called.{Called, MakesOfGroup, called}
-use Rattle.closing.specs.inner.Keys.{Key, World, Alone, Made, Duplicated, OfGroup, Apart, group_of_key, has_member, is_key_among, each_once, group_count}
-use Rattle.closing.specs.inner.Held.{Wave, Held, held_first, under, key_next, wave_next, makes_comm, with_some, with_key, made_in, duplicated_in, with_made, after_call, after_report, after_line, after_lines, held_after}
-use Rattle.closing.specs.inner.Entries.{Run, Placed, ranks_of, journal_at, lines_at, lines_in, placed_at, entries_from, entries_in, entries_at, all_entries}
-use Rattle.closing.specs.inner.Made.{wave_at, is_wave, may_give, reported_group, made_with, reported_key, keys_of_wave, others_key, inferred_key, keys_at}
-use Rattle.closing.specs.inner.Numbers.{is_named, numbered_keys}
+use Rattle.closing.specs.Called.{Called, MakesOfGroup, called}
+use Rattle.closing.specs.Keys.{Key, World, Alone, Made, Duplicated, OfGroup, Apart, group_of_key, has_member, is_key_among, each_once, group_count}
+use Rattle.closing.specs.Held.{Wave, Held, held_first, under, key_next, wave_next, makes_comm, with_some, with_key, made_in, duplicated_in, with_made, after_call, after_report, after_line, after_lines, held_after}
+use Rattle.closing.specs.Entries.{Run, Placed, ranks_of, journal_at, lines_at, lines_in, placed_at, entries_from, entries_in, entries_at, all_entries}
+use Rattle.closing.specs.Made.{wave_at, is_wave, may_give, reported_group, made_with, reported_key, keys_of_wave, others_key, inferred_key, keys_at}
+use Rattle.closing.specs.Numbers.{is_named, numbered_keys}
 use Rattle.lawful.proofs.GroupFacts.{IsGroupOf, world_group, alone_group}
 use Rattle.lawful.proofs.FullFacts.{GroupFull, LineFull, LinesFull}
 use Rattle.lawful.proofs.RunFull.{RunFull, journal_at_full}

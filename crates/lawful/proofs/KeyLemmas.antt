@@ -4,8 +4,8 @@ use Rattle.std.proofs.lemmas.Bool.{false≢true}
 use Rattle.std.proofs.lemmas.List.Quantifiers.{position-Some}
 use Rattle.std.proofs.lemmas.Slice.Eq.{bytes_eq-Decides}
 use Rattle.std.specs.Str.{bytes_eq}
-use Rattle.closing.specs.inner.Keys.{Key, World, Alone, Made, Duplicated, OfGroup, Apart, same_key}
-use Rattle.closing.specs.inner.Numbers.{numbered_keys}
+use Rattle.closing.specs.Keys.{Key, World, Alone, Made, Duplicated, OfGroup, Apart, same_key}
+use Rattle.closing.specs.Numbers.{numbered_keys}
 use Rattle.lawful.specs.Closed.{OneNumberIsOneCommunicator}
 
 pub and_parts : (a b : Bool) → (a && b) ≡ true → (a ≡ true) × (b ≡ true)

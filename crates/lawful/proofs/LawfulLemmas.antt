@@ -12,13 +12,13 @@ use Rattle.mpigroup.specs.Groups.{Groups, or_empty}
 use Rattle.callstore.specs.Communicators.{does_make, holds}
 use Rattle.pairing.specs.Faults.{fault_of}
 use Rattle.journals.specs.Journal.{Journal}
-use Rattle.closing.specs.inner.Keys.{Key, World, Alone, has_member}
-use Rattle.closing.specs.inner.Held.{Held, under, held_first}
-use Rattle.closing.specs.inner.Entries.{Run, journal_at, entries_in, entries_at, ranks_of}
-use Rattle.closing.specs.inner.Entry.{Choice}
-use Rattle.closing.specs.inner.Numbers.{is_of_call, number_of, groups_of, preface_of}
-use Rattle.closing.specs.inner.Steps.{Written}
-use Rattle.closing.specs.inner.Recording.{Listed, list_from, progress_first, whole_list, most_records, line_of, cut, without_journal, list_of, calls_of, recording_of}
+use Rattle.closing.specs.Keys.{Key, World, Alone, has_member}
+use Rattle.closing.specs.Held.{Held, under, held_first}
+use Rattle.closing.specs.Entries.{Run, journal_at, entries_in, entries_at, ranks_of}
+use Rattle.closing.specs.Entry.{Choice}
+use Rattle.closing.specs.Numbers.{is_of_call, number_of, groups_of, preface_of}
+use Rattle.closing.specs.Steps.{Written}
+use Rattle.closing.specs.Recording.{Listed, list_from, progress_first, whole_list, most_records, line_of, cut, without_journal, list_of, calls_of, recording_of}
 use Rattle.closing.specs.declared.why.Why.TheVariants.{TooLong}
 use Rattle.lawful.specs.Laws.{IsRead, EachRecordingIsLawful}
 use Rattle.lawful.proofs.KeyLemmas.{one_number_is_one_communicator}

@@ -5,14 +5,14 @@ use Rattle.std.proofs.lemmas.List.{take-map}
 use Rattle.mpicall.specs.Ending.{ends_list}
 use Rattle.mpicall.specs.declared.call.Call.{Call}
 use Rattle.mpicall.specs.declared.call.Call.TheVariants.{Split, Finalize, Open}
-use Rattle.closing.specs.inner.Called.{Called, StartsExchange}
-use Rattle.closing.specs.inner.Keys.{Key, has_member}
-use Rattle.closing.specs.inner.Entries.{Run, Placed, journal_at, entries_at}
-use Rattle.closing.specs.inner.Numbers.{number_of, rank_in, preface_split, preface_lines, preface_of}
-use Rattle.closing.specs.inner.Steps.{Written, Progress, Step, WaitsForLate, plain, after_steps}
-use Rattle.closing.specs.inner.Endings.{why_at}
-use Rattle.closing.specs.inner.Entry.{Choice, steps_of}
-use Rattle.closing.specs.inner.Recording.{Listed, Outcome, GoesOn, Ends, is_end, steps_before, outcome_by, outcome_of, go_on, list_from, progress_first, whole_list, most_records, line_of, cut, without_journal, list_of}
+use Rattle.closing.specs.Called.{Called, StartsExchange}
+use Rattle.closing.specs.Keys.{Key, has_member}
+use Rattle.closing.specs.Entries.{Run, Placed, journal_at, entries_at}
+use Rattle.closing.specs.Numbers.{number_of, rank_in, preface_split, preface_lines, preface_of}
+use Rattle.closing.specs.Steps.{Written, Progress, Step, WaitsForLate, plain, after_steps}
+use Rattle.closing.specs.Endings.{why_at}
+use Rattle.closing.specs.Entry.{Choice, steps_of}
+use Rattle.closing.specs.Recording.{Listed, Outcome, GoesOn, Ends, is_end, steps_before, outcome_by, outcome_of, go_on, list_from, progress_first, whole_list, most_records, line_of, cut, without_journal, list_of}
 use Rattle.closing.specs.declared.why.Why.{Why}
 use Rattle.closing.specs.declared.why.Why.TheVariants.{NeverReported, TooLong}
 use Rattle.lawful.proofs.RequestLemmas.{AreActive, IsPlain, AllFit, plain_keeps, plain_fits}

@@ -21,13 +21,13 @@ use Rattle.journals.specs.declared.word.Word.{Word}
 use Rattle.journals.specs.declared.word.Word.TheVariants.{Call as CallLine, Report}
 use Rattle.journals.specs.declared.word.ReportWord.{ReportWord}
 use Rattle.journals.specs.declared.word.ReportWord.TheVariants as report
-use Rattle.closing.specs.inner.Called.{Called, Duplicates, Splits, Makes}
-use Rattle.closing.specs.inner.Keys.{Key, World, Made, same_key, has_member, group_of_key, key_count}
-use Rattle.closing.specs.inner.Held.{Wave, Held, makes_comm, wave_next, made_in, with_some}
-use Rattle.closing.specs.inner.Entries.{Run, Placed, all_entries}
-use Rattle.closing.specs.inner.Made.{wave_at, is_wave, may_give, reported_group, made_with, reported_key, keys_of_wave, others_key, inferred_key, key_made}
-use Rattle.closing.specs.inner.Numbers.{number_of, groups_of, rank_in}
-use Rattle.closing.specs.inner.Entry.{brings, made_line, parent_rank, parent_group, colour_of, giving_line, split_key, bare_line, maker_by, maker}
+use Rattle.closing.specs.Called.{Called, Duplicates, Splits, Makes}
+use Rattle.closing.specs.Keys.{Key, World, Made, same_key, has_member, group_of_key, key_count}
+use Rattle.closing.specs.Held.{Wave, Held, makes_comm, wave_next, made_in, with_some}
+use Rattle.closing.specs.Entries.{Run, Placed, all_entries}
+use Rattle.closing.specs.Made.{wave_at, is_wave, may_give, reported_group, made_with, reported_key, keys_of_wave, others_key, inferred_key, key_made}
+use Rattle.closing.specs.Numbers.{number_of, groups_of, rank_in}
+use Rattle.closing.specs.Entry.{brings, made_line, parent_rank, parent_group, colour_of, giving_line, split_key, bare_line, maker_by, maker}
 use Rattle.lawful.proofs.KeyLemmas.{same_key_is_equal, one_number_is_one_communicator}
 use Rattle.lawful.proofs.HoldLemmas.{Holds, AllHold, hold_more, any_more, any_last, holds_more, held_made}
 use Rattle.lawful.proofs.LineFacts.{LineFits, LinesFit}

@@ -21,15 +21,15 @@ use Rattle.std.specs.Str.{bytes_eq}
 use Rattle.journals.specs.Lines.{Line}
 use Rattle.journals.specs.declared.field.Field.{Field}
 use Rattle.journals.specs.declared.field.Field.TheVariants.{Natural, Signed, Null, Any, Undefined}
-use Rattle.closing.specs.inner.Called.{Called, Sent, Awaited, Sends, StartsSend, Receives, StartsReceive, Exchanges, StartsExchange, Probes, ProbesMatching, ReceivesMatched, Waits, Tests, WaitsAny, WaitsSome, Collects, StartsCollective, Duplicates, StartsDuplicate, Splits, Makes, MakesOfGroup}
-use Rattle.closing.specs.inner.Keys.{Key, World, same_key, group_of_key}
-use Rattle.closing.specs.inner.Made.{key_made, wave_at}
-use Rattle.closing.specs.inner.Entries.{Run, Placed}
-use Rattle.closing.specs.inner.Numbers.{numbered_keys, number_of, groups_of, rank_in, named_key}
-use Rattle.closing.specs.inner.Reported.{Message, message_of, message_can_be, peer_can_be, tag_can_be, is_rooted, root_can_be, is_gone}
-use Rattle.closing.specs.inner.Steps.{Id, Own, Whole, ReceiveHalf, Does, Starts}
-use Rattle.closing.specs.inner.Endings.{awaited_can_be, sends_can_be, sent_can_be, awaited_at, can_be, size_at, number_at}
-use Rattle.closing.specs.inner.Entry.{Here, peer, send, start_send, receive, start_receive, exchange, probe, start_collective, root_in, kind_of, does, does_both, starts, does_collective, starts_collective, unless_past, on_comm, Choice, colour_of, parent_group, parent_rank, brings, split_key, giving_line, bare_line, maker_by, passes_tests, pass_test, wait_for_all, wait_for_one, wait_for_any, ids_of, chosen, on_none, is_past, here_at, steps_by, steps_of}
+use Rattle.closing.specs.Called.{Called, Sent, Awaited, Sends, StartsSend, Receives, StartsReceive, Exchanges, StartsExchange, Probes, ProbesMatching, ReceivesMatched, Waits, Tests, WaitsAny, WaitsSome, Collects, StartsCollective, Duplicates, StartsDuplicate, Splits, Makes, MakesOfGroup}
+use Rattle.closing.specs.Keys.{Key, World, same_key, group_of_key}
+use Rattle.closing.specs.Made.{key_made, wave_at}
+use Rattle.closing.specs.Entries.{Run, Placed}
+use Rattle.closing.specs.Numbers.{numbered_keys, number_of, groups_of, rank_in, named_key}
+use Rattle.closing.specs.Reported.{Message, message_of, message_can_be, peer_can_be, tag_can_be, is_rooted, root_can_be, is_gone}
+use Rattle.closing.specs.Steps.{Id, Own, Whole, ReceiveHalf, Does, Starts}
+use Rattle.closing.specs.Endings.{awaited_can_be, sends_can_be, sent_can_be, awaited_at, can_be, size_at, number_at}
+use Rattle.closing.specs.Entry.{Here, peer, send, start_send, receive, start_receive, exchange, probe, start_collective, root_in, kind_of, does, does_both, starts, does_collective, starts_collective, unless_past, on_comm, Choice, colour_of, parent_group, parent_rank, brings, split_key, giving_line, bare_line, maker_by, passes_tests, pass_test, wait_for_all, wait_for_one, wait_for_any, ids_of, chosen, on_none, is_past, here_at, steps_by, steps_of}
 use Rattle.lawful.proofs.KeyLemmas.{and_parts, same_key_is_equal}
 use Rattle.lawful.proofs.PassLemmas.{AreSteps, steps_if, steps_append, steps_or, steps_unless}
 

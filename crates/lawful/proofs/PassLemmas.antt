@@ -7,9 +7,9 @@ use Rattle.std.proofs.lemmas.List.{map-append}
 use Rattle.mpicall.specs.declared.call.Call.{Call}
 use Rattle.mpicall.specs.declared.call.Call.TheVariants.{Wait, Waitall, Waitany}
 use Rattle.mpicall.specs.declared.limits.TheConstants.{MOST_REQUESTS}
-use Rattle.closing.specs.inner.Reported.{Message}
-use Rattle.closing.specs.inner.Steps.{Step, Does, Starts, WaitsForAll, WaitsForOne, PutsOff, WaitsForLate, Written, Progress, number_in, numbers_of, least_free, wait_for, waits_for, chosen_at, wait_for_one, wait_one, plain, after_step, after_steps}
-use Rattle.closing.specs.inner.Entry.{unless_past}
+use Rattle.closing.specs.Reported.{Message}
+use Rattle.closing.specs.Steps.{Step, Does, Starts, WaitsForAll, WaitsForOne, PutsOff, WaitsForLate, Written, Progress, number_in, numbers_of, least_free, wait_for, waits_for, chosen_at, wait_for_one, wait_one, plain, after_step, after_steps}
+use Rattle.closing.specs.Entry.{unless_past}
 use Rattle.lawful.proofs.StepLemmas.{calls_in, added_plain}
 
 -- the steps of a list whose records all pass a test

@@ -8,9 +8,9 @@ use Rattle.mpicall.specs.declared.call.Call.{Call}
 use Rattle.mpicall.specs.declared.call.Call.TheVariants.{Split}
 use Rattle.callstore.specs.Communicators.{does_make, holds}
 use Rattle.pairing.specs.Faults.{is_member, is_fresh_comm}
-use Rattle.closing.specs.inner.Keys.{Key, World, same_key, group_of_key, has_member}
-use Rattle.closing.specs.inner.Entries.{Run}
-use Rattle.closing.specs.inner.Numbers.{is_of_call, numbered_keys, number_of, groups_of, preface_keys, share_member, put_in_line, put_in_lines, preface_lines, rank_in, preface_split, preface_of}
+use Rattle.closing.specs.Keys.{Key, World, same_key, group_of_key, has_member}
+use Rattle.closing.specs.Entries.{Run}
+use Rattle.closing.specs.Numbers.{is_of_call, numbered_keys, number_of, groups_of, preface_keys, share_member, put_in_line, put_in_lines, preface_lines, rank_in, preface_split, preface_of}
 use Rattle.lawful.proofs.KeyLemmas.{same_key_is_equal, one_number_is_one_communicator}
 use Rattle.lawful.proofs.HoldLemmas.{Holds, AllHold, hold_more, any_more, any_last}
 use Rattle.lawful.proofs.KeyFacts.{same_key_self, one_if, times, is, times_push, counts_both, Numbered, world_number, preface_once, of_preface, in_preface, member_is, in_the_world, fresh}

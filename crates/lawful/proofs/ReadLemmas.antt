@@ -12,9 +12,9 @@ use Rattle.mpicall.specs.declared.call.Call.{Call}
 use Rattle.mpicall.specs.declared.fault.Ending.TheVariants.{Sealed}
 use Rattle.mpicall.proofs.BeginningLemmas.{WithoutFeed, body_without_feed}
 use Rattle.mpicall.proofs.LineLemmas.{spelling_read}
-use Rattle.closing.specs.inner.Entries.{Run, ranks_of}
-use Rattle.closing.specs.inner.Entry.{Choice}
-use Rattle.closing.specs.inner.Recording.{Listed, calls_of, list_of, recording_of}
+use Rattle.closing.specs.Entries.{Run, ranks_of}
+use Rattle.closing.specs.Entry.{Choice}
+use Rattle.closing.specs.Recording.{Listed, calls_of, list_of, recording_of}
 use Rattle.lawful.specs.Closed.{EachListInRangesReadsBack}
 use Rattle.lawful.proofs.RequestLemmas.{AllFit}
 use Rattle.lawful.proofs.ListLemmas.{FitsAll, list_of_fits}

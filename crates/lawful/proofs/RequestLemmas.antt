@@ -10,7 +10,7 @@ use Rattle.mpicall.specs.declared.call.Call.{Call}
 use Rattle.callstore.specs.Requests.{starts, waits_for as named_by, completes, is_among, is_active}
 use Rattle.pairing.specs.Faults.{starts_afresh, are_distinct, waits_for_active}
 use Rattle.pairing.proofs.ActiveLemmas.{started-push}
-use Rattle.closing.specs.inner.Steps.{Id, number_in, without, without_all, numbers_of, has_number, is_free, above, least_free, same_id}
+use Rattle.closing.specs.Steps.{Id, number_in, without, without_all, numbers_of, has_number, is_free, above, least_free, same_id}
 
 -- the requests with a number are those that are active after the calls
 abbrev pub AreActive : List Call → List (Id × ℕ) → Type 0

@@ -6,8 +6,8 @@ use Rattle.std.proofs.lemmas.Option.{none-some, same_Some}
 use Rattle.journals.specs.Header.{Heading}
 use Rattle.journals.specs.Text.{text_of, whole_lines}
 use Rattle.journals.specs.Journal.{Journal, Fault}
-use Rattle.closing.specs.inner.Entries.{Run, journal_at}
-use Rattle.closing.specs.inner.Journals.{RankFault, journal_of, journal_if, journal_from, put_first, journals_from, after_first, run_of}
+use Rattle.closing.specs.Entries.{Run, journal_at}
+use Rattle.closing.specs.Journals.{RankFault, journal_of, journal_if, journal_from, put_first, journals_from, after_first, run_of}
 use Rattle.lawful.proofs.LineFacts.{LinesFit, journal_fits}
 
 abbrev OptionFits : ℕ → Option Journal → Type 0

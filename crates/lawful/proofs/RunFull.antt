@@ -9,8 +9,8 @@ use Rattle.journals.specs.Header.{Heading, is_of_run}
 use Rattle.journals.specs.Text.{text_of, whole_lines}
 use Rattle.journals.specs.Journal.{Journal, Fault}
 use Rattle.journals.specs.declared.limits.TheConstants.{MOST_RANKS}
-use Rattle.closing.specs.inner.Entries.{Run, journal_at}
-use Rattle.closing.specs.inner.Journals.{RankFault, journal_of, journal_if, journal_from, put_first, journals_from, after_first, run_of}
+use Rattle.closing.specs.Entries.{Run, journal_at}
+use Rattle.closing.specs.Journals.{RankFault, journal_of, journal_if, journal_from, put_first, journals_from, after_first, run_of}
 use Rattle.lawful.proofs.FullFacts.{LinesFull, FitsRanks, JournalFull, journal_full}
 use Rattle.lawful.proofs.RunFacts.{Put, put, err_ok, same_Ok}
 

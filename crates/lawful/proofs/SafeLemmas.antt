@@ -15,15 +15,15 @@ use Rattle.mpigroup.specs.Groups.{Groups}
 use Rattle.callstore.specs.Communicators.{holds}
 use Rattle.pairing.specs.Faults.{is_member}
 use Rattle.journals.specs.Known.{is_among}
-use Rattle.closing.specs.inner.Called.{Called, Sent, Sends, StartsSend, Receives, StartsReceive, Exchanges, StartsExchange, Probes, ProbesMatching, Collects, StartsCollective, Duplicates, StartsDuplicate, Splits, Makes, MakesOfGroup, comm_of}
-use Rattle.closing.specs.inner.Keys.{Key, OfGroup, has_member, group_count}
-use Rattle.closing.specs.inner.Held.{Held, key_under, key_next, makes_comm}
-use Rattle.closing.specs.inner.Entries.{Run, Placed}
-use Rattle.closing.specs.inner.Numbers.{is_of_call, number_of, groups_of, named_key}
-use Rattle.closing.specs.inner.Reported.{Message, is_gone}
-use Rattle.closing.specs.inner.Steps.{Id, Own as OwnId, Whole, ReceiveHalf, Step, Does, Starts, WaitsForLate, Progress, after_steps}
-use Rattle.closing.specs.inner.Endings.{number_at}
-use Rattle.closing.specs.inner.Entry.{Choice, Here, send, start_send, receive, start_receive, exchange, probe, start_collective, does, does_both, starts, does_collective, starts_collective, unless_past, on_comm, on_none, is_past, here_at, kind_of, steps_by, steps_of}
+use Rattle.closing.specs.Called.{Called, Sent, Sends, StartsSend, Receives, StartsReceive, Exchanges, StartsExchange, Probes, ProbesMatching, Collects, StartsCollective, Duplicates, StartsDuplicate, Splits, Makes, MakesOfGroup, comm_of}
+use Rattle.closing.specs.Keys.{Key, OfGroup, has_member, group_count}
+use Rattle.closing.specs.Held.{Held, key_under, key_next, makes_comm}
+use Rattle.closing.specs.Entries.{Run, Placed}
+use Rattle.closing.specs.Numbers.{is_of_call, number_of, groups_of, named_key}
+use Rattle.closing.specs.Reported.{Message, is_gone}
+use Rattle.closing.specs.Steps.{Id, Own as OwnId, Whole, ReceiveHalf, Step, Does, Starts, WaitsForLate, Progress, after_steps}
+use Rattle.closing.specs.Endings.{number_at}
+use Rattle.closing.specs.Entry.{Choice, Here, send, start_send, receive, start_receive, exchange, probe, start_collective, does, does_both, starts, does_collective, starts_collective, unless_past, on_comm, on_none, is_past, here_at, kind_of, steps_by, steps_of}
 use Rattle.lawful.proofs.StepLemmas.{calls_in}
 use Rattle.lawful.proofs.PassLemmas.{AreSteps, PassWaits, steps_if, steps_append, steps_or, steps_unless}
 use Rattle.lawful.proofs.NameLemmas.{none_names}

@@ -8,7 +8,7 @@ use Rattle.std.proofs.lemmas.Bool.{cases_Bool, cases_lt, eqb-true, lt-ltb, le-lt
 use Rattle.mpicall.specs.declared.call.Call.{Call}
 use Rattle.mpicall.specs.declared.call.Call.TheVariants.{Wait, Waitall, Waitany}
 use Rattle.mpicall.specs.declared.limits.TheConstants.{MOST_REQUESTS}
-use Rattle.closing.specs.inner.Steps.{Id, Written, Progress, Step, Does, Starts, WaitsForAll, WaitsForOne, PutsOff, WaitsForLate, number_in, has_number, without_all, numbers_of, least_free, wait_for, waits_for, chosen_at, wait_for_one, wait_all, wait_one, plain, after_step, after_steps}
+use Rattle.closing.specs.Steps.{Id, Written, Progress, Step, Does, Starts, WaitsForAll, WaitsForOne, PutsOff, WaitsForLate, number_in, has_number, without_all, numbers_of, least_free, wait_for, waits_for, chosen_at, wait_for_one, wait_all, wait_one, plain, after_step, after_steps}
 use Rattle.lawful.proofs.RequestLemmas.{AreActive, AreDrawn, IsPlain, IsStart, IsWait, AllFit, plain_keeps, start_keeps, wait_keeps, plain_fits, start_fits, wait_fits, numbered, drawn, drawn_take, drawn_drop}
 
 -- ---- Waits ----

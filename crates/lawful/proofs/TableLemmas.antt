@@ -8,16 +8,16 @@ use Rattle.mpicall.specs.declared.call.Mode.TheVariants.{Standard}
 use Rattle.mpicall.specs.declared.call.Kind.{Kind}
 use Rattle.mpicall.specs.declared.call.Kind.TheVariants as kind
 use Rattle.journals.specs.Lines.{Line}
-use Rattle.closing.specs.inner.Called.{Called, Sent, Sends, StartsSend, Receives, StartsReceive, Exchanges, StartsExchange, Probes, ProbesMatching, ReceivesMatched, Waits, Tests, WaitsAny, WaitsSome, Collects, StartsCollective, Duplicates, StartsDuplicate, Splits, Makes, MakesOfGroup}
+use Rattle.closing.specs.Called.{Called, Sent, Sends, StartsSend, Receives, StartsReceive, Exchanges, StartsExchange, Probes, ProbesMatching, ReceivesMatched, Waits, Tests, WaitsAny, WaitsSome, Collects, StartsCollective, Duplicates, StartsDuplicate, Splits, Makes, MakesOfGroup}
 use Rattle.std.specs.Str.{bytes_eq}
-use Rattle.closing.specs.inner.Keys.{Key, group_of_key}
-use Rattle.closing.specs.inner.Entries.{Run, Placed}
-use Rattle.closing.specs.inner.Made.{key_made, wave_at}
-use Rattle.closing.specs.inner.Numbers.{rank_in}
-use Rattle.closing.specs.inner.Reported.{Message, is_gone}
-use Rattle.closing.specs.inner.Steps.{Id, Own, Whole, ReceiveHalf, Step, Does, Starts}
-use Rattle.closing.specs.inner.Endings.{number_at}
-use Rattle.closing.specs.inner.Entry.{Choice, Here, send, start_send, receive, start_receive, probe, start_collective, giving_line, bare_line, maker_by, wait_for_one, wait_for_any, is_past, here_at, does, does_both, starts, does_collective, unless_past, on_comm, on_none, steps_by, steps_of, chosen, kind_of, parent_group, parent_rank, brings, split_key, exchange, passes_tests, pass_test, wait_for_all}
+use Rattle.closing.specs.Keys.{Key, group_of_key}
+use Rattle.closing.specs.Entries.{Run, Placed}
+use Rattle.closing.specs.Made.{key_made, wave_at}
+use Rattle.closing.specs.Numbers.{rank_in}
+use Rattle.closing.specs.Reported.{Message, is_gone}
+use Rattle.closing.specs.Steps.{Id, Own, Whole, ReceiveHalf, Step, Does, Starts}
+use Rattle.closing.specs.Endings.{number_at}
+use Rattle.closing.specs.Entry.{Choice, Here, send, start_send, receive, start_receive, probe, start_collective, giving_line, bare_line, maker_by, wait_for_one, wait_for_any, is_past, here_at, does, does_both, starts, does_collective, unless_past, on_comm, on_none, steps_by, steps_of, chosen, kind_of, parent_group, parent_rank, brings, split_key, exchange, passes_tests, pass_test, wait_for_all}
 use Rattle.lawful.proofs.RequestLemmas.{IsPlain, IsStart}
 use Rattle.lawful.proofs.StepLemmas.{AreSaid}
 

@@ -27,15 +27,15 @@ use Rattle.journals.specs.declared.word.CallWord.TheVariants as call
 use Rattle.journals.specs.declared.word.ReportWord.{ReportWord}
 use Rattle.journals.specs.declared.word.ReportWord.TheVariants as report
 use Rattle.journals.proofs.LineForms.{same_numbers}
-use Rattle.closing.specs.inner.Called.{Called, Awaited, Receives, StartsReceive, StartsExchange, Probes, ProbesMatching, ReceivesMatched, StartsMatched, Cancels, FreesRequest, Collects, StartsCollective, Duplicates, StartsDuplicate, Splits, Makes, FreesComm, Finalizes, Exits, Stops, Aborts, Fills, called, awaited, naturals_in, sends, starts_send, awaits, starts_awaiting, exchanges, starts_exchange, one_number, two_numbers, rooted, starts_rooted, unrooted, starts_unrooted, splits}
-use Rattle.closing.specs.inner.Keys.{Key, Made}
-use Rattle.closing.specs.inner.Held.{Wave, Held, under, makes_comm, wave_next, key_next, made_in, duplicated_in, with_some, with_key, with_made, after_call, after_report, after_line}
-use Rattle.closing.specs.inner.Entries.{Run, Placed, placed_at, entries_from}
-use Rattle.closing.specs.inner.Numbers.{groups_of}
-use Rattle.closing.specs.inner.Steps.{Step, Does, WaitsForLate, Progress, after_steps}
-use Rattle.closing.specs.inner.Endings.{breaks_off, can_be, first_of, is_unknown, is_unreported, lacks_number, needs_number, number_at, why_at}
-use Rattle.closing.specs.inner.Entry.{Choice, Here, here_at, maker, on_comm, steps_by, steps_of}
-use Rattle.closing.specs.inner.Recording.{Listed, Outcome, GoesOn, Ends, is_end, steps_before, outcome_by, outcome_of, go_on, list_from}
+use Rattle.closing.specs.Called.{Called, Awaited, Receives, StartsReceive, StartsExchange, Probes, ProbesMatching, ReceivesMatched, StartsMatched, Cancels, FreesRequest, Collects, StartsCollective, Duplicates, StartsDuplicate, Splits, Makes, FreesComm, Finalizes, Exits, Stops, Aborts, Fills, called, awaited, naturals_in, sends, starts_send, awaits, starts_awaiting, exchanges, starts_exchange, one_number, two_numbers, rooted, starts_rooted, unrooted, starts_unrooted, splits}
+use Rattle.closing.specs.Keys.{Key, Made}
+use Rattle.closing.specs.Held.{Wave, Held, under, makes_comm, wave_next, key_next, made_in, duplicated_in, with_some, with_key, with_made, after_call, after_report, after_line}
+use Rattle.closing.specs.Entries.{Run, Placed, placed_at, entries_from}
+use Rattle.closing.specs.Numbers.{groups_of}
+use Rattle.closing.specs.Steps.{Step, Does, WaitsForLate, Progress, after_steps}
+use Rattle.closing.specs.Endings.{breaks_off, can_be, first_of, is_unknown, is_unreported, lacks_number, needs_number, number_at, why_at}
+use Rattle.closing.specs.Entry.{Choice, Here, here_at, maker, on_comm, steps_by, steps_of}
+use Rattle.closing.specs.Recording.{Listed, Outcome, GoesOn, Ends, is_end, steps_before, outcome_by, outcome_of, go_on, list_from}
 use Rattle.closing.specs.declared.why.Why.{Why}
 use Rattle.closing.specs.declared.why.Why.TheVariants.{NeverCameBack, NeverReported, Failed, NoNumber, CannotBe}
 use Rattle.lawful.proofs.StepLemmas.{calls_in, added_plain}

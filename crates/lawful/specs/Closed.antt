@@ -12,12 +12,12 @@ use Rattle.callstore.specs.Recordings.{IsClosed, calls_of as calls_of_rank}
 use Rattle.pairing.specs.Faults.{fault_of}
 use Rattle.pairing.specs.declared.fault.CallFault.{CallFault}
 use Rattle.pairing.specs.declared.fault.CallFault.TheVariants.{CommunicatorNotHeld, WrongNewCommunicator}
-use Rattle.closing.specs.inner.Entries.{Run}
-use Rattle.closing.specs.inner.Entry.{Choice}
-use Rattle.closing.specs.inner.Keys.{Key}
-use Rattle.closing.specs.inner.Numbers.{number_of}
-use Rattle.closing.specs.inner.Recording.{Recording, Listed, calls_of, recording_of}
-use Rattle.closing.specs.inner.Texts.{trace_text}
+use Rattle.closing.specs.Entries.{Run}
+use Rattle.closing.specs.Entry.{Choice}
+use Rattle.closing.specs.Keys.{Key}
+use Rattle.closing.specs.Numbers.{number_of}
+use Rattle.closing.specs.Recording.{Recording, Listed, calls_of, recording_of}
+use Rattle.closing.specs.Texts.{trace_text}
 use Rattle.lawful.specs.Laws.{IsRead}
 
 -- there is a list for each rank of the head, and each is closed

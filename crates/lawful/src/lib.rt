@@ -3,8 +3,8 @@
 //! whose calls are in their ranges is what its text reads as. Of a run that was read the groups of its recording are
 //! those of a head, and, by `specs/Laws`, no call has a fault. The functions of `laws` prove them.
 //!
-//! One law of `specs/Laws` isn't proved: that what is written of a recording reads as it again. The ranges of calls and
-//! the text of the head are still to be shown.
+//! Not shown yet: that the head and traces that are written of a recording read as it again. The ranges of calls and
+//! the text of the head are missing.
 //!
 //! Lemmas: `RequestLemmas` what one call changes about requests, `StepLemmas` what a step adds, `TableLemmas` that
 //! entries give such steps, `ListLemmas` all calls of a list, `PassLemmas` lists whose records pass a test, `NameLemmas`

@@ -10,13 +10,13 @@ use Rattle.mpicall.specs.declared.word.Collective.{Collective}
 use Rattle.journals.specs.Lines.{Line}
 use Rattle.journals.specs.Known.{report_of, requests_in}
 use Rattle.journals.specs.declared.word.ReportWord.TheVariants as report
-use Rattle.closing.specs.inner.Called.{Called, Sent, Awaited, Sends, StartsSend, Receives, StartsReceive, Exchanges, StartsExchange, Probes, ProbesMatching, ReceivesMatched, Waits, Tests, WaitsAny, WaitsSome, Cancels, Collects, StartsCollective, Duplicates, Splits, Makes, StartsDuplicate, MakesOfGroup}
-use Rattle.closing.specs.inner.Entries.{Run, Placed}
-use Rattle.closing.specs.inner.Reported.{Message, done_of, got_in, is_gone, is_settled, message_of, root_can_be}
-use Rattle.closing.specs.inner.Steps.{Own, Whole, ReceiveHalf, Step, Does, Starts}
-use Rattle.closing.specs.inner.Endings.{size_at, number_at, sent_can_be, awaited_can_be}
-use Rattle.closing.specs.inner.Entry.{Choice, send, start_send, receive, start_receive, exchange, probe, start_collective, kind_of, is_past, maker, unless_past, wait_for_all, wait_for_any, test}
-use Rattle.closing.specs.inner.Recording.{Outcome, GoesOn, Ends}
+use Rattle.closing.specs.Called.{Called, Sent, Awaited, Sends, StartsSend, Receives, StartsReceive, Exchanges, StartsExchange, Probes, ProbesMatching, ReceivesMatched, Waits, Tests, WaitsAny, WaitsSome, Cancels, Collects, StartsCollective, Duplicates, Splits, Makes, StartsDuplicate, MakesOfGroup}
+use Rattle.closing.specs.Entries.{Run, Placed}
+use Rattle.closing.specs.Reported.{Message, done_of, got_in, is_gone, is_settled, message_of, root_can_be}
+use Rattle.closing.specs.Steps.{Own, Whole, ReceiveHalf, Step, Does, Starts}
+use Rattle.closing.specs.Endings.{size_at, number_at, sent_can_be, awaited_can_be}
+use Rattle.closing.specs.Entry.{Choice, send, start_send, receive, start_receive, exchange, probe, start_collective, kind_of, is_past, maker, unless_past, wait_for_all, wait_for_any, test}
+use Rattle.closing.specs.Recording.{Outcome, GoesOn, Ends}
 use Rattle.closing.specs.declared.why.Why.{Why}
 use Rattle.closing.specs.declared.why.Why.TheVariants.{NeverCameBack, NeverReported, NoNumber, CannotBe}
 use Rattle.closing.specs.declared.list.Start.{Start}

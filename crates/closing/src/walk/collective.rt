@@ -1,8 +1,8 @@
 //! Entries that call or start collectives.
 
 ghost use Rattle.std.specs.Prelude.{◌≡◌, IsTrue};
-ghost use Rattle.closing.specs.inner.Entry.{kind_of};
-ghost use Rattle.closing.specs.inner.Reported.{root_can_be};
+ghost use Rattle.closing.specs.Entry.{kind_of};
+ghost use Rattle.closing.specs.Reported.{root_can_be};
 
 use super::{At, Walk};
 use crate::list::Start;

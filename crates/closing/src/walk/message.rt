@@ -1,8 +1,8 @@
 //! Entries that send, receive or probe.
 
 ghost use Rattle.std.specs.Prelude.{◌≡◌, ℕ, IsTrue};
-ghost use Rattle.closing.specs.inner.Entry.{start_receive, start_send};
-ghost use Rattle.closing.specs.inner.Reported.{peer_can_be};
+ghost use Rattle.closing.specs.Entry.{start_receive, start_send};
+ghost use Rattle.closing.specs.Reported.{peer_can_be};
 ghost use Rattle.closing.specs.inner.Views.{message_view, sent_view};
 ghost use Rattle.closing.specs.inner.Walks.{start_view};
 

@@ -1,7 +1,7 @@
 //! Entries that wait, test or cancel.
 
 ghost use Rattle.std.specs.Prelude.{◌≡◌};
-ghost use Rattle.closing.specs.inner.Entry.{passes_tests};
+ghost use Rattle.closing.specs.Entry.{passes_tests};
 
 use super::{At, Walk};
 use crate::called::Called;

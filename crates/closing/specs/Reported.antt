@@ -12,7 +12,7 @@ use Rattle.journals.specs.declared.field.Field.TheVariants.{Natural, Signed, Nul
 use Rattle.journals.specs.declared.word.Word.{Word}
 use Rattle.journals.specs.declared.word.Word.TheVariants.{Report}
 use Rattle.journals.specs.declared.word.ReportWord.TheVariants as report
-use Rattle.closing.specs.inner.Called.{Awaited}
+use Rattle.closing.specs.Called.{Awaited}
 
 -- the source and the tag of a message
 pub record Message : Type 0 where

@@ -11,8 +11,8 @@ use Rattle.journals.specs.declared.word.Word.TheVariants.{Call, Report}
 use Rattle.journals.specs.declared.word.CallWord.{CallWord}
 use Rattle.journals.specs.declared.word.CallWord.TheVariants as call
 use Rattle.journals.specs.declared.word.ReportWord.TheVariants as report
-use Rattle.closing.specs.inner.Called.{Called, called}
-use Rattle.closing.specs.inner.Held.{Held, held_first, after_line}
+use Rattle.closing.specs.Called.{Called, called}
+use Rattle.closing.specs.Held.{Held, held_first, after_line}
 
 -- the journal of each rank; None of one without
 abbrev pub Run : Type 0

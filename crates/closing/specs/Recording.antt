@@ -2,12 +2,12 @@
 use Rattle.std.specs.Prelude.{ℕ, ◌-◌, Bool, true, false, nat_lt, Option, Some, None, is_none, if◌then◌else◌, List, [], ◌∷◌, ◌++◌, length, map, take, slice_get}
 use Rattle.mpicall.specs.declared.call.Call.{Call}
 use Rattle.mpicall.specs.declared.call.Call.TheVariants.{Finalize, Open}
-use Rattle.closing.specs.inner.Called.{Called, StartsExchange, Finalizes, Exits}
-use Rattle.closing.specs.inner.Entries.{Run, Placed, journal_at, entries_at, ranks_of}
-use Rattle.closing.specs.inner.Numbers.{groups_of, preface_of}
-use Rattle.closing.specs.inner.Steps.{Step, WaitsForLate, Written, Progress, plain, after_steps}
-use Rattle.closing.specs.inner.Endings.{why_at}
-use Rattle.closing.specs.inner.Entry.{Choice, steps_of}
+use Rattle.closing.specs.Called.{Called, StartsExchange, Finalizes, Exits}
+use Rattle.closing.specs.Entries.{Run, Placed, journal_at, entries_at, ranks_of}
+use Rattle.closing.specs.Numbers.{groups_of, preface_of}
+use Rattle.closing.specs.Steps.{Step, WaitsForLate, Written, Progress, plain, after_steps}
+use Rattle.closing.specs.Endings.{why_at}
+use Rattle.closing.specs.Entry.{Choice, steps_of}
 use Rattle.closing.specs.declared.why.Why.{Why}
 use Rattle.closing.specs.declared.why.Why.TheVariants.{NeverReported, TooLong, NoJournal}
 

@@ -22,15 +22,15 @@ use Rattle.journals.specs.declared.field.Field.TheVariants.{Signed}
 use Rattle.journals.specs.declared.word.Word.{Word}
 use Rattle.journals.specs.declared.word.Word.TheVariants.{Call as CallLine}
 use Rattle.journals.specs.declared.word.ReportWord.TheVariants as report
-use Rattle.closing.specs.inner.Called.{Called, Sent, Sends, StartsSend, Receives, StartsReceive, Exchanges, StartsExchange, Probes, ProbesMatching, ReceivesMatched, StartsMatched, Waits, Tests, WaitsAny, WaitsSome, Collects, StartsCollective, Duplicates, Splits, Makes, StartsDuplicate, MakesOfGroup, called}
-use Rattle.closing.specs.inner.Keys.{Key, group_of_key}
-use Rattle.closing.specs.inner.Held.{Wave}
-use Rattle.closing.specs.inner.Entries.{Run, Placed}
-use Rattle.closing.specs.inner.Made.{wave_at, keys_of_wave, key_made}
-use Rattle.closing.specs.inner.Numbers.{named_key, number_of, rank_in}
-use Rattle.closing.specs.inner.Reported.{Message, is_gone}
-use Rattle.closing.specs.inner.Steps.{Id, Own, Whole, ReceiveHalf, Step, Does, Starts, WaitsForAll, WaitsForOne, PutsOff}
-use Rattle.closing.specs.inner.Endings.{message_at, number_at}
+use Rattle.closing.specs.Called.{Called, Sent, Sends, StartsSend, Receives, StartsReceive, Exchanges, StartsExchange, Probes, ProbesMatching, ReceivesMatched, StartsMatched, Waits, Tests, WaitsAny, WaitsSome, Collects, StartsCollective, Duplicates, Splits, Makes, StartsDuplicate, MakesOfGroup, called}
+use Rattle.closing.specs.Keys.{Key, group_of_key}
+use Rattle.closing.specs.Held.{Wave}
+use Rattle.closing.specs.Entries.{Run, Placed}
+use Rattle.closing.specs.Made.{wave_at, keys_of_wave, key_made}
+use Rattle.closing.specs.Numbers.{named_key, number_of, rank_in}
+use Rattle.closing.specs.Reported.{Message, is_gone}
+use Rattle.closing.specs.Steps.{Id, Own, Whole, ReceiveHalf, Step, Does, Starts, WaitsForAll, WaitsForOne, PutsOff}
+use Rattle.closing.specs.Endings.{message_at, number_at}
 use Rattle.closing.specs.declared.choice.Tests.{Tests as TestsChoice}
 use Rattle.closing.specs.declared.choice.Tests.TheVariants as tests
 use Rattle.closing.specs.declared.choice.Calls.{Calls}

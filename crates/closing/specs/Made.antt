@@ -5,10 +5,10 @@ use Rattle.mpicall.specs.Word.{or_else}
 use Rattle.journals.specs.Entries.{group_in}
 use Rattle.journals.specs.Known.{report_of}
 use Rattle.journals.specs.declared.word.ReportWord.TheVariants as report
-use Rattle.closing.specs.inner.Called.{Called, Splits}
-use Rattle.closing.specs.inner.Keys.{Key, same_key, has_member}
-use Rattle.closing.specs.inner.Held.{Wave, makes_comm, wave_next, made_in, held_after}
-use Rattle.closing.specs.inner.Entries.{Run, Placed, lines_at, entries_at, all_entries}
+use Rattle.closing.specs.Called.{Called, Splits}
+use Rattle.closing.specs.Keys.{Key, same_key, has_member}
+use Rattle.closing.specs.Held.{Wave, makes_comm, wave_next, made_in, held_after}
+use Rattle.closing.specs.Entries.{Run, Placed, lines_at, entries_at, all_entries}
 
 -- the wave of an entry's call
 abbrev pub wave_at : Placed → Option Wave

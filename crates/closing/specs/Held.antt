@@ -9,8 +9,8 @@ use Rattle.journals.specs.declared.word.Word.{Word}
 use Rattle.journals.specs.declared.word.Word.TheVariants.{Call, Report}
 use Rattle.journals.specs.declared.word.ReportWord.{ReportWord}
 use Rattle.journals.specs.declared.word.ReportWord.TheVariants as report
-use Rattle.closing.specs.inner.Called.{Called, Duplicates, Splits, Makes, StartsDuplicate, MakesOfGroup, called, wave_comm}
-use Rattle.closing.specs.inner.Keys.{Key, World, Alone, Made, Duplicated, OfGroup, Apart, key_count, group_count}
+use Rattle.closing.specs.Called.{Called, Duplicates, Splits, Makes, StartsDuplicate, MakesOfGroup, called, wave_comm}
+use Rattle.closing.specs.Keys.{Key, World, Alone, Made, Duplicated, OfGroup, Apart, key_count, group_count}
 
 -- one call of all members of a communicator: how many such calls the rank made on it before
 pub record Wave : Type 0 where

@@ -5,11 +5,11 @@ use Rattle.mpicall.specs.Word.{or_else}
 use Rattle.mpicall.specs.declared.limits.TheConstants.{GREATEST_COMM}
 use Rattle.mpicall.specs.declared.call.Call.{Call}
 use Rattle.mpicall.specs.declared.call.Call.TheVariants.{Split}
-use Rattle.closing.specs.inner.Called.{comm_of}
-use Rattle.closing.specs.inner.Keys.{Key, World, Made, has_member, is_key_among, each_once, place_of_key, group_of_key}
-use Rattle.closing.specs.inner.Held.{key_under, key_next}
-use Rattle.closing.specs.inner.Entries.{Run, Placed, ranks_of, all_entries}
-use Rattle.closing.specs.inner.Made.{keys_at}
+use Rattle.closing.specs.Called.{comm_of}
+use Rattle.closing.specs.Keys.{Key, World, Made, has_member, is_key_among, each_once, place_of_key, group_of_key}
+use Rattle.closing.specs.Held.{key_under, key_next}
+use Rattle.closing.specs.Entries.{Run, Placed, ranks_of, all_entries}
+use Rattle.closing.specs.Made.{keys_at}
 
 -- the communicator that an entry's call is on, or that it makes of a group
 abbrev pub named_key : Placed → Option Key

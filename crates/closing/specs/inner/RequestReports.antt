@@ -6,10 +6,10 @@ use Rattle.journals.specs.declared.field.Field.{Field}
 use Rattle.journals.specs.declared.word.Word.{Word}
 use Rattle.journals.specs.declared.word.Word.TheVariants.{Report}
 use Rattle.journals.specs.declared.word.ReportWord.TheVariants as report
-use Rattle.closing.specs.inner.Reported.{done_in, done_of, says_gone, says_kept}
-use Rattle.closing.specs.inner.Reported as say
-use Rattle.closing.specs.inner.Entry.{id_of}
-use Rattle.closing.specs.inner.Steps.{Own}
+use Rattle.closing.specs.Reported.{done_in, done_of, says_gone, says_kept}
+use Rattle.closing.specs.Reported as say
+use Rattle.closing.specs.Entry.{id_of}
+use Rattle.closing.specs.Steps.{Own}
 use Rattle.closing.specs.inner.Outcomes.{outcome_at, message_by}
 use Rattle.closing.specs.inner.Outcomes as kept
 use Rattle.closing.specs.inner.Standings.{id_in}

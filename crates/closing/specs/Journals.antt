@@ -4,7 +4,7 @@ use Rattle.std.specs.List.{range_with_len}
 use Rattle.journals.specs.Header.{Heading}
 use Rattle.journals.specs.Text.{text_of, whole_lines}
 use Rattle.journals.specs.Journal.{Journal, Fault, journal_of_lines}
-use Rattle.closing.specs.inner.Entries.{Run}
+use Rattle.closing.specs.Entries.{Run}
 
 pub record RankFault : Type 0 where
   pub rank : ℕ

@@ -15,15 +15,15 @@ use Rattle.journals.specs.declared.word.Word.TheVariants.{Call, Report}
 use Rattle.journals.specs.declared.word.CallWord.{CallWord}
 use Rattle.journals.specs.declared.word.ReportWord.{ReportWord}
 use Rattle.journals.specs.declared.word.ReportWord.TheVariants as report
-use Rattle.closing.specs.inner.Reported.{Message, done_in, done_of, says_gone, says_kept, is_kept}
-use Rattle.closing.specs.inner.Reported as say
+use Rattle.closing.specs.Reported.{Message, done_in, done_of, says_gone, says_kept, is_kept}
+use Rattle.closing.specs.Reported as say
 use Rattle.closing.specs.inner.Outcomes.{outcome_in, outcome_by, outcome_with, outcome_at_line, outcome_after, outcome_at, message_after, message_by}
 use Rattle.closing.specs.inner.Outcomes as code
-use Rattle.closing.specs.inner.Called.{naturals_in}
-use Rattle.closing.specs.inner.Steps.{Id, Own}
-use Rattle.closing.specs.inner.Entry.{id_of, ids_of}
+use Rattle.closing.specs.Called.{naturals_in}
+use Rattle.closing.specs.Steps.{Id, Own}
+use Rattle.closing.specs.Entry.{id_of, ids_of}
 use Rattle.closing.specs.inner.Standings.{id_in, ids_in}
-use Rattle.closing.specs.inner.Told.{reports_of, report_count, IsFormed, AreFormed, AreReadable, Tells, AllStandFor}
+use Rattle.closing.specs.inner.RequestReports.{reports_of, report_count, IsFormed, AreFormed, AreReadable, Tells, AllStandFor}
 use Rattle.closing.specs.declared.standing.Standing.{Standing}
 use Rattle.closing.specs.declared.outcomes.Outcome.{Outcome}
 use Rattle.closing.specs.declared.outcomes.Outcome.TheVariants.{Unknown, Done, Gone, Kept}

@@ -6,11 +6,11 @@ use Rattle.std.specs.Option.{option_map_or}
 use Rattle.mpicall.specs.Word.{or_else}
 use Rattle.journals.specs.Known.{has_report, report_of}
 use Rattle.journals.specs.declared.word.ReportWord.TheVariants as report
-use Rattle.closing.specs.inner.Called.{Called, Sent, Awaited, Sends, StartsSend, Receives, StartsReceive, Exchanges, StartsExchange, Probes, ProbesMatching, WaitsAny, WaitsSome, Cancels, Collects, StartsCollective, MakesOfGroup, Aborts, Fills, Stops, comm_of}
-use Rattle.closing.specs.inner.Keys.{group_of_key}
-use Rattle.closing.specs.inner.Entries.{Run, Placed}
-use Rattle.closing.specs.inner.Numbers.{named_key, number_of}
-use Rattle.closing.specs.inner.Reported.{Message, done_of, got_in, is_gone, is_settled, message_of, message_can_be, peer_can_be, tag_can_be, root_can_be}
+use Rattle.closing.specs.Called.{Called, Sent, Awaited, Sends, StartsSend, Receives, StartsReceive, Exchanges, StartsExchange, Probes, ProbesMatching, WaitsAny, WaitsSome, Cancels, Collects, StartsCollective, MakesOfGroup, Aborts, Fills, Stops, comm_of}
+use Rattle.closing.specs.Keys.{group_of_key}
+use Rattle.closing.specs.Entries.{Run, Placed}
+use Rattle.closing.specs.Numbers.{named_key, number_of}
+use Rattle.closing.specs.Reported.{Message, done_of, got_in, is_gone, is_settled, message_of, message_can_be, peer_can_be, tag_can_be, root_can_be}
 use Rattle.closing.specs.declared.why.Why.{Why}
 use Rattle.closing.specs.declared.why.Why.TheVariants.{NeverCameBack, NeverReported, Failed, NoNumber, CannotBe, Stopped, Aborted, Full}
 
