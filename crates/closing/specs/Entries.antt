@@ -12,7 +12,7 @@ use Rattle.journals.specs.declared.word.CallWord.{CallWord}
 use Rattle.journals.specs.declared.word.CallWord.TheVariants as call
 use Rattle.journals.specs.declared.word.ReportWord.TheVariants as report
 use Rattle.closing.specs.Called.{Called, called}
-use Rattle.closing.specs.Held.{Held, held_first, after_line}
+use Rattle.closing.specs.RankComms.{RankComms, comms_first, after_line}
 
 -- the journal of each rank; None of one without
 abbrev pub Run : Type 0
@@ -43,7 +43,7 @@ pub record Placed : Type 0 where
   pub line : ℕ
   pub entry : Entry
   pub called : Called
-  pub held : Held
+  pub comms : RankComms
   pub came_back : Bool
 
 -- ---- Whether a call came back ----
@@ -70,35 +70,35 @@ did_come_back journal entry later =
 
 -- ---- Entries ----
 
-abbrev pub placed_at : ℕ → Journal → ℕ → Held → Entry → List Line → Placed
-placed_at rank journal number held entry later = record {
+abbrev pub placed_at : ℕ → Journal → ℕ → RankComms → Entry → List Line → Placed
+placed_at rank journal number comms entry later = record {
   rank = rank;
   journal = journal;
   line = number;
   entry = entry;
   called = called entry.word entry.fields;
-  held = held;
+  comms = comms;
   came_back = did_come_back journal entry later;
 }
 
-abbrev pub put_line : ℕ → Journal → ℕ → Held → Line → List Line → List Placed → List Placed
-put_line rank journal number held line later others = put_word line.word
+abbrev pub put_line : ℕ → Journal → ℕ → RankComms → Line → List Line → List Placed → List Placed
+put_line rank journal number comms line later others = put_word line.word
   where
     put_word : Word → List Placed
     put_word (Call word) =
-        placed_at rank journal number held (record { word = word; fields = line.fields; reports = (listing_of later).early }) later
+        placed_at rank journal number comms (record { word = word; fields = line.fields; reports = (listing_of later).early }) later
         ∷ others
     put_word (Report word) = others
 
 -- those of some of the rank's lines, the first of which has this number, with what the rank has before them
-abbrev pub entries_from : ℕ → Journal → ℕ → Held → List Line → List Placed
-entries_from rank journal number held [] = []
-entries_from rank journal number held (line ∷ lines) =
-    put_line rank journal number held line lines (entries_from rank journal (number + 1) (after_line held line) lines)
+abbrev pub entries_from : ℕ → Journal → ℕ → RankComms → List Line → List Placed
+entries_from rank journal number comms [] = []
+entries_from rank journal number comms (line ∷ lines) =
+    put_line rank journal number comms line lines (entries_from rank journal (number + 1) (after_line comms line) lines)
 
 abbrev pub entries_in : ℕ → Option Journal → List Placed
 entries_in rank None = []
-entries_in rank (Some journal) = entries_from rank journal 2 (held_first rank) journal.lines
+entries_in rank (Some journal) = entries_from rank journal 2 (comms_first rank) journal.lines
 
 -- those of a rank, and those of all ranks
 abbrev pub entries_at : Run → ℕ → List Placed

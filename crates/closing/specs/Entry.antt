@@ -24,7 +24,7 @@ use Rattle.journals.specs.declared.word.Word.TheVariants.{Call as CallLine}
 use Rattle.journals.specs.declared.word.ReportWord.TheVariants as report
 use Rattle.closing.specs.Called.{Called, Sent, Sends, StartsSend, Receives, StartsReceive, Exchanges, StartsExchange, Probes, ProbesMatching, ReceivesMatched, StartsMatched, Waits, Tests, WaitsAny, WaitsSome, Collects, StartsCollective, Duplicates, Splits, Makes, StartsDuplicate, MakesOfGroup, called}
 use Rattle.closing.specs.Keys.{Key, group_of_key}
-use Rattle.closing.specs.Held.{Wave}
+use Rattle.closing.specs.RankComms.{Wave}
 use Rattle.closing.specs.Entries.{Run, Placed}
 use Rattle.closing.specs.Made.{wave_at, keys_of_wave, key_made}
 use Rattle.closing.specs.Numbers.{named_key, number_of, rank_in}

@@ -2,7 +2,7 @@ pub mod Called
 pub mod Endings
 pub mod Entries
 pub mod Entry
-pub mod Held
+pub mod RankComms
 pub mod Journals
 pub mod Keys
 pub mod Made

@@ -7,12 +7,12 @@ use Rattle.journals.specs.Known.{report_of}
 use Rattle.journals.specs.declared.word.ReportWord.TheVariants as report
 use Rattle.closing.specs.Called.{Called, Splits}
 use Rattle.closing.specs.Keys.{Key, same_key, has_member}
-use Rattle.closing.specs.Held.{Wave, makes_comm, wave_next, made_in, held_after}
+use Rattle.closing.specs.RankComms.{Wave, makes_comm, wave_next, made_in, comms_after}
 use Rattle.closing.specs.Entries.{Run, Placed, lines_at, entries_at, all_entries}
 
 -- the wave of an entry's call
 abbrev pub wave_at : Placed → Option Wave
-wave_at placed = wave_next placed.held placed.called
+wave_at placed = wave_next placed.comms placed.called
 
 abbrev pub is_wave : Wave → Option Wave → Bool
 is_wave wave None = false
@@ -54,4 +54,4 @@ key_made run placed = or_else (reported_key placed) (inferred_key run placed)
 
 -- all communicators of a rank but the world, in the order in which it got them
 abbrev pub keys_at : Run → ℕ → List Key
-keys_at run rank = (held_after rank (lines_at run rank)).keys ++ filter_map (inferred_key run) (entries_at run rank)
+keys_at run rank = (comms_after rank (lines_at run rank)).keys ++ filter_map (inferred_key run) (entries_at run rank)

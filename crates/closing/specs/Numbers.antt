@@ -7,14 +7,14 @@ use Rattle.mpicall.specs.declared.call.Call.{Call}
 use Rattle.mpicall.specs.declared.call.Call.TheVariants.{Split}
 use Rattle.closing.specs.Called.{comm_of}
 use Rattle.closing.specs.Keys.{Key, World, Made, has_member, is_key_among, each_once, place_of_key, group_of_key}
-use Rattle.closing.specs.Held.{key_under, key_next}
+use Rattle.closing.specs.RankComms.{key_under, key_next}
 use Rattle.closing.specs.Entries.{Run, Placed, ranks_of, all_entries}
 use Rattle.closing.specs.Made.{keys_at}
 
 -- the communicator that an entry's call is on, or that it makes of a group
 abbrev pub named_key : Placed → Option Key
 named_key placed =
-    or_else (key_next placed.held placed.called) (option_and_then (key_under placed.held) (comm_of placed.called))
+    or_else (key_next placed.comms placed.called) (option_and_then (key_under placed.comms) (comm_of placed.called))
 
 -- some call names it, other than that which makes it and those that free it
 abbrev pub is_named : Run → Key → Bool

@@ -7,4 +7,3 @@ pub mod Standings
 pub mod Walks
 pub mod Walked
 pub mod RequestReports
-pub mod HeadTexts

@@ -8,12 +8,12 @@ ghost use Rattle.closing.specs.inner.Walked.{number_at, number_or, size_at};
 
 use crate::called::{Called, read_call};
 use crate::choice::{Calls, Choice};
-use crate::held::Held;
 use crate::keys::Wave;
 use crate::last::{LastCall, Reports, last_call, reports_from};
 use crate::list::List;
 use crate::message::{Message, message_in};
 use crate::numbers::{Communicators, Named};
+use crate::rank_comms::RankComms;
 use crate::standing::Standing;
 use crate::stop::Stop;
 use crate::walk::message::Halves;
@@ -96,7 +96,7 @@ pub struct Walk {
     rank: u16,
     choice: Choice,
     last: Option<LastCall>,
-    held: Held,
+    comms: RankComms,
     list: List,
     requests: Standing,
     /// The sends that tests completed, which are waited for at the end.
@@ -161,7 +161,7 @@ impl Walk {
             rank,
             choice,
             last: None,
-            held: Held::first(alloc, alone)?,
+            comms: RankComms::first(alloc, alone)?,
             list: List::new(alloc),
             requests: Standing::empty(alloc),
             late: Vec::new(alloc),
@@ -262,7 +262,7 @@ impl Walk {
         for line in start..end {
             if let Some(Word::Report(word)) = lines.word(line) {
                 let key = self
-                    .held
+                    .comms
                     .take_report(&mut run.keys, word, lines.fields(line))?;
                 if word == ReportWord::Comm {
                     made = key;
@@ -325,9 +325,9 @@ impl Walk {
         entry: &Entry,
         it: &Called<'_>,
     ) -> Result<At<'a>, AllocError> {
-        let on = self.held.key_on(it);
-        let wave = self.held.take_call(&mut run.keys, it, on)?;
-        let key = self.held.own().or(on);
+        let on = self.comms.key_on(it);
+        let wave = self.comms.take_call(&mut run.keys, it, on)?;
+        let key = self.comms.own().or(on);
         let start = entry.place.saturating_add(1);
         let reported = self.take_reports(run, lines, start, entry.reports.end)?;
         Ok(At {

@@ -1,5 +1,5 @@
 -- What call lines say of groups: a call that makes a communicator of a group has the group of its line.
-use Rattle.std.proofs.Common.{◌≡◌, ℕ, ◌-◌, ◌≤◌, max, Option, Some, None, List, [], ◌∷◌, length, refl, subst, arith}
+use Rattle.std.proofs.Common.{◌≡◌, ℕ, ◌-◌, ◌≤◌, max, None, List, [], ◌∷◌, length, refl, subst, arith}
 use Rattle.std.specs.Prelude.{⊤}
 use Rattle.mpicall.specs.declared.call.Mode.{Mode}
 use Rattle.mpicall.specs.declared.call.Mode.TheVariants.{Standard, Synchronous, Buffered}

@@ -1,17 +1,16 @@
 -- What the lines of a journal that was read have besides: fields in their forms, and groups of ranks of the run.
-use Rattle.std.proofs.Common.{◌≡◌, ℕ, zero, suc, ◌+◌, ◌-◌, ◌≤◌, ◌<◌, ◌&&◌, ◌==◌, max, Bool, true, false, not, if◌then◌else◌, Option, Some, None, List, [], ◌∷◌, ◌++◌, length, refl, sym, ap, subst, ◌∙◌, arith, inl, inr, eqb-true}
+use Rattle.std.proofs.Common.{◌≡◌, ℕ, ◌≤◌, ◌&&◌, Bool, true, false, Option, Some, None, List, [], ◌∷◌, ◌++◌, length, refl, sym, subst, arith, inl, inr}
 use Rattle.std.specs.Prelude.{⊤, Result, Ok, Err, option_and_then, nat_le, nat_lt}
-use Rattle.std.specs.List.{list_all, range_with_len}
+use Rattle.std.specs.List.{list_all}
 use Rattle.std.proofs.lemmas.Bool.{cases_Bool, false≢true, and_parts, leb-true, lt-ltb}
 use Rattle.std.proofs.lemmas.Option.{none-some, same_Some}
 use Rattle.std.proofs.lemmas.Slice.Eq.{bytes_eq-Decides}
-use Rattle.std.specs.Str.{bytes_eq}
 use Rattle.mpicall.specs.Lines.{split_fields}
 use Rattle.mpicall.specs.Number.{number_up_to}
 use Rattle.mpicall.proofs.DecimalLemmas.{number-decimal}
 use Rattle.journals.specs.Fields.{at_least_one}
 use Rattle.journals.specs.Header.{Heading, heading_of, heading_in, heading_if, state_of, is_of_run}
-use Rattle.journals.specs.Text.{is_too_long, text_of, whole_lines}
+use Rattle.journals.specs.Text.{is_too_long}
 use Rattle.journals.specs.Lines.{Line, line_of}
 use Rattle.journals.specs.Entries.{Entry, Listing, call_of, put_line, listing_of, entries_of, last_of, last_entry, numbers_by, is_comm, is_request, group_in}
 use Rattle.journals.specs.Known.{is_among, are_distinct, group_of}
@@ -27,7 +26,6 @@ use Rattle.journals.specs.declared.word.Word.{Word}
 use Rattle.journals.specs.declared.word.Word.TheVariants.{Call, Report}
 use Rattle.journals.specs.declared.word.CallWord.{CallWord}
 use Rattle.journals.specs.declared.word.CallWord.TheVariants as call
-use Rattle.journals.specs.declared.word.ReportWord.{ReportWord}
 use Rattle.journals.specs.declared.word.ReportWord.TheVariants as report
 use Rattle.journals.proofs.ReadLines.{line_read}
 use Rattle.journals.proofs.GroupFields.{call_members, report_members, call_group, report_group}

@@ -1,8 +1,8 @@
 -- Groups: distinct ranks of a run, some.
-use Rattle.std.proofs.Common.{◌≡◌, ℕ, zero, suc, ◌+◌, ◌-◌, ◌≤◌, ◌<◌, ◌==◌, ◌&&◌, ◌||◌, not, Bool, true, false, if◌then◌else◌, List, [], ◌∷◌, length, filter, refl, sym, ap, subst, ◌∙◌, arith, eqb-true, eq-eqb, inl, inr}
-use Rattle.std.specs.Prelude.{⊤, nat_lt}
-use Rattle.std.specs.List.{list_any, list_all, range_with_len}
-use Rattle.std.proofs.lemmas.Bool.{cases_Bool, cases_eq, cases_lt, false≢true, and_parts, and_from, or_parts, not-true, ltb-true, lt-ltb, ne_eqb}
+use Rattle.std.proofs.Common.{◌≡◌, ℕ, zero, suc, ◌+◌, ◌≤◌, ◌<◌, ◌==◌, not, true, false, List, [], ◌∷◌, length, filter, refl, ap, subst, arith, eq-eqb, inl, inr}
+use Rattle.std.specs.Prelude.{nat_lt}
+use Rattle.std.specs.List.{list_all, range_with_len}
+use Rattle.std.proofs.lemmas.Bool.{cases_Bool, cases_eq, cases_lt, and_parts, or_parts, not-true, ltb-true, lt-ltb, ne_eqb}
 use Rattle.journals.specs.Known.{is_among, are_distinct}
 
 pub record IsGroupOf (ranks : ℕ) (group : List ℕ) : Type 0 where

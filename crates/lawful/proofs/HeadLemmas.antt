@@ -1,7 +1,6 @@
 -- The head of a recording: groups of ranks of its run, no more than a head may have.
-use Rattle.std.proofs.Common.{◌≡◌, ℕ, zero, suc, ◌+◌, ◌≤◌, ◌<◌, ◌&&◌, ◌||◌, not, Bool, true, false, List, [], ◌∷◌, length, map, take, filter, refl, sym, ap, subst, ◌∙◌, arith}
-use Rattle.std.specs.Prelude.{⊤, nat_le, nat_lt}
-use Rattle.std.specs.List.{list_all, list_any, flat_map, range_with_len}
+use Rattle.std.proofs.Common.{◌≡◌, ℕ, zero, suc, ◌+◌, ◌≤◌, not, true, false, List, [], ◌∷◌, length, map, take, filter, refl, sym, subst, arith}
+use Rattle.std.specs.List.{list_all, flat_map}
 use Rattle.std.proofs.lemmas.Bool.{and_parts, not-true, le-leb}
 use Rattle.std.proofs.lemmas.List.{length-map}
 use Rattle.std.proofs.lemmas.List.FromFn.{length-range_with_len}
@@ -14,11 +13,10 @@ use Rattle.closing.specs.Entries.{Run, ranks_of as ranks_in}
 use Rattle.closing.specs.Made.{keys_at}
 use Rattle.closing.specs.Numbers.{is_named, numbered_keys, groups_of}
 use Rattle.closing.specs.Recording.{recording_of}
-use Rattle.lawful.specs.Laws.{IsRead}
-use Rattle.lawful.specs.Closed.{IsHead, EachHeadIsAHead}
+use Rattle.lawful.specs.Closed.{EachHeadIsAHead}
 use Rattle.lawful.proofs.GroupFacts.{IsGroupOf}
 use Rattle.lawful.proofs.FullFacts.{FitsRanks}
-use Rattle.lawful.proofs.RunFull.{RunFull, run_full}
+use Rattle.lawful.proofs.RunFull.{run_full}
 use Rattle.lawful.proofs.KeyGroups.{AllKeys, numbered_full}
 
 once_twice : (group : List ℕ) → are_distinct group ≡ true → has_twice group ≡ false

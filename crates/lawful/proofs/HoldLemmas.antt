@@ -1,16 +1,15 @@
 -- Lists whose calls all pass the tests that look at communicators, and what such lists keep as they grow.
-use Rattle.std.proofs.Common.{◌≡◌, ℕ, zero, suc, ◌||◌, ◌&&◌, ◌==◌, Bool, true, false, Option, Some, None, List, [], ◌∷◌, ◌++◌, length, map, take, drop, refl, sym, ap, subst, ◌∙◌, append_assoc, append-nil, inl, inr}
+use Rattle.std.proofs.Common.{◌≡◌, ℕ, zero, suc, ◌||◌, ◌==◌, Bool, true, false, Option, Some, None, List, [], ◌∷◌, ◌++◌, length, map, take, refl, sym, ap, subst, ◌∙◌, append_assoc, append-nil, inl, inr}
 use Rattle.std.specs.Prelude.{⊤, slice_get}
 use Rattle.std.specs.List.{list_any, position}
 use Rattle.std.proofs.lemmas.Bool.{cases_Bool}
 use Rattle.std.proofs.lemmas.List.{map-append}
 use Rattle.std.proofs.lemmas.Option.{none-some, same_Some}
 use Rattle.mpicall.specs.declared.call.Call.{Call}
-use Rattle.mpicall.specs.declared.call.Call.TheVariants.{Wait, Waitall, Waitany}
 use Rattle.mpicall.specs.declared.limits.TheConstants.{MOST_REQUESTS}
 use Rattle.mpigroup.specs.Groups.{Groups}
-use Rattle.callstore.specs.Communicators.{comm_of, makes, does_make, holds}
-use Rattle.pairing.specs.Faults.{is_member, holds_comm, makes_afresh}
+use Rattle.callstore.specs.Communicators.{does_make, holds}
+use Rattle.pairing.specs.Faults.{holds_comm, makes_afresh}
 use Rattle.closing.specs.Steps.{Step, Does, Starts, WaitsForAll, WaitsForOne, PutsOff, WaitsForLate, Written, Progress, number_in, numbers_of, least_free, waits_for, wait_for_one, wait_one, plain, after_step, after_steps}
 use Rattle.lawful.proofs.StepLemmas.{calls_in, added_plain}
 use Rattle.lawful.proofs.PassLemmas.{IsStep, AreSteps, AllCalls, PassWaits, waits_pass, chosen_passes}
@@ -19,7 +18,7 @@ use Rattle.lawful.proofs.PassLemmas.{IsStep, AreSteps, AllCalls, PassWaits, wait
 
 -- the call passes the tests that look at communicators
 pub record Holds (groups : Groups) (rank : ℕ) (calls : List Call) (call : Call) : Type 0 where
-  pub held : holds_comm groups rank calls call ≡ true
+  pub comms : holds_comm groups rank calls call ≡ true
   pub afresh : makes_afresh groups rank calls call ≡ true
 
 -- each call does, after some others

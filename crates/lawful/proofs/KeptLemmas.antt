@@ -1,7 +1,7 @@
 -- What a rank's list keeps as it grows: each communicator that the rank has is made in it, and none twice.
-use Rattle.std.proofs.Common.{◌≡◌, ℕ, zero, suc, ◌+◌, ◌≤◌, ◌<◌, ◌==◌, ◌&&◌, ◌||◌, not, Bool, true, false, if◌then◌else◌, Option, Some, None, List, [], ◌∷◌, ◌++◌, length, map, refl, sym, ap, subst, ◌∙◌, arith, eqb-true, inl, inr}
+use Rattle.std.proofs.Common.{◌≡◌, ℕ, ◌≤◌, ◌<◌, ◌==◌, ◌&&◌, ◌||◌, Bool, true, false, Option, Some, None, List, [], ◌∷◌, ◌++◌, length, refl, sym, subst, arith, inl, inr}
 use Rattle.std.specs.Prelude.{⊤, option_map, option_and_then, cond}
-use Rattle.std.specs.List.{list_any, find}
+use Rattle.std.specs.List.{list_any}
 use Rattle.std.proofs.lemmas.Bool.{cases_Bool, false≢true, and_parts, and_from}
 use Rattle.std.proofs.lemmas.List.Sums.{sum_by_push}
 use Rattle.std.proofs.lemmas.Option.{none-some, same_Some}
@@ -9,24 +9,20 @@ use Rattle.mpicall.specs.declared.call.Call.{Call}
 use Rattle.mpigroup.specs.Groups.{Groups}
 use Rattle.callstore.specs.Communicators.{makes, does_make, holds}
 use Rattle.pairing.specs.Faults.{is_member}
-use Rattle.journals.specs.Lines.{Line}
-use Rattle.journals.specs.Entries.{Listing, put_line, listing_of, group_in}
 use Rattle.journals.specs.Known.{is_among, is_report}
 use Rattle.journals.specs.declared.field.Field.{Field}
 use Rattle.journals.specs.declared.field.Field.TheVariants.{Natural}
-use Rattle.journals.specs.declared.word.Word.{Word}
-use Rattle.journals.specs.declared.word.Word.TheVariants.{Call as CallLine, Report}
+use Rattle.journals.specs.declared.word.Word.TheVariants.{Report}
 use Rattle.journals.specs.declared.word.ReportWord.{ReportWord}
 use Rattle.journals.specs.declared.word.ReportWord.TheVariants as report
-use Rattle.closing.specs.Called.{Called, MakesOfGroup, wave_comm}
+use Rattle.closing.specs.Called.{Called, wave_comm}
 use Rattle.closing.specs.Keys.{Key, World, Alone, Made, Duplicated, OfGroup, Apart, same_key, has_member, key_count, group_count}
-use Rattle.closing.specs.Held.{Wave, Held, held_first, under, wave_on, wave_next, key_next, key_under, with_some, with_key, made_in, duplicated_in, with_made, with_duplicated, with_apart, after_report}
+use Rattle.closing.specs.RankComms.{Wave, RankComms, under, wave_on, wave_next, key_under, with_some, with_key, made_in, duplicated_in, with_made, after_report}
 use Rattle.closing.specs.Entries.{Run}
 use Rattle.closing.specs.Numbers.{is_of_call, number_of, groups_of}
-use Rattle.lawful.proofs.HoldLemmas.{Holds, AllHold, Keeps, hold_more, any_more, holds_more, held_made}
-use Rattle.lawful.proofs.LineFacts.{BeginsNatural, WordFits, LineFits}
+use Rattle.lawful.proofs.HoldLemmas.{Holds, AllHold, Keeps, hold_more, any_more, holds_more}
+use Rattle.lawful.proofs.LineFacts.{WordFits}
 use Rattle.lawful.proofs.KeyFacts.{same_key_self, member_is, in_the_world, world_number}
-use Rattle.lawful.proofs.PrefaceFacts.{preface_holds, preface_made, preface_makes}
 
 -- ---- Keys ----
 
@@ -69,16 +65,16 @@ used_no_call waves (Apart group count) h = tt
 
 -- ---- Waves ----
 
-pub wave_counts : (held : Held) (it : Called) (wave : Wave) → wave_next held it ≡ Some wave → wave.count ≡ key_count wave.parent held.waves
-wave_counts held it wave h = of_key (option_and_then (key_under held) (wave_comm it)) h
+pub wave_counts : (comms : RankComms) (it : Called) (wave : Wave) → wave_next comms it ≡ Some wave → wave.count ≡ key_count wave.parent comms.waves
+wave_counts comms it wave h = of_key (option_and_then (key_under comms) (wave_comm it)) h
   where
-    of_key : (o : Option Key) → option_map (wave_on held) o ≡ Some wave → wave.count ≡ key_count wave.parent held.waves
+    of_key : (o : Option Key) → option_map (wave_on comms) o ≡ Some wave → wave.count ≡ key_count wave.parent comms.waves
     of_key None e = absurd (none-some wave e)
-    of_key (Some key) e = subst (λ (w : Wave). w.count ≡ key_count w.parent held.waves) (same_Some (wave_on held key) wave e) refl
+    of_key (Some key) e = subst (λ (w : Wave). w.count ≡ key_count w.parent comms.waves) (same_Some (wave_on comms key) wave e) refl
 
-pub wave_used : (held : Held) (it : Called) (wave : Wave) (group : List ℕ) → wave_next held it ≡ Some wave → IsUsed (with_some held.waves (option_map (λ (w : Wave). w.parent) (wave_next held it))) (Made wave.parent wave.count group)
-wave_used held it wave group h =
-    rw h (let counts = wave_counts held it wave h in let more = count_self wave.parent held.waves in omega (arith, counts, more))
+pub wave_used : (comms : RankComms) (it : Called) (wave : Wave) (group : List ℕ) → wave_next comms it ≡ Some wave → IsUsed (with_some comms.waves (option_map (λ (w : Wave). w.parent) (wave_next comms it))) (Made wave.parent wave.count group)
+wave_used comms it wave group h =
+    rw h (let counts = wave_counts comms it wave h in let more = count_self wave.parent comms.waves in omega (arith, counts, more))
 
 -- ---- What is kept ----
 
@@ -102,8 +98,8 @@ pub record Kept (run : Run) (rank : ℕ) (numbers : List (ℕ × Key)) (waves : 
   pub has : (number : ℕ) (key : Key) → under number numbers ≡ Some key → Has run rank calls key
   pub own_has : (key : Key) → own ≡ Some key → Has run rank calls key
 
-abbrev pub KeptBy : Run → ℕ → Held → List Call → Type 0
-KeptBy run rank held calls = Kept run rank held.numbers held.waves held.own calls
+abbrev pub KeptBy : Run → ℕ → RankComms → List Call → Type 0
+KeptBy run rank comms calls = Kept run rank comms.numbers comms.waves comms.own calls
 
 ready_more : (run : Run) (calls : List Call) (call : Call) (key : Key) → Ready run calls key → Ready run (calls ++ call ∷ []) key
 ready_more run calls call key ready number h = holds_more calls call number (ready number h)
@@ -153,10 +149,10 @@ safe_keeps run rank numbers waves own comm calls call safe (kept, is_own) = (
 -- ---- After a call ----
 
 -- the calls that it stands for are there, and it makes nothing but of a group
-pub kept_call : (run : Run) (rank : ℕ) (held : Held) (calls : List Call) (o next : Option Key) → KeptBy run rank held calls → ((key : Key) → next ≡ Some key → (is_of_call key ≡ false) × (has_member (length run) rank key ≡ true)) → Kept run rank held.numbers (with_some held.waves o) next calls
-kept_call run rank held calls o next kept own = record {
+pub kept_call : (run : Run) (rank : ℕ) (comms : RankComms) (calls : List Call) (o next : Option Key) → KeptBy run rank comms calls → ((key : Key) → next ≡ Some key → (is_of_call key ≡ false) × (has_member (length run) rank key ≡ true)) → Kept run rank comms.numbers (with_some comms.waves o) next calls
+kept_call run rank comms calls o next kept own = record {
   all = kept.all;
-  made = λ number made. let source = kept.made number made in record { key = source.key; is_number = source.is_number; used = used_some held.waves o source.key source.used };
+  made = λ number made. let source = kept.made number made in record { key = source.key; is_number = source.is_number; used = used_some comms.waves o source.key source.used };
   ready = kept.ready;
   has = kept.has;
   own_has = λ key h. let facts = own key h in record { member = facts.1; ready = kept.ready key facts.0 facts.1 };
@@ -177,32 +173,32 @@ put_number run rank number key numbers waves own calls has kept = record {
 }
 
 -- the communicator that the next report of one brings: that of the wave of the last call
-abbrev pub WaveReady : Run → List Call → Held → List ℕ → Type 0
-WaveReady run calls held group = (wave : Wave) → held.wave ≡ Some wave → held.own ≡ None → Ready run calls (Made wave.parent wave.count group)
+abbrev pub WaveReady : Run → List Call → RankComms → List ℕ → Type 0
+WaveReady run calls comms group = (wave : Wave) → comms.wave ≡ Some wave → comms.own ≡ None → Ready run calls (Made wave.parent wave.count group)
 
-made_kept : (run : Run) (rank number : ℕ) (group : List ℕ) (held : Held) (calls : List Call) (own : Option Key) → held.own ≡ own → is_among rank group ≡ true → WaveReady run calls held group → KeptBy run rank held calls → KeptBy run rank (with_made held number group own) calls
-made_kept run rank number group held calls (Some key) is among ready kept =
-    put_number run rank number key held.numbers held.waves held.own calls (kept.own_has key is) kept
-made_kept run rank number group held calls None is among ready kept = of_wave held.wave refl
+made_kept : (run : Run) (rank number : ℕ) (group : List ℕ) (comms : RankComms) (calls : List Call) (own : Option Key) → comms.own ≡ own → is_among rank group ≡ true → WaveReady run calls comms group → KeptBy run rank comms calls → KeptBy run rank (with_made comms number group own) calls
+made_kept run rank number group comms calls (Some key) is among ready kept =
+    put_number run rank number key comms.numbers comms.waves comms.own calls (kept.own_has key is) kept
+made_kept run rank number group comms calls None is among ready kept = of_wave comms.wave refl
   where
-    of_wave : (o : Option Wave) → held.wave ≡ o → Kept run rank (with_key held number (option_map (made_in group) o)).numbers (with_key held number (option_map (made_in group) o)).waves (with_key held number (option_map (made_in group) o)).own calls
+    of_wave : (o : Option Wave) → comms.wave ≡ o → Kept run rank (with_key comms number (option_map (made_in group) o)).numbers (with_key comms number (option_map (made_in group) o)).waves (with_key comms number (option_map (made_in group) o)).own calls
     of_wave None e = kept
     of_wave (Some wave) e =
-        put_number run rank number (Made wave.parent wave.count group) held.numbers held.waves held.own calls
+        put_number run rank number (Made wave.parent wave.count group) comms.numbers comms.waves comms.own calls
         (record { member = among; ready = ready wave e is }) kept
 
-duplicated_kept : (run : Run) (rank number : ℕ) (group : List ℕ) (held : Held) (calls : List Call) (o : Option Wave) → is_among rank group ≡ true → KeptBy run rank held calls → KeptBy run rank (with_key held number (option_map (duplicated_in group) o)) calls
-duplicated_kept run rank number group held calls None among kept = kept
-duplicated_kept run rank number group held calls (Some wave) among kept =
-    put_number run rank number (Duplicated wave.parent wave.count group) held.numbers held.waves held.own calls
+duplicated_kept : (run : Run) (rank number : ℕ) (group : List ℕ) (comms : RankComms) (calls : List Call) (o : Option Wave) → is_among rank group ≡ true → KeptBy run rank comms calls → KeptBy run rank (with_key comms number (option_map (duplicated_in group) o)) calls
+duplicated_kept run rank number group comms calls None among kept = kept
+duplicated_kept run rank number group comms calls (Some wave) among kept =
+    put_number run rank number (Duplicated wave.parent wave.count group) comms.numbers comms.waves comms.own calls
     (record { member = among; ready = kept.ready (Duplicated wave.parent wave.count group) refl among }) kept
 
-pub report_kept : (run : Run) (rank : ℕ) (held : Held) (calls : List Call) (word : ReportWord) (fields : List Field) (group : List ℕ) → WordFits rank (Report word) fields group → (is_report report.Comm (Report word) ≡ true → WaveReady run calls held group) → KeptBy run rank held calls → KeptBy run rank (after_report held word fields group) calls
-report_kept run rank held calls report.Comm (Natural number ∷ fields) group fits ready kept =
-    made_kept run rank number group held calls held.own refl fits.0 (ready refl) kept
-report_kept run rank held calls report.Idup (Natural number ∷ Natural request ∷ fields) group fits ready kept =
-    duplicated_kept run rank number group held calls (under request held.duplicates) fits kept
-report_kept run rank held calls report.Apart (Natural number ∷ fields) group fits ready kept =
-    put_number run rank number (Apart group (group_count group held.apart)) held.numbers held.waves held.own calls
-    (record { member = fits; ready = kept.ready (Apart group (group_count group held.apart)) refl fits }) kept
-report_kept run rank held calls _ fields group fits ready kept = kept
+pub report_kept : (run : Run) (rank : ℕ) (comms : RankComms) (calls : List Call) (word : ReportWord) (fields : List Field) (group : List ℕ) → WordFits rank (Report word) fields group → (is_report report.Comm (Report word) ≡ true → WaveReady run calls comms group) → KeptBy run rank comms calls → KeptBy run rank (after_report comms word fields group) calls
+report_kept run rank comms calls report.Comm (Natural number ∷ fields) group fits ready kept =
+    made_kept run rank number group comms calls comms.own refl fits.0 (ready refl) kept
+report_kept run rank comms calls report.Idup (Natural number ∷ Natural request ∷ fields) group fits ready kept =
+    duplicated_kept run rank number group comms calls (under request comms.duplicates) fits kept
+report_kept run rank comms calls report.Apart (Natural number ∷ fields) group fits ready kept =
+    put_number run rank number (Apart group (group_count group comms.apart)) comms.numbers comms.waves comms.own calls
+    (record { member = fits; ready = kept.ready (Apart group (group_count group comms.apart)) refl fits }) kept
+report_kept run rank comms calls _ fields group fits ready kept = kept

@@ -1,10 +1,9 @@
 -- The groups of the head: each is of distinct ranks of the run, some.
-use Rattle.std.proofs.Common.{◌≡◌, ℕ, zero, suc, ◌+◌, ◌≤◌, ◌<◌, ◌&&◌, not, Bool, true, false, if◌then◌else◌, Option, Some, None, List, [], ◌∷◌, ◌++◌, length, take, filter, refl, sym, ap, subst, ◌∙◌, arith, inl, inr}
+use Rattle.std.proofs.Common.{◌≡◌, ℕ, zero, suc, ◌+◌, ◌≤◌, ◌<◌, ◌&&◌, not, Bool, true, Option, Some, None, List, [], ◌∷◌, ◌++◌, length, take, filter, refl, subst, arith, inl, inr}
 use Rattle.std.specs.Prelude.{⊤, option_map, option_and_then}
 use Rattle.std.specs.List.{find, filter_map, cons_option, flat_map, range_with_len}
 use Rattle.std.proofs.lemmas.Bool.{cases_Bool, false≢true}
 use Rattle.std.proofs.lemmas.Option.{none-some, same_Some}
-use Rattle.mpicall.specs.Word.{or_else}
 use Rattle.mpicall.specs.declared.limits.TheConstants.{GREATEST_COMM}
 use Rattle.journals.specs.Lines.{Line}
 use Rattle.journals.specs.Journal.{Journal}
@@ -19,10 +18,10 @@ use Rattle.journals.specs.declared.word.CallWord.TheVariants as call
 use Rattle.journals.specs.declared.word.ReportWord.{ReportWord}
 use Rattle.journals.specs.declared.word.ReportWord.TheVariants as report
 use Rattle.closing.specs.Called.{Called, MakesOfGroup, called}
-use Rattle.closing.specs.Keys.{Key, World, Alone, Made, Duplicated, OfGroup, Apart, group_of_key, has_member, is_key_among, each_once, group_count}
-use Rattle.closing.specs.Held.{Wave, Held, held_first, under, key_next, wave_next, makes_comm, with_some, with_key, made_in, duplicated_in, with_made, after_call, after_report, after_line, after_lines, held_after}
-use Rattle.closing.specs.Entries.{Run, Placed, ranks_of, journal_at, lines_at, lines_in, placed_at, entries_from, entries_in, entries_at, all_entries}
-use Rattle.closing.specs.Made.{wave_at, is_wave, may_give, reported_group, made_with, reported_key, keys_of_wave, others_key, inferred_key, keys_at}
+use Rattle.closing.specs.Keys.{Key, OfGroup, Apart, group_of_key, has_member, is_key_among, each_once, group_count}
+use Rattle.closing.specs.RankComms.{Wave, RankComms, comms_first, under, key_next, makes_comm, with_some, with_key, made_in, duplicated_in, with_made, after_report, after_line, after_lines, comms_after}
+use Rattle.closing.specs.Entries.{Run, Placed, ranks_of, journal_at, lines_at, lines_in, entries_from, entries_in, entries_at, all_entries}
+use Rattle.closing.specs.Made.{wave_at, is_wave, may_give, made_with, reported_key, keys_of_wave, others_key, inferred_key, keys_at}
 use Rattle.closing.specs.Numbers.{is_named, numbered_keys}
 use Rattle.lawful.proofs.GroupFacts.{IsGroupOf, world_group, alone_group}
 use Rattle.lawful.proofs.FullFacts.{GroupFull, LineFull, LinesFull}
@@ -69,48 +68,48 @@ keys_take ranks (suc n) (key ∷ keys) all = (all.0, keys_take ranks n keys all.
 
 -- ---- What a rank gets ----
 
-next_full : (ranks : ℕ) (held : Held) (it : Called) (key : Key) → GroupIs (IsGroupOf ranks) it → key_next held it ≡ Some key → KeyFull ranks key
-next_full ranks held (MakesOfGroup group) key is h =
-    subst (λ (k : Key). KeyFull ranks k) (same_Some (OfGroup group (group_count group held.groups)) key h) is
-next_full ranks held _ key is h = absurd (none-some key h)
+next_full : (ranks : ℕ) (comms : RankComms) (it : Called) (key : Key) → GroupIs (IsGroupOf ranks) it → key_next comms it ≡ Some key → KeyFull ranks key
+next_full ranks comms (MakesOfGroup group) key is h =
+    subst (λ (k : Key). KeyFull ranks k) (same_Some (OfGroup group (group_count group comms.groups)) key h) is
+next_full ranks comms _ key is h = absurd (none-some key h)
 
-with_full : (ranks number : ℕ) (held : Held) (o : Option Key) → AllKeys ranks held.keys → ((key : Key) → o ≡ Some key → KeyFull ranks key) → AllKeys ranks (with_key held number o).keys
-with_full ranks number held None all one = all
-with_full ranks number held (Some key) all one = keys_append ranks held.keys (key ∷ []) all (one key refl, tt)
+with_full : (ranks number : ℕ) (comms : RankComms) (o : Option Key) → AllKeys ranks comms.keys → ((key : Key) → o ≡ Some key → KeyFull ranks key) → AllKeys ranks (with_key comms number o).keys
+with_full ranks number comms None all one = all
+with_full ranks number comms (Some key) all one = keys_append ranks comms.keys (key ∷ []) all (one key refl, tt)
 
 mapped_full : (ranks : ℕ) (group : List ℕ) (way : List ℕ → Wave → Key) (o : Option Wave) (key : Key) → ((wave : Wave) → KeyFull ranks (way group wave)) → option_map (way group) o ≡ Some key → KeyFull ranks key
 mapped_full ranks group way None key full h = absurd (none-some key h)
 mapped_full ranks group way (Some wave) key full h = subst (λ (k : Key). KeyFull ranks k) (same_Some (way group wave) key h) (full wave)
 
-made_full : (ranks number : ℕ) (group : List ℕ) (held : Held) (own : Option Key) → IsGroupOf ranks group → AllKeys ranks held.keys → AllKeys ranks (with_made held number group own).keys
-made_full ranks number group held (Some key) is all = all
-made_full ranks number group held None is all =
-    with_full ranks number held (option_map (made_in group) held.wave) all (λ key h. mapped_full ranks group made_in held.wave key (λ wave. is) h)
+made_full : (ranks number : ℕ) (group : List ℕ) (comms : RankComms) (own : Option Key) → IsGroupOf ranks group → AllKeys ranks comms.keys → AllKeys ranks (with_made comms number group own).keys
+made_full ranks number group comms (Some key) is all = all
+made_full ranks number group comms None is all =
+    with_full ranks number comms (option_map (made_in group) comms.wave) all (λ key h. mapped_full ranks group made_in comms.wave key (λ wave. is) h)
 
-report_full : (ranks : ℕ) (held : Held) (word : ReportWord) (fields : List Field) (group : List ℕ) → GroupFull ranks (Report word) group → AllKeys ranks held.keys → AllKeys ranks (after_report held word fields group).keys
-report_full ranks held report.Comm (Natural number ∷ fields) group is all = made_full ranks number group held held.own is all
-report_full ranks held report.Idup (Natural number ∷ Natural request ∷ fields) group is all =
-    with_full ranks number held (option_map (duplicated_in group) (under request held.duplicates)) all
-    (λ key h. mapped_full ranks group duplicated_in (under request held.duplicates) key (λ wave. is) h)
-report_full ranks held report.Apart (Natural number ∷ fields) group is all =
-    keys_append ranks held.keys (Apart group (group_count group held.apart) ∷ []) all (is, tt)
-report_full ranks held _ fields group is all = all
+report_full : (ranks : ℕ) (comms : RankComms) (word : ReportWord) (fields : List Field) (group : List ℕ) → GroupFull ranks (Report word) group → AllKeys ranks comms.keys → AllKeys ranks (after_report comms word fields group).keys
+report_full ranks comms report.Comm (Natural number ∷ fields) group is all = made_full ranks number group comms comms.own is all
+report_full ranks comms report.Idup (Natural number ∷ Natural request ∷ fields) group is all =
+    with_full ranks number comms (option_map (duplicated_in group) (under request comms.duplicates)) all
+    (λ key h. mapped_full ranks group duplicated_in (under request comms.duplicates) key (λ wave. is) h)
+report_full ranks comms report.Apart (Natural number ∷ fields) group is all =
+    keys_append ranks comms.keys (Apart group (group_count group comms.apart) ∷ []) all (is, tt)
+report_full ranks comms _ fields group is all = all
 
 makes_group : (ranks : ℕ) (word : CallWord) (group : List ℕ) → GroupFull ranks (CallLine word) group → MakesGroup (IsGroupOf ranks) word group
 makes_group ranks call.CommCreateGroup group is = is
 makes_group ranks _ group is = tt
 
-line_full_keys : (ranks : ℕ) (held : Held) (word : Word) (fields : List Field) → GroupFull ranks word (group_in (record { word = word; fields = fields })) → AllKeys ranks held.keys → AllKeys ranks (after_line held (record { word = word; fields = fields })).keys
-line_full_keys ranks held (CallLine word) fields is all =
-    keys_some ranks held.keys (key_next held (called word fields)) all
-    (λ key h. next_full ranks held (called word fields) key
+line_full_keys : (ranks : ℕ) (comms : RankComms) (word : Word) (fields : List Field) → GroupFull ranks word (group_in (record { word = word; fields = fields })) → AllKeys ranks comms.keys → AllKeys ranks (after_line comms (record { word = word; fields = fields })).keys
+line_full_keys ranks comms (CallLine word) fields is all =
+    keys_some ranks comms.keys (key_next comms (called word fields)) all
+    (λ key h. next_full ranks comms (called word fields) key
     (called_group (IsGroupOf ranks) word fields (makes_group ranks word (group_in (record { word = CallLine word; fields = fields })) is)) h)
-line_full_keys ranks held (Report word) fields is all = report_full ranks held word fields (group_in (record { word = Report word; fields = fields })) is all
+line_full_keys ranks comms (Report word) fields is all = report_full ranks comms word fields (group_in (record { word = Report word; fields = fields })) is all
 
-lines_full_keys : (ranks : ℕ) (lines : List Line) (held : Held) → LinesFull ranks lines → AllKeys ranks held.keys → AllKeys ranks (after_lines held lines).keys
-lines_full_keys ranks [] held full all = all
-lines_full_keys ranks (line ∷ lines) held full all =
-    lines_full_keys ranks lines (after_line held line) full.1 (line_full_keys ranks held line.word line.fields full.0.group all)
+lines_full_keys : (ranks : ℕ) (lines : List Line) (comms : RankComms) → LinesFull ranks lines → AllKeys ranks comms.keys → AllKeys ranks (after_lines comms lines).keys
+lines_full_keys ranks [] comms full all = all
+lines_full_keys ranks (line ∷ lines) comms full all =
+    lines_full_keys ranks lines (after_line comms line) full.1 (line_full_keys ranks comms line.word line.fields full.0.group all)
 
 -- ---- Entries ----
 
@@ -130,15 +129,15 @@ pub early_full : (ranks : ℕ) (lines : List Line) → LinesFull ranks lines →
 early_full ranks [] all = tt
 early_full ranks (line ∷ lines) all = early_put ranks line.word line.fields (listing_of lines) all.0 (early_full ranks lines all.1)
 
-entries_put : (ranks rank : ℕ) (journal : Journal) (number : ℕ) (held : Held) (word : Word) (fields : List Field) (lines : List Line) → LinesFull ranks lines → AllPlaced ranks (entries_from rank journal (number + 1) (after_line held (record { word = word; fields = fields })) lines) → AllPlaced ranks (entries_from rank journal number held (record { word = word; fields = fields } ∷ lines))
-entries_put ranks rank journal number held (CallLine word) fields lines full others = (early_full ranks lines full, others)
-entries_put ranks rank journal number held (Report word) fields lines full others = others
+entries_put : (ranks rank : ℕ) (journal : Journal) (number : ℕ) (comms : RankComms) (word : Word) (fields : List Field) (lines : List Line) → LinesFull ranks lines → AllPlaced ranks (entries_from rank journal (number + 1) (after_line comms (record { word = word; fields = fields })) lines) → AllPlaced ranks (entries_from rank journal number comms (record { word = word; fields = fields } ∷ lines))
+entries_put ranks rank journal number comms (CallLine word) fields lines full others = (early_full ranks lines full, others)
+entries_put ranks rank journal number comms (Report word) fields lines full others = others
 
-entries_from_full : (ranks rank : ℕ) (journal : Journal) (number : ℕ) (held : Held) (lines : List Line) → LinesFull ranks lines → AllPlaced ranks (entries_from rank journal number held lines)
-entries_from_full ranks rank journal number held [] full = tt
-entries_from_full ranks rank journal number held (line ∷ lines) full =
-    entries_put ranks rank journal number held line.word line.fields lines full.1
-    (entries_from_full ranks rank journal (number + 1) (after_line held line) lines full.1)
+entries_from_full : (ranks rank : ℕ) (journal : Journal) (number : ℕ) (comms : RankComms) (lines : List Line) → LinesFull ranks lines → AllPlaced ranks (entries_from rank journal number comms lines)
+entries_from_full ranks rank journal number comms [] full = tt
+entries_from_full ranks rank journal number comms (line ∷ lines) full =
+    entries_put ranks rank journal number comms line.word line.fields lines full.1
+    (entries_from_full ranks rank journal (number + 1) (after_line comms line) lines full.1)
 
 -- what a journal's lines are, if there is one
 abbrev JournalOk : ℕ → Option Journal → Type 0
@@ -146,7 +145,7 @@ JournalOk ranks o = (journal : Journal) → o ≡ Some journal → LinesFull ran
 
 entries_in_full : (ranks rank : ℕ) (o : Option Journal) → JournalOk ranks o → AllPlaced ranks (entries_in rank o)
 entries_in_full ranks rank None full = tt
-entries_in_full ranks rank (Some journal) full = entries_from_full ranks rank journal 2 (held_first rank) journal.lines (full journal refl)
+entries_in_full ranks rank (Some journal) full = entries_from_full ranks rank journal 2 (comms_first rank) journal.lines (full journal refl)
 
 lines_in_full : (ranks : ℕ) (o : Option Journal) → JournalOk ranks o → LinesFull ranks (lines_in o)
 lines_in_full ranks None full = tt
@@ -231,8 +230,8 @@ inferred_all run (placed ∷ entries) is =
 
 keys_at_full : (run : Run) (rank : ℕ) → rank < length run → RunFull run → AllKeys (length run) (keys_at run rank)
 keys_at_full run rank within is =
-    keys_append (length run) (held_after rank (lines_at run rank)).keys (filter_map (inferred_key run) (entries_at run rank))
-    (lines_full_keys (length run) (lines_at run rank) (held_first rank)
+    keys_append (length run) (comms_after rank (lines_at run rank)).keys (filter_map (inferred_key run) (entries_at run rank))
+    (lines_full_keys (length run) (lines_at run rank) (comms_first rank)
     (lines_in_full (length run) (journal_at run rank) (λ journal h. journal_at_full run rank journal is h))
     (alone_group (length run) rank within, tt))
     (inferred_all run (entries_at run rank) is)

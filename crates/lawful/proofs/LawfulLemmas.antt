@@ -1,7 +1,7 @@
 -- No call of a recording of journals that were read has a fault.
-use Rattle.std.proofs.Common.{◌≡◌, ℕ, zero, suc, ◌+◌, ◌-◌, ◌<◌, ◌≤◌, ◌==◌, Bool, true, false, if◌then◌else◌, Option, Some, None, List, [], ◌∷◌, ◌++◌, length, map, take, refl, sym, ap, subst, ◌∙◌, arith, inl, inr, eqb-true, eq-eqb, ⊎_elim}
-use Rattle.std.specs.Prelude.{⊤, is_none, nat_lt, slice_get}
-use Rattle.std.specs.List.{list_any, range_with_len}
+use Rattle.std.proofs.Common.{◌≡◌, ℕ, zero, suc, ◌+◌, ◌-◌, ◌<◌, ◌==◌, Bool, true, false, if◌then◌else◌, Option, Some, None, List, [], ◌∷◌, ◌++◌, length, map, take, refl, sym, ap, subst, ◌∙◌, arith, inl, inr, eq-eqb, ⊎_elim}
+use Rattle.std.specs.Prelude.{is_none, nat_lt, slice_get}
+use Rattle.std.specs.List.{range_with_len}
 use Rattle.std.proofs.lemmas.Bool.{cases_Bool, false≢true}
 use Rattle.std.proofs.lemmas.List.{length-map, take-map}
 use Rattle.std.proofs.lemmas.Option.{none-some, same_Some}
@@ -9,28 +9,27 @@ use Rattle.mpicall.specs.Ending.{ends_list}
 use Rattle.mpicall.specs.declared.call.Call.{Call}
 use Rattle.mpicall.specs.declared.call.Call.TheVariants.{Finalize, Open}
 use Rattle.mpigroup.specs.Groups.{Groups, or_empty}
-use Rattle.callstore.specs.Communicators.{does_make, holds}
+use Rattle.callstore.specs.Communicators.{holds}
 use Rattle.pairing.specs.Faults.{fault_of}
 use Rattle.journals.specs.Journal.{Journal}
 use Rattle.closing.specs.Keys.{Key, World, Alone, has_member}
-use Rattle.closing.specs.Held.{Held, under, held_first}
-use Rattle.closing.specs.Entries.{Run, journal_at, entries_in, entries_at, ranks_of}
+use Rattle.closing.specs.RankComms.{under, comms_first}
+use Rattle.closing.specs.Entries.{Run, journal_at, entries_in, ranks_of}
 use Rattle.closing.specs.Entry.{Choice}
-use Rattle.closing.specs.Numbers.{is_of_call, number_of, groups_of, preface_of}
+use Rattle.closing.specs.Numbers.{is_of_call, groups_of, preface_of}
 use Rattle.closing.specs.Steps.{Written}
 use Rattle.closing.specs.Recording.{Listed, list_from, progress_first, whole_list, most_records, line_of, cut, without_journal, list_of, calls_of, recording_of}
 use Rattle.closing.specs.declared.why.Why.TheVariants.{TooLong}
 use Rattle.lawful.specs.Laws.{IsRead, EachRecordingIsLawful}
-use Rattle.lawful.proofs.KeyLemmas.{one_number_is_one_communicator}
-use Rattle.lawful.proofs.StepLemmas.{calls_in, plain_calls}
+use Rattle.lawful.proofs.StepLemmas.{plain_calls}
 use Rattle.lawful.proofs.ListLemmas.{list_of_fits}
-use Rattle.lawful.proofs.FaultLemmas.{Passes, at_end, take_whole, list_passes}
+use Rattle.lawful.proofs.FaultLemmas.{Passes, at_end, list_passes}
 use Rattle.lawful.proofs.HoldLemmas.{Holds, AllHold, hold_take, hold_at, held_made}
 use Rattle.lawful.proofs.LineFacts.{LinesFit}
 use Rattle.lawful.proofs.RunFacts.{lines_of_rank}
 use Rattle.lawful.proofs.KeyFacts.{world_number, in_the_world}
 use Rattle.lawful.proofs.PrefaceFacts.{preface_holds, preface_made, preface_makes}
-use Rattle.lawful.proofs.KeptLemmas.{Ready, Has, Kept, KeptBy, used_no_call}
+use Rattle.lawful.proofs.KeptLemmas.{Ready, Has, KeptBy, used_no_call}
 use Rattle.lawful.proofs.WalkLemmas.{RecordsHold, walk}
 use Rattle.std.proofs.lemmas.List.{take-append-le}
 use Rattle.std.proofs.lemmas.List.FromFn.{length-range_with_len}
@@ -53,7 +52,7 @@ alone_has run rank =
     let member : has_member (length run) rank (Alone rank) ≡ true = rw (eq-eqb rank rank refl) refl in
     record { member = member; ready = first_ready run rank (Alone rank) refl member }
 
-first_has : (run : Run) (rank : ℕ) → rank < length run → (number : ℕ) (key : Key) → under number (held_first rank).numbers ≡ Some key → Has run rank (preface_of run rank) key
+first_has : (run : Run) (rank : ℕ) → rank < length run → (number : ℕ) (key : Key) → under number (comms_first rank).numbers ≡ Some key → Has run rank (preface_of run rank) key
 first_has run rank within number key h =
     elim (cases_Bool (0 == number)) [
       | inl zeroth ↦ subst (λ (k : Key). Has run rank (preface_of run rank) k) (same_Some World key (rw zeroth at h)) (world_has run rank within)
@@ -63,7 +62,7 @@ first_has run rank within number key h =
       ]
     ]
 
-first_kept : (run : Run) (rank : ℕ) → rank < length run → KeptBy run rank (held_first rank) (preface_of run rank)
+first_kept : (run : Run) (rank : ℕ) → rank < length run → KeptBy run rank (comms_first rank) (preface_of run rank)
 first_kept run rank within = record {
   all = preface_holds run rank within;
   made = λ number made. let source = preface_made run rank within number made in
@@ -79,8 +78,8 @@ whole_holds_by : (run : Run) (choice : Choice) (rank : ℕ) (o : Option Journal)
 whole_holds_by run choice rank None within fit =
     subst (λ (calls : List Call). AllHold (groups_of run) rank [] calls) (sym (plain_calls 0 (preface_of run rank))) (preface_holds run rank within)
 whole_holds_by run choice rank (Some journal) within fit =
-    walk run choice rank journal journal.lines within (fit journal refl) 2 (held_first rank) (progress_first run rank)
-    (subst (λ (calls : List Call). KeptBy run rank (held_first rank) calls) (sym (plain_calls 0 (preface_of run rank))) (first_kept run rank within))
+    walk run choice rank journal journal.lines within (fit journal refl) 2 (comms_first rank) (progress_first run rank)
+    (subst (λ (calls : List Call). KeptBy run rank (comms_first rank) calls) (sym (plain_calls 0 (preface_of run rank))) (first_kept run rank within))
     (λ wave wave_is own_is line found. absurd (none-some wave wave_is))
 
 hold_if : (run : Run) (rank : ℕ) (b : Bool) (first other : Listed) → RecordsHold run rank first → RecordsHold run rank other → RecordsHold run rank (if b then first else other)
@@ -109,11 +108,11 @@ list_holds run choice rank within read =
 none_left : (groups : Groups) (rank : ℕ) (calls : List Call) (call : Call) → Passes groups calls call → Holds groups rank calls call → fault_of groups rank calls call ≡ None
 unfolding fault_of
 none_left groups rank calls call passes is =
-    rw (passes.is_open, passes.has_room, passes.names.comm_is, is.held, passes.names.peers_are, passes.afresh, passes.distinct, passes.active, is.afresh) refl
+    rw (passes.is_open, passes.has_room, passes.names.comm_is, is.comms, passes.names.peers_are, passes.afresh, passes.distinct, passes.active, is.afresh) refl
 
 end_holds : (groups : Groups) (rank : ℕ) (calls : List Call) (call : Call) → ends_list call ≡ true → Holds groups rank calls call
-end_holds groups rank calls Finalize h = record { held = refl; afresh = refl }
-end_holds groups rank calls Open h = record { held = refl; afresh = refl }
+end_holds groups rank calls Finalize h = record { comms = refl; afresh = refl }
+end_holds groups rank calls Open h = record { comms = refl; afresh = refl }
 end_holds groups rank calls _ h = absurd (false≢true h)
 
 call_holds : (run : Run) (choice : Choice) (rank place : ℕ) (call : Call) → rank < length run → IsRead run → slice_get (calls_of (list_of run choice rank)) place ≡ Some call → Holds (groups_of run) rank (take place (calls_of (list_of run choice rank))) call

@@ -21,8 +21,14 @@ pub mod CalledLemmas
 pub mod WalkLemmas
 pub mod LawfulLemmas
 pub mod ReadLemmas
+pub mod RangeLemmas
 pub mod GroupFacts
 pub mod FullFacts
 pub mod RunFull
 pub mod KeyGroups
 pub mod HeadLemmas
+pub mod FieldRanges
+pub mod CalledRanges
+pub mod RangedTable
+pub mod RangedLists
+pub mod HeadTexts

@@ -1,20 +1,18 @@
 -- What each line of a journal that was read without a fault has: its rank is in the groups of the communicators that
 -- it gets or makes, and a report of a communicator begins with its number.
-use Rattle.std.proofs.Common.{◌≡◌, ℕ, zero, suc, ◌+◌, ◌-◌, ◌&&◌, ◌==◌, Bool, true, false, not, if◌then◌else◌, Option, Some, None, option_map, List, [], ◌∷◌, ◌++◌, length, replicate, refl, sym, ap, subst, ◌∙◌, arith, inl, inr, max}
+use Rattle.std.proofs.Common.{◌≡◌, ℕ, ◌&&◌, ◌==◌, Bool, true, false, not, Option, Some, None, option_map, List, [], ◌∷◌, ◌++◌, length, refl, sym, ap, subst, ◌∙◌, inl, inr}
 use Rattle.std.specs.Prelude.{⊤, Result, Ok, Err}
-use Rattle.std.specs.List.{filter_map, zip, range_with_len}
-use Rattle.std.specs.Str.{bytes_eq}
 use Rattle.std.proofs.lemmas.Bool.{cases_Bool, false≢true, and_parts}
 use Rattle.std.proofs.lemmas.Option.{none-some, same_Some}
 use Rattle.std.proofs.lemmas.Slice.Eq.{bytes_eq-Decides}
 use Rattle.journals.specs.Fields.{field_of, natural_of}
 use Rattle.journals.specs.Header.{Heading, heading_of, is_of_run}
-use Rattle.journals.specs.Text.{is_too_long, text_of, whole_lines}
+use Rattle.journals.specs.Text.{is_too_long}
 use Rattle.journals.specs.Words.{forms_of, word_of}
 use Rattle.journals.specs.Lines.{Line, put_field, fields_of, line_if, line_with, line_by_word, line_of_fields, line_of, site_fits, without_site}
 use Rattle.mpicall.specs.Lines.{split_fields}
-use Rattle.journals.specs.Entries.{Entry, Listing, call_of, put_line, listing_of, entries_of, last_of, last_entry, number_if, numbers_by, is_member, is_comm, is_request, group_in}
-use Rattle.journals.specs.Known.{is_among, are_distinct, group_of, parent_of}
+use Rattle.journals.specs.Entries.{Entry, Listing, call_of, put_line, listing_of, entries_of, last_of, last_entry, numbers_by, is_comm, is_request, group_in}
+use Rattle.journals.specs.Known.{is_among, are_distinct, group_of}
 use Rattle.journals.specs.Faults.{Owner, is_after_end, is_out_of_place, has_wrong_request, has_wrong_comm, has_right_group, is_group, is_within, is_made_in, is_made_by, first_number, parent_in, first_of, fault_of_line}
 use Rattle.journals.specs.Journal.{Journal, Fault, unless_fault, checked_line, line_after, read_on, lines_after, with_heading, after_header, journal_of_lines}
 use Rattle.journals.specs.declared.fault.JournalFaultKind.{JournalFaultKind}

@@ -9,7 +9,7 @@ use Rattle.closing.specs.Called.{Called, StartsExchange}
 use Rattle.closing.specs.Keys.{Key, has_member}
 use Rattle.closing.specs.Entries.{Run, Placed, journal_at, entries_at}
 use Rattle.closing.specs.Numbers.{number_of, rank_in, preface_split, preface_lines, preface_of}
-use Rattle.closing.specs.Steps.{Written, Progress, Step, WaitsForLate, plain, after_steps}
+use Rattle.closing.specs.Steps.{Written, Progress, Step, WaitsForLate, after_steps}
 use Rattle.closing.specs.Endings.{why_at}
 use Rattle.closing.specs.Entry.{Choice, steps_of}
 use Rattle.closing.specs.Recording.{Listed, Outcome, GoesOn, Ends, is_end, steps_before, outcome_by, outcome_of, go_on, list_from, progress_first, whole_list, most_records, line_of, cut, without_journal, list_of}

@@ -1,7 +1,7 @@
 -- Calls on a parent that make communicators: each that gives the rank one makes one that it hadn't before.
-use Rattle.std.proofs.Common.{◌≡◌, ℕ, ◌+◌, ◌≤◌, ◌<◌, ◌==◌, ◌&&◌, ◌||◌, not, ℤ, pos, Bool, true, false, if◌then◌else◌, Option, Some, None, List, [], ◌∷◌, ◌++◌, length, map, filter, refl, sym, ap, subst, ◌∙◌, arith, eq-eqb, eqb-true, inl, inr}
-use Rattle.std.specs.Prelude.{⊤, is_none, is_some, option_map, option_and_then}
-use Rattle.std.specs.List.{list_any, find, filter_map, cons_option}
+use Rattle.std.proofs.Common.{◌≡◌, ℕ, ◌==◌, ◌&&◌, not, ℤ, Bool, true, false, if◌then◌else◌, Option, Some, None, List, [], ◌∷◌, length, filter, refl, sym, ap, subst, ◌∙◌, eqb-true, inl, inr}
+use Rattle.std.specs.Prelude.{option_map, option_and_then}
+use Rattle.std.specs.List.{find, filter_map, cons_option}
 use Rattle.std.specs.Option.{option_map_or}
 use Rattle.std.specs.Str.{bytes_eq}
 use Rattle.std.proofs.lemmas.Bool.{cases_Bool, false≢true, and_parts}
@@ -11,7 +11,7 @@ use Rattle.mpicall.specs.declared.call.Call.{Call}
 use Rattle.mpicall.specs.declared.call.Call.TheVariants.{Coll, Dup, Split}
 use Rattle.mpicall.specs.declared.call.Kind.TheVariants as kind
 use Rattle.mpigroup.specs.Groups.{Groups}
-use Rattle.callstore.specs.Communicators.{comm_of as comm_named, makes, does_make, holds}
+use Rattle.callstore.specs.Communicators.{comm_of as comm_named, makes}
 use Rattle.pairing.specs.Faults.{is_fresh_comm, makes_afresh}
 use Rattle.journals.specs.Lines.{Line}
 use Rattle.journals.specs.Entries.{group_in, listing_of, Listing, put_line}
@@ -19,20 +19,16 @@ use Rattle.journals.specs.Known.{is_among, is_report, report_of}
 use Rattle.journals.specs.declared.field.Field.{Field}
 use Rattle.journals.specs.declared.word.Word.{Word}
 use Rattle.journals.specs.declared.word.Word.TheVariants.{Call as CallLine, Report}
-use Rattle.journals.specs.declared.word.ReportWord.{ReportWord}
 use Rattle.journals.specs.declared.word.ReportWord.TheVariants as report
-use Rattle.closing.specs.Called.{Called, Duplicates, Splits, Makes}
-use Rattle.closing.specs.Keys.{Key, World, Made, same_key, has_member, group_of_key, key_count}
-use Rattle.closing.specs.Held.{Wave, Held, makes_comm, wave_next, made_in, with_some}
+use Rattle.closing.specs.Called.{Called, Splits, Makes}
+use Rattle.closing.specs.Keys.{Key, Made, same_key, has_member, group_of_key}
+use Rattle.closing.specs.RankComms.{Wave, makes_comm}
 use Rattle.closing.specs.Entries.{Run, Placed, all_entries}
-use Rattle.closing.specs.Made.{wave_at, is_wave, may_give, reported_group, made_with, reported_key, keys_of_wave, others_key, inferred_key, key_made}
-use Rattle.closing.specs.Numbers.{number_of, groups_of, rank_in}
-use Rattle.closing.specs.Entry.{brings, made_line, parent_rank, parent_group, colour_of, giving_line, split_key, bare_line, maker_by, maker}
-use Rattle.lawful.proofs.KeyLemmas.{same_key_is_equal, one_number_is_one_communicator}
-use Rattle.lawful.proofs.HoldLemmas.{Holds, AllHold, hold_more, any_more, any_last, holds_more, held_made}
+use Rattle.closing.specs.Made.{wave_at, is_wave, may_give, made_with, reported_key, others_key, inferred_key, key_made}
+use Rattle.closing.specs.Numbers.{rank_in}
+use Rattle.closing.specs.Entry.{brings, parent_rank, parent_group, colour_of, giving_line, split_key, bare_line}
+use Rattle.lawful.proofs.KeyLemmas.{same_key_is_equal}
 use Rattle.lawful.proofs.LineFacts.{LineFits, LinesFit}
-use Rattle.lawful.proofs.KeyFacts.{fresh}
-use Rattle.lawful.proofs.KeptLemmas.{IsUsed, Ready, Has, Source, Kept, KeptBy, Own, wave_counts, wave_used}
 
 -- ---- The call ----
 

@@ -1,18 +1,17 @@
 -- The preface of a rank's list: its rank gets each of its communicators that no call on a parent makes, each once.
-use Rattle.std.proofs.Common.{◌≡◌, ◌⊎◌, ℕ, zero, suc, ◌+◌, ◌≤◌, ◌<◌, ◌==◌, ◌&&◌, ◌||◌, not, ℤ, pos, Bool, true, false, if◌then◌else◌, Option, Some, None, List, [], ◌∷◌, ◌++◌, length, map, filter, refl, sym, ap, subst, ◌∙◌, arith, eq-eqb, eqb-true, inl, inr, append_assoc, append-nil}
-use Rattle.std.specs.Prelude.{⊤, is_some, slice_get}
+use Rattle.std.proofs.Common.{◌≡◌, ◌⊎◌, ℕ, ◌+◌, ◌≤◌, ◌<◌, ◌==◌, ◌&&◌, ◌||◌, ℤ, pos, Bool, true, false, if◌then◌else◌, Option, Some, None, List, [], ◌∷◌, ◌++◌, length, map, refl, sym, ap, subst, ◌∙◌, arith, eq-eqb, eqb-true, inl, inr, append_assoc, append-nil}
+use Rattle.std.specs.Prelude.{⊤}
 use Rattle.std.specs.List.{list_any}
 use Rattle.std.proofs.lemmas.Bool.{cases_Bool, cases_lt, false≢true, or_parts, and_from}
-use Rattle.std.proofs.lemmas.Option.{none-some, same_Some}
 use Rattle.mpicall.specs.declared.call.Call.{Call}
 use Rattle.mpicall.specs.declared.call.Call.TheVariants.{Split}
 use Rattle.callstore.specs.Communicators.{does_make, holds}
-use Rattle.pairing.specs.Faults.{is_member, is_fresh_comm}
+use Rattle.pairing.specs.Faults.{is_member}
 use Rattle.closing.specs.Keys.{Key, World, same_key, group_of_key, has_member}
 use Rattle.closing.specs.Entries.{Run}
-use Rattle.closing.specs.Numbers.{is_of_call, numbered_keys, number_of, groups_of, preface_keys, share_member, put_in_line, put_in_lines, preface_lines, rank_in, preface_split, preface_of}
+use Rattle.closing.specs.Numbers.{is_of_call, number_of, groups_of, preface_keys, share_member, put_in_line, put_in_lines, preface_lines, rank_in, preface_split, preface_of}
 use Rattle.lawful.proofs.KeyLemmas.{same_key_is_equal, one_number_is_one_communicator}
-use Rattle.lawful.proofs.HoldLemmas.{Holds, AllHold, hold_more, any_more, any_last}
+use Rattle.lawful.proofs.HoldLemmas.{AllHold, hold_more, any_more}
 use Rattle.lawful.proofs.KeyFacts.{same_key_self, one_if, times, is, times_push, counts_both, Numbered, world_number, preface_once, of_preface, in_preface, member_is, in_the_world, fresh}
 
 -- ---- Lines of communicators ----
@@ -182,7 +181,7 @@ world_held run rank calls within =
 
 bare_more : (run : Run) (rank : ℕ) (seen : Key → ℕ) (line : List Key) (calls : List Call) (call : Call) → rank < length run → call ≡ Split 0 None (pos 0) None → Begun run rank seen calls → Begun run rank (λ key. seen key + times (is key) line) (calls ++ call ∷ [])
 bare_more run rank seen line calls call within bare begun = record {
-  all = hold_more (groups_of run) rank calls call begun.all (rw bare (record { held = world_held run rank calls within; afresh = refl }));
+  all = hold_more (groups_of run) rank calls call begun.all (rw bare (record { comms = world_held run rank calls within; afresh = refl }));
   counted = λ number made.
       let before : list_any (does_make number) calls ≡ true = or_left (list_any (does_make number) calls) (rw (any_more (does_make number) calls call, bare) at made) in
       let old = begun.counted number before in
@@ -209,7 +208,7 @@ made_more : (run : Run) (rank : ℕ) (seen : Key → ℕ) (line : List Key) (cal
 made_more run rank seen line calls colour place key number within h no_call has stands none begun =
     let call = Split 0 (Some colour) place (Some number) in
     let new = fresh run rank calls key number h (no_world key no_call) has (unmade run seen calls key number begun.counted h none) in record {
-      all = hold_more (groups_of run) rank calls call begun.all (record { held = world_held run rank calls within; afresh = new });
+      all = hold_more (groups_of run) rank calls call begun.all (record { comms = world_held run rank calls within; afresh = new });
       counted = λ other made. elim (cases_Bool (list_any (does_make other) calls)) [
         | inl before ↦ let old = begun.counted other before in record { it = old.it; stood = omega (arith, old.stood) }
         | inr not_before ↦

@@ -1,13 +1,13 @@
 -- A closed list of calls that are all in their ranges is what its text reads as.
-use Rattle.std.proofs.Common.{◌≡◌, ℕ, zero, suc, ◌<◌, get_or, length, arith, Bool, true, false, not, ◌==◌, List, [], ◌∷◌, ◌++◌, map, refl, sym, ap, subst, ◌∙◌, append_assoc}
-use Rattle.std.specs.Prelude.{⊤, Ok, Contains}
-use Rattle.std.specs.List.{flat_map, join_with_byte, list_all, onto_first}
+use Rattle.std.proofs.Common.{◌≡◌, ℕ, zero, suc, ◌<◌, get_or, length, arith, true, not, ◌==◌, List, [], ◌∷◌, ◌++◌, map, refl, ap, subst, ◌∙◌, append_assoc}
+use Rattle.std.specs.Prelude.{⊤}
+use Rattle.std.specs.List.{flat_map, join_with_byte, list_all}
 use Rattle.std.proofs.lemmas.Bool.{and_parts, not-true}
 use Rattle.mpicall.specs.Ending.{ends_list}
 use Rattle.mpicall.specs.Limits.{in_ranges}
 use Rattle.mpicall.specs.Lines.{lines_of}
 use Rattle.mpicall.specs.Spelling.{space, line_feed, fields_of, spelling}
-use Rattle.mpicall.specs.Trace.{Trace, put_first, end_with_behind, ends_here, trace_with, trace_of_lines, trace_of}
+use Rattle.mpicall.specs.Trace.{Trace, trace_of_lines, trace_of}
 use Rattle.mpicall.specs.declared.call.Call.{Call}
 use Rattle.mpicall.specs.declared.fault.Ending.TheVariants.{Sealed}
 use Rattle.mpicall.proofs.BeginningLemmas.{WithoutFeed, body_without_feed}

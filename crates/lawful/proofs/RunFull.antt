@@ -1,18 +1,17 @@
 -- A run that was read has some ranks, no more than a run may have, and its journals are of a run of so many.
-use Rattle.std.proofs.Common.{◌≡◌, ℕ, zero, suc, ◌+◌, ◌-◌, ◌≤◌, ◌<◌, ◌&&◌, ◌==◌, true, Option, Some, None, List, [], ◌∷◌, length, refl, sym, ap, subst, ◌∙◌, arith, eqb-true}
+use Rattle.std.proofs.Common.{◌≡◌, ℕ, zero, suc, ◌+◌, ◌-◌, ◌≤◌, ◌==◌, true, Option, Some, None, List, [], ◌∷◌, length, refl, sym, ap, subst, arith, eqb-true}
 use Rattle.std.specs.Prelude.{⊤, Result, Ok, Err}
 use Rattle.std.specs.List.{range_with_len}
 use Rattle.std.specs.Str.{bytes_eq}
 use Rattle.std.proofs.lemmas.Bool.{and_parts}
-use Rattle.std.proofs.lemmas.Option.{none-some, same_Some}
+use Rattle.std.proofs.lemmas.Option.{none-some}
 use Rattle.journals.specs.Header.{Heading, is_of_run}
 use Rattle.journals.specs.Text.{text_of, whole_lines}
 use Rattle.journals.specs.Journal.{Journal, Fault}
-use Rattle.journals.specs.declared.limits.TheConstants.{MOST_RANKS}
 use Rattle.closing.specs.Entries.{Run, journal_at}
-use Rattle.closing.specs.Journals.{RankFault, journal_of, journal_if, journal_from, put_first, journals_from, after_first, run_of}
+use Rattle.closing.specs.Journals.{journal_of, journal_if, journal_from, journals_from, after_first, run_of}
 use Rattle.lawful.proofs.FullFacts.{LinesFull, FitsRanks, JournalFull, journal_full}
-use Rattle.lawful.proofs.RunFacts.{Put, put, err_ok, same_Ok}
+use Rattle.lawful.proofs.RunFacts.{put, err_ok, same_Ok}
 
 abbrev OptionFull : ℕ → Option Journal → Type 0
 OptionFull ranks None = ⊤

@@ -1,6 +1,6 @@
 -- Entries that make no communicator by a call on a parent: each of their calls is over one that the rank holds.
-use Rattle.std.proofs.Common.{◌≡◌, ℕ, ◌<◌, ◌&&◌, Bool, true, false, if◌then◌else◌, Option, Some, None, List, [], ◌∷◌, ◌++◌, length, refl, sym, ap, subst, ◌∙◌, inl, inr}
-use Rattle.std.specs.Prelude.{⊤, option_and_then}
+use Rattle.std.proofs.Common.{◌≡◌, ℕ, ◌<◌, true, false, Option, Some, None, List, [], ◌∷◌, ◌++◌, length, refl, sym, subst, ◌∙◌}
+use Rattle.std.specs.Prelude.{option_and_then}
 use Rattle.std.specs.Option.{option_map_or}
 use Rattle.std.proofs.lemmas.Bool.{false≢true, and_from}
 use Rattle.std.proofs.lemmas.Option.{none-some, same_Some}
@@ -17,51 +17,52 @@ use Rattle.pairing.specs.Faults.{is_member}
 use Rattle.journals.specs.Known.{is_among}
 use Rattle.closing.specs.Called.{Called, Sent, Sends, StartsSend, Receives, StartsReceive, Exchanges, StartsExchange, Probes, ProbesMatching, Collects, StartsCollective, Duplicates, StartsDuplicate, Splits, Makes, MakesOfGroup, comm_of}
 use Rattle.closing.specs.Keys.{Key, OfGroup, has_member, group_count}
-use Rattle.closing.specs.Held.{Held, key_under, key_next, makes_comm}
+use Rattle.closing.specs.RankComms.{RankComms, key_under, key_next, makes_comm}
 use Rattle.closing.specs.Entries.{Run, Placed}
 use Rattle.closing.specs.Numbers.{is_of_call, number_of, groups_of, named_key}
 use Rattle.closing.specs.Reported.{Message, is_gone}
-use Rattle.closing.specs.Steps.{Id, Own as OwnId, Whole, ReceiveHalf, Step, Does, Starts, WaitsForLate, Progress, after_steps}
+use Rattle.closing.specs.Steps.{Own as OwnId, Whole, ReceiveHalf, Step, Does, Starts, Progress, after_steps}
 use Rattle.closing.specs.Endings.{number_at}
 use Rattle.closing.specs.Entry.{Choice, Here, send, start_send, receive, start_receive, exchange, probe, start_collective, does, does_both, starts, does_collective, starts_collective, unless_past, on_comm, on_none, is_past, here_at, kind_of, steps_by, steps_of}
 use Rattle.lawful.proofs.StepLemmas.{calls_in}
 use Rattle.lawful.proofs.PassLemmas.{AreSteps, PassWaits, steps_if, steps_append, steps_or, steps_unless}
 use Rattle.lawful.proofs.NameLemmas.{none_names}
-use Rattle.lawful.proofs.HoldLemmas.{Holds, steps_keep}
+use Rattle.lawful.proofs.HoldLemmas.{steps_keep}
 use Rattle.lawful.proofs.KeyFacts.{member_is}
-use Rattle.lawful.proofs.KeptLemmas.{Has, Kept, KeptBy, KeptOn, Own, Safe, safe_keeps, world_own}
+use Rattle.lawful.proofs.CalledLemmas.{GroupIs}
+use Rattle.lawful.proofs.KeptLemmas.{Has, KeptBy, KeptOn, Own, Safe, safe_keeps, world_own}
 
 -- ---- The table ----
 
 send_safe : (groups : Groups) (rank comm : ℕ) (mode : Mode) (sent : Sent) → Safe groups rank comm (send mode comm sent)
-send_safe groups rank comm mode sent = record { passes = λ calls own. record { held = own; afresh = refl }; makes_none = refl }
+send_safe groups rank comm mode sent = record { passes = λ calls own. record { comms = own; afresh = refl }; makes_none = refl }
 
 start_send_safe : (groups : Groups) (rank comm : ℕ) (mode : Mode) (sent : Sent) (number : ℕ) → Safe groups rank comm (start_send mode comm sent number)
-start_send_safe groups rank comm mode sent number = record { passes = λ calls own. record { held = own; afresh = refl }; makes_none = refl }
+start_send_safe groups rank comm mode sent number = record { passes = λ calls own. record { comms = own; afresh = refl }; makes_none = refl }
 
 receive_safe : (groups : Groups) (rank comm : ℕ) (it : Message) → Safe groups rank comm (receive comm it)
-receive_safe groups rank comm it = record { passes = λ calls own. record { held = own; afresh = refl }; makes_none = refl }
+receive_safe groups rank comm it = record { passes = λ calls own. record { comms = own; afresh = refl }; makes_none = refl }
 
 start_receive_safe : (groups : Groups) (rank comm : ℕ) (it : Message) (number : ℕ) → Safe groups rank comm (start_receive comm it number)
-start_receive_safe groups rank comm it number = record { passes = λ calls own. record { held = own; afresh = refl }; makes_none = refl }
+start_receive_safe groups rank comm it number = record { passes = λ calls own. record { comms = own; afresh = refl }; makes_none = refl }
 
 exchange_safe : (groups : Groups) (rank comm : ℕ) (sent : Sent) (it : Message) → Safe groups rank comm (exchange comm sent it)
-exchange_safe groups rank comm sent it = record { passes = λ calls own. record { held = own; afresh = refl }; makes_none = refl }
+exchange_safe groups rank comm sent it = record { passes = λ calls own. record { comms = own; afresh = refl }; makes_none = refl }
 
 probe_safe : (groups : Groups) (rank comm : ℕ) (it : Message) → Safe groups rank comm (probe comm it)
-probe_safe groups rank comm it = record { passes = λ calls own. record { held = own; afresh = refl }; makes_none = refl }
+probe_safe groups rank comm it = record { passes = λ calls own. record { comms = own; afresh = refl }; makes_none = refl }
 
 collective_safe : (groups : Groups) (rank comm : ℕ) (it : Kind) → Safe groups rank comm (Coll comm it)
-collective_safe groups rank comm it = record { passes = λ calls own. record { held = own; afresh = refl }; makes_none = refl }
+collective_safe groups rank comm it = record { passes = λ calls own. record { comms = own; afresh = refl }; makes_none = refl }
 
 start_collective_safe : (groups : Groups) (rank comm : ℕ) (it : Kind) (number : ℕ) → Safe groups rank comm (start_collective comm it number)
-start_collective_safe groups rank comm it number = record { passes = λ calls own. record { held = own; afresh = refl }; makes_none = refl }
+start_collective_safe groups rank comm it number = record { passes = λ calls own. record { comms = own; afresh = refl }; makes_none = refl }
 
 waits_safe : (groups : Groups) (rank comm : ℕ) → PassWaits (Safe groups rank comm)
 waits_safe groups rank comm = record {
-  wait = λ request. record { passes = λ calls own. record { held = refl; afresh = refl }; makes_none = refl };
-  waitall = λ requests. record { passes = λ calls own. record { held = refl; afresh = refl }; makes_none = refl };
-  waitany = λ place requests. record { passes = λ calls own. record { held = refl; afresh = refl }; makes_none = refl };
+  wait = λ request. record { passes = λ calls own. record { comms = refl; afresh = refl }; makes_none = refl };
+  waitall = λ requests. record { passes = λ calls own. record { comms = refl; afresh = refl }; makes_none = refl };
+  waitany = λ place requests. record { passes = λ calls own. record { comms = refl; afresh = refl }; makes_none = refl };
 }
 
 does_safe : (P : Call → Type 0) (here : Here) (call : Call) (start : ℕ → Call) → P call → ((number : ℕ) → P (start number)) → AreSteps P (does here call start)
@@ -135,28 +136,27 @@ on_comm_safe groups rank here _ makes_not = tt
 
 -- the rank is in the group of which its call makes a communicator
 abbrev pub GroupOk : ℕ → Called → Type 0
-GroupOk rank (MakesOfGroup group) = is_among rank group ≡ true
-GroupOk rank it = ⊤
+GroupOk rank it = GroupIs (λ (group : List ℕ). is_among rank group ≡ true) it
 
-pub next_ok : (ranks rank : ℕ) (held : Held) (it : Called) (key : Key) → GroupOk rank it → key_next held it ≡ Some key → (is_of_call key ≡ false) × (has_member ranks rank key ≡ true)
-next_ok ranks rank held (MakesOfGroup group) key ok h =
-    subst (λ (k : Key). (is_of_call k ≡ false) × (has_member ranks rank k ≡ true)) (same_Some (OfGroup group (group_count group held.groups)) key h) (refl, ok)
-next_ok ranks rank held _ key ok h = absurd (none-some key h)
+pub next_ok : (ranks rank : ℕ) (comms : RankComms) (it : Called) (key : Key) → GroupOk rank it → key_next comms it ≡ Some key → (is_of_call key ≡ false) × (has_member ranks rank key ≡ true)
+next_ok ranks rank comms (MakesOfGroup group) key ok h =
+    subst (λ (k : Key). (is_of_call k ≡ false) × (has_member ranks rank k ≡ true)) (same_Some (OfGroup group (group_count group comms.groups)) key h) (refl, ok)
+next_ok ranks rank comms _ key ok h = absurd (none-some key h)
 
-named_has : (run : Run) (rank : ℕ) (placed : Placed) (calls : List Call) (key : Key) → KeptBy run rank placed.held calls → GroupOk rank placed.called → named_key placed ≡ Some key → Has run rank calls key
-named_has run rank placed calls key kept ok h = of_next (key_next placed.held placed.called) refl h
+named_has : (run : Run) (rank : ℕ) (placed : Placed) (calls : List Call) (key : Key) → KeptBy run rank placed.comms calls → GroupOk rank placed.called → named_key placed ≡ Some key → Has run rank calls key
+named_has run rank placed calls key kept ok h = of_next (key_next placed.comms placed.called) refl h
   where
-    of_comm : (o : Option ℕ) → option_and_then (key_under placed.held) o ≡ Some key → Has run rank calls key
+    of_comm : (o : Option ℕ) → option_and_then (key_under placed.comms) o ≡ Some key → Has run rank calls key
     of_comm None e = absurd (none-some key e)
     of_comm (Some number) e = kept.has number key e
 
-    of_next : (o : Option Key) → key_next placed.held placed.called ≡ o → or_else o (option_and_then (key_under placed.held) (comm_of placed.called)) ≡ Some key → Has run rank calls key
+    of_next : (o : Option Key) → key_next placed.comms placed.called ≡ o → or_else o (option_and_then (key_under placed.comms) (comm_of placed.called)) ≡ Some key → Has run rank calls key
     of_next (Some next) is e =
-        let facts = next_ok (length run) rank placed.held placed.called key ok (is ∙ e) in
+        let facts = next_ok (length run) rank placed.comms placed.called key ok (is ∙ e) in
         record { member = facts.1; ready = kept.ready key facts.0 facts.1 }
     of_next None is e = of_comm (comm_of placed.called) e
 
-pub own_at : (run : Run) (rank : ℕ) (placed : Placed) (calls : List Call) (comm : ℕ) → KeptBy run rank placed.held calls → GroupOk rank placed.called → number_at run placed ≡ Some comm → Own (groups_of run) rank calls comm
+pub own_at : (run : Run) (rank : ℕ) (placed : Placed) (calls : List Call) (comm : ℕ) → KeptBy run rank placed.comms calls → GroupOk rank placed.called → number_at run placed ≡ Some comm → Own (groups_of run) rank calls comm
 own_at run rank placed calls comm kept ok h = of_key (named_key placed) refl h
   where
     of_key : (o : Option Key) → named_key placed ≡ o → option_and_then (number_of run) o ≡ Some comm → Own (groups_of run) rank calls comm
@@ -167,25 +167,25 @@ own_at run rank placed calls comm kept ok h = of_key (named_key placed) refl h
 
 -- ---- Steps ----
 
-pub waits_keep : (run : Run) (rank line : ℕ) (held : Held) (progress : Progress) (steps : List Step) → rank < length run → AreSteps (Safe (groups_of run) rank 0) steps → KeptBy run rank held (calls_in progress) → KeptBy run rank held (calls_in (after_steps progress line steps))
-waits_keep run rank line held progress steps within safe kept =
-    (steps_keep (KeptOn run rank held.numbers held.waves held.own 0) (Safe (groups_of run) rank 0) progress line steps
-    (safe_keeps run rank held.numbers held.waves held.own 0) (waits_safe (groups_of run) rank 0) safe
+pub waits_keep : (run : Run) (rank line : ℕ) (comms : RankComms) (progress : Progress) (steps : List Step) → rank < length run → AreSteps (Safe (groups_of run) rank 0) steps → KeptBy run rank comms (calls_in progress) → KeptBy run rank comms (calls_in (after_steps progress line steps))
+waits_keep run rank line comms progress steps within safe kept =
+    (steps_keep (KeptOn run rank comms.numbers comms.waves comms.own 0) (Safe (groups_of run) rank 0) progress line steps
+    (safe_keeps run rank comms.numbers comms.waves comms.own 0) (waits_safe (groups_of run) rank 0) safe
     (kept, world_own run rank (calls_in progress) within)).0
 
-steps_by_keep : (run : Run) (choice : Choice) (rank : ℕ) (placed : Placed) (progress : Progress) (o : Option ℕ) → number_at run placed ≡ o → rank < length run → makes_comm placed.called ≡ false → GroupOk rank placed.called → KeptBy run rank placed.held (calls_in progress) → KeptBy run rank placed.held (calls_in (after_steps progress placed.line (steps_by run choice placed o)))
+steps_by_keep : (run : Run) (choice : Choice) (rank : ℕ) (placed : Placed) (progress : Progress) (o : Option ℕ) → number_at run placed ≡ o → rank < length run → makes_comm placed.called ≡ false → GroupOk rank placed.called → KeptBy run rank placed.comms (calls_in progress) → KeptBy run rank placed.comms (calls_in (after_steps progress placed.line (steps_by run choice placed o)))
 steps_by_keep run choice rank placed progress None is within makes_not ok kept =
-    waits_keep run rank placed.line placed.held progress (steps_by run choice placed None) within
+    waits_keep run rank placed.line placed.comms progress (steps_by run choice placed None) within
     (steps_unless (Safe (groups_of run) rank 0) (is_past choice.calls placed) (on_none choice placed placed.journal.lines placed.called)
     (none_names (Safe (groups_of run) rank 0) choice placed placed.journal.lines placed.called)) kept
 steps_by_keep run choice rank placed progress (Some comm) is within makes_not ok kept =
-    (steps_keep (KeptOn run rank placed.held.numbers placed.held.waves placed.held.own comm) (Safe (groups_of run) rank comm) progress placed.line
-    (steps_by run choice placed (Some comm)) (safe_keeps run rank placed.held.numbers placed.held.waves placed.held.own comm)
+    (steps_keep (KeptOn run rank placed.comms.numbers placed.comms.waves placed.comms.own comm) (Safe (groups_of run) rank comm) progress placed.line
+    (steps_by run choice placed (Some comm)) (safe_keeps run rank placed.comms.numbers placed.comms.waves placed.comms.own comm)
     (waits_safe (groups_of run) rank comm)
     (on_comm_safe (groups_of run) rank (here_at run choice placed comm) placed.called makes_not)
     (kept, own_at run rank placed (calls_in progress) comm kept ok is)).0
 
 -- an entry that makes none by a call on a parent
-pub steps_of_keep : (run : Run) (choice : Choice) (rank : ℕ) (placed : Placed) (progress : Progress) → rank < length run → makes_comm placed.called ≡ false → GroupOk rank placed.called → KeptBy run rank placed.held (calls_in progress) → KeptBy run rank placed.held (calls_in (after_steps progress placed.line (steps_of run choice placed)))
+pub steps_of_keep : (run : Run) (choice : Choice) (rank : ℕ) (placed : Placed) (progress : Progress) → rank < length run → makes_comm placed.called ≡ false → GroupOk rank placed.called → KeptBy run rank placed.comms (calls_in progress) → KeptBy run rank placed.comms (calls_in (after_steps progress placed.line (steps_of run choice placed)))
 steps_of_keep run choice rank placed progress within makes_not ok kept =
     steps_by_keep run choice rank placed progress (number_at run placed) refl within makes_not ok kept

@@ -1,158 +1,54 @@
 -- A rank's list along the lines of its journal.
-use Rattle.std.proofs.Common.{◌≡◌, ℕ, ◌+◌, ◌-◌, ◌<◌, ◌≤◌, ◌&&◌, ◌||◌, max, not, arith, Bool, true, false, if◌then◌else◌, Option, Some, None, List, [], ◌∷◌, ◌++◌, length, map, refl, sym, ap, subst, ◌∙◌, inl, inr}
-use Rattle.std.specs.Prelude.{⊤, is_none, is_some, option_map}
-use Rattle.std.specs.List.{list_any, find, filter_map}
+use Rattle.std.proofs.Common.{◌≡◌, ℕ, ◌+◌, ◌<◌, ◌&&◌, not, Bool, true, false, if◌then◌else◌, Option, Some, None, List, [], ◌∷◌, ◌++◌, length, map, refl, sym, ap, subst, ◌∙◌, inl, inr}
+use Rattle.std.specs.Prelude.{is_none, option_map}
+use Rattle.std.specs.List.{find}
 use Rattle.std.proofs.lemmas.Bool.{cases_Bool, false≢true}
-use Rattle.std.proofs.lemmas.Option.{none-some, same_Some}
+use Rattle.std.proofs.lemmas.Option.{none-some}
 use Rattle.mpicall.specs.Word.{or_else}
 use Rattle.mpicall.specs.declared.call.Call.{Call}
-use Rattle.mpicall.specs.declared.call.Call.TheVariants.{Finalize, Open}
-use Rattle.mpicall.specs.declared.call.Mode.{Mode}
-use Rattle.mpicall.specs.declared.call.Mode.TheVariants.{Standard, Synchronous, Buffered}
-use Rattle.mpicall.specs.declared.word.Collective.{Collective}
-use Rattle.mpicall.specs.declared.word.Collective.TheVariants as coll
+use Rattle.mpicall.specs.declared.call.Call.TheVariants.{Finalize}
 use Rattle.journals.specs.Lines.{Line}
 use Rattle.journals.specs.Journal.{Journal}
-use Rattle.journals.specs.Words.{forms_of}
-use Rattle.journals.specs.Entries.{Entry, Listing, listing_of, group_in, is_member, number_if}
+use Rattle.journals.specs.Entries.{listing_of, group_in}
 use Rattle.journals.specs.Known.{is_among, is_report, has_report}
-use Rattle.journals.specs.inner.Naturals.{naturals}
 use Rattle.journals.specs.declared.field.Field.{Field}
-use Rattle.journals.specs.declared.field.Field.TheVariants.{Natural, Signed, Undefined}
-use Rattle.journals.specs.declared.form.Form.TheVariants.{Member}
+use Rattle.journals.specs.declared.field.Field.TheVariants.{Natural}
 use Rattle.journals.specs.declared.word.Word.{Word}
 use Rattle.journals.specs.declared.word.Word.TheVariants.{Call as CallLine, Report}
 use Rattle.journals.specs.declared.word.CallWord.{CallWord}
 use Rattle.journals.specs.declared.word.CallWord.TheVariants as call
 use Rattle.journals.specs.declared.word.ReportWord.{ReportWord}
 use Rattle.journals.specs.declared.word.ReportWord.TheVariants as report
-use Rattle.journals.proofs.LineForms.{same_numbers}
-use Rattle.closing.specs.Called.{Called, Awaited, Receives, StartsReceive, StartsExchange, Probes, ProbesMatching, ReceivesMatched, StartsMatched, Cancels, FreesRequest, Collects, StartsCollective, Duplicates, StartsDuplicate, Splits, Makes, FreesComm, Finalizes, Exits, Stops, Aborts, Fills, called, awaited, naturals_in, sends, starts_send, awaits, starts_awaiting, exchanges, starts_exchange, one_number, two_numbers, rooted, starts_rooted, unrooted, starts_unrooted, splits}
+use Rattle.closing.specs.Called.{Called, StartsExchange, Duplicates, Splits, Makes, Stops, Aborts, Fills, called, awaited}
 use Rattle.closing.specs.Keys.{Key, Made}
-use Rattle.closing.specs.Held.{Wave, Held, under, makes_comm, wave_next, key_next, made_in, duplicated_in, with_some, with_key, with_made, after_call, after_report, after_line}
+use Rattle.closing.specs.RankComms.{Wave, RankComms, under, makes_comm, wave_next, key_next, duplicated_in, with_key, with_made, after_call, after_report}
 use Rattle.closing.specs.Entries.{Run, Placed, placed_at, entries_from}
 use Rattle.closing.specs.Numbers.{groups_of}
 use Rattle.closing.specs.Steps.{Step, Does, WaitsForLate, Progress, after_steps}
 use Rattle.closing.specs.Endings.{breaks_off, can_be, first_of, is_unknown, is_unreported, lacks_number, needs_number, number_at, why_at}
 use Rattle.closing.specs.Entry.{Choice, Here, here_at, maker, on_comm, steps_by, steps_of}
-use Rattle.closing.specs.Recording.{Listed, Outcome, GoesOn, Ends, is_end, steps_before, outcome_by, outcome_of, go_on, list_from}
+use Rattle.closing.specs.Recording.{Listed, GoesOn, Ends, is_end, steps_before, outcome_by, outcome_of, go_on, list_from}
 use Rattle.closing.specs.declared.why.Why.{Why}
 use Rattle.closing.specs.declared.why.Why.TheVariants.{NeverCameBack, NeverReported, Failed, NoNumber, CannotBe}
 use Rattle.lawful.proofs.StepLemmas.{calls_in, added_plain}
 use Rattle.lawful.proofs.HoldLemmas.{AllHold}
-use Rattle.lawful.proofs.LineFacts.{BeginsNatural, WordFits, LineFits, LinesFit}
-use Rattle.lawful.proofs.KeptLemmas.{Ready, Kept, KeptBy, Own, WaveReady, kept_call, report_kept}
+use Rattle.lawful.proofs.LineFacts.{WordFits, LineFits, LinesFit}
+use Rattle.lawful.proofs.KeptLemmas.{Ready, Kept, KeptBy, kept_call, report_kept}
+use Rattle.lawful.proofs.CalledLemmas.{MakesGroup, called_group}
 use Rattle.lawful.proofs.SafeLemmas.{GroupOk, next_ok, own_at, waits_keep, steps_of_keep}
 use Rattle.lawful.proofs.MakerLemmas.{early_fit}
-use Rattle.lawful.proofs.EntryLemmas.{After, waves_after, maker_after, reported_made}
+use Rattle.lawful.proofs.EntryLemmas.{waves_after, maker_after, reported_made}
 
 -- ---- What a call line says of groups ----
 
-sends_ok : (rank : ℕ) (mode : Mode) (fields : List Field) → GroupOk rank (sends mode fields)
-sends_ok rank mode (Natural comm ∷ dest ∷ tag ∷ bytes) = tt
-sends_ok rank mode _ = tt
-
-starts_send_ok : (rank : ℕ) (mode : Mode) (fields : List Field) → GroupOk rank (starts_send mode fields)
-starts_send_ok rank mode (Natural request ∷ Natural comm ∷ dest ∷ tag ∷ bytes) = tt
-starts_send_ok rank mode _ = tt
-
-awaits_ok : (rank : ℕ) (made : Awaited → Called) (fields : List Field) → ((it : Awaited) → GroupOk rank (made it)) → GroupOk rank (awaits made fields)
-awaits_ok rank made (Natural comm ∷ source ∷ tag ∷ []) ok = ok (awaited comm source tag)
-awaits_ok rank made _ ok = tt
-
-starts_awaiting_ok : (rank : ℕ) (made : ℕ → Awaited → Called) (fields : List Field) → ((number : ℕ) (it : Awaited) → GroupOk rank (made number it)) → GroupOk rank (starts_awaiting made fields)
-starts_awaiting_ok rank made (Natural number ∷ Natural comm ∷ source ∷ tag ∷ []) ok = ok number (awaited comm source tag)
-starts_awaiting_ok rank made _ ok = tt
-
-exchanges_ok : (rank : ℕ) (fields : List Field) → GroupOk rank (exchanges fields)
-exchanges_ok rank (Natural comm ∷ dest ∷ tag ∷ source ∷ other ∷ bytes) = tt
-exchanges_ok rank _ = tt
-
-starts_exchange_ok : (rank : ℕ) (fields : List Field) → GroupOk rank (starts_exchange fields)
-starts_exchange_ok rank (Natural request ∷ Natural received ∷ Natural comm ∷ dest ∷ tag ∷ source ∷ other ∷ bytes) = tt
-starts_exchange_ok rank _ = tt
-
-one_ok : (rank : ℕ) (made : ℕ → Called) (fields : List Field) → ((number : ℕ) → GroupOk rank (made number)) → GroupOk rank (one_number made fields)
-one_ok rank made (Natural number ∷ []) ok = ok number
-one_ok rank made _ ok = tt
-
-two_ok : (rank : ℕ) (made : ℕ → ℕ → Called) (fields : List Field) → ((one two : ℕ) → GroupOk rank (made one two)) → GroupOk rank (two_numbers made fields)
-two_ok rank made (Natural one ∷ Natural two ∷ []) ok = ok one two
-two_ok rank made _ ok = tt
-
-rooted_ok : (rank : ℕ) (collective : Collective) (fields : List Field) → GroupOk rank (rooted collective fields)
-rooted_ok rank collective (Natural comm ∷ Signed root ∷ []) = tt
-rooted_ok rank collective _ = tt
-
-starts_rooted_ok : (rank : ℕ) (collective : Collective) (fields : List Field) → GroupOk rank (starts_rooted collective fields)
-starts_rooted_ok rank collective (Natural request ∷ Natural comm ∷ Signed root ∷ []) = tt
-starts_rooted_ok rank collective _ = tt
-
-splits_ok : (rank : ℕ) (fields : List Field) → GroupOk rank (splits fields)
-splits_ok rank (Natural comm ∷ Signed colour ∷ Signed key ∷ []) = tt
-splits_ok rank (Natural comm ∷ Undefined ∷ Signed key ∷ []) = tt
-splits_ok rank _ = tt
-
-unrooted_ok : (rank : ℕ) (collective : Collective) (fields : List Field) → GroupOk rank (unrooted collective fields)
-unrooted_ok rank collective fields = one_ok rank (λ comm. Collects collective comm None) fields (λ number. tt)
-
-starts_unrooted_ok : (rank : ℕ) (collective : Collective) (fields : List Field) → GroupOk rank (starts_unrooted collective fields)
-starts_unrooted_ok rank collective fields = two_ok rank (λ request comm. StartsCollective request collective comm None) fields (λ one two. tt)
-
-group_fields : (fields : List Field) → group_in (record { word = CallLine call.CommCreateGroup; fields = fields }) ≡ naturals_in fields
-group_fields fields = same_numbers is_member Member (max 1 (length fields - 0)) fields refl (at_most (length fields))
-  where
-    at_most : (n : ℕ) → n ≤ max 1 (n - 0)
-    at_most n = omega arith
+makes_group : (rank : ℕ) (word : CallWord) (fields : List Field) (group : List ℕ) → WordFits rank (CallLine word) fields group → MakesGroup (λ (it : List ℕ). is_among rank it ≡ true) word group
+makes_group rank call.CommCreateGroup fields group fits = fits
+makes_group rank _ fields group fits = tt
 
 called_ok : (rank : ℕ) (word : CallWord) (fields : List Field) → LineFits rank (CallLine word) fields → GroupOk rank (called word fields)
-called_ok rank call.Send fields fits = sends_ok rank Standard fields
-called_ok rank call.Rsend fields fits = sends_ok rank Standard fields
-called_ok rank call.Ssend fields fits = sends_ok rank Synchronous fields
-called_ok rank call.Bsend fields fits = sends_ok rank Buffered fields
-called_ok rank call.Isend fields fits = starts_send_ok rank Standard fields
-called_ok rank call.Irsend fields fits = starts_send_ok rank Standard fields
-called_ok rank call.Issend fields fits = starts_send_ok rank Synchronous fields
-called_ok rank call.Ibsend fields fits = starts_send_ok rank Buffered fields
-called_ok rank call.Recv fields fits = awaits_ok rank Receives fields (λ it. tt)
-called_ok rank call.Irecv fields fits = starts_awaiting_ok rank StartsReceive fields (λ number it. tt)
-called_ok rank call.Sendrecv fields fits = exchanges_ok rank fields
-called_ok rank call.Isendrecv fields fits = starts_exchange_ok rank fields
-called_ok rank call.Probe fields fits = awaits_ok rank Probes fields (λ it. tt)
-called_ok rank call.Iprobe fields fits = awaits_ok rank Probes fields (λ it. tt)
-called_ok rank call.Mprobe fields fits = starts_awaiting_ok rank ProbesMatching fields (λ number it. tt)
-called_ok rank call.Improbe fields fits = starts_awaiting_ok rank ProbesMatching fields (λ number it. tt)
-called_ok rank call.Mrecv fields fits = one_ok rank ReceivesMatched fields (λ number. tt)
-called_ok rank call.Imrecv fields fits = two_ok rank StartsMatched fields (λ one two. tt)
-called_ok rank call.Cancel fields fits = one_ok rank Cancels fields (λ number. tt)
-called_ok rank call.RequestFree fields fits = one_ok rank FreesRequest fields (λ number. tt)
-called_ok rank call.Barrier fields fits = unrooted_ok rank coll.Barrier fields
-called_ok rank call.Bcast fields fits = rooted_ok rank coll.Bcast fields
-called_ok rank call.Gather fields fits = rooted_ok rank coll.Gather fields
-called_ok rank call.Scatter fields fits = rooted_ok rank coll.Scatter fields
-called_ok rank call.Reduce fields fits = rooted_ok rank coll.Reduce fields
-called_ok rank call.Allgather fields fits = unrooted_ok rank coll.Allgather fields
-called_ok rank call.Alltoall fields fits = unrooted_ok rank coll.Alltoall fields
-called_ok rank call.Allreduce fields fits = unrooted_ok rank coll.Allreduce fields
-called_ok rank call.Scan fields fits = unrooted_ok rank coll.Scan fields
-called_ok rank call.Exscan fields fits = unrooted_ok rank coll.Exscan fields
-called_ok rank call.Ibarrier fields fits = starts_unrooted_ok rank coll.Barrier fields
-called_ok rank call.Ibcast fields fits = starts_rooted_ok rank coll.Bcast fields
-called_ok rank call.Igather fields fits = starts_rooted_ok rank coll.Gather fields
-called_ok rank call.Iscatter fields fits = starts_rooted_ok rank coll.Scatter fields
-called_ok rank call.Ireduce fields fits = starts_rooted_ok rank coll.Reduce fields
-called_ok rank call.Iallgather fields fits = starts_unrooted_ok rank coll.Allgather fields
-called_ok rank call.Ialltoall fields fits = starts_unrooted_ok rank coll.Alltoall fields
-called_ok rank call.Iallreduce fields fits = starts_unrooted_ok rank coll.Allreduce fields
-called_ok rank call.Iscan fields fits = starts_unrooted_ok rank coll.Scan fields
-called_ok rank call.Iexscan fields fits = starts_unrooted_ok rank coll.Exscan fields
-called_ok rank call.CommDup fields fits = one_ok rank Duplicates fields (λ number. tt)
-called_ok rank call.CommIdup fields fits = two_ok rank StartsDuplicate fields (λ one two. tt)
-called_ok rank call.CommSplit fields fits = splits_ok rank fields
-called_ok rank call.CommMake fields fits = one_ok rank Makes fields (λ number. tt)
-called_ok rank call.CommCreateGroup fields fits = subst (λ (group : List ℕ). is_among rank group ≡ true) (group_fields fields) fits
-called_ok rank call.CommFree fields fits = one_ok rank FreesComm fields (λ number. tt)
-called_ok rank _ fields fits = tt
+called_ok rank word fields fits =
+    called_group (λ (group : List ℕ). is_among rank group ≡ true) word fields
+    (makes_group rank word fields (group_in (record { word = CallLine word; fields = fields })) fits)
 
 -- ---- What is still to be reported ----
 
@@ -160,38 +56,38 @@ abbrev is_comm_line : Line → Bool
 is_comm_line line = is_report report.Comm line.word
 
 -- the communicator that the first report of one brings is there
-abbrev pub Pending : Run → Held → List Line → List Call → Type 0
-Pending run held lines calls =
-    (wave : Wave) → held.wave ≡ Some wave → held.own ≡ None → (line : Line) →
+abbrev pub Pending : Run → RankComms → List Line → List Call → Type 0
+Pending run comms lines calls =
+    (wave : Wave) → comms.wave ≡ Some wave → comms.own ≡ None → (line : Line) →
     find is_comm_line (listing_of lines).early ≡ Some line → Ready run calls (Made wave.parent wave.count (group_in line))
 
-pending_passed : (run : Run) (held : Held) (number : ℕ) (group : List ℕ) (own : Option Key) (lines : List Line) (calls : List Call) → held.own ≡ own → Pending run (with_made held number group own) lines calls
-pending_passed run held number group (Some key) lines calls is wave wave_is own_is line found =
+pending_passed : (run : Run) (comms : RankComms) (number : ℕ) (group : List ℕ) (own : Option Key) (lines : List Line) (calls : List Call) → comms.own ≡ own → Pending run (with_made comms number group own) lines calls
+pending_passed run comms number group (Some key) lines calls is wave wave_is own_is line found =
     absurd (none-some key (sym own_is ∙ is))
-pending_passed run held number group None lines calls is wave wave_is own_is line found = absurd (none-some wave wave_is)
+pending_passed run comms number group None lines calls is wave wave_is own_is line found = absurd (none-some wave wave_is)
 
-duplicated_wave : (held : Held) (number : ℕ) (o : Option Key) → ((with_key held number o).wave ≡ held.wave) × ((with_key held number o).own ≡ held.own)
-duplicated_wave held number None = (refl, refl)
-duplicated_wave held number (Some key) = (refl, refl)
+duplicated_wave : (comms : RankComms) (number : ℕ) (o : Option Key) → ((with_key comms number o).wave ≡ comms.wave) × ((with_key comms number o).own ≡ comms.own)
+duplicated_wave comms number None = (refl, refl)
+duplicated_wave comms number (Some key) = (refl, refl)
 
 -- after another report than that of a communicator
-pending_other : (run : Run) (held after : Held) (lines rest : List Line) (calls : List Call) → after.wave ≡ held.wave → after.own ≡ held.own → find is_comm_line (listing_of rest).early ≡ find is_comm_line (listing_of lines).early → Pending run held lines calls → Pending run after rest calls
-pending_other run held after lines rest calls same_wave same_own same_found pending wave wave_is own_is line found =
+pending_other : (run : Run) (comms after : RankComms) (lines rest : List Line) (calls : List Call) → after.wave ≡ comms.wave → after.own ≡ comms.own → find is_comm_line (listing_of rest).early ≡ find is_comm_line (listing_of lines).early → Pending run comms lines calls → Pending run after rest calls
+pending_other run comms after lines rest calls same_wave same_own same_found pending wave wave_is own_is line found =
     pending wave (sym same_wave ∙ wave_is) (sym same_own ∙ own_is) line (sym same_found ∙ found)
 
-pending_report : (run : Run) (rank : ℕ) (held : Held) (word : ReportWord) (fields : List Field) (group : List ℕ) (lines : List Line) (calls : List Call) → WordFits rank (Report word) fields group → Pending run held (record { word = Report word; fields = fields } ∷ lines) calls → Pending run (after_report held word fields group) lines calls
-pending_report run rank held report.Comm (Natural number ∷ fields) group lines calls fits pending =
-    pending_passed run held number group held.own lines calls refl
-pending_report run rank held report.Comm fields group lines calls fits pending = absurd fits.1
-pending_report run rank held report.Idup (Natural number ∷ Natural request ∷ fields) group lines calls fits pending =
-    let same = duplicated_wave held number (option_map (duplicated_in group) (under request held.duplicates)) in
-    pending_other run held (after_report held report.Idup (Natural number ∷ Natural request ∷ fields) group)
+pending_report : (run : Run) (rank : ℕ) (comms : RankComms) (word : ReportWord) (fields : List Field) (group : List ℕ) (lines : List Line) (calls : List Call) → WordFits rank (Report word) fields group → Pending run comms (record { word = Report word; fields = fields } ∷ lines) calls → Pending run (after_report comms word fields group) lines calls
+pending_report run rank comms report.Comm (Natural number ∷ fields) group lines calls fits pending =
+    pending_passed run comms number group comms.own lines calls refl
+pending_report run rank comms report.Comm fields group lines calls fits pending = absurd fits.1
+pending_report run rank comms report.Idup (Natural number ∷ Natural request ∷ fields) group lines calls fits pending =
+    let same = duplicated_wave comms number (option_map (duplicated_in group) (under request comms.duplicates)) in
+    pending_other run comms (after_report comms report.Idup (Natural number ∷ Natural request ∷ fields) group)
     (record { word = Report report.Idup; fields = Natural number ∷ Natural request ∷ fields } ∷ lines) lines calls same.0 same.1 refl pending
-pending_report run rank held report.Apart (Natural number ∷ fields) group lines calls fits pending =
-    pending_other run held (after_report held report.Apart (Natural number ∷ fields) group)
+pending_report run rank comms report.Apart (Natural number ∷ fields) group lines calls fits pending =
+    pending_other run comms (after_report comms report.Apart (Natural number ∷ fields) group)
     (record { word = Report report.Apart; fields = Natural number ∷ fields } ∷ lines) lines calls refl refl refl pending
-pending_report run rank held word fields group lines calls fits pending =
-    pending_other run held held (record { word = Report word; fields = fields } ∷ lines) lines calls refl refl refl pending
+pending_report run rank comms word fields group lines calls fits pending =
+    pending_other run comms comms (record { word = Report word; fields = fields } ∷ lines) lines calls refl refl refl pending
 
 -- ---- An entry ----
 
@@ -230,11 +126,11 @@ maker_steps here (Splits comm colour key) h = refl
 maker_steps here (Makes comm) h = refl
 maker_steps here _ h = absurd (false≢true h)
 
-no_next : (held : Held) (it : Called) → makes_comm it ≡ true → key_next held it ≡ None
-no_next held (Duplicates comm) h = refl
-no_next held (Splits comm colour key) h = refl
-no_next held (Makes comm) h = refl
-no_next held _ h = absurd (false≢true h)
+no_next : (comms : RankComms) (it : Called) → makes_comm it ≡ true → key_next comms it ≡ None
+no_next comms (Duplicates comm) h = refl
+no_next comms (Splits comm colour key) h = refl
+no_next comms (Makes comm) h = refl
+no_next comms _ h = absurd (false≢true h)
 
 not_end : (it : Called) → makes_comm it ≡ true → is_end it ≡ false
 not_end (Duplicates comm) h = refl
@@ -244,8 +140,8 @@ not_end _ h = absurd (false≢true h)
 
 -- what a list has after an entry: what its rank has then, and what is still to be reported
 record Went (run : Run) (rank : ℕ) (placed : Placed) (lines : List Line) (calls : List Call) : Type 0 where
-  kept : KeptBy run rank (after_call placed.held placed.called) calls
-  pending : Pending run (after_call placed.held placed.called) lines calls
+  kept : KeptBy run rank (after_call placed.comms placed.called) calls
+  pending : Pending run (after_call placed.comms placed.called) lines calls
 
 -- an entry with what comes after it
 record Stands (rank : ℕ) (placed : Placed) (lines : List Line) : Type 0 where
@@ -254,16 +150,16 @@ record Stands (rank : ℕ) (placed : Placed) (lines : List Line) : Type 0 where
   reports_are : placed.entry.reports ≡ (listing_of lines).early
   fit : LinesFit rank lines
 
-other_went : (run : Run) (choice : Choice) (rank : ℕ) (placed : Placed) (lines : List Line) (progress : Progress) → rank < length run → Stands rank placed lines → makes_comm placed.called ≡ false → KeptBy run rank placed.held (calls_in progress) → Went run rank placed lines (calls_in (after_steps progress placed.line (steps_of run choice placed)))
+other_went : (run : Run) (choice : Choice) (rank : ℕ) (placed : Placed) (lines : List Line) (progress : Progress) → rank < length run → Stands rank placed lines → makes_comm placed.called ≡ false → KeptBy run rank placed.comms (calls_in progress) → Went run rank placed lines (calls_in (after_steps progress placed.line (steps_of run choice placed)))
 other_went run choice rank placed lines progress within stands makes_not kept = record {
-  kept = kept_call run rank placed.held (calls_in (after_steps progress placed.line (steps_of run choice placed)))
-      (option_map (λ (wave : Wave). wave.parent) (wave_next placed.held placed.called)) (key_next placed.held placed.called)
+  kept = kept_call run rank placed.comms (calls_in (after_steps progress placed.line (steps_of run choice placed)))
+      (option_map (λ (wave : Wave). wave.parent) (wave_next placed.comms placed.called)) (key_next placed.comms placed.called)
       (steps_of_keep run choice rank placed progress within makes_not stands.group_ok kept)
-      (λ key h. next_ok (length run) rank placed.held placed.called key stands.group_ok h);
+      (λ key h. next_ok (length run) rank placed.comms placed.called key stands.group_ok h);
   pending = λ wave wave_is own_is line found. absurd (none-some wave (rw makes_not at wave_is));
 }
 
-maker_went_by : (run : Run) (choice : Choice) (rank comm : ℕ) (placed : Placed) (lines : List Line) (progress : Progress) → Stands rank placed lines → makes_comm placed.called ≡ true → number_at run placed ≡ Some comm → KeptBy run rank placed.held (calls_in progress) → Went run rank placed lines (calls_in (after_steps progress placed.line (Does (maker run placed comm) ∷ [])))
+maker_went_by : (run : Run) (choice : Choice) (rank comm : ℕ) (placed : Placed) (lines : List Line) (progress : Progress) → Stands rank placed lines → makes_comm placed.called ≡ true → number_at run placed ≡ Some comm → KeptBy run rank placed.comms (calls_in progress) → Went run rank placed lines (calls_in (after_steps progress placed.line (Does (maker run placed comm) ∷ [])))
 maker_went_by run choice rank comm placed lines progress stands makes_one is kept =
     let call = maker run placed comm in
     let calls = calls_in progress in
@@ -271,7 +167,7 @@ maker_went_by run choice rank comm placed lines progress stands makes_one is kep
     let reports : LinesFit rank placed.entry.reports = subst (λ (ls : List Line). LinesFit rank ls) (sym stands.reports_are) (early_fit rank lines stands.fit) in
     let after = maker_after run rank comm placed calls stands.is_rank reports (own_at run rank placed calls comm kept stands.group_ok is) kept in
     let it : Went run rank placed lines (calls ++ call ∷ []) = record {
-      kept = subst (λ (own : Option Key). Kept run rank placed.held.numbers (waves_after placed) own (calls ++ call ∷ [])) (sym (no_next placed.held placed.called makes_one)) after.kept;
+      kept = subst (λ (own : Option Key). Kept run rank placed.comms.numbers (waves_after placed) own (calls ++ call ∷ [])) (sym (no_next placed.comms placed.called makes_one)) after.kept;
       pending = λ wave wave_is own_is line found.
           after.gave (Made wave.parent wave.count (group_in line))
           (reported_made run placed wave line makes_one (rw makes_one at wave_is)
@@ -279,7 +175,7 @@ maker_went_by run choice rank comm placed lines progress stands makes_one is kep
     } in
     subst (λ (all : List Call). Went run rank placed lines all) (sym same) it
 
-maker_went : (run : Run) (choice : Choice) (rank : ℕ) (placed : Placed) (lines : List Line) (progress : Progress) → Stands rank placed lines → makes_comm placed.called ≡ true → why_at run placed ≡ None → KeptBy run rank placed.held (calls_in progress) → Went run rank placed lines (calls_in (after_steps progress placed.line (steps_of run choice placed)))
+maker_went : (run : Run) (choice : Choice) (rank : ℕ) (placed : Placed) (lines : List Line) (progress : Progress) → Stands rank placed lines → makes_comm placed.called ≡ true → why_at run placed ≡ None → KeptBy run rank placed.comms (calls_in progress) → Went run rank placed lines (calls_in (after_steps progress placed.line (steps_of run choice placed)))
 maker_went run choice rank placed lines progress stands makes_one why kept =
     let number = has_number run placed makes_one why in
     let steps : steps_of run choice placed ≡ Does (maker run placed number.0) ∷ [] =
@@ -287,7 +183,7 @@ maker_went run choice rank placed lines progress stands makes_one why kept =
     subst (λ (all : List Step). Went run rank placed lines (calls_in (after_steps progress placed.line all))) (sym steps)
     (maker_went_by run choice rank number.0 placed lines progress stands makes_one number.1 kept)
 
-went : (run : Run) (choice : Choice) (rank : ℕ) (placed : Placed) (lines : List Line) (progress : Progress) → rank < length run → Stands rank placed lines → why_at run placed ≡ None → KeptBy run rank placed.held (calls_in progress) → Went run rank placed lines (calls_in (after_steps progress placed.line (steps_of run choice placed)))
+went : (run : Run) (choice : Choice) (rank : ℕ) (placed : Placed) (lines : List Line) (progress : Progress) → rank < length run → Stands rank placed lines → why_at run placed ≡ None → KeptBy run rank placed.comms (calls_in progress) → Went run rank placed lines (calls_in (after_steps progress placed.line (steps_of run choice placed)))
 went run choice rank placed lines progress within stands why kept =
     elim (cases_Bool (makes_comm placed.called)) [
       | inl makes_one ↦ maker_went run choice rank placed lines progress stands makes_one why kept
@@ -303,7 +199,7 @@ exchange_makes_none : (it : Called) (why : Why) (P : List Step → Type 0) (run 
 exchange_makes_none (StartsExchange request received sent awaited) NeverReported P run choice placed is none some = some (rw is refl)
 exchange_makes_none _ _ P run choice placed is none some = none
 
-ended_holds : (run : Run) (choice : Choice) (rank : ℕ) (placed : Placed) (progress : Progress) (why : Why) → rank < length run → GroupOk rank placed.called → KeptBy run rank placed.held (calls_in progress) → AllHold (groups_of run) rank [] (calls_in (after_steps progress placed.line (steps_before run choice placed placed.called why)))
+ended_holds : (run : Run) (choice : Choice) (rank : ℕ) (placed : Placed) (progress : Progress) (why : Why) → rank < length run → GroupOk rank placed.called → KeptBy run rank placed.comms (calls_in progress) → AllHold (groups_of run) rank [] (calls_in (after_steps progress placed.line (steps_before run choice placed placed.called why)))
 ended_holds run choice rank placed progress why within ok kept =
     exchange_makes_none placed.called why (λ (steps : List Step). AllHold (groups_of run) rank [] (calls_in (after_steps progress placed.line steps)))
     run choice placed refl kept.all (λ makes_not. (steps_of_keep run choice rank placed progress within makes_not ok kept).all)
@@ -312,19 +208,19 @@ ended_holds run choice rank placed progress why within ok kept =
 abbrev Rest : Run → ℕ → Placed → List Line → (Progress → Listed) → Type 0
 Rest run rank placed lines others = (progress : Progress) → Went run rank placed lines (calls_in progress) → RecordsHold run rank (others progress)
 
-gone_on : (run : Run) (choice : Choice) (rank : ℕ) (placed : Placed) (lines : List Line) (progress : Progress) (others : Progress → Listed) (end : Bool) → rank < length run → Stands rank placed lines → why_at run placed ≡ None → KeptBy run rank placed.held (calls_in progress) → Rest run rank placed lines others → RecordsHold run rank (go_on progress placed.line (if end then Ends (WaitsForLate ∷ []) Finalize None else GoesOn (steps_of run choice placed)) others)
+gone_on : (run : Run) (choice : Choice) (rank : ℕ) (placed : Placed) (lines : List Line) (progress : Progress) (others : Progress → Listed) (end : Bool) → rank < length run → Stands rank placed lines → why_at run placed ≡ None → KeptBy run rank placed.comms (calls_in progress) → Rest run rank placed lines others → RecordsHold run rank (go_on progress placed.line (if end then Ends (WaitsForLate ∷ []) Finalize None else GoesOn (steps_of run choice placed)) others)
 gone_on run choice rank placed lines progress others true within stands why kept rest =
-    (waits_keep run rank placed.line placed.held progress (WaitsForLate ∷ []) within (tt, tt) kept).all
+    (waits_keep run rank placed.line placed.comms progress (WaitsForLate ∷ []) within (tt, tt) kept).all
 gone_on run choice rank placed lines progress others false within stands why kept rest =
     rest (after_steps progress placed.line (steps_of run choice placed)) (went run choice rank placed lines progress within stands why kept)
 
-entry_holds_by : (run : Run) (choice : Choice) (rank : ℕ) (placed : Placed) (lines : List Line) (progress : Progress) (others : Progress → Listed) (o : Option Why) → why_at run placed ≡ o → rank < length run → Stands rank placed lines → KeptBy run rank placed.held (calls_in progress) → Rest run rank placed lines others → RecordsHold run rank (go_on progress placed.line (outcome_by run choice placed o) others)
+entry_holds_by : (run : Run) (choice : Choice) (rank : ℕ) (placed : Placed) (lines : List Line) (progress : Progress) (others : Progress → Listed) (o : Option Why) → why_at run placed ≡ o → rank < length run → Stands rank placed lines → KeptBy run rank placed.comms (calls_in progress) → Rest run rank placed lines others → RecordsHold run rank (go_on progress placed.line (outcome_by run choice placed o) others)
 entry_holds_by run choice rank placed lines progress others (Some why) is within stands kept rest =
     ended_holds run choice rank placed progress why within stands.group_ok kept
 entry_holds_by run choice rank placed lines progress others None is within stands kept rest =
     gone_on run choice rank placed lines progress others (is_end placed.called) within stands is kept rest
 
-entry_holds : (run : Run) (choice : Choice) (rank : ℕ) (placed : Placed) (lines : List Line) (progress : Progress) (others : Progress → Listed) → rank < length run → Stands rank placed lines → KeptBy run rank placed.held (calls_in progress) → Rest run rank placed lines others → RecordsHold run rank (go_on progress placed.line (outcome_of run choice placed) others)
+entry_holds : (run : Run) (choice : Choice) (rank : ℕ) (placed : Placed) (lines : List Line) (progress : Progress) (others : Progress → Listed) → rank < length run → Stands rank placed lines → KeptBy run rank placed.comms (calls_in progress) → Rest run rank placed lines others → RecordsHold run rank (go_on progress placed.line (outcome_of run choice placed) others)
 entry_holds run choice rank placed lines progress others within stands kept rest =
     entry_holds_by run choice rank placed lines progress others (why_at run placed) refl within stands kept rest
 
@@ -333,28 +229,28 @@ entry_holds run choice rank placed lines progress others within stands kept rest
 -- what a list gets from these lines holds, from any state of it
 abbrev Walks : Run → Choice → ℕ → Journal → List Line → Type 0
 Walks run choice rank journal lines =
-    (number : ℕ) (held : Held) (progress : Progress) → KeptBy run rank held (calls_in progress) → Pending run held lines (calls_in progress) →
-    RecordsHold run rank (list_from run choice progress (entries_from rank journal number held lines))
+    (number : ℕ) (comms : RankComms) (progress : Progress) → KeptBy run rank comms (calls_in progress) → Pending run comms lines (calls_in progress) →
+    RecordsHold run rank (list_from run choice progress (entries_from rank journal number comms lines))
 
-abbrev entry_at : ℕ → Journal → ℕ → Held → CallWord → List Field → List Line → Placed
-entry_at rank journal number held word fields lines =
-    placed_at rank journal number held (record { word = word; fields = fields; reports = (listing_of lines).early }) lines
+abbrev entry_at : ℕ → Journal → ℕ → RankComms → CallWord → List Field → List Line → Placed
+entry_at rank journal number comms word fields lines =
+    placed_at rank journal number comms (record { word = word; fields = fields; reports = (listing_of lines).early }) lines
 
 walk_line : (run : Run) (choice : Choice) (rank : ℕ) (journal : Journal) (word : Word) (fields : List Field) (lines : List Line) → rank < length run → LineFits rank word fields → LinesFit rank lines → Walks run choice rank journal lines → Walks run choice rank journal (record { word = word; fields = fields } ∷ lines)
-walk_line run choice rank journal (CallLine word) fields lines within fits all rest number held progress kept pending =
-    let placed = entry_at rank journal number held word fields lines in
+walk_line run choice rank journal (CallLine word) fields lines within fits all rest number comms progress kept pending =
+    let placed = entry_at rank journal number comms word fields lines in
     entry_holds run choice rank placed lines progress
-    (λ new. list_from run choice new (entries_from rank journal (number + 1) (after_call held (called word fields)) lines))
+    (λ new. list_from run choice new (entries_from rank journal (number + 1) (after_call comms (called word fields)) lines))
     within (record { is_rank = refl; group_ok = called_ok rank word fields fits; reports_are = refl; fit = all }) kept
-    (λ new state. rest (number + 1) (after_call held (called word fields)) new state.kept state.pending)
-walk_line run choice rank journal (Report word) fields lines within fits all rest number held progress kept pending =
+    (λ new state. rest (number + 1) (after_call comms (called word fields)) new state.kept state.pending)
+walk_line run choice rank journal (Report word) fields lines within fits all rest number comms progress kept pending =
     let group = group_in (record { word = Report word; fields = fields }) in
-    rest (number + 1) (after_report held word fields group) progress
-    (report_kept run rank held (calls_in progress) word fields group fits
+    rest (number + 1) (after_report comms word fields group) progress
+    (report_kept run rank comms (calls_in progress) word fields group fits
     (λ is wave wave_is own_is. pending wave wave_is own_is (record { word = Report word; fields = fields }) (rw is refl)) kept)
-    (pending_report run rank held word fields group lines (calls_in progress) fits pending)
+    (pending_report run rank comms word fields group lines (calls_in progress) fits pending)
 
 pub walk : (run : Run) (choice : Choice) (rank : ℕ) (journal : Journal) (lines : List Line) → rank < length run → LinesFit rank lines → Walks run choice rank journal lines
-walk run choice rank journal [] within all number held progress kept pending = kept.all
-walk run choice rank journal (line ∷ lines) within all number held progress kept pending =
-    walk_line run choice rank journal line.word line.fields lines within all.0 all.1 (walk run choice rank journal lines within all.1) number held progress kept pending
+walk run choice rank journal [] within all number comms progress kept pending = kept.all
+walk run choice rank journal (line ∷ lines) within all number comms progress kept pending =
+    walk_line run choice rank journal line.word line.fields lines within all.0 all.1 (walk run choice rank journal lines within all.1) number comms progress kept pending

@@ -32,7 +32,8 @@ EachRecordingIsClosed = (run : Run) (choice : Choice) → IsClosedRecording (rec
 -- Law: two communicators with one number are the same.
 abbrev pub OneNumberIsOneCommunicator : Type 0
 OneNumberIsOneCommunicator =
-    (run : Run) (key other : Key) (number : ℕ) → number_of run key ≡ Some number → number_of run other ≡ Some number → key ≡ other
+    (run : Run) (key other : Key) (number : ℕ) → number_of run key ≡ Some number →
+    number_of run other ≡ Some number → key ≡ other
 
 -- no call has another fault than one of the communicators that its rank holds
 abbrev pub FaultsAreOfHolding : Recording → Type 0
@@ -42,8 +43,8 @@ FaultsAreOfHolding it =
     fault_of it.groups rank (take place (calls_of_rank (map calls_of it.lists) rank)) call ≡ Some fault →
     (fault ≡ CommunicatorNotHeld) ⊎ (fault ≡ WrongNewCommunicator)
 
--- Law: each call of a recording names a communicator and ranks that there are, starts a request that isn't active and
--- waits for those that are; none comes after the end or is one too many.
+-- Law: each call of a recording names a communicator and ranks that there are, starts a request that isn't
+-- active and waits for those that are; none comes after the end or is one too many.
 abbrev pub NoOtherFault : Type 0
 NoOtherFault = (run : Run) (choice : Choice) → FaultsAreOfHolding (recording_of run choice)
 
@@ -54,7 +55,7 @@ EachListInRangesReadsBack =
     list_all in_ranges (calls_of list) ≡ true →
     trace_of (trace_text list) ≡ record { records = calls_of list; end = Sealed }
 
--- a head may have so many ranks and communicators, and each group is some ranks of the run, none of them twice
+-- a head may have so many ranks and communicators, and each group is some ranks of the run, none twice
 pub record IsHead (it : Recording) : Type 0 where
   pub ranks_fit : (1 ≤ ranks_of it.groups) × (ranks_of it.groups ≤ MOST_RANKS)
   pub few : length it.groups ≤ MOST_COMMS
@@ -63,3 +64,10 @@ pub record IsHead (it : Recording) : Type 0 where
 -- Law: the groups of a recording are those of a head.
 abbrev pub EachHeadIsAHead : Type 0
 EachHeadIsAHead = (run : Run) (choice : Choice) → IsRead run → IsHead (recording_of run choice)
+
+-- Law: each call of a recording is in its ranges.
+abbrev pub EachListIsInRanges : Type 0
+EachListIsInRanges =
+    (run : Run) (choice : Choice) → IsRead run →
+    (list : Listed) → Contains (recording_of run choice).lists list →
+    list_all in_ranges (calls_of list) ≡ true

@@ -1,7 +1,7 @@
 //! The laws that are proved.
 
-ghost use Rattle.lawful.specs.Closed.{EachRecordingIsClosed, OneNumberIsOneCommunicator, NoOtherFault, EachListInRangesReadsBack, EachHeadIsAHead};
-ghost use Rattle.lawful.specs.Laws.{EachRecordingIsLawful};
+ghost use Rattle.lawful.specs.Closed.{EachRecordingIsClosed, OneNumberIsOneCommunicator, NoOtherFault, EachListInRangesReadsBack, EachHeadIsAHead, EachListIsInRanges};
+ghost use Rattle.lawful.specs.Laws.{EachRecordingIsLawful, EachRecordingReadsBack};
 
 /// There is a list for each rank of the head, each has an end, and nothing comes after it.
 pub fn each_recording_is_closed()
@@ -31,4 +31,14 @@ pub fn each_list_in_ranges_reads_back()
 /// The groups of a recording of journals that were read are those of a head.
 pub fn each_head_is_a_head()
     ensures { EachHeadIsAHead }
+{}
+
+/// Each call of a recording of journals that were read is in its ranges.
+pub fn each_list_is_in_ranges()
+    ensures { EachListIsInRanges }
+{}
+
+/// What is written of a recording of journals that were read is that recording.
+pub fn each_recording_reads_back()
+    ensures { EachRecordingReadsBack }
 {}

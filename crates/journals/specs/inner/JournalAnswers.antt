@@ -13,7 +13,7 @@ use Rattle.journals.specs.declared.journal.JournalError.{JournalError}
 use Rattle.journals.specs.declared.journal.JournalError.TheVariants as error
 use Rattle.journals.specs.declared.line.LineFault.{LineFault}
 use Rattle.journals.specs.declared.line.LineFault.TheVariants.{Journal as Wrong, Memory as OutOfMemory}
-use Rattle.journals.specs.Reading.{heading_in, fault_in}
+use Rattle.journals.specs.JournalAnswers.{heading_in, fault_in}
 
 -- a fault of a line, with its number
 abbrev pub fault_as : ℕ → LineFault → JournalError

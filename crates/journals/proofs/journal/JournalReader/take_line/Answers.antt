@@ -3,10 +3,10 @@ use Rattle.std.proofs.Common.{◌-◌, sym, subst, take, Err}
 use Rattle.journals.specs.Lines.{line_of}
 use Rattle.journals.specs.inner.Taking.{Takes, TakesLine}
 use Rattle.journals.specs.inner.Knows.{Knows, owner_of}
-use Rattle.journals.specs.inner.Reading.{TakesText}
+use Rattle.journals.specs.inner.JournalAnswers.{TakesText}
 use Rattle.journals.proofs.ReadLines.{taken_next, is_next}
 use Rattle.journals.proofs.JournalLemmas.{take_unread, take_refused, take_taken, held_short}
-use Rattle.journals.proofs.journal.Reading.take_line.Goals as goal
+use Rattle.journals.proofs.journal.JournalReader.take_line.Goals as goal
 
 pub returns-in-Err-clause-takes : goal.returns-in-Err-clause-takes
 returns-in-Err-clause-takes c =

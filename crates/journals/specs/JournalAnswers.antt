@@ -7,7 +7,7 @@ use Rattle.std.specs.Io.KnownBytes.{Consumes}
 use Rattle.journals.specs.declared.fault.JournalFaultKind.TheVariants as kind
 use Rattle.journals.specs.declared.fault.JournalFault.{JournalFault}
 use Rattle.journals.specs.declared.header.Header.{Header}
-use Rattle.journals.specs.declared.journal.Journal.{Journal as Held}
+use Rattle.journals.specs.declared.journal.Journal.{Journal as JournalRead}
 use Rattle.journals.specs.declared.journal.JournalError.{JournalError}
 use Rattle.journals.specs.declared.journal.JournalError.TheVariants as error
 
@@ -31,7 +31,7 @@ FailsFrom number old left (Err (error.ReadFailed line)) =
 FailsFrom number old left _ = ⊤
 
 -- what is answered is the journal of a text that is known, or its first fault
-abbrev pub AnswersJournal : ℕ → Option Heading → Option (List ℕ) → Result Held JournalError → Type 0
+abbrev pub AnswersJournal : ℕ → Option Heading → Option (List ℕ) → Result JournalRead JournalError → Type 0
 AnswersJournal rank first None result = ⊤
 AnswersJournal rank first (Some text) (Ok journal) =
     journal_of_lines rank first (whole_lines text)

@@ -3,9 +3,9 @@ use Rattle.std.proofs.Common.{◌-◌, sym, subst, take, drop, List, ℕ}
 use Rattle.journals.specs.Inputs.{text_left}
 use Rattle.journals.specs.inner.Knows.{owner_of}
 use Rattle.journals.specs.inner.Reader.{coming, ComesNext, NoneComes}
-use Rattle.journals.specs.inner.Reading.{lines_to_come, GoesOn}
+use Rattle.journals.specs.inner.JournalAnswers.{lines_to_come, GoesOn}
 use Rattle.journals.proofs.JournalLemmas.{answers_end, answers_found, next_taken, next_wrong}
-use Rattle.journals.proofs.journal.Reading.read_next.Goals as goal
+use Rattle.journals.proofs.journal.JournalReader.read_next.Goals as goal
 
 pub returns-in-Ok-clause-lines : goal.returns-in-Ok-clause-lines
 returns-in-Ok-clause-lines g c =

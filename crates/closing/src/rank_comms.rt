@@ -10,7 +10,7 @@ use std::collections::HashMap;
 
 /// What a rank has. Keys and groups stand by their places.
 #[derive(Drop)]
-pub(crate) struct Held {
+pub(crate) struct RankComms {
     /// The rank's own numbers of communicators, and their keys.
     numbers: HashMap<u32, u32>,
     /// How many calls of waves it made, by the key of their communicator.
@@ -35,13 +35,13 @@ fn count_on(counts: &mut HashMap<u32, u32>, place: u32) -> Result<u32, AllocErro
     Ok(before)
 }
 
-impl Held {
+impl RankComms {
     /// What a rank has before all lines: the world, and that of the rank alone, whose key has this place.
-    pub(crate) fn first(alloc: Global, alone: u32) -> Result<Held, AllocError> {
+    pub(crate) fn first(alloc: Global, alone: u32) -> Result<RankComms, AllocError> {
         let mut numbers = HashMap::new(alloc);
         numbers.insert(0, WORLD)?;
         numbers.insert(1, alone)?;
-        Ok(Held {
+        Ok(RankComms {
             numbers,
             waves: HashMap::new(alloc),
             duplicates: HashMap::new(alloc),

@@ -17,7 +17,7 @@ pub record Wave : Type 0 where
   pub parent : Key
   pub count : ℕ
 
-pub record Held : Type 0 where
+pub record RankComms : Type 0 where
   -- its communicators by its own numbers
   pub numbers : List (ℕ × Key)
   -- all but the world in the order in which it got them
@@ -33,8 +33,8 @@ pub record Held : Type 0 where
   pub wave : Option Wave
   pub own : Option Key
 
-abbrev pub held_first : ℕ → Held
-held_first rank = record {
+abbrev pub comms_first : ℕ → RankComms
+comms_first rank = record {
   numbers = (0, World) ∷ (1, Alone rank) ∷ [];
   keys = Alone rank ∷ [];
   waves = [];
@@ -51,8 +51,8 @@ under number [] = None
 under number ((other, it) ∷ others) = if other == number then Some it else under number others
 
 -- the communicator with the rank's own number
-abbrev pub key_under : Held → ℕ → Option Key
-key_under held number = under number held.numbers
+abbrev pub key_under : RankComms → ℕ → Option Key
+key_under comms number = under number comms.numbers
 
 -- ---- A call ----
 
@@ -64,16 +64,16 @@ makes_comm (Makes comm) = true
 makes_comm _ = false
 
 -- the wave of the next call
-abbrev pub wave_on : Held → Key → Wave
-wave_on held key = record { parent = key; count = key_count key held.waves }
+abbrev pub wave_on : RankComms → Key → Wave
+wave_on comms key = record { parent = key; count = key_count key comms.waves }
 
-abbrev pub wave_next : Held → Called → Option Wave
-wave_next held it = option_map (wave_on held) (option_and_then (key_under held) (wave_comm it))
+abbrev pub wave_next : RankComms → Called → Option Wave
+wave_next comms it = option_map (wave_on comms) (option_and_then (key_under comms) (wave_comm it))
 
 -- the communicator that the next call makes of a group: the rank has it from the call on
-abbrev pub key_next : Held → Called → Option Key
-key_next held (MakesOfGroup group) = Some (OfGroup group (group_count group held.groups))
-key_next held it = None
+abbrev pub key_next : RankComms → Called → Option Key
+key_next comms (MakesOfGroup group) = Some (OfGroup group (group_count group comms.groups))
+key_next comms it = None
 
 abbrev pub with_some : {A : Type 0} → List A → Option A → List A
 with_some things None = things
@@ -87,21 +87,21 @@ abbrev pub with_group : List (List ℕ) → Called → List (List ℕ)
 with_group groups (MakesOfGroup group) = groups ++ group ∷ []
 with_group groups it = groups
 
-abbrev pub after_call : Held → Called → Held
-after_call held it = record held {
-  keys = with_some held.keys (key_next held it);
-  waves = with_some held.waves (option_map (λ wave. wave.parent) (wave_next held it));
-  duplicates = with_duplicate held.duplicates it (wave_next held it);
-  groups = with_group held.groups it;
-  wave = if makes_comm it then wave_next held it else None;
-  own = key_next held it;
+abbrev pub after_call : RankComms → Called → RankComms
+after_call comms it = record comms {
+  keys = with_some comms.keys (key_next comms it);
+  waves = with_some comms.waves (option_map (λ wave. wave.parent) (wave_next comms it));
+  duplicates = with_duplicate comms.duplicates it (wave_next comms it);
+  groups = with_group comms.groups it;
+  wave = if makes_comm it then wave_next comms it else None;
+  own = key_next comms it;
 }
 
 -- ---- A report ----
 
-abbrev pub with_key : Held → ℕ → Option Key → Held
-with_key held number None = held
-with_key held number (Some key) = record held { numbers = (number, key) ∷ held.numbers; keys = held.keys ++ key ∷ [] }
+abbrev pub with_key : RankComms → ℕ → Option Key → RankComms
+with_key comms number None = comms
+with_key comms number (Some key) = record comms { numbers = (number, key) ∷ comms.numbers; keys = comms.keys ++ key ∷ [] }
 
 -- the communicator that a call of a wave made
 abbrev pub made_in : List ℕ → Wave → Key
@@ -111,37 +111,37 @@ abbrev pub duplicated_in : List ℕ → Wave → Key
 duplicated_in group wave = Duplicated wave.parent wave.count group
 
 -- that of the last call: what it made of a group gets a number, another is got with it
-abbrev pub with_made : Held → ℕ → List ℕ → Option Key → Held
-with_made held number group (Some key) = record held { numbers = (number, key) ∷ held.numbers }
-with_made held number group None = record (with_key held number (option_map (made_in group) held.wave)) { wave = None }
+abbrev pub with_made : RankComms → ℕ → List ℕ → Option Key → RankComms
+with_made comms number group (Some key) = record comms { numbers = (number, key) ∷ comms.numbers }
+with_made comms number group None = record (with_key comms number (option_map (made_in group) comms.wave)) { wave = None }
 
-abbrev pub with_duplicated : Held → ℕ → ℕ → List ℕ → Held
-with_duplicated held number request group = with_key held number (option_map (duplicated_in group) (under request held.duplicates))
+abbrev pub with_duplicated : RankComms → ℕ → ℕ → List ℕ → RankComms
+with_duplicated comms number request group = with_key comms number (option_map (duplicated_in group) (under request comms.duplicates))
 
-abbrev pub with_apart : Held → ℕ → List ℕ → Held
-with_apart held number group =
-    with_key (record held { apart = held.apart ++ group ∷ [] }) number (Some (Apart group (group_count group held.apart)))
+abbrev pub with_apart : RankComms → ℕ → List ℕ → RankComms
+with_apart comms number group =
+    with_key (record comms { apart = comms.apart ++ group ∷ [] }) number (Some (Apart group (group_count group comms.apart)))
 
-abbrev pub after_report : Held → ReportWord → List Field → List ℕ → Held
-after_report held report.Comm (Natural number ∷ fields) group = with_made held number group held.own
-after_report held report.Idup (Natural number ∷ Natural request ∷ fields) group = with_duplicated held number request group
-after_report held report.Apart (Natural number ∷ fields) group = with_apart held number group
-after_report held word fields group = held
+abbrev pub after_report : RankComms → ReportWord → List Field → List ℕ → RankComms
+after_report comms report.Comm (Natural number ∷ fields) group = with_made comms number group comms.own
+after_report comms report.Idup (Natural number ∷ Natural request ∷ fields) group = with_duplicated comms number request group
+after_report comms report.Apart (Natural number ∷ fields) group = with_apart comms number group
+after_report comms word fields group = comms
 
 -- ---- Lines ----
 
-abbrev pub after_word : Held → Word → List Field → List ℕ → Held
-after_word held (Call word) fields group = after_call held (called word fields)
-after_word held (Report word) fields group = after_report held word fields group
+abbrev pub after_word : RankComms → Word → List Field → List ℕ → RankComms
+after_word comms (Call word) fields group = after_call comms (called word fields)
+after_word comms (Report word) fields group = after_report comms word fields group
 
-abbrev pub after_line : Held → Line → Held
-after_line held line = after_word held line.word line.fields (group_in line)
+abbrev pub after_line : RankComms → Line → RankComms
+after_line comms line = after_word comms line.word line.fields (group_in line)
 
 -- what a rank that had this has after some more lines
-abbrev pub after_lines : Held → List Line → Held
-after_lines held [] = held
-after_lines held (line ∷ lines) = after_lines (after_line held line) lines
+abbrev pub after_lines : RankComms → List Line → RankComms
+after_lines comms [] = comms
+after_lines comms (line ∷ lines) = after_lines (after_line comms line) lines
 
 -- what the rank has after these lines of its journal
-abbrev pub held_after : ℕ → List Line → Held
-held_after rank lines = after_lines (held_first rank) lines
+abbrev pub comms_after : ℕ → List Line → RankComms
+comms_after rank lines = after_lines (comms_first rank) lines
