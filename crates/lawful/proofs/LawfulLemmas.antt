@@ -142,14 +142,14 @@ own_list run choice (suc count) first (suc rank) within =
     one_more : (a b : ℕ) → (a + 1) + b ≡ a + suc b
     one_more a b = omega arith
 
-list_at : (run : Run) (choice : Choice) (rank : ℕ) → rank < length run → or_empty (map calls_of (map (list_of run choice) (ranks_of run))) rank ≡ calls_of (list_of run choice rank)
+pub list_at : (run : Run) (choice : Choice) (rank : ℕ) → rank < length run → or_empty (map calls_of (map (list_of run choice) (ranks_of run))) rank ≡ calls_of (list_of run choice rank)
 list_at run choice rank within =
     own_list run choice (length run) 0 rank within ∙ ap (λ (n : ℕ). calls_of (list_of run choice n)) (zero_plus rank)
   where
     zero_plus : (n : ℕ) → 0 + n ≡ n
     zero_plus n = omega arith
 
-many : (run : Run) (choice : Choice) → length (map calls_of (map (list_of run choice) (ranks_of run))) ≡ length run
+pub many : (run : Run) (choice : Choice) → length (map calls_of (map (list_of run choice) (ranks_of run))) ≡ length run
 many run choice = length-map (map (list_of run choice) (ranks_of run)) calls_of ∙ length-map (ranks_of run) (list_of run choice) ∙ length-range_with_len 0 (length run)
 
 pub each_recording_is_lawful : EachRecordingIsLawful

@@ -32,3 +32,10 @@ pub mod CalledRanges
 pub mod RangedTable
 pub mod RangedLists
 pub mod HeadTexts
+pub mod SameLemmas
+pub mod EndLemmas
+pub mod EndWords
+pub mod JournalEnds
+pub mod FreeLemmas
+pub mod PlainLemmas
+pub mod PlainSteps

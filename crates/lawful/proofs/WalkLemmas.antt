@@ -98,7 +98,7 @@ goes_on_of false true c d e h = absurd (none-some CannotBe (sym h))
 goes_on_of false false true d e h = absurd (none-some NoNumber (sym h))
 goes_on_of false false false d e h = refl
 
-breaks_none : (it : Called) (o : Option Why) → or_else (breaks_off it) o ≡ None → o ≡ None
+pub breaks_none : (it : Called) (o : Option Why) → or_else (breaks_off it) o ≡ None → o ≡ None
 breaks_none Stops o h = absurd (none-some _ (sym h))
 breaks_none Aborts o h = absurd (none-some _ (sym h))
 breaks_none Fills o h = absurd (none-some _ (sym h))

@@ -1,2 +1,5 @@
 pub mod Closed
+pub mod Free
 pub mod Laws
+pub mod Plain
+pub mod Same

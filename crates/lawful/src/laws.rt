@@ -1,7 +1,10 @@
 //! The laws that are proved.
 
 ghost use Rattle.lawful.specs.Closed.{EachRecordingIsClosed, OneNumberIsOneCommunicator, NoOtherFault, EachListInRangesReadsBack, EachHeadIsAHead, EachListIsInRanges};
+ghost use Rattle.lawful.specs.Free.{EachFinalizeIsAnEnd, WhatIsLeftIsOpen, WhatIsFreeIsWhole};
 ghost use Rattle.lawful.specs.Laws.{EachRecordingIsLawful, EachRecordingReadsBack};
+ghost use Rattle.lawful.specs.Plain.{EachPlainJournalStaysTheSame};
+ghost use Rattle.lawful.specs.Same.{OneNumberExactlyIfTheSame, CallsAreOnOneNumberExactlyIfOnOne, EachNumberHasItsGroup};
 
 /// There is a list for each rank of the head, each has an end, and nothing comes after it.
 pub fn each_recording_is_closed()
@@ -41,4 +44,39 @@ pub fn each_list_is_in_ranges()
 /// What is written of a recording of journals that were read is that recording.
 pub fn each_recording_reads_back()
     ensures { EachRecordingReadsBack }
+{}
+
+/// A list ends with `finalize` exactly if its journal was gone through to the rank's end.
+pub fn each_finalize_is_an_end()
+    ensures { EachFinalizeIsAnEnd }
+{}
+
+/// Where it is told why a list ends, the list is left open.
+pub fn what_is_left_is_open()
+    ensures { WhatIsLeftIsOpen }
+{}
+
+/// If no list is left open, each rank's journal goes to its end, and it is told of none why it ends before that.
+pub fn what_is_free_is_whole()
+    ensures { WhatIsFreeIsWhole }
+{}
+
+/// A communicator has the number of another exactly if the two are the same.
+pub fn one_number_exactly_if_the_same()
+    ensures { OneNumberExactlyIfTheSame }
+{}
+
+/// The calls of two ranks are on one number exactly if they name one communicator.
+pub fn calls_are_on_one_number_exactly_if_on_one()
+    ensures { CallsAreOnOneNumberExactlyIfOnOne }
+{}
+
+/// The group that the head gives for the number of a communicator is that of the communicator.
+pub fn each_number_has_its_group()
+    ensures { EachNumberHasItsGroup }
+{}
+
+/// A journal of plain calls that was gone through closes to the same calls, but for the numbers of requests.
+pub fn each_plain_journal_stays_the_same()
+    ensures { EachPlainJournalStaysTheSame }
 {}

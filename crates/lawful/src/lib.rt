@@ -6,6 +6,9 @@
 //! are in their ranges is what its text reads as. Of a run that was read: the groups are those of a head, and calls are
 //! in their ranges.
 //!
+//! `specs/Free` has how lists end and what is told free, `specs/Same` which calls are on one communicator, `specs/Plain`
+//! that journals of plain calls stay the same.
+//!
 //! Lemmas: `RequestLemmas` what one call changes about requests, `StepLemmas` what a step adds, `TableLemmas` that
 //! entries give such steps, `ListLemmas` all calls of a list, `PassLemmas` lists whose records pass a test, `NameLemmas`
 //! and `CallLemmas` what calls name, `FaultLemmas` the tests together. `HoldLemmas` has lists whose calls pass the tests
@@ -14,7 +17,9 @@
 //! `SafeLemmas`, `MakerLemmas` and `EntryLemmas` its entries, `WalkLemmas` its lines, `LawfulLemmas` all together.
 //! `GroupFacts`, `KeyGroups` and `HeadLemmas` have the groups of the head, `HeadTexts` its text. `RangeLemmas` has the
 //! numbers of requests, `FieldRanges`, `CalledRanges` and `RangedTable` the other ranges, `RangedLists` all of a list,
-//! `ReadLemmas` its text.
+//! `ReadLemmas` its text. `EndLemmas` has how lists end, `EndWords` and `JournalEnds` the last lines of journals,
+//! `FreeLemmas` all lists; `SameLemmas` has numbers of communicators, `PlainLemmas` what plain calls add, `PlainSteps`
+//! their lists.
 #![tactic(auto)]
 
 pub mod laws;
