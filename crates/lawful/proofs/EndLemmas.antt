@@ -1,7 +1,7 @@
 -- How lists end: with Finalize where the journal was gone through, else open.
 use Rattle.std.proofs.Common.{◌≡◌, ℕ, ◌-◌, ◌<◌, ◌&&◌, Bool, true, false, if◌then◌else◌, Option, Some, None, List, [], ◌∷◌, ◌++◌, length, take, refl, sym, ap, subst, ◌∙◌, inl, inr}
 use Rattle.std.specs.Prelude.{is_none, nat_lt, slice_get}
-use Rattle.std.specs.List.{list_all}
+use Rattle.std.specs.List.{list_all, list_any}
 use Rattle.std.proofs.lemmas.Bool.{cases_Bool, and_parts, false≢true, lt-ltb, ltb-true}
 use Rattle.std.proofs.lemmas.Option.{none-some}
 use Rattle.mpicall.specs.declared.call.Call.{Call}
@@ -13,8 +13,8 @@ use Rattle.closing.specs.Endings.{why_at}
 use Rattle.closing.specs.Steps.{WaitsForLate, Progress, after_steps}
 use Rattle.closing.specs.Recording.{Listed, GoesOn, Ends, is_end, outcome_by, go_on, list_from, progress_first, whole_list, most_records, line_of, cut, without_journal, list_of}
 use Rattle.closing.specs.declared.why.Why.{Why}
-use Rattle.closing.specs.declared.why.Why.TheVariants.{TooLong}
-use Rattle.lawful.specs.Free.{AreGoneThrough, EachFinalizeIsAnEnd, WhatIsLeftIsOpen}
+use Rattle.closing.specs.declared.why.Why.TheVariants.{NoJournal, TooLong}
+use Rattle.lawful.specs.Free.{AreGoneThrough, EachFinalizeIsAnEnd, WhatIsLeftIsOpen, WhatIsNotLeftIsAnEnd}
 
 pub open_no_end : Open ≡ Finalize → ⊥
 open_no_end h = cc
@@ -173,3 +173,38 @@ what_is_left_is_open run choice rank =
     without_left (journal_at run rank) (cut whole)
     (λ is. cut_open whole short (bare_open run choice rank is))
     (cut_left whole short (left_open run choice (entries_at run rank) (progress_first run rank)))
+
+-- ---- What isn't left ----
+
+abbrev NotLeft : List Placed → Listed → Type 0
+NotLeft entries it = it.why ≡ None → list_any (λ (placed : Placed). is_end placed.called) entries ≡ true → it.end ≡ Finalize
+
+not_left_if : (run : Run) (choice : Choice) (placed : Placed) (others : List Placed) (progress : Progress) (b : Bool) → is_end placed.called ≡ b → ((new : Progress) → NotLeft others (list_from run choice new others)) → NotLeft (placed ∷ others) (end_list run choice placed others progress b)
+not_left_if run choice placed others progress true ends rest = λ none has. refl
+not_left_if run choice placed others progress false ends rest =
+    λ none has. rest (after_steps progress placed.line (steps_of run choice placed)) none (rw ends at has)
+
+not_left_by : (run : Run) (choice : Choice) (placed : Placed) (others : List Placed) (progress : Progress) (o : Option Why) → ((new : Progress) → NotLeft others (list_from run choice new others)) → NotLeft (placed ∷ others) (entry_list run choice placed others progress o)
+not_left_by run choice placed others progress (Some why) rest = λ none has. absurd (none-some why (sym none))
+not_left_by run choice placed others progress None rest =
+    not_left_if run choice placed others progress (is_end placed.called) refl rest
+
+not_left : (run : Run) (choice : Choice) (entries : List Placed) (progress : Progress) → NotLeft entries (list_from run choice progress entries)
+not_left run choice [] progress = λ none has. absurd (false≢true has)
+not_left run choice (placed ∷ others) progress =
+    not_left_by run choice placed others progress (why_at run placed) (λ new. not_left run choice others new)
+
+cut_not_left : (entries : List Placed) (it : Listed) (b : Bool) → NotLeft entries it → NotLeft entries (cut_by it b)
+cut_not_left entries it true goes = goes
+cut_not_left entries it false goes = λ none has. absurd (none-some TooLong (sym none))
+
+bare_not_left : (entries : List Placed) (b : Bool) (it : Listed) → NotLeft entries it → NotLeft entries (without_journal b it)
+bare_not_left entries true it goes = λ none has. absurd (none-some NoJournal (sym none))
+bare_not_left entries false it goes = goes
+
+pub what_is_not_left_is_an_end : WhatIsNotLeftIsAnEnd
+what_is_not_left_is_an_end run choice rank =
+    let whole = whole_list run choice rank in
+    let entries = entries_at run rank in
+    bare_not_left entries (is_none (journal_at run rank)) (cut whole)
+    (cut_not_left entries whole (nat_lt (length whole.records) most_records) (not_left run choice entries (progress_first run rank)))

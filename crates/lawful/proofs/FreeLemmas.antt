@@ -3,7 +3,7 @@ use Rattle.std.proofs.Common.{◌≡◌, ℕ, zero, suc, ◌+◌, ◌-◌, ◌<�
 use Rattle.std.specs.Prelude.{is_none, slice_get}
 use Rattle.std.specs.List.{list_any, list_all, range_with_len}
 use Rattle.std.specs.Option.{option_map_or}
-use Rattle.std.proofs.lemmas.Bool.{cases_Bool, false≢true, or_parts}
+use Rattle.std.proofs.lemmas.Bool.{and_parts, cases_Bool, false≢true, or_parts}
 use Rattle.std.proofs.lemmas.List.Folds.{list_any-append}
 use Rattle.std.proofs.lemmas.Option.{none-some}
 use Rattle.mpicall.specs.Ending.{ends_list}
@@ -23,6 +23,7 @@ use Rattle.closing.specs.RankComms.{RankComms, comms_first, after_call, after_re
 use Rattle.closing.specs.Entries.{Run, Placed, journal_at, entries_from, entries_in, entries_at, ranks_of}
 use Rattle.closing.specs.Entry.{Choice}
 use Rattle.closing.specs.Recording.{Listed, calls_of, is_end, list_of, recording_of}
+use Rattle.closing.specs.inner.Left.{left_from, left_of}
 use Rattle.closing.specs.declared.why.Why.{Why}
 use Rattle.lawful.specs.Laws.{IsRead}
 use Rattle.lawful.specs.Free.{AreGoneThrough, IsNoneLeftOpen, HasCalledItsEnd, WhatIsFreeIsWhole}
@@ -31,7 +32,7 @@ use Rattle.lawful.proofs.LawfulLemmas.{list_at, many}
 use Rattle.lawful.proofs.RunFacts.{ends_of_rank}
 use Rattle.lawful.proofs.JournalEnds.{OnlyLastEnds}
 use Rattle.lawful.proofs.EndWords.{end_word}
-use Rattle.lawful.proofs.EndLemmas.{open_no_end, each_finalize_is_an_end, what_is_left_is_open}
+use Rattle.lawful.proofs.EndLemmas.{none_of, open_no_end, each_finalize_is_an_end, what_is_left_is_open}
 
 -- ---- The last line ----
 
@@ -184,3 +185,13 @@ what_is_free_is_whole run choice read none =
       where
         plus_zero : (n : ℕ) → n ≡ 0 + n
         plus_zero n = omega arith
+
+-- then the list of what is left is empty
+left_none : (rank : ℕ) (lists : List Listed) → list_all (λ (list : Listed). is_none list.why) lists ≡ true → left_from rank lists ≡ []
+left_none rank [] none = refl
+left_none rank (list ∷ lists) none =
+    let parts = and_parts (is_none list.why) (list_all (λ (other : Listed). is_none other.why) lists) none in
+    rw (none_of list.why parts.0) (left_none (rank + 1) lists parts.1)
+
+pub nothing_is_left : (run : Run) (choice : Choice) → IsRead run → IsNoneLeftOpen (map calls_of (recording_of run choice).lists) → left_of (recording_of run choice).lists ≡ []
+nothing_is_left run choice read none = left_none 0 (recording_of run choice).lists (what_is_free_is_whole run choice read none).none_left

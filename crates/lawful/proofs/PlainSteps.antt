@@ -3,7 +3,7 @@ use Rattle.std.proofs.Common.{◌≡◌, ℕ, zero, suc, ◌+◌, ◌<◌, ◌�
 use Rattle.std.specs.Prelude.{is_none, is_some, nat_le, nat_lt, option_and_then, ⊤}
 use Rattle.std.specs.List.{filter, flat_map, list_all}
 use Rattle.std.specs.Option.{option_map_or}
-use Rattle.std.proofs.lemmas.Bool.{and_parts, false≢true, leb-true, lt-ltb}
+use Rattle.std.proofs.lemmas.Bool.{and_from, and_parts, false≢true, leb-true, lt-ltb}
 use Rattle.std.proofs.lemmas.Option.{none-some}
 use Rattle.mpicall.specs.Word.{or_else}
 use Rattle.mpicall.specs.declared.limits.TheConstants.{MOST_REQUESTS}
@@ -22,7 +22,7 @@ use Rattle.closing.specs.RankComms.{RankComms, comms_first, key_next, key_under,
 use Rattle.closing.specs.Entries.{Run, Placed, journal_at, lines_in, lines_at, entries_from, entries_in, entries_at}
 use Rattle.closing.specs.Reported.{Message, is_gone}
 use Rattle.closing.specs.Numbers.{number_of, preface_of}
-use Rattle.closing.specs.Steps.{Id, Own, Step, Does, Starts, WaitsForAll, WaitsForLate, Progress, numbers_of, waits_for, after_steps}
+use Rattle.closing.specs.Steps.{Id, Own, Step, Does, Starts, WaitsForAll, WaitsForLate, Progress, numbers_of, wait_for, waits_for, after_steps}
 use Rattle.closing.specs.Endings.{can_be, first_of, is_unknown, is_unreported, lacks_number, message_at, needs_number, number_at, why_at}
 use Rattle.closing.specs.Entry.{Choice, Here, here_at, send, start_send, receive, start_receive, exchange, probe, start_collective, kind_of, does, starts, ids_of, id_of, matched_message, on_comm, is_past, steps_by, steps_of}
 use Rattle.closing.specs.Recording.{Listed, GoesOn, Ends, is_end, calls_of, cut, line_of, list_from, list_of, most_records, progress_first, whole_list, without_journal}
@@ -30,7 +30,7 @@ use Rattle.closing.specs.declared.choice.Calls.{Calls}
 use Rattle.closing.specs.declared.choice.Calls.TheVariants.{Strict}
 use Rattle.closing.specs.declared.why.Why.{Why}
 use Rattle.closing.specs.declared.why.Why.TheVariants.{NeverCameBack, NeverReported, Failed, NoNumber, CannotBe}
-use Rattle.lawful.specs.Plain.{is_plain, same_call, same_call_at, started_by, waited_by, but, are_used_once, AreTheSame, EachPlainJournalStaysTheSame}
+use Rattle.lawful.specs.Plain.{is_plain, is_said_once, same_call, same_call_at, started_by, waited_by, but, are_used_once, AreTheSame, EachPlainJournalStaysTheSame}
 use Rattle.lawful.proofs.StepLemmas.{calls_in, plain_calls, added_plain}
 use Rattle.lawful.proofs.WalkLemmas.{breaks_none}
 use Rattle.lawful.proofs.EndLemmas.{goes_on, entry_list, end_list, none_of, ends_through, cut_by}
@@ -286,6 +286,57 @@ list_went run choice lines strict gone matched (placed ∷ before) last after ol
     next_went run choice placed (before ++ last ∷ after) (placed ∷ before) old known progress why (plain_no_end it plains.0)
     (both_went run placed before old known used (started_by it) (waited_by it) progress new (calls_before (list_from run choice new (before ++ last ∷ after))) adds went)
 
+-- ---- One call for each ----
+
+one_wait : (number : ℕ → ℕ) (requests : List ℕ) (calls : List Call) → calls ≡ wait_for (map number requests) → is_said_once (Waits requests) calls ≡ true
+one_wait number [] calls is = refl
+one_wait number (one ∷ []) calls is = rw is refl
+one_wait number (one ∷ two ∷ requests) calls is = rw is refl
+
+one_on_comm : (run : Run) (placed : Placed) (number : ℕ → ℕ) (comm : ℕ) (it : Called) → is_plain it ≡ true → needs_number it ≡ true → is_unreported placed it ≡ false → is_unknown placed it ≡ false → ((request : ℕ) → is_gone placed.journal.lines request ≡ false) → is_said_once it (same_call number (Some comm) (message_at placed) it) ≡ true
+one_on_comm run placed number comm (Sends mode sent) plain needs told clear gone = refl
+one_on_comm run placed number comm (StartsSend request mode sent) plain needs told clear gone = refl
+one_on_comm run placed number comm (Receives awaited) plain needs told clear gone =
+    let message = known_message (message_at placed) clear in
+    subst (λ (o : Option Message). is_said_once (Receives awaited) (same_call number (Some comm) o (Receives awaited)) ≡ true) (sym message.1) refl
+one_on_comm run placed number comm (StartsReceive request awaited) plain needs told clear gone =
+    let message = reported_message (message_at placed) (is_gone placed.journal.lines request) (gone request) told in
+    subst (λ (o : Option Message). is_said_once (StartsReceive request awaited) (same_call number (Some comm) o (StartsReceive request awaited)) ≡ true) (sym message.1) refl
+one_on_comm run placed number comm (Exchanges sent awaited) plain needs told clear gone =
+    let message = known_message (message_at placed) clear in
+    subst (λ (o : Option Message). is_said_once (Exchanges sent awaited) (same_call number (Some comm) o (Exchanges sent awaited)) ≡ true) (sym message.1) refl
+one_on_comm run placed number comm (Probes awaited) plain needs told clear gone =
+    let message = known_message (message_at placed) clear in
+    subst (λ (o : Option Message). is_said_once (Probes awaited) (same_call number (Some comm) o (Probes awaited)) ≡ true) (sym message.1) refl
+one_on_comm run placed number comm (Collects collective own root) plain needs told clear gone = refl
+one_on_comm run placed number comm (StartsCollective request collective own root) plain needs told clear gone = refl
+one_on_comm run placed number comm (Waits requests) plain needs told clear gone = absurd (false≢true needs)
+one_on_comm run placed number comm _ plain needs told clear gone = absurd (false≢true plain)
+
+one_by : (run : Run) (placed : Placed) (number : ℕ → ℕ) (needs : Bool) (o : Option ℕ) → needs_number placed.called ≡ needs → number_at run placed ≡ o → (needs && is_none o) ≡ false → is_plain placed.called ≡ true → Clear run placed → ((request : ℕ) → is_gone placed.journal.lines request ≡ false) → is_said_once placed.called (same_call number o (message_at placed) placed.called) ≡ true
+one_by run placed number true None needs is lacks plain clear gone = absurd (false≢true (sym lacks))
+one_by run placed number true (Some comm) needs is lacks plain clear gone =
+    one_on_comm run placed number comm placed.called plain needs clear.told clear.known gone
+one_by run placed number false (Some comm) needs is lacks plain clear gone =
+    let wait = needs_or_waits placed.called plain needs in
+    absurd (none-some comm (sym (no_number run placed wait.0 wait.1) ∙ is))
+one_by run placed number false None needs is lacks plain clear gone =
+    let wait = needs_or_waits placed.called plain needs in
+    subst (λ (it : Called). is_said_once it (same_call number None (message_at placed) it) ≡ true) (sym wait.1)
+    (one_wait number wait.0 (wait_for (map number wait.0)) refl)
+
+each_once : (run : Run) (lines : List Line) (number : ℕ → ℕ) (before : List Placed) (last : Placed) → ((request : ℕ) → is_gone lines request ≡ false) → AreOf lines before → list_all (goes_on run) (before ++ last ∷ []) ≡ true → list_all (λ (placed : Placed). is_plain placed.called) before ≡ true → list_all (λ (placed : Placed). is_said_once placed.called (same_call_at run number placed)) before ≡ true
+each_once run lines number [] last gone own goes plain = refl
+each_once run lines number (placed ∷ before) last gone own goes plain =
+    let here = and_parts (goes_on run placed) (list_all (goes_on run) (before ++ last ∷ [])) goes in
+    let plains = and_parts (is_plain placed.called) (list_all (λ (one : Placed). is_plain one.called) before) plain in
+    let it = clear run placed (none_of (why_at run placed) here.0) in
+    let first = one_by run placed number (needs_number placed.called) (number_at run placed) refl refl it.numbered plains.0 it
+    (λ request. subst (λ (ls : List Line). is_gone ls request ≡ false) (sym own.0) (gone request)) in
+    and_from (is_said_once placed.called (same_call_at run number placed))
+    (list_all (λ (one : Placed). is_said_once one.called (same_call_at run number one)) before) first
+    (each_once run lines number before last gone own.1 here.1 plains.1)
+
 -- ---- The journal of entries ----
 
 entries_of_line : (rank : ℕ) (journal : Journal) (number : ℕ) (comms : RankComms) (word : Word) (fields : List Field) (lines : List Line) → ((n : ℕ) (c : RankComms) → AreOf journal.lines (entries_from rank journal n c lines)) → AreOf journal.lines (entries_from rank journal number comms (record { word = word; fields = fields } ∷ lines))
@@ -331,6 +382,7 @@ each_plain_journal_stays_the_same run choice rank strict gone plain few =
     let said = flat_map (same_call_at run went.number) gone.before in
     record {
       number = went.number;
+      once = each_once run (lines_at run rank) went.number gone.before gone.last plain.none_gone own gone.none_breaks plain.plain;
       same = bare_calls (is_none (journal_at run rank)) (cut (whole_list run choice rank))
           ∙ short_calls (whole_list run choice rank) few
           ∙ ap (λ (entries : List Placed). calls_of (list_from run choice first entries)) gone.are

@@ -1,5 +1,5 @@
 -- Laws of how lists end, and of what is told free.
-use Rattle.std.specs.Prelude.{◌≡◌, ◌↔◌, ◌<◌, ℕ, false, true, Some, is_none, List, [], ◌∷◌, ◌++◌, length, map}
+use Rattle.std.specs.Prelude.{◌≡◌, ◌↔◌, ◌<◌, ℕ, false, true, Some, None, is_none, List, [], ◌∷◌, ◌++◌, length, map}
 use Rattle.std.specs.List.{list_any, list_all, range_with_len}
 use Rattle.mpicall.specs.declared.call.Call.{Call}
 use Rattle.mpicall.specs.declared.call.Call.TheVariants.{Finalize, Open}
@@ -38,6 +38,12 @@ abbrev pub WhatIsLeftIsOpen : Type 0
 WhatIsLeftIsOpen =
     (run : Run) (choice : Choice) (rank : ℕ) (why : Why) →
     (list_of run choice rank).why ≡ Some why → (list_of run choice rank).end ≡ Open
+
+-- Law: a list of which nothing is told ends with Finalize, if its rank's journal has a finalize or exit.
+abbrev pub WhatIsNotLeftIsAnEnd : Type 0
+WhatIsNotLeftIsAnEnd =
+    (run : Run) (choice : Choice) (rank : ℕ) → (list_of run choice rank).why ≡ None →
+    list_any (λ placed. is_end placed.called) (entries_at run rank) ≡ true → (list_of run choice rank).end ≡ Finalize
 
 -- ---- What is told free ----
 

@@ -1,6 +1,6 @@
--- Law of plain journals, of calls that stand in a trace as they are: their lists are the same calls, but for the
--- numbers of requests.
-use Rattle.std.specs.Prelude.{◌≡◌, ◌<◌, ℕ, Bool, true, false, ◌&&◌, not, nat_le, Option, Some, None, List, [], ◌∷◌, ◌++◌, length, map}
+-- Law of plain journals, whose calls stand in a trace as they are: a list of one is the same calls, but for numbers of
+-- requests.
+use Rattle.std.specs.Prelude.{◌≡◌, ◌<◌, ℕ, Bool, true, false, ◌&&◌, not, ◌==◌, nat_le, Option, Some, None, List, [], ◌∷◌, ◌++◌, length, map}
 use Rattle.std.specs.List.{list_all, filter, flat_map}
 use Rattle.mpicall.specs.declared.limits.TheConstants.{MOST_REQUESTS}
 use Rattle.mpicall.specs.declared.call.Call.{Call}
@@ -31,12 +31,14 @@ is_plain (Collects collective comm root) = true
 is_plain (StartsCollective request collective comm root) = true
 is_plain it = false
 
--- the call of the trace that says the same, by the numbers of requests, that of its communicator and its message
+-- the call of the trace that says the same, by numbers of requests, that of its communicator and its message
 abbrev pub same_call : (ℕ → ℕ) → Option ℕ → Option Message → Called → List Call
 same_call number (Some comm) message (Sends mode sent) = send mode comm sent ∷ []
-same_call number (Some comm) message (StartsSend request mode sent) = start_send mode comm sent (number request) ∷ []
+same_call number (Some comm) message (StartsSend request mode sent) =
+    start_send mode comm sent (number request) ∷ []
 same_call number (Some comm) (Some it) (Receives awaited) = receive comm it ∷ []
-same_call number (Some comm) (Some it) (StartsReceive request awaited) = start_receive comm it (number request) ∷ []
+same_call number (Some comm) (Some it) (StartsReceive request awaited) =
+    start_receive comm it (number request) ∷ []
 same_call number (Some comm) (Some it) (Exchanges sent awaited) = exchange comm sent it ∷ []
 same_call number (Some comm) (Some it) (Probes awaited) = probe comm it ∷ []
 same_call number (Some comm) message (Collects collective own root) = Coll comm (kind_of collective root) ∷ []
@@ -47,6 +49,11 @@ same_call number comm message it = []
 
 abbrev pub same_call_at : Run → (ℕ → ℕ) → Placed → List Call
 same_call_at run number placed = same_call number (number_at run placed) (message_at placed) placed.called
+
+-- it is one call; none stands for a wait for no request
+abbrev pub is_said_once : Called → List Call → Bool
+is_said_once (Waits []) calls = true
+is_said_once it calls = length calls == 1
 
 -- ---- Requests ----
 
@@ -65,8 +72,8 @@ waited_by it = []
 abbrev pub but : List ℕ → List ℕ → List ℕ
 but others requests = filter (λ request. not (is_among request others)) requests
 
--- no call starts a request that was started before, and each waits for requests that are active, as many as a wait
--- may name; `known` were started before these calls, and of them these are active
+-- no call starts a request that was started before, and each waits for requests that are active, as many as a
+-- wait may name; `known` were started before these calls, and of them these are active
 abbrev pub are_used_once : List ℕ → List ℕ → List Called → Bool
 are_used_once known active [] = true
 are_used_once known active (it ∷ others) =
@@ -84,9 +91,10 @@ pub record ArePlain (run : Run) (rank : ℕ) (entries : List Placed) : Type 0 wh
   pub none_gone : (request : ℕ) → is_gone (lines_at run rank) request ≡ false
   pub none_matched : (request : ℕ) → matched_message (lines_at run rank) request ≡ None
 
--- the calls are those of the entries between the preface and the end, for some numbers of requests
+-- the calls are those of the entries between the preface and the end, for some numbers of requests; none is dropped
 pub record AreTheSame (run : Run) (rank : ℕ) (entries : List Placed) (calls : List Call) : Type 0 where
   pub number : ℕ → ℕ
+  pub once : list_all (λ placed. is_said_once placed.called (same_call_at run number placed)) entries ≡ true
   pub same : calls ≡ preface_of run rank ++ flat_map (same_call_at run number) entries ++ Finalize ∷ []
 
 -- Law: a plain journal that was gone through closes to the same calls.

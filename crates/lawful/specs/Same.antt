@@ -11,7 +11,8 @@ OneNumberExactlyIfTheSame =
     (run : Run) (key other : Key) (number : ℕ) → number_of run key ≡ Some number →
     (number_of run other ≡ Some number) ↔ (other ≡ key)
 
--- Law: the calls of two entries, of one rank or of two, are on one number exactly if they name one communicator.
+-- Law: the calls of two entries, of one rank or of two, are on one number exactly if they name one
+-- communicator.
 abbrev pub CallsAreOnOneNumberExactlyIfOnOne : Type 0
 CallsAreOnOneNumberExactlyIfOnOne =
     (run : Run) (placed other : Placed) (number : ℕ) → number_at run placed ≡ Some number →

@@ -1,7 +1,7 @@
 //! The laws that are proved.
 
 ghost use Rattle.lawful.specs.Closed.{EachRecordingIsClosed, OneNumberIsOneCommunicator, NoOtherFault, EachListInRangesReadsBack, EachHeadIsAHead, EachListIsInRanges};
-ghost use Rattle.lawful.specs.Free.{EachFinalizeIsAnEnd, WhatIsLeftIsOpen, WhatIsFreeIsWhole};
+ghost use Rattle.lawful.specs.Free.{EachFinalizeIsAnEnd, WhatIsLeftIsOpen, WhatIsNotLeftIsAnEnd, WhatIsFreeIsWhole};
 ghost use Rattle.lawful.specs.Laws.{EachRecordingIsLawful, EachRecordingReadsBack};
 ghost use Rattle.lawful.specs.Plain.{EachPlainJournalStaysTheSame};
 ghost use Rattle.lawful.specs.Same.{OneNumberExactlyIfTheSame, CallsAreOnOneNumberExactlyIfOnOne, EachNumberHasItsGroup};
@@ -54,6 +54,11 @@ pub fn each_finalize_is_an_end()
 /// Where it is told why a list ends, the list is left open.
 pub fn what_is_left_is_open()
     ensures { WhatIsLeftIsOpen }
+{}
+
+/// A list of which nothing is told ends with `finalize`, if its rank's journal has an end.
+pub fn what_is_not_left_is_an_end()
+    ensures { WhatIsNotLeftIsAnEnd }
 {}
 
 /// If no list is left open, each rank's journal goes to its end, and it is told of none why it ends before that.
