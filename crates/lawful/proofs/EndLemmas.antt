@@ -1,17 +1,16 @@
 -- How lists end: with Finalize where the journal was gone through, else open.
-use Rattle.std.proofs.Common.{◌≡◌, ℕ, ◌-◌, ◌<◌, ◌&&◌, Bool, true, false, if◌then◌else◌, Option, Some, None, List, [], ◌∷◌, ◌++◌, length, take, refl, sym, ap, subst, ◌∙◌, inl, inr}
+use Rattle.std.proofs.Common.{◌≡◌, ℕ, ◌-◌, ◌<◌, ◌&&◌, Bool, true, false, if◌then◌else◌, Option, Some, None, List, [], ◌∷◌, ◌++◌, length, take, refl, sym, ap, subst, ◌∙◌}
 use Rattle.std.specs.Prelude.{is_none, nat_lt, slice_get}
 use Rattle.std.specs.List.{list_all, list_any}
-use Rattle.std.proofs.lemmas.Bool.{cases_Bool, and_parts, false≢true, lt-ltb, ltb-true}
+use Rattle.std.proofs.lemmas.Bool.{and_parts, false≢true, lt-ltb, ltb-true}
 use Rattle.std.proofs.lemmas.Option.{none-some}
-use Rattle.mpicall.specs.declared.call.Call.{Call}
 use Rattle.mpicall.specs.declared.call.Call.TheVariants.{Finalize, Open}
 use Rattle.journals.specs.Journal.{Journal}
 use Rattle.closing.specs.Entries.{Run, Placed, journal_at, entries_in, entries_at}
 use Rattle.closing.specs.Entry.{Choice, steps_of}
 use Rattle.closing.specs.Endings.{why_at}
 use Rattle.closing.specs.Steps.{WaitsForLate, Progress, after_steps}
-use Rattle.closing.specs.Recording.{Listed, GoesOn, Ends, is_end, outcome_by, go_on, list_from, progress_first, whole_list, most_records, line_of, cut, without_journal, list_of}
+use Rattle.closing.specs.Recording.{Listed, GoesOn, Ends, is_end, outcome_by, go_on, list_from, progress_first, whole_list, most_records, line_of, cut, without_journal}
 use Rattle.closing.specs.declared.why.Why.{Why}
 use Rattle.closing.specs.declared.why.Why.TheVariants.{NoJournal, TooLong}
 use Rattle.lawful.specs.Free.{AreGoneThrough, EachFinalizeIsAnEnd, WhatIsLeftIsOpen, WhatIsNotLeftIsAnEnd}

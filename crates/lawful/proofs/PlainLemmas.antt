@@ -1,13 +1,12 @@
 -- What plain entries add to a list: the same calls, for some numbers of requests.
-use Rattle.std.proofs.Common.{◌≡◌, ℕ, zero, suc, ◌≤◌, ◌==◌, ◌&&◌, ◌||◌, not, Bool, true, false, eqb, Option, Some, None, if◌then◌else◌, List, [], ◌∷◌, ◌++◌, length, map, take, drop, refl, sym, ap, subst, ◌∙◌, arith, append_assoc, append-nil, inl, inr, eqb-true, eq-eqb}
-use Rattle.std.specs.Prelude.{nat_le, ⊤}
-use Rattle.std.specs.List.{filter, flat_map, list_all, list_any}
-use Rattle.std.proofs.lemmas.Bool.{cases_Bool, and_parts, or_parts, false≢true, leb-true}
+use Rattle.std.proofs.Common.{◌≡◌, ℕ, zero, suc, ◌≤◌, ◌==◌, ◌||◌, not, Bool, true, false, Some, if◌then◌else◌, List, [], ◌∷◌, ◌++◌, length, map, take, drop, refl, sym, ap, subst, ◌∙◌, arith, append-nil, inl, inr, eqb-true, eq-eqb}
+use Rattle.std.specs.List.{list_all}
+use Rattle.std.proofs.lemmas.Bool.{cases_Bool, and_parts, or_parts, false≢true}
 use Rattle.std.proofs.lemmas.Option.{none-some, same_Some}
 use Rattle.mpicall.specs.declared.limits.TheConstants.{MOST_REQUESTS}
 use Rattle.mpicall.specs.declared.call.Call.{Call}
 use Rattle.journals.specs.Known.{is_among, are_distinct}
-use Rattle.closing.specs.Steps.{Id, Own, same_id, Step, Does, Starts, WaitsForAll, WaitsForLate, Written, Progress, number_in, without, without_all, numbers_of, has_number, least_free, wait_for, waits_for, after_step, after_steps}
+use Rattle.closing.specs.Steps.{Id, Own, same_id, Does, Starts, WaitsForAll, Written, Progress, number_in, without, without_all, numbers_of, has_number, least_free, wait_for, waits_for, after_steps}
 use Rattle.lawful.specs.Plain.{but}
 use Rattle.lawful.proofs.RequestLemmas.{numbered, least_is_free}
 use Rattle.lawful.proofs.StepLemmas.{calls_in, added_plain}

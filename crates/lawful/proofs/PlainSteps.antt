@@ -1,7 +1,7 @@
 -- A plain journal closes to the same calls.
-use Rattle.std.proofs.Common.{◌≡◌, ℕ, zero, suc, ◌+◌, ◌<◌, ◌≤◌, ◌==◌, ◌&&◌, ◌||◌, not, Bool, true, false, Option, Some, None, if◌then◌else◌, List, [], ◌∷◌, ◌++◌, length, map, refl, sym, ap, subst, ◌∙◌, arith, append_assoc, append-nil}
-use Rattle.std.specs.Prelude.{is_none, is_some, nat_le, nat_lt, option_and_then, ⊤}
-use Rattle.std.specs.List.{filter, flat_map, list_all}
+use Rattle.std.proofs.Common.{◌≡◌, ℕ, ◌+◌, ◌<◌, ◌≤◌, ◌==◌, ◌&&◌, ◌||◌, not, Bool, true, false, Option, Some, None, List, [], ◌∷◌, ◌++◌, length, map, refl, sym, ap, subst, ◌∙◌, append_assoc}
+use Rattle.std.specs.Prelude.{is_none, nat_le, option_and_then, ⊤}
+use Rattle.std.specs.List.{flat_map, list_all}
 use Rattle.std.specs.Option.{option_map_or}
 use Rattle.std.proofs.lemmas.Bool.{and_from, and_parts, false≢true, leb-true, lt-ltb}
 use Rattle.std.proofs.lemmas.Option.{none-some}
@@ -10,27 +10,26 @@ use Rattle.mpicall.specs.declared.limits.TheConstants.{MOST_REQUESTS}
 use Rattle.mpicall.specs.declared.call.Call.{Call}
 use Rattle.mpicall.specs.declared.call.Call.TheVariants.{Coll, Finalize}
 use Rattle.journals.specs.Lines.{Line}
-use Rattle.journals.specs.Entries.{group_in}
 use Rattle.journals.specs.Journal.{Journal}
 use Rattle.journals.specs.Known.{is_among, are_distinct, has_report}
 use Rattle.journals.specs.declared.field.Field.{Field}
 use Rattle.journals.specs.declared.word.Word.{Word}
 use Rattle.journals.specs.declared.word.Word.TheVariants.{Call as CallLine, Report}
 use Rattle.journals.specs.declared.word.ReportWord.TheVariants as report
-use Rattle.closing.specs.Called.{Called, Sends, StartsSend, Receives, StartsReceive, Exchanges, Probes, Waits, Collects, StartsCollective, called, comm_of}
+use Rattle.closing.specs.Called.{Called, Sends, StartsSend, Receives, StartsReceive, Exchanges, Probes, Waits, Collects, StartsCollective, comm_of}
 use Rattle.closing.specs.RankComms.{RankComms, comms_first, key_next, key_under, after_line}
-use Rattle.closing.specs.Entries.{Run, Placed, journal_at, lines_in, lines_at, entries_from, entries_in, entries_at}
+use Rattle.closing.specs.Entries.{Run, Placed, journal_at, lines_in, lines_at, entries_from, entries_in}
 use Rattle.closing.specs.Reported.{Message, is_gone}
 use Rattle.closing.specs.Numbers.{number_of, preface_of}
-use Rattle.closing.specs.Steps.{Id, Own, Step, Does, Starts, WaitsForAll, WaitsForLate, Progress, numbers_of, wait_for, waits_for, after_steps}
+use Rattle.closing.specs.Steps.{Id, Own, Step, Does, Starts, WaitsForAll, Progress, numbers_of, wait_for, waits_for, after_steps}
 use Rattle.closing.specs.Endings.{can_be, first_of, is_unknown, is_unreported, lacks_number, message_at, needs_number, number_at, why_at}
 use Rattle.closing.specs.Entry.{Choice, Here, here_at, send, start_send, receive, start_receive, exchange, probe, start_collective, kind_of, does, starts, ids_of, id_of, matched_message, on_comm, is_past, steps_by, steps_of}
-use Rattle.closing.specs.Recording.{Listed, GoesOn, Ends, is_end, calls_of, cut, line_of, list_from, list_of, most_records, progress_first, whole_list, without_journal}
+use Rattle.closing.specs.Recording.{Listed, is_end, calls_of, cut, list_from, most_records, progress_first, whole_list, without_journal}
 use Rattle.closing.specs.declared.choice.Calls.{Calls}
 use Rattle.closing.specs.declared.choice.Calls.TheVariants.{Strict}
 use Rattle.closing.specs.declared.why.Why.{Why}
 use Rattle.closing.specs.declared.why.Why.TheVariants.{NeverCameBack, NeverReported, Failed, NoNumber, CannotBe}
-use Rattle.lawful.specs.Plain.{is_plain, is_said_once, same_call, same_call_at, started_by, waited_by, but, are_used_once, AreTheSame, EachPlainJournalStaysTheSame}
+use Rattle.lawful.specs.Plain.{is_plain, is_said_once, same_call, same_call_at, started_by, waited_by, but, are_used_once, EachPlainJournalStaysTheSame}
 use Rattle.lawful.proofs.StepLemmas.{calls_in, plain_calls, added_plain}
 use Rattle.lawful.proofs.WalkLemmas.{breaks_none}
 use Rattle.lawful.proofs.EndLemmas.{goes_on, entry_list, end_list, none_of, ends_through, cut_by}

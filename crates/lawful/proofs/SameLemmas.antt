@@ -1,7 +1,7 @@
 -- Communicators have one number exactly if they are the same.
-use Rattle.std.proofs.Common.{◌≡◌, ℕ, Option, Some, None, sym, ap, ◌∙◌}
+use Rattle.std.proofs.Common.{◌≡◌, ℕ, Option, Some, None, ap, ◌∙◌}
 use Rattle.std.specs.Prelude.{option_and_then}
-use Rattle.std.proofs.lemmas.Option.{none-some, same_Some}
+use Rattle.std.proofs.lemmas.Option.{none-some}
 use Rattle.closing.specs.Keys.{Key}
 use Rattle.closing.specs.Entries.{Run}
 use Rattle.closing.specs.Numbers.{named_key, number_of}

@@ -1,7 +1,6 @@
 -- Laws of how lists end, and of what is told free.
 use Rattle.std.specs.Prelude.{◌≡◌, ◌↔◌, ◌<◌, ℕ, false, true, Some, None, is_none, List, [], ◌∷◌, ◌++◌, length, map}
 use Rattle.std.specs.List.{list_any, list_all, range_with_len}
-use Rattle.mpicall.specs.declared.call.Call.{Call}
 use Rattle.mpicall.specs.declared.call.Call.TheVariants.{Finalize, Open}
 use Rattle.callstore.specs.Recordings.{Lists}
 use Rattle.pairing.specs.LeftOpen.{is_left_open}
