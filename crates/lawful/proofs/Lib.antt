@@ -39,3 +39,5 @@ pub mod JournalEnds
 pub mod FreeLemmas
 pub mod PlainLemmas
 pub mod PlainSteps
+pub mod SoFarLemmas
+pub mod SoFarSteps

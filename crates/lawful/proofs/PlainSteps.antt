@@ -41,13 +41,13 @@ AddsSteps old known used progress line calls started waited steps =
 
 -- ---- Steps ----
 
-does_is : (here : Here) (call : Call) (start : ℕ → Call) → here.is_past ≡ false → does here call start ≡ Does call ∷ []
+pub does_is : (here : Here) (call : Call) (start : ℕ → Call) → here.is_past ≡ false → does here call start ≡ Does call ∷ []
 does_is here call start past = rw past refl
 
-starts_is : (here : Here) (request : ℕ) (start : ℕ → Call) → is_gone here.lines request ≡ false → starts here request start ≡ Starts (Own request) start ∷ []
+pub starts_is : (here : Here) (request : ℕ) (start : ℕ → Call) → is_gone here.lines request ≡ false → starts here request start ≡ Starts (Own request) start ∷ []
 starts_is here request start stays = rw stays refl
 
-ids_are : (lines : List Line) (requests : List ℕ) → ((request : ℕ) → is_gone lines request ≡ false) → ((request : ℕ) → matched_message lines request ≡ None) → ids_of lines requests ≡ map Own requests
+pub ids_are : (lines : List Line) (requests : List ℕ) → ((request : ℕ) → is_gone lines request ≡ false) → ((request : ℕ) → matched_message lines request ≡ None) → ids_of lines requests ≡ map Own requests
 ids_are lines [] none_gone none_matched = refl
 ids_are lines (request ∷ requests) none_gone none_matched =
     let own : id_of lines request ≡ Own request = ap (λ (o : Option ℕ). Own (option_map_or (λ message. message) o request)) (none_matched request) in
@@ -131,7 +131,7 @@ on_comm_adds run choice placed comm old known used progress (StartsCollective re
 on_comm_adds run choice placed comm old known used progress (Waits requests) plain needs told clear fits stands = absurd (false≢true needs)
 on_comm_adds run choice placed comm old known used progress _ plain needs told clear fits stands = absurd (false≢true plain)
 
-no_number : (run : Run) (placed : Placed) (requests : List ℕ) → placed.called ≡ Waits requests → number_at run placed ≡ None
+pub no_number : (run : Run) (placed : Placed) (requests : List ℕ) → placed.called ≡ Waits requests → number_at run placed ≡ None
 no_number run placed requests is =
     ap (λ (c : Called). option_and_then (number_of run) (or_else (key_next placed.comms c) (option_and_then (key_under placed.comms) (comm_of c)))) is
 
@@ -142,7 +142,7 @@ wait_adds run choice placed old known used progress requests is fits stands =
     (sym (ids_are placed.journal.lines requests fits.none_gone fits.none_matched))
     (waits_adds old known used progress placed.line requests fits.waits_used fits.distinct fits.few stands))
 
-needs_or_waits : (it : Called) → is_plain it ≡ true → needs_number it ≡ false → (requests : List ℕ) × (it ≡ Waits requests)
+pub needs_or_waits : (it : Called) → is_plain it ≡ true → needs_number it ≡ false → (requests : List ℕ) × (it ≡ Waits requests)
 needs_or_waits (Waits requests) plain none = (requests, refl)
 needs_or_waits (Sends mode sent) plain none = absurd (false≢true (sym none))
 needs_or_waits (StartsSend request mode sent) plain none = absurd (false≢true (sym none))
@@ -155,10 +155,10 @@ needs_or_waits (StartsCollective request collective own root) plain none = absur
 needs_or_waits _ plain none = absurd (false≢true plain)
 
 -- what is so of an entry at which the list goes on
-record Clear (run : Run) (placed : Placed) : Type 0 where
-  numbered : lacks_number run placed ≡ false
-  told : is_unreported placed placed.called ≡ false
-  known : is_unknown placed placed.called ≡ false
+pub record Clear (run : Run) (placed : Placed) : Type 0 where
+  pub numbered : lacks_number run placed ≡ false
+  pub told : is_unreported placed placed.called ≡ false
+  pub known : is_unknown placed placed.called ≡ false
 
 clear_of : (run : Run) (placed : Placed) (a b c d e : Bool) → lacks_number run placed ≡ c → is_unreported placed placed.called ≡ d → is_unknown placed placed.called ≡ e → first_of ((a, Failed) ∷ (b, CannotBe) ∷ (c, NoNumber) ∷ (d, NeverReported) ∷ (e, NeverCameBack) ∷ []) ≡ None → Clear run placed
 clear_of run placed true b c d e third fourth fifth h = absurd (none-some Failed (sym h))
@@ -168,7 +168,7 @@ clear_of run placed false false false true e third fourth fifth h = absurd (none
 clear_of run placed false false false false true third fourth fifth h = absurd (none-some NeverCameBack (sym h))
 clear_of run placed false false false false false third fourth fifth h = record { numbered = third; told = fourth; known = fifth }
 
-clear : (run : Run) (placed : Placed) → why_at run placed ≡ None → Clear run placed
+pub clear : (run : Run) (placed : Placed) → why_at run placed ≡ None → Clear run placed
 clear run placed h =
     clear_of run placed (has_report report.Failed placed.entry) (not (can_be run placed)) (lacks_number run placed) (is_unreported placed placed.called)
     (is_unknown placed placed.called) refl refl refl (breaks_none placed.called _ h)
@@ -214,7 +214,7 @@ among_append request (one ∷ new) known has = ap (λ (b : Bool). (one == reques
     or_true true = refl
     or_true false = refl
 
-plain_no_end : (it : Called) → is_plain it ≡ true → is_end it ≡ false
+pub plain_no_end : (it : Called) → is_plain it ≡ true → is_end it ≡ false
 plain_no_end (Sends mode sent) plain = refl
 plain_no_end (StartsSend request mode sent) plain = refl
 plain_no_end (Receives awaited) plain = refl
@@ -253,7 +253,7 @@ both_went run placed others old known used started waited progress new calls add
       ∙ append_assoc (calls_in progress) (same_call_at run went.number placed) (flat_map (same_call_at run went.number) others);
 }
 
-strict_past : (choice : Choice) (placed : Placed) → choice.calls ≡ Strict → is_past choice.calls placed ≡ false
+pub strict_past : (choice : Choice) (placed : Placed) → choice.calls ≡ Strict → is_past choice.calls placed ≡ false
 strict_past choice placed strict = ap (λ (calls : Calls). is_past calls placed) strict
 
 list_went : (run : Run) (choice : Choice) (lines : List Line) → choice.calls ≡ Strict → ((request : ℕ) → is_gone lines request ≡ false) → ((request : ℕ) → matched_message lines request ≡ None) → (before : List Placed) (last : Placed) (after : List Placed) (old : ℕ → ℕ) (known used : List ℕ) (progress : Progress) → AreOf lines before → list_all (goes_on run) (before ++ last ∷ []) ≡ true → is_end last.called ≡ true → list_all (λ (placed : Placed). is_plain placed.called) before ≡ true → are_used_once known used (map (λ (placed : Placed). placed.called) before) ≡ true → Stands old known used progress → Went run before old known progress (calls_before (list_from run choice progress (before ++ last ∷ after)))

@@ -42,7 +42,8 @@ WhatIsLeftIsOpen =
 abbrev pub WhatIsNotLeftIsAnEnd : Type 0
 WhatIsNotLeftIsAnEnd =
     (run : Run) (choice : Choice) (rank : ℕ) → (list_of run choice rank).why ≡ None →
-    list_any (λ placed. is_end placed.called) (entries_at run rank) ≡ true → (list_of run choice rank).end ≡ Finalize
+    list_any (λ placed. is_end placed.called) (entries_at run rank) ≡ true →
+    (list_of run choice rank).end ≡ Finalize
 
 -- ---- What is told free ----
 

@@ -3,3 +3,4 @@ pub mod Free
 pub mod Laws
 pub mod Plain
 pub mod Same
+pub mod SoFar

@@ -1,5 +1,5 @@
--- Law of plain journals, whose calls stand in a trace as they are: a list of one is the same calls, but for numbers of
--- requests.
+-- Law of plain journals, whose calls stand in a trace as they are: a list of one is the same calls, but for
+-- numbers of requests.
 use Rattle.std.specs.Prelude.{◌≡◌, ◌<◌, ℕ, Bool, true, false, ◌&&◌, not, ◌==◌, nat_le, Option, Some, None, List, [], ◌∷◌, ◌++◌, length, map}
 use Rattle.std.specs.List.{list_all, filter, flat_map}
 use Rattle.mpicall.specs.declared.limits.TheConstants.{MOST_REQUESTS}
@@ -91,7 +91,8 @@ pub record ArePlain (run : Run) (rank : ℕ) (entries : List Placed) : Type 0 wh
   pub none_gone : (request : ℕ) → is_gone (lines_at run rank) request ≡ false
   pub none_matched : (request : ℕ) → matched_message (lines_at run rank) request ≡ None
 
--- the calls are those of the entries between the preface and the end, for some numbers of requests; none is dropped
+-- the calls are those of the entries between the preface and the end, for some numbers of requests; none is
+-- dropped
 pub record AreTheSame (run : Run) (rank : ℕ) (entries : List Placed) (calls : List Call) : Type 0 where
   pub number : ℕ → ℕ
   pub once : list_all (λ placed. is_said_once placed.called (same_call_at run number placed)) entries ≡ true

@@ -5,6 +5,7 @@ ghost use Rattle.lawful.specs.Free.{EachFinalizeIsAnEnd, WhatIsLeftIsOpen, WhatI
 ghost use Rattle.lawful.specs.Laws.{EachRecordingIsLawful, EachRecordingReadsBack};
 ghost use Rattle.lawful.specs.Plain.{EachPlainJournalStaysTheSame};
 ghost use Rattle.lawful.specs.Same.{OneNumberExactlyIfTheSame, CallsAreOnOneNumberExactlyIfOnOne, EachNumberHasItsGroup};
+ghost use Rattle.lawful.specs.SoFar.{WhatIsSoFarStays};
 
 /// There is a list for each rank of the head, each has an end, and nothing comes after it.
 pub fn each_recording_is_closed()
@@ -84,4 +85,9 @@ pub fn each_number_has_its_group()
 /// A journal of plain calls that was gone through closes to the same calls, but for the numbers of requests.
 pub fn each_plain_journal_stays_the_same()
     ensures { EachPlainJournalStaysTheSame }
+{}
+
+/// Where the journal of plain calls goes on, the list begins with the records so far.
+pub fn what_is_so_far_stays()
+    ensures { WhatIsSoFarStays }
 {}

@@ -6,8 +6,8 @@
 //! are in their ranges is what its text reads as. Of a run that was read: the groups are those of a head, and calls are
 //! in their ranges.
 //!
-//! `specs/Free` has how lists end and what is told free, `specs/Same` which calls are on one communicator, `specs/Plain`
-//! that journals of plain calls stay the same.
+//! `specs/Free` has how lists end and what is told free, `specs/Same` which calls are on one communicator. `specs/Plain`
+//! says that journals of plain calls stay the same, `specs/SoFar` that what they have so far stays when they go on.
 //!
 //! Lemmas: `RequestLemmas` what one call changes about requests, `StepLemmas` what a step adds, `TableLemmas` that
 //! entries give such steps, `ListLemmas` all calls of a list, `PassLemmas` lists whose records pass a test, `NameLemmas`
@@ -19,7 +19,7 @@
 //! numbers of requests, `FieldRanges`, `CalledRanges` and `RangedTable` the other ranges, `RangedLists` all of a list,
 //! `ReadLemmas` its text. `EndLemmas` has how lists end, `EndWords` and `JournalEnds` the last lines of journals,
 //! `FreeLemmas` all lists; `SameLemmas` has numbers of communicators, `PlainLemmas` what plain calls add, `PlainSteps`
-//! their lists.
+//! their lists, `SoFarLemmas` and `SoFarSteps` those of a journal that goes on.
 #![tactic(auto)]
 
 pub mod laws;
