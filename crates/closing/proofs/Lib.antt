@@ -1,5 +1,24 @@
 mod Rows
+pub mod ChoiceLemmas
+pub mod FreeLemmas
+pub mod FreedLemmas
+pub mod LeastLemmas
+pub mod InsertLemmas
+pub mod ListLemmas
 pub mod OutcomeLemmas
 pub mod PlaceLemmas
+pub mod RequestLemmas
+pub mod LastLemmas
+pub mod NumberLemmas
+pub mod NumberLists
+pub mod PrefaceLemmas
 pub mod StandingLemmas
 pub mod RequestReportLemmas
+pub mod WaitLemmas
+pub mod OutcomeOfEntry
+pub mod GrownLemmas
+pub mod StepsLemmas
+pub mod FollowLemmas
+pub mod WalkingLemmas
+pub mod TableLemmas
+pub mod PlaceListLemmas

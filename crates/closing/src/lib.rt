@@ -20,9 +20,12 @@
 //!
 //! Each line is looked at twice: for the communicators of all ranks, and for the records of its own rank.
 //!
-//! What is proved so far: `called` says of each line what `Called` says, and `message` what can be, as
-//! `Reported` has it. Not yet: all of `keys`, `comms`, `survey`, `numbers`, `list`, `walk` and `recording`. Rows
-//! and random runs beside a second program say that these are right.
+//! What is proved so far: `called` says of each line what `Called` says, `message` what can be, as `Reported`
+//! has it, `outcomes` and `standing` what is reported of requests, and `list` most of `Steps`. In `walk`, an
+//! entry that sends, receives, probes, calls a collective or cancels, and starts no request of its own, does the
+//! steps of the definitions, or ends the list for their reason. Not yet: all of `keys`, `comms`, `survey`,
+//! `numbers` and `recording`, and the other entries of `walk`. Rows and random runs beside a second program say
+//! that these are right.
 //!
 //! Nobody has to believe `inner`.
 #![tactic(auto)]

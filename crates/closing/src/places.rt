@@ -3,6 +3,7 @@
 ghost use Rattle.std.specs.Prelude.{◌≡◌, ◌==◌, position};
 ghost use Rattle.std.specs.List.{position_or_len};
 ghost use Rattle.std.specs.Prelude.{◌<◌, length, min, IfOk, IfSome};
+ghost use Rattle.closing.specs.inner.Noted.{HavePlaces};
 
 use journals::lines::Lines;
 use std::alloc::AllocError;
@@ -32,7 +33,8 @@ pub(crate) fn checked_rank(place: usize) -> Result<u16, AllocError>
 
 /// How many lines a journal has; there are never more than that.
 pub(crate) fn count_of(lines: &Lines) -> u32
-    ensures { result ≡ min (length lines.now) MOST }
+    ensures exact { result ≡ min (length lines.now) MOST }
+    ensures all { HavePlaces lines.now → result ≡ length lines.now }
 {
     let count = lines.count();
     if count < MOST { count as u32 } else { u32::MAX }
