@@ -3,7 +3,7 @@
 ghost use Rattle.std.specs.Prelude.{◌≡◌, ◌<◌, ◌==◌, ℕ, OnOk, IfOk, option_map, slice_get, if◌then◌else◌};
 ghost use Rattle.std.specs.Vec.{vec_len};
 ghost use Rattle.closing.specs.inner.Outcomes.{is_gone, is_settled, kept_at, message_by, outcome_at, outcome_at_line, outcome_by, outcome_in};
-ghost use Rattle.closing.specs.inner.RequestReports.{AreReadable, Tells};
+ghost use Rattle.closing.specs.inner.Told.{AreReadable, Tells};
 ghost use Rattle.closing.specs.inner.Views.{message_view};
 ghost use Rattle.closing.specs.declared.outcomes.Outcome.TheVariants.{Unknown};
 
@@ -71,7 +71,7 @@ impl Outcomes {
     }
 
     /// What these lines report.
-    #[tactic(auto, using(crate::proofs::RequestReportLemmas::outcome_step, crate::proofs::RequestReportLemmas::tells_all))]
+    #[tactic(auto, using(crate::proofs::ToldLemmas::outcome_step, crate::proofs::ToldLemmas::tells_all))]
     pub(crate) fn of(alloc: Global, lines: &Lines) -> Result<Outcomes, AllocError>
         ensures { IfOk result (λ outcomes. AreReadable lines.now → Tells lines.now outcomes) }
     {
@@ -83,7 +83,7 @@ impl Outcomes {
     }
 
     /// Takes the line at a place, where that is a report.
-    #[tactic(auto, using(crate::proofs::RequestReportLemmas::report_here, crate::proofs::RequestReportLemmas::call_here, crate::proofs::RequestReportLemmas::nothing_here))]
+    #[tactic(auto, using(crate::proofs::ToldLemmas::report_here, crate::proofs::ToldLemmas::call_here, crate::proofs::ToldLemmas::nothing_here))]
     fn take_line(&mut self, lines: &Lines, line: u32) -> Result<(), AllocError>
         ensures { OnOk result ((other : ℕ) → outcome_at self.new other ≡ outcome_at_line (slice_get lines.now line) line other (outcome_at self.old other)) }
     {

@@ -1,19 +1,23 @@
 //! The list of a rank, made entry by entry of its journal.
 
-ghost use Rattle.std.specs.Prelude.{◌≡◌, ◌+◌, ◌<◌};
-ghost use Rattle.closing.specs.Endings.{breaks_off};
-ghost use Rattle.closing.specs.Recording.{is_end};
+ghost use Rattle.std.specs.Prelude.{◌≡◌, true, ◌+◌, ◌<◌, [], ◌∷◌, ◌++◌, List as Items, IsTrue, OnOk};
+ghost use Rattle.mpicall.specs.Limits.{in_ranges};
+ghost use Rattle.mpicall.specs.declared.call.Call.TheVariants.{Open};
+ghost use Rattle.closing.specs.inner.Lists.{Stands};
+ghost use Rattle.closing.specs.inner.Steps.{Progress};
+ghost use Rattle.closing.specs.inner.Endings.{breaks_off};
+ghost use Rattle.closing.specs.inner.Recording.{is_end};
 ghost use Rattle.closing.specs.inner.Views.{called_view};
-ghost use Rattle.closing.specs.inner.Walked.{number_at, number_or, size_at};
+ghost use Rattle.closing.specs.inner.Walked.{fields_of_line, number_at, number_or, size_at};
 
 use crate::called::{Called, read_call};
 use crate::choice::{Calls, Choice};
+use crate::held::Held;
 use crate::keys::Wave;
 use crate::last::{LastCall, Reports, last_call, reports_from};
 use crate::list::List;
 use crate::message::{Message, message_in};
 use crate::numbers::{Communicators, Named};
-use crate::rank_comms::RankComms;
 use crate::standing::Standing;
 use crate::stop::Stop;
 use crate::walk::message::Halves;
@@ -96,7 +100,7 @@ pub struct Walk {
     rank: u16,
     choice: Choice,
     last: Option<LastCall>,
-    comms: RankComms,
+    held: Held,
     list: List,
     requests: Standing,
     /// The sends that tests completed, which are waited for at the end.
@@ -143,8 +147,13 @@ fn fields_if(lines: &Lines, line: Option<u32>) -> Option<&[Field]> {
 }
 
 /// The same; none where there is no line.
-fn fields_at(lines: &Lines, line: Option<u32>) -> &[Field] {
-    fields_if(lines, line).unwrap_or(&[])
+fn fields_at(lines: &Lines, line: Option<u32>) -> &[Field]
+    ensures { result.now ≡ fields_of_line lines.now line }
+{
+    match line {
+        Some(line) => lines.fields(line),
+        None => &[],
+    }
 }
 
 impl Walk {
@@ -161,7 +170,7 @@ impl Walk {
             rank,
             choice,
             last: None,
-            comms: RankComms::first(alloc, alone)?,
+            held: Held::first(alloc, alone)?,
             list: List::new(alloc),
             requests: Standing::empty(alloc),
             late: Vec::new(alloc),
@@ -204,7 +213,10 @@ impl Walk {
     }
 
     /// Ends the list before its end.
-    fn leave(&mut self, why: Why) -> Result<(), AllocError> {
+    fn leave(&mut self, why: Why) -> Result<(), AllocError>
+        ensures same { self.new ≡ record self.old { left = Some (record { line = self.old.line; why = why }); list = self.new.list; is_over = true } }
+        ensures puts { OnOk result (self.new.list.records.items ≡ self.old.list.records.items ++ Open ∷ []) }
+    {
         self.left = Some(Left {
             line: self.line,
             why,
@@ -212,7 +224,10 @@ impl Walk {
         self.finish(Call::Open)
     }
 
-    fn finish(&mut self, end: Call) -> Result<(), AllocError> {
+    fn finish(&mut self, end: Call) -> Result<(), AllocError>
+        ensures same { self.new ≡ record self.old { list = self.new.list; is_over = true } }
+        ensures puts { OnOk result (IsTrue (in_ranges end) → self.new.list.records.items ≡ self.old.list.records.items ++ end ∷ []) }
+    {
         self.is_over = true;
         self.list.put(end)
     }
@@ -220,25 +235,38 @@ impl Walk {
     // ---- What there is of the list ----
 
     /// The records that weren't handed on yet, all of one entry.
-    pub(crate) fn records(&self) -> &[Record] {
+    pub(crate) fn records(&self) -> &[Record]
+        ensures { result.now ≡ self.now.list.records.items }
+    {
         self.list.records()
     }
 
     /// Those records were handed on.
-    pub(crate) fn forget_records(&mut self) {
+    pub(crate) fn forget_records(&mut self)
+        ensures same { self.new ≡ record self.old { list = self.new.list } }
+        ensures none { self.new.list.records.items ≡ [] }
+        ensures stands { (handed : Items Call) (progress : Progress) → Stands handed progress self.old.list →
+            Stands (handed ++ self.old.list.records.items) progress self.new.list }
+    {
         self.list.forget_records();
     }
 
     /// The number of the line of their entry; 0 in the preface.
-    pub(crate) fn line(&self) -> u32 {
+    pub(crate) fn line(&self) -> u32
+        ensures { result ≡ self.now.line }
+    {
         self.line
     }
 
-    pub(crate) fn is_over(&self) -> bool {
+    pub(crate) fn is_over(&self) -> bool
+        ensures { result ≡ self.now.is_over }
+    {
         self.is_over
     }
 
-    pub(crate) fn left(&self) -> Option<Left> {
+    pub(crate) fn left(&self) -> Option<Left>
+        ensures { result ≡ self.now.left }
+    {
         self.left
     }
 
@@ -262,7 +290,7 @@ impl Walk {
         for line in start..end {
             if let Some(Word::Report(word)) = lines.word(line) {
                 let key = self
-                    .comms
+                    .held
                     .take_report(&mut run.keys, word, lines.fields(line))?;
                 if word == ReportWord::Comm {
                     made = key;
@@ -325,9 +353,9 @@ impl Walk {
         entry: &Entry,
         it: &Called<'_>,
     ) -> Result<At<'a>, AllocError> {
-        let on = self.comms.key_on(it);
-        let wave = self.comms.take_call(&mut run.keys, it, on)?;
-        let key = self.comms.own().or(on);
+        let on = self.held.key_on(it);
+        let wave = self.held.take_call(&mut run.keys, it, on)?;
+        let key = self.held.own().or(on);
         let start = entry.place.saturating_add(1);
         let reported = self.take_reports(run, lines, start, entry.reports.end)?;
         Ok(At {

@@ -9,7 +9,7 @@ use Rattle.journals.specs.declared.word.Word.TheVariants.{Report}
 use Rattle.journals.specs.declared.word.ReportWord.{ReportWord}
 use Rattle.journals.specs.declared.word.ReportWord.TheVariants as report
 use Rattle.journals.specs.Taking.{fields_at}
-use Rattle.closing.specs.Reported.{Message, message_in}
+use Rattle.closing.specs.inner.Reported.{Message, message_in}
 use Rattle.closing.specs.declared.outcomes.Outcome.{Outcome}
 use Rattle.closing.specs.declared.outcomes.Outcome.TheVariants.{Unknown, Done, Gone, Kept}
 use Rattle.closing.specs.declared.outcomes.Outcomes.{Outcomes}

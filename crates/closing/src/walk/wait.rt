@@ -1,7 +1,11 @@
 //! Entries that wait, test or cancel.
 
 ghost use Rattle.std.specs.Prelude.{◌≡◌};
-ghost use Rattle.closing.specs.Entry.{passes_tests};
+ghost use Rattle.closing.specs.inner.Called.{naturals_in};
+ghost use Rattle.closing.specs.inner.Entry.{passes_tests};
+ghost use Rattle.closing.specs.inner.Told.{AllStandFor, Tells};
+ghost use Rattle.closing.specs.inner.Walked.{IsAt, Takes};
+ghost use Rattle.closing.specs.inner.Walks.{Spot, cancels_on, waits_on};
 
 use super::{At, Walk};
 use crate::called::Called;
@@ -28,7 +32,12 @@ impl Walk {
         }
     }
 
-    fn waits(&mut self, at: &At<'_>, requests: &[Field]) -> Result<(), Stop> {
+    fn waits(&mut self, at: &At<'_>, requests: &[Field]) -> Result<(), Stop>
+        ensures same { self.new ≡ record self.old { list = self.new.list; ids = self.new.ids } }
+        ensures takes { (spot : Spot) → IsAt spot at.now → Tells spot.lines self.old.requests.outcomes →
+            AllStandFor spot.lines self.old.requests (naturals_in requests.now) →
+            Takes spot (waits_on spot (naturals_in requests.now)) result self.old.list self.new.list }
+    {
         if at.is_past {
             return Ok(());
         }
@@ -93,7 +102,10 @@ impl Walk {
     }
 
     /// A cancel of which it isn't known what came.
-    fn cancels(&mut self, request: u32) -> Result<(), Stop> {
+    fn cancels(&mut self, request: u32) -> Result<(), Stop>
+        ensures same { self.new ≡ self.old }
+        ensures takes { (spot : Spot) → Tells spot.lines self.old.requests.outcomes → Takes spot (cancels_on spot request) result self.old.list self.new.list }
+    {
         if self.requests.is_settled(request) {
             Ok(())
         } else {

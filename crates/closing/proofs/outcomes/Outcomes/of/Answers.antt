@@ -1,6 +1,6 @@
 -- All lines were taken.
 use Rattle.std.proofs.Common.{arith}
-use Rattle.closing.proofs.RequestReportLemmas.{tells_all}
+use Rattle.closing.proofs.ToldLemmas.{tells_all}
 use Rattle.closing.proofs.outcomes.Outcomes.of.Goals as goal
 
 pub returns : goal.returns

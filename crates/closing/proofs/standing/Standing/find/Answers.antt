@@ -1,9 +1,9 @@
 -- What is listed is what the requests stand for.
 use Rattle.std.proofs.Common.{◌≡◌, ◌∙◌, ◌≤◌, ◌++◌, arith, ap, sym, length, drop, map}
 use Rattle.std.proofs.lemmas.List.{append-nil, drop_all}
-use Rattle.closing.specs.Steps.{Own}
+use Rattle.closing.specs.inner.Steps.{Own}
 use Rattle.closing.specs.inner.Standings.{ids_in}
-use Rattle.closing.proofs.RequestReportLemmas.{ids_told}
+use Rattle.closing.proofs.ToldLemmas.{ids_told}
 use Rattle.closing.proofs.standing.Standing.find.Goals as goal
 
 pub returns-clause-told : goal.returns-clause-told
