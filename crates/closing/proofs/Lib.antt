@@ -1,5 +1,19 @@
 mod Rows
+pub mod LastLemmas
+pub mod NumberLemmas
+pub mod NumberLists
 pub mod OutcomeLemmas
 pub mod PlaceLemmas
+pub mod PrefaceLemmas
+pub mod CallLemmas
+pub mod CodeLemmas
+pub mod HoldsLemmas
+pub mod InsertLemmas
+pub mod KeyLemmas
+pub mod ListLemmas
+pub mod ReportLemmas
 pub mod StandingLemmas
-pub mod RequestReportLemmas
+pub mod TableLemmas
+pub mod KeyedLemmas
+pub mod NumberedLemmas
+pub mod WorldLemmas

@@ -10,7 +10,7 @@
 //! |---|---|---|
 //! | `called` | what a call line says, by its word | `Called` |
 //! | `keys` | each key and each group once, by a place; two are the same exactly if their places are | `Keys` |
-//! | `comms` | what a rank has after some lines, with places of keys | `RankComms` |
+//! | `held` | what a rank has after some lines, with places of keys | `Held` |
 //! | `survey` | the keys that ranks got, which of them are named, and those that calls which never came back made | `Made` |
 //! | `numbers` | the numbers of the head, and the preface | `Numbers` |
 //! | `last` | the reports of an entry, and whether the last call came back | `Entries` |
@@ -21,7 +21,7 @@
 //! Each line is looked at twice: for the communicators of all ranks, and for the records of its own rank.
 //!
 //! What is proved so far: `called` says of each line what `Called` says, and `message` what can be, as
-//! `Reported` has it. Not yet: all of `keys`, `comms`, `survey`, `numbers`, `list`, `walk` and `recording`. Rows
+//! `Reported` has it. Not yet: all of `keys`, `held`, `survey`, `numbers`, `list`, `walk` and `recording`. Rows
 //! and random runs beside a second program say that these are right.
 //!
 //! Nobody has to believe `inner`.
@@ -29,6 +29,7 @@
 
 mod called;
 pub mod choice;
+mod held;
 mod keys;
 mod last;
 mod list;
@@ -36,7 +37,6 @@ mod message;
 pub mod numbers;
 mod outcomes;
 mod places;
-mod rank_comms;
 pub mod recording;
 mod standing;
 mod stop;

@@ -2,7 +2,8 @@
 
 ghost use Rattle.std.specs.Prelude.{◌≡◌, ◌==◌, position};
 ghost use Rattle.std.specs.List.{position_or_len};
-ghost use Rattle.std.specs.Prelude.{◌<◌, length, min, IfOk, IfSome};
+ghost use Rattle.std.specs.Prelude.{◌<◌, length, IfOk, IfSome};
+ghost use Rattle.closing.specs.inner.Noted.{HavePlaces};
 
 use journals::lines::Lines;
 use std::alloc::AllocError;
@@ -32,10 +33,9 @@ pub(crate) fn checked_rank(place: usize) -> Result<u16, AllocError>
 
 /// How many lines a journal has; there are never more than that.
 pub(crate) fn count_of(lines: &Lines) -> u32
-    ensures { result ≡ min (length lines.now) MOST }
+    ensures { HavePlaces lines.now → result ≡ length lines.now }
 {
-    let count = lines.count();
-    if count < MOST { count as u32 } else { u32::MAX }
+    u32::try_from(lines.count()).unwrap_or(u32::MAX)
 }
 
 /// The index of a number among some.
