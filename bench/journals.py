@@ -4,7 +4,7 @@
     journals.py judge [--json] [--eager N] [--tests wait|pass] [--calls strict|went] FOLDER
     journals.py close [--tests wait|pass] [--calls strict|went] FOLDER OUT
 
-It is no part of the product and shares nothing with it but bench/journal_faults.py, which knows the form of
+It is no part of the product and shares nothing with it but tools/journal_faults.py, which knows the form of
 journals. It makes the head and the traces rule by rule, in memory and without haste, and has them checked by
 the program that the variable MPIWAIT names, else by the repository's `mpiwait`.
 
@@ -23,7 +23,7 @@ from dataclasses import dataclass, field
 from pathlib import Path
 
 HERE = Path(__file__).resolve().parent
-sys.path.append(str(HERE))
+sys.path.append(str(HERE.parent / "tools"))
 
 from journal_faults import Fault, check, header_of, lines_of  # noqa: E402
 

@@ -1,4 +1,4 @@
-"""The script mpiwait, with a command `rt` that only plays what a test gives it."""
+"""The script mpiwait and tools/unproved, with a command `rt` that only plays what a test gives it."""
 
 import os
 import shutil
@@ -33,7 +33,7 @@ class Script(unittest.TestCase):
         for name in ("src", "specs", "proofs"):
             (crate / name).mkdir(parents=True)
         shutil.copytree(TOP / "tools/texts", self.top / "tools/texts")
-        for name in ("mpiwait", "HANDLES", "crates.txt"):
+        for name in ("mpiwait", "tools/unproved", "HANDLES", "crates.txt"):
             shutil.copy(TOP / name, self.top / name)
         self.here = self.folder / "here"
         self.here.mkdir()

@@ -2,7 +2,6 @@
 
 import importlib.machinery
 import importlib.util
-import os
 import re
 import subprocess
 import sys
@@ -12,14 +11,8 @@ from pathlib import Path
 
 TOP = Path(__file__).resolve().parents[2]
 TOOLS = TOP / "tools"
-sys.path[:0] = [str(TOOLS), str(TOP / "bench")]
+sys.path.insert(0, str(TOOLS))
 sys.dont_write_bytecode = True
-
-from companions.story import Story  # noqa: E402
-from companions.runs import Judge  # noqa: E402
-
-# The place N in the program is line N of /a.py.
-SITES = "".join(f"{line}\t/a.py:{line}\n" for line in range(1, 30)).encode()
 
 
 def script(name, folder=TOOLS):
@@ -29,20 +22,6 @@ def script(name, folder=TOOLS):
     sys.modules[loader.name] = module
     loader.exec_module(module)
     return module
-
-
-class Stored(Judge):
-    """Answers by what is stored; but questions with one of some words by a fault."""
-
-    def __init__(self, *faults):
-        super().__init__()
-        self.faults = faults
-
-    def run(self, command, folder):
-        if set(self.faults) & set(command):
-            return subprocess.CompletedProcess(command, 4, "", "out of memory")
-        status, said = script("judge", TOP / "tests/tools").answer(command[1:], folder)
-        return subprocess.CompletedProcess(command, status, said, "")
 
 
 def lines(text):
@@ -75,14 +54,13 @@ class Folders(unittest.TestCase):
         self.folder = Path(folder.name)
 
     def run_of(self, *ranks, state="i", after=()):
-        """Writes the journals of a run; None for a rank without one. `state' has a letter for all or for each;
-        `after' has the words that some ranks have after the library."""
-        states = state if len(state) > 1 else state * len(ranks)
+        """Writes the journals of a run; None for a rank without one. `after` has the words that some ranks
+        have after the library."""
         (self.folder / "journal").mkdir()
         for rank, calls in enumerate(ranks):
             if calls is not None:
                 library = "a library" + dict(after).get(rank, "")
-                self.write(f"journal/journal{rank}", journal(rank, len(ranks), calls, states[rank], library))
+                self.write(f"journal/journal{rank}", journal(rank, len(ranks), calls, state, library))
 
     def write(self, name, text):
         (self.folder / name).write_bytes(text if isinstance(text, bytes) else text.encode())
@@ -90,25 +68,8 @@ class Folders(unittest.TestCase):
     def read(self, name):
         return (self.folder / name).read_text(encoding="utf-8")
 
-    def judged(self, *ranks, program_status=0, sites=SITES, faults=(), **words):
-        """A run with these calls, judged."""
-        if not (self.folder / "journal").exists():
-            self.run_of(*ranks, **words)
-        for rank in range(len(ranks)):
-            if not (self.folder / f"journal/sites{rank}").exists():
-                self.write(f"journal/sites{rank}", sites)
-        return Story(self.folder / "journal", Stored(*faults), program_status=program_status)
-
-    def sections(self, *ranks, **words):
-        return dict(self.judged(*ranks, **words).sections)
-
-    def again(self):
-        """Another folder."""
-        self.doCleanups()
-        self.setUp()
-
     def command(self, name, *words, **environment):
-        """Runs a script of tools/, or of another folder, to its end."""
+        """Runs a script of tools/ to its end."""
         words = [sys.executable, str(TOOLS / name), *map(str, words)]
         return subprocess.run(
             words, capture_output=True, text=True, check=False, cwd=self.folder, **environment

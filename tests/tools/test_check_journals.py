@@ -2,11 +2,11 @@
 
 import unittest
 
-from support import TOP, Folders, journal, script
+from support import Folders, journal, script
 from journal_faults import WORDS as ALL_WORDS
 from journal_faults import Fault, check, lines_of
 
-CHECK_JOURNALS = script("check-journals", TOP / "bench")
+CHECK_JOURNALS = script("check-journals")
 
 # Calls of rank 0 of two ranks, and the line and the code of their first fault.
 FAULTS = {
@@ -135,7 +135,7 @@ class Faults(Folders):
         self.write("journal3", journal(3, 4, "barrier 0 / =failed / barrier 2"))
         said = "refused rank 0 line 2 J2 unknown word\nrefused rank 2 line 1 J1 header\n"
         said += "refused rank 3 line 4 J9 communicator\n"
-        done = self.command("../bench/check-journals", self.folder)
+        done = self.command("check-journals", self.folder)
         self.assertEqual((done.returncode, done.stdout, done.stderr), (2, said, ""))
 
     def test_the_words_of_the_codes(self):
@@ -148,10 +148,10 @@ class Faults(Folders):
         self.assertEqual(self.said(), ["rank 2 line 1 J1 header"])
 
     def test_a_folder_without_journals(self):
-        done = self.command("../bench/check-journals", self.folder)
+        done = self.command("check-journals", self.folder)
         self.assertEqual((done.returncode, done.stdout), (4, ""))
         self.assertIn("journal0", done.stderr)
-        self.assertEqual(self.command("../bench/check-journals").returncode, 3)
+        self.assertEqual(self.command("check-journals").returncode, 3)
 
 
 if __name__ == "__main__":

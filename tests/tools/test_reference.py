@@ -1,4 +1,4 @@
-"""What bench/journals.py makes of journals: the cases of journals/, and others."""
+"""What bench/journals.py makes of journals: the same as tools/close, and what only that can do."""
 
 import contextlib
 import io

@@ -211,17 +211,6 @@ ALSO_PMPI(Comm_create_group)
 
 MAKER_APART(Intercomm_merge, (MPI_Comm comm, int high, MPI_Comm *new), (comm, high, new))
 
-/* ---- Names ------------------------------------------------------------------------------------- */
-
-int MPI_Comm_set_name(MPI_Comm comm, const char *name) {
-    int number = BEGINS_QUIETLY ? number_of(comm) : UNNUMBERED;
-    int result = CALL(Comm_set_name, (comm, name));
-    if (number != UNNUMBERED && is_recorded() && result == MPI_SUCCESS)
-        name_communicator(number, name);
-    return over(result);
-}
-ALSO_PMPI(Comm_set_name)
-
 /* ---- Free -------------------------------------------------------------------------------------- */
 
 #define FREE(Name) \

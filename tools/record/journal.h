@@ -4,15 +4,13 @@
  *   journalR  one line for each call, written when it begins; lines beginning with `=` for its results
  *   leftR     how often each call was made that has no line
  *   sitesR    the places in the program from which the calls were made
- *   namesR    the names that the program gives to communicators, if it does
  * The first two are mapped files, so the kernel has each byte at once: a rank that is killed leaves all that
  * it wrote. The first byte of a line is written last, so a line is there completely or not at all. Zero bytes
  * follow the last line.
  *
  * journalR begins with `journal 2 R P ID S LIBRARY`: the rank, the number of ranks, the run's ID, a letter,
  * and the MPI library in words. The letter S is `i` while the rank is inside the call of its last call line,
- * and `o` once that call returned. After the library comes ` strict` in a strict run, ` multiple` if threads
- * may call MPI at once, and ` on HOST`, the machine.
+ * and `o` once that call returned. In a strict run ` strict` follows the library.
  *
  * The header ends with ` polls SSSSSSSS WW CCCCCCCCCCCCCCCC`, hexadecimal digits. They are zeros unless the
  * rank's last calls were tests or probes that found nothing. Then they are the site of the last one, which
@@ -24,8 +22,6 @@
  * A line of sitesR is a number, a tab, and frames with tabs between them, the innermost first. A frame is
  * `MODULE+0xOFFSET` or, in Python code, `FILE:LINE`. In a name, a backslash, a byte below 32 and the byte 127
  * are written as `\xHH`.
- *
- * A line of namesR is the rank's number of a communicator and the name, written in the same way.
  *
  * MPIWAIT_JOURNAL names the folder of the run. The file `run` there has the ID of the first run; ranks of
  * another run write into the subfolder `run-ID`. For a process that isn't recorded, the file `unrecorded` of
@@ -118,9 +114,6 @@ bool run_is_given(char *id, int *rank);
 const char *run_open(const char *named, int ranks, char *folder, unsigned long room, const char **id);
 
 void sites_open(const char *folder, int rank);
-
-/* The program gives a name to a communicator. */
-void name_communicator(int number, const char *name);
 
 /* The number, from 1, of the place from which the recorder's function was called; 0 if none is known. Given
  * are the return address of that function and its frame, whose second word is that address. */

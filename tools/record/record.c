@@ -106,14 +106,9 @@ static void not_recorded(const char *folder, const char *named, int rank, const 
 static pid_t process; /* the process that called MPI_Init */
 
 static const char *open_texts(const char *named, int rank, int ranks, char *folder, unsigned long room) {
-    char words[512], host[256] = "";
-    int level = MPI_THREAD_SINGLE;
+    char words[128];
     const char *id, *why = run_open(named, ranks, folder, room, &id);
-    gethostname(host, sizeof host - 1);
-    REAL(Query_thread)(&level);
-    turns_open(level);
-    snprintf(words, sizeof words, "%s%s%s on %s", version, is_strict() ? " strict" : "",
-             level == MPI_THREAD_MULTIPLE ? " multiple" : "", host);
+    snprintf(words, sizeof words, "%s%s", version, is_strict() ? " strict" : "");
     return why ? why : journal_open(folder, id, rank, ranks, words);
 }
 
@@ -128,7 +123,7 @@ static void look_for_tools(int rank) {
 }
 
 static void start(void) {
-    int rank, ranks;
+    int rank, ranks, level;
     MPI_Comm parent;
     char folder[4096] = "";
     const char *named = getenv("MPIWAIT_JOURNAL"), *why = NULL;
@@ -147,6 +142,8 @@ static void start(void) {
         return;
     }
     sites_open(folder, rank);
+    REAL(Query_thread)(&level);
+    turns_open(level);
     number_communicators();
     process = getpid();
     look_for_tools(rank);

@@ -19,8 +19,6 @@
 enum { MOST_FRAMES = 16, MOST_WALKED = 32, PLACES = 1 << 16, MOST_SITES = PLACES / 4 };
 
 static FILE *sites;
-static char names_path[4096]; /* empty once the file is there or can't be */
-static FILE *names;
 static int frames_wanted, sites_known;
 
 /* Sites by a 64-bit hash of their frames. Two places with the same hash would be taken for one. */
@@ -42,12 +40,12 @@ static int *look_up(uint64_t key) {
 
 static uint64_t mixed(uint64_t hash, uint64_t more) { return (hash ^ more) * 0x100000001b3u + 1; }
 
-static void put_name(FILE *file, const char *name) {
+static void put_name(const char *name) {
     for (; *name; name++)
         if ((unsigned char)*name < ' ' || *name == 127 || *name == '\\')
-            fprintf(file, "\\x%02x", (unsigned char)*name);
+            fprintf(sites, "\\x%02x", (unsigned char)*name);
         else
-            fputc(*name, file);
+            fputc(*name, sites);
 }
 
 /* ---- Frames of machine code -------------------------------------------------------------------- */
@@ -154,7 +152,7 @@ static void put_frame(void *address) {
         name = path;
     }
     fputc('\t', sites);
-    put_name(sites, name);
+    put_name(name);
     fprintf(sites, "+0x%lx", (unsigned long)address - base);
 }
 
@@ -192,7 +190,7 @@ int site_of_line(const char *file, int line) {
     if (!site || *site)
         return site ? *site : 0;
     fprintf(sites, "%d\t", ++sites_known);
-    put_name(sites, file);
+    put_name(file);
     fprintf(sites, ":%d\n", line);
     return *site = sites_known;
 }
@@ -202,27 +200,12 @@ void sites_open(const char *folder, int rank) {
     const char *wanted = getenv("MPIWAIT_FRAMES");
     frames_wanted = wanted ? atoi(wanted) : 1;
     frames_wanted = frames_wanted > MOST_FRAMES ? MOST_FRAMES : frames_wanted;
-    snprintf(names_path, sizeof names_path, "%s/names%d", folder, rank);
     snprintf(path, sizeof path, "%s/sites%d", folder, rank);
     sites = frames_wanted > 0 ? fopen(path, "wxe") : NULL;
     if (!sites)
         return;
     setvbuf(sites, NULL, _IOLBF, 0);
     find_python();
-}
-
-void name_communicator(int number, const char *name) {
-    if (*names_path) {
-        names = fopen(names_path, "wxe");
-        if (names)
-            setvbuf(names, NULL, _IOLBF, 0);
-        *names_path = '\0';
-    }
-    if (!names)
-        return;
-    fprintf(names, "%d ", number);
-    put_name(names, name);
-    fputc('\n', names);
 }
 
 int site_of(void *caller, void **frame) {

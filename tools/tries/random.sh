@@ -1,4 +1,4 @@
-# Tries of random programs, and of runs that are cut off anywhere. A part of tools/try, which reads it.
+# Tries of random programs. A part of tools/try, which reads it.
 # shellcheck shell=bash
 
 seeds=${SEEDS:-50}
@@ -29,30 +29,6 @@ try_random() {
 
 try_strict_random() {
     try_random_with "$1" --strict
-}
-
-# A run that is free isn't a hang by being cut off: one rank's journal ends after some of its lines.
-try_cuts() {
-    local library=$1 journal lines at calls cuts=0 before=$failed name="$1: masters.c, cut off"
-    prepare "$library" masters.c 4
-    run_with "${command[@]}"
-    expect_status "$name nowhere" 0
-    for journal in "$work/run/journal"/journal*; do
-        rm -rf -- "$work/cut"
-        cp -r -- "$work/run/journal" "$work/cut"
-        lines=$(tr -d '\0' <"$journal" | wc -l)
-        for ((at = 2; at < lines; at++)); do
-            head -n "$at" "$journal" | sed '1s/ o / i /' >"$work/cut/${journal##*/}"
-            for calls in strict went; do
-                status=0
-                "${MPIWAIT:-$here/../mpiwait}" judge "--calls=$calls" "$work/cut" >"$work/said" || status=$?
-                [[ $status == [05] ]] ||
-                    fails "$name after line $at of ${journal##*/}, $calls: status $status"
-            done
-            cuts=$((cuts + 1))
-        done
-    done
-    [[ $failed != "$before" ]] || echo "$name at $cuts places: never a hang"
 }
 
 # A program with a fault that hung is never free, one that ended never a hang. What aborted is left aside.

@@ -4,8 +4,7 @@
 # What the program and its launcher wrote comes before the report; how often a test found nothing differs from
 # run to run, and so do the names of folders.
 report_in() {
-    sed -n '/^Run 1 of \|^verdict \|^no verdict\|^not judged\|^refused /,$p' "$1" |
-        sed "/^Only counted/,/^\$/d; s:$work:WORK:g" |
+    sed -n '/^Run 1 of \|^verdict \|^no verdict/,$p' "$1" | sed "/^Only counted/,/^\$/d; s:$work:WORK:g" |
         sed -E 's/\([0-9,]+ times, found nothing\)/(N times, found nothing)/'
 }
 
@@ -15,9 +14,7 @@ check_journals() {
     for folder in "$work/run/journal" "$work/run/journal"/run-*; do
         [[ -e $folder/journal0 ]] || continue
         recordings=$((recordings + 1))
-        # A release has no bench/.
-        [[ ! -d $here/../bench ]] || "$here/../bench/check-journals" "$folder" ||
-            fails "$name: these journals are none"
+        "$here/check-journals" "$folder" || fails "$name: these journals are none"
     done
 }
 
@@ -120,7 +117,7 @@ try_hold() {
 }
 
 try_texts() {
-    local program=${MPIWAIT:-$here/../crates/mpiwait/out/mpiwait} name words
+    local program=$here/../crates/mpiwait/out/mpiwait name words
     if [[ ! -x $program ]]; then
         echo "texts: passed over: the program isn't built"
         return
@@ -140,11 +137,5 @@ check-h check -h
 check-version check --version
 lint-help lint --help
 lint-version lint --version
-judge-help judge --help
-judge-help judge -h
-judge-version judge --version
-close-help close --help
-close-help close -h
-close-version close --version
 END
 }

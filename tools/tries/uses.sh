@@ -64,60 +64,6 @@ try_signals() {
     done
 }
 
-# ---- Options and statuses -------------------------------------------------------------------------
-
-expect_status() {
-    local name=$1 wanted=$2
-    if [[ $status == "$wanted" ]]; then
-        echo "$name: status $status"
-    else
-        cat -- "$work/said" "$work/errors" >&2
-        fails "$name: status $status and not $wanted"
-    fi
-}
-
-# Each file that is asked for is there, and the outputs of one run say the same.
-try_options() {
-    local library=$1 kind words=()
-    for kind in json html svg junit sarif; do
-        rm -f -- "$work/out.$kind"
-        [[ $kind == svg ]] && ! has dot || words+=("--$kind" "$work/out.$kind")
-    done
-    prepare "$library" head-to-head.c 2
-    run_with "${words[@]}" "${command[@]}"
-    expect_status "$library: all outputs" 1
-    for kind in json html junit sarif svg; do
-        [[ $kind == svg ]] && ! has dot || grep -q 'head[.]c' "$work/out.$kind" ||
-            fails "$library: --$kind: no line of code"
-    done
-    run_with --eager 4 "${command[@]}"
-    expect_status "$library: --eager 4" 0
-    run_with --eager 3 "${command[@]}"
-    expect_status "$library: --eager 3" 1
-    run_with --frames 0 "${command[@]}"
-    grep -q 'line 3 of journal0' "$work/said" || fails "$library: --frames 0: no line of the journal"
-    status=0
-    "$here/limits" "$work/run" >"$work/said" || status=$?
-    expect_status "$library: limits" 0
-    tail -n 1 "$work/said" | grep -q 'verdict free is 4$' || fails "$library: limits: another limit"
-}
-
-# A program that fails by itself, and one whose ranks call different collectives.
-try_statuses() {
-    local library=$1
-    prepare "$library" statuses.c 2
-    run_with "${command[@]}" fails
-    expect_status "$library: a program that fails" 8
-    run_with --frames 4 "${command[@]}" differs
-    grep -q 'statuses.c:[0-9]*, called from main at statuses.c:[0-9]*' "$work/said" ||
-        fails "$library: --frames 4: no callers"
-    expect_status "$library: different roots" 7
-    run_with --for 3 "${command[@]}" computes
-    expect_status "$library: a run that is cut off" 5
-    run_with "${command[@]}" kills
-    expect_status "$library: a rank that is killed" 5
-}
-
 # ---- Several runs ---------------------------------------------------------------------------------
 
 # How many lines of the report are this one.

@@ -11,9 +11,9 @@ use Rattle.journals.specs.Header.{heading_of}
 use Rattle.journals.specs.Journal.{Journal, Fault, journal_of_lines}
 use Rattle.journals.specs.Lines.{line_of}
 use Rattle.journals.specs.Words.{word_of}
-use Rattle.closing.specs.Entries.{Run}
-use Rattle.closing.specs.Entry.{Choice}
-use Rattle.closing.specs.Recording.{Recording, calls_of, recording_of}
+use Rattle.closing.specs.inner.Entries.{Run}
+use Rattle.closing.specs.inner.Entry.{Choice}
+use Rattle.closing.specs.inner.Recording.{Recording, calls_of, recording_of}
 use Rattle.closing.specs.inner.Left.{Left, left_of}
 use Rattle.closing.specs.declared.choice.Calls.TheVariants as calls
 use Rattle.closing.specs.declared.choice.Tests.TheVariants as tests

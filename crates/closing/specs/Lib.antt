@@ -1,14 +1,1 @@
-pub mod Called
-pub mod Endings
-pub mod Entries
-pub mod Entry
-pub mod RankComms
-pub mod Journals
-pub mod Keys
-pub mod Made
-pub mod Numbers
-pub mod Recording
-pub mod Reported
-pub mod Steps
-pub mod Texts
 pub mod inner

@@ -1,10 +1,10 @@
 //! What a call line says, by its word: each field by what it is.
 
 ghost use Rattle.std.specs.Prelude.{◌≡◌, length};
-ghost use Rattle.closing.specs.Called.{awaits, awaited, bytes_in, called, comm_of, exchanges, one_number, rooted, sends, sent, splits, starts_awaiting, starts_exchange, starts_rooted, starts_send, starts_unrooted, two_numbers, unrooted, wave_comm};
-ghost use Rattle.closing.specs.Called as say;
-ghost use Rattle.closing.specs.RankComms.{makes_comm};
-ghost use Rattle.closing.specs.Made.{may_give};
+ghost use Rattle.closing.specs.inner.Called.{awaits, awaited, bytes_in, called, comm_of, exchanges, one_number, rooted, sends, sent, splits, starts_awaiting, starts_exchange, starts_rooted, starts_send, starts_unrooted, two_numbers, unrooted, wave_comm};
+ghost use Rattle.closing.specs.inner.Called as say;
+ghost use Rattle.closing.specs.inner.Held.{makes_comm};
+ghost use Rattle.closing.specs.inner.Made.{may_give};
 ghost use Rattle.closing.specs.inner.Views.{awaited_view, called_view, sent_view};
 ghost use Rattle.closing.specs.inner.Words.{by_collective, by_comm, by_message};
 

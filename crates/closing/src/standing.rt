@@ -1,11 +1,6 @@
 //! Which requests of a journal stand in the trace, and as what.
 
-ghost use Rattle.std.specs.Prelude.{◌≡◌, ◌==◌, ◌++◌, [], ◌∷◌, ℕ, List, map, OnOk, IfOk, nat_eq, option_map, if◌then◌else◌};
-ghost use Rattle.journals.specs.Lines.{Line};
-ghost use Rattle.closing.specs.Called.{naturals_in};
-ghost use Rattle.closing.specs.Entry.{ids_of};
-ghost use Rattle.closing.specs.Steps.{Own};
-ghost use Rattle.closing.specs.inner.RequestReports.{AllStandFor, AreReadable, Tells};
+ghost use Rattle.std.specs.Prelude.{◌≡◌, ◌==◌, ◌++◌, [], ◌∷◌, ℕ, OnOk, nat_eq, option_map, if◌then◌else◌};
 ghost use Rattle.closing.specs.inner.Outcomes.{is_gone, is_settled, message_by, outcome_at};
 ghost use Rattle.closing.specs.inner.Standings.{id_in, ids_in};
 ghost use Rattle.closing.specs.inner.Views.{message_view};
@@ -25,10 +20,7 @@ pub(crate) struct Standing {
 }
 
 impl Standing {
-    pub(crate) fn of(alloc: Global, lines: &Lines) -> Result<Standing, AllocError>
-        ensures outcomes { IfOk result (λ standing. AreReadable lines.now → Tells lines.now standing.outcomes) }
-        ensures matched { IfOk result (λ standing. (request : ℕ) → id_in standing request ≡ request) }
-    {
+    pub(crate) fn of(alloc: Global, lines: &Lines) -> Result<Standing, AllocError> {
         Ok(Standing {
             outcomes: Outcomes::of(alloc, lines)?,
             matched: HashMap::new(alloc),
@@ -36,11 +28,7 @@ impl Standing {
     }
 
     /// That of a rank without a journal.
-    #[tactic(auto, using(crate::proofs::RequestReportLemmas::tells_none))]
-    pub(crate) fn empty(alloc: Global) -> Standing
-        ensures outcomes { Tells [] result.outcomes }
-        ensures matched { (request : ℕ) → id_in result request ≡ request }
-    {
+    pub(crate) fn empty(alloc: Global) -> Standing {
         Standing {
             outcomes: Outcomes::empty(alloc),
             matched: HashMap::new(alloc),
@@ -98,10 +86,9 @@ impl Standing {
     }
 
     /// Puts what some requests are in the trace into a list, but those that were cancelled.
-    #[tactic(auto, using(crate::proofs::StandingLemmas::ids_step, crate::proofs::RequestReportLemmas::ids_told))]
+    #[tactic(auto, using(crate::proofs::StandingLemmas::ids_step))]
     pub(crate) fn find(&self, requests: &[Field], into: &mut Vec<u32>) -> Result<(), AllocError>
-        ensures ids { OnOk result (into.new.items ≡ ids_in self.now requests.now) }
-        ensures told { OnOk result ((lines : List Line) → Tells lines self.now.outcomes → AllStandFor lines self.now (naturals_in requests.now) → map Own into.new.items ≡ ids_of lines (naturals_in requests.now)) }
+        ensures { OnOk result (into.new.items ≡ ids_in self.now requests.now) }
     {
         into.clear();
         for field in requests {

@@ -1,8 +1,5 @@
 //! What ends the list of a rank before its end.
 
-ghost use Rattle.std.specs.Prelude.{◌≡◌};
-ghost use Rattle.closing.specs.declared.stop.Stop.TheVariants.{Memory};
-
 use crate::why::Why;
 use std::alloc::{AllocError, AllocFailed};
 
@@ -16,16 +13,12 @@ pub(crate) enum Stop {
 }
 
 impl From<AllocError> for Stop {
-    ghost from_gives = { λ _ stop. stop ≡ Memory };
-
     fn from(_fault: AllocError) -> Stop {
         Stop::Memory
     }
 }
 
 impl<T: Drop> From<AllocFailed<T>> for Stop {
-    ghost from_gives = { λ _ stop. stop ≡ Memory };
-
     fn from(_fault: AllocFailed<T>) -> Stop {
         Stop::Memory
     }

@@ -1,10 +1,10 @@
 //! Which communicators the ranks of a run have, and which of them calls name.
 
 use crate::called::read_call;
+use crate::held::Held;
 use crate::keys::{Key, Keys, Wave};
 use crate::last::{LastCall, last_call};
 use crate::places::{checked_place, count_of};
-use crate::rank_comms::RankComms;
 use journals::field::Field;
 use journals::journal::Journal;
 use journals::lines::Lines;
@@ -61,15 +61,15 @@ impl Survey {
 
     fn take_call(
         &mut self,
-        comms: &mut RankComms,
+        held: &mut Held,
         word: CallWord,
         fields: &[Field],
     ) -> Result<(), AllocError> {
         let it = read_call(word, fields);
-        let on = comms.key_on(&it);
+        let on = held.key_on(&it);
         self.name(on);
-        comms.take_call(&mut self.keys, &it, on)?;
-        self.take_of_group(comms.own())
+        held.take_call(&mut self.keys, &it, on)?;
+        self.take_of_group(held.own())
     }
 
     /// Notes that the rank got the communicator of a group by its call, which names it, if it did.
@@ -85,23 +85,23 @@ impl Survey {
 
     fn take_report(
         &mut self,
-        comms: &mut RankComms,
+        held: &mut Held,
         word: ReportWord,
         fields: &[Field],
     ) -> Result<(), AllocError> {
-        if let Some(key) = comms.take_report(&mut self.keys, word, fields)? {
+        if let Some(key) = held.take_report(&mut self.keys, word, fields)? {
             self.make_room()?;
             self.got.push(key)?;
         }
         Ok(())
     }
 
-    fn take_lines(&mut self, comms: &mut RankComms, lines: &Lines) -> Result<(), AllocError> {
+    fn take_lines(&mut self, held: &mut Held, lines: &Lines) -> Result<(), AllocError> {
         for line in 0..count_of(lines) {
             let fields = lines.fields(line);
             match lines.word(line) {
-                Some(Word::Call(word)) => self.take_call(comms, word, fields)?,
-                Some(Word::Report(word)) => self.take_report(comms, word, fields)?,
+                Some(Word::Call(word)) => self.take_call(held, word, fields)?,
+                Some(Word::Report(word)) => self.take_report(held, word, fields)?,
                 None => {}
             }
         }
@@ -113,11 +113,11 @@ impl Survey {
         let alone = self.keys.put_alone(rank)?;
         self.make_room()?;
         self.got.push(alone)?;
-        let mut comms = RankComms::first(self.alloc, alone)?;
+        let mut held = Held::first(self.alloc, alone)?;
         let mut waiting = None;
         if let Some(journal) = journal {
-            self.take_lines(&mut comms, &journal.lines)?;
-            waiting = wave_of_last(journal, &comms);
+            self.take_lines(&mut held, &journal.lines)?;
+            waiting = wave_of_last(journal, &held);
         }
         self.waiting.push(waiting)?;
         self.ends.push(self.got.len())?;
@@ -162,12 +162,12 @@ impl Survey {
 }
 
 /// The wave of the last call, where that may have made a communicator, and never came back.
-fn wave_of_last(journal: &Journal, comms: &RankComms) -> Option<Wave> {
+fn wave_of_last(journal: &Journal, held: &Held) -> Option<Wave> {
     let last = last_call(&journal.lines, journal.header.is_outside())?;
     if last.came_back || !may_give(&journal.lines, last) {
         return None;
     }
-    comms.wave()
+    held.wave()
 }
 
 fn may_give(lines: &Lines, last: LastCall) -> bool {

@@ -1,19 +1,13 @@
 //! The list of a rank, made entry by entry of its journal.
 
-ghost use Rattle.std.specs.Prelude.{◌≡◌, ◌+◌, ◌<◌};
-ghost use Rattle.closing.specs.Endings.{breaks_off};
-ghost use Rattle.closing.specs.Recording.{is_end};
-ghost use Rattle.closing.specs.inner.Views.{called_view};
-ghost use Rattle.closing.specs.inner.Walked.{number_at, number_or, size_at};
-
 use crate::called::{Called, read_call};
 use crate::choice::{Calls, Choice};
+use crate::held::Held;
 use crate::keys::Wave;
 use crate::last::{LastCall, Reports, last_call, reports_from};
 use crate::list::List;
 use crate::message::{Message, message_in};
 use crate::numbers::{Communicators, Named};
-use crate::rank_comms::RankComms;
 use crate::standing::Standing;
 use crate::stop::Stop;
 use crate::walk::message::Halves;
@@ -54,9 +48,7 @@ struct At<'a> {
 
 impl At<'_> {
     /// How many members the communicator has.
-    fn size(&self) -> u32
-        ensures { result ≡ size_at self.now }
-    {
+    fn size(&self) -> u32 {
         match self.named {
             Some(named) => named.size,
             None => 0,
@@ -64,9 +56,7 @@ impl At<'_> {
     }
 
     /// The number of the communicator, where what the call names can be.
-    fn number_if(&self, can_be: bool) -> Result<u16, Stop>
-        ensures { result ≡ number_or can_be (number_at self.now) }
-    {
+    fn number_if(&self, can_be: bool) -> Result<u16, Stop> {
         if !can_be {
             return Err(Stop::Left(Why::CannotBe));
         }
@@ -96,7 +86,7 @@ pub struct Walk {
     rank: u16,
     choice: Choice,
     last: Option<LastCall>,
-    comms: RankComms,
+    held: Held,
     list: List,
     requests: Standing,
     /// The sends that tests completed, which are waited for at the end.
@@ -113,16 +103,12 @@ pub struct Walk {
 }
 
 /// The number of a line in the journal, by its place after the header.
-fn line_number(place: u32) -> u32
-    ensures { place + 2 < 4294967296 → result ≡ place + 2 }
-{
+fn line_number(place: u32) -> u32 {
     place.saturating_add(2)
 }
 
 /// Why a call ends the list whatever is reported of it.
-fn breaks_off(it: &Called<'_>) -> Option<Why>
-    ensures { result ≡ breaks_off (called_view it.now) }
-{
+fn breaks_off(it: &Called<'_>) -> Option<Why> {
     match it {
         Called::Stops => Some(Why::Stopped),
         Called::Aborts => Some(Why::Aborted),
@@ -131,9 +117,7 @@ fn breaks_off(it: &Called<'_>) -> Option<Why>
     }
 }
 
-fn is_end(it: &Called<'_>) -> bool
-    ensures { result ≡ is_end (called_view it.now) }
-{
+fn is_end(it: &Called<'_>) -> bool {
     matches!(it, Called::Finalizes | Called::Exits)
 }
 
@@ -161,7 +145,7 @@ impl Walk {
             rank,
             choice,
             last: None,
-            comms: RankComms::first(alloc, alone)?,
+            held: Held::first(alloc, alone)?,
             list: List::new(alloc),
             requests: Standing::empty(alloc),
             late: Vec::new(alloc),
@@ -262,7 +246,7 @@ impl Walk {
         for line in start..end {
             if let Some(Word::Report(word)) = lines.word(line) {
                 let key = self
-                    .comms
+                    .held
                     .take_report(&mut run.keys, word, lines.fields(line))?;
                 if word == ReportWord::Comm {
                     made = key;
@@ -325,9 +309,9 @@ impl Walk {
         entry: &Entry,
         it: &Called<'_>,
     ) -> Result<At<'a>, AllocError> {
-        let on = self.comms.key_on(it);
-        let wave = self.comms.take_call(&mut run.keys, it, on)?;
-        let key = self.comms.own().or(on);
+        let on = self.held.key_on(it);
+        let wave = self.held.take_call(&mut run.keys, it, on)?;
+        let key = self.held.own().or(on);
         let start = entry.place.saturating_add(1);
         let reported = self.take_reports(run, lines, start, entry.reports.end)?;
         Ok(At {

@@ -11,8 +11,8 @@ use Rattle.journals.specs.inner.Knows.{Answers}
 use Rattle.journals.specs.Taking.{fields_at}
 use Rattle.journals.specs.inner.Taking.{Takes, TakesLine}
 use Rattle.journals.specs.inner.Reader.{coming, ComesNext, NoneComes}
-use Rattle.journals.specs.JournalAnswers.{heading_in, AnswersJournal}
-use Rattle.journals.specs.inner.JournalAnswers.{TakesText, FindsLine, IsNoHeader, HeadsJournal, AnswersLines, lines_to_come, AnswersComing, GoesOn, fault_as}
+use Rattle.journals.specs.Reading.{heading_in, AnswersJournal}
+use Rattle.journals.specs.inner.Reading.{TakesText, FindsLine, IsNoHeader, HeadsJournal, AnswersLines, lines_to_come, AnswersComing, GoesOn, fault_as}
 use Rattle.journals.specs.declared.fault.JournalFaultKind.TheVariants as kind
 use Rattle.journals.specs.declared.header.Header.{Header}
 use Rattle.journals.specs.declared.journal.JournalError.{JournalError}

@@ -6,8 +6,8 @@ use Rattle.std.proofs.lemmas.List.{drop_all, length-take, get_or-take, take-appe
 use Rattle.journals.specs.Text.{whole_lines}
 use Rattle.journals.specs.inner.LineWindow.{FirstFeed}
 use Rattle.journals.specs.inner.Reader.{CutsLine}
-use Rattle.journals.specs.JournalAnswers.{IsCut, FailsFrom}
-use Rattle.journals.specs.inner.JournalAnswers.{Passes, CutsAt}
+use Rattle.journals.specs.Reading.{IsCut, FailsFrom}
+use Rattle.journals.specs.inner.Reading.{Passes, CutsAt}
 use Rattle.journals.specs.declared.journal.JournalError.{JournalError}
 use Rattle.journals.specs.declared.journal.JournalError.TheVariants as error
 use Rattle.journals.proofs.WholeLemmas.{first_whole}

@@ -11,5 +11,5 @@ pub mod Entries
 pub mod Known
 pub mod Faults
 pub mod Journal
-pub mod JournalAnswers
+pub mod Reading
 pub mod inner

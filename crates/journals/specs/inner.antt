@@ -11,4 +11,4 @@ pub mod Numbered
 pub mod Notes
 pub mod Knows
 pub mod Journal
-pub mod JournalAnswers
+pub mod Reading

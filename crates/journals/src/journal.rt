@@ -12,8 +12,8 @@ ghost use Rattle.journals.specs.Headers.{heading};
 ghost use Rattle.journals.specs.Inputs.{text_left};
 ghost use Rattle.journals.specs.inner.Knows.{Knows, owner_of};
 ghost use Rattle.journals.specs.inner.Reader.{IsLine, coming};
-ghost use Rattle.journals.specs.JournalAnswers.{heading_in, FailsFrom, AnswersJournal};
-ghost use Rattle.journals.specs.inner.JournalAnswers.{FindsLine, CutsAt, PassesFound, PassesNext, CountsNext, HeadsJournal, lines_to_come, AnswersComing, TakesText, ReadsNext, fault_as};
+ghost use Rattle.journals.specs.Reading.{heading_in, FailsFrom, AnswersJournal};
+ghost use Rattle.journals.specs.inner.Reading.{FindsLine, CutsAt, PassesFound, PassesNext, CountsNext, HeadsJournal, lines_to_come, AnswersComing, TakesText, ReadsNext, fault_as};
 ghost use Rattle.journals.specs.declared.journal.JournalError.TheVariants as error;
 
 use crate::fault::{JournalFault, JournalFaultKind};
@@ -145,7 +145,7 @@ fn header_of(
 
 /// What was read of a journal's lines, and what is known by them.
 #[derive(Drop)]
-struct JournalReader {
+struct Reading {
     ranks: u32,
     window: Window,
     lines: Lines,
@@ -154,7 +154,7 @@ struct JournalReader {
     number: u64,
 }
 
-impl JournalReader {
+impl Reading {
     /// Takes the next line, which has so many of the held bytes, its line feed last.
     fn take_line(&mut self, count: usize) -> Result<(), JournalError>
         requires line { IsLine self.old.window count }
@@ -223,7 +223,7 @@ impl JournalReader {
 
 /// Reads the lines after the header to the text's end.
 fn read_lines<I: Input>(
-    mut reading: JournalReader,
+    mut reading: Reading,
     text: &mut TextInput<I>,
     wait: &impl Wait,
 ) -> Result<Lines, JournalError>
@@ -242,7 +242,7 @@ fn read_lines<I: Input>(
         match reading.read_next(text, wait) {
             Ok(true) => {}
             Ok(false) => {
-                let JournalReader { lines, .. } = reading;
+                let Reading { lines, .. } = reading;
                 return Ok(lines);
             }
             Err(error) => return Err(error),
@@ -276,7 +276,7 @@ pub fn read_journal<I: Input>(
     };
     window.drop_front(count);
     let known = Known::new(alloc, header.ranks, rank)?;
-    let reading = JournalReader {
+    let reading = Reading {
         ranks: header.ranks,
         window,
         lines: Lines::new(alloc),

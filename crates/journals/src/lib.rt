@@ -7,7 +7,7 @@
 //! What it promises, as contracts that are proved:
 //!
 //! - `journal::read_journal` answers the journal that the text of an input spells, or its first fault, as
-//!   `AnswersJournal` of `JournalAnswers` says. If a read failed, the line that it reports is the one after the
+//!   `AnswersJournal` of `Reading` says. If a read failed, the line that it reports is the one after the
 //!   whole lines that came.
 //! - `text::TextInput` gives the bytes of an input up to its first zero byte (`Text`, `Inputs`).
 //! - `lines::Lines` is the list of the lines after the header; `word` and `fields` answer those of a place.
@@ -27,7 +27,7 @@
 //!
 //! The definitions are in `specs/`: `Text`, `Words`, `Fields`, `Lines` and `Header` say what a line is,
 //! `Entries` and `Known` what lines say of requests, messages and communicators, `Faults` and `Journal` what
-//! the first fault is, and `JournalAnswers` and `Taking` what the calls answer. What only proofs and private
+//! the first fault is, and `Reading` and `Taking` what the calls answer. What only proofs and private
 //! contracts cite is in `specs/inner/`, and nobody has to believe it.
 #![tactic(auto)]
 

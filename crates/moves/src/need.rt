@@ -65,15 +65,6 @@ pub fn is_met(stands: &[u32], need: &Need) -> bool
     }
 }
 
-/// The rank of the world from which a message lacks its other half.
-#[inline(never)]
-fn lacking_rank(head: &Head, message: &Message) -> u16
-    ensures { result ≡ world_of head.now message.now.comm message.now.peer }
-{
-    head.world_rank(message.comm, message.peer)
-        .unwrap_or(message.peer)
-}
-
 /// What a message needs: that the call is reached that it goes with; where there is none, its peer lacks it.
 #[inline(always)]
 fn message_need(head: &Head, call: Option<At>, message: &Message) -> Need
@@ -82,7 +73,9 @@ fn message_need(head: &Head, call: Option<At>, message: &Message) -> Need
     match call {
         Some((rank, place)) => Need::At { rank, place },
         None => Need::Lacking {
-            rank: lacking_rank(head, message),
+            rank: head
+                .world_rank(message.comm, message.peer)
+                .unwrap_or(message.peer),
         },
     }
 }
@@ -129,6 +122,7 @@ pub(crate) fn need_to_receive(world: &World, at: At, call: &CallAt<'_>) -> Optio
 }
 
 /// The same for the message that it probes for: the send that the next receive of its envelope would get.
+#[inline(always)]
 pub(crate) fn need_to_probe(world: &World, at: At, call: &CallAt<'_>) -> Option<Need>
     ensures { option_to_list result ≡ needs_for world.now at Probed (call_seen call.now) }
 {

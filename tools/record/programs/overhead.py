@@ -1,4 +1,4 @@
-"""What a call by mpi4py costs: a line for each loop, with the nanoseconds a call, the best of many pieces."""
+"""What a call by mpi4py costs: a line for each loop, with the nanoseconds a call, of the best of many pieces."""
 
 from time import perf_counter_ns
 

@@ -2,11 +2,11 @@
 use Rattle.std.specs.Prelude.{ℕ, ◌+◌, Bool, false, Option, Some, None, List, [], ◌∷◌, ◌++◌, map, slice_get}
 use Rattle.std.specs.List.{list_any, filter_map}
 use Rattle.std.specs.Option.{option_map_or}
-use Rattle.closing.specs.Called.{Called, FreesRequest}
-use Rattle.closing.specs.Entries.{Run, lines_at, entries_at}
-use Rattle.closing.specs.Steps.{Id, same_id}
-use Rattle.closing.specs.Entry.{id_of}
-use Rattle.closing.specs.Recording.{Listed}
+use Rattle.closing.specs.inner.Called.{Called, FreesRequest}
+use Rattle.closing.specs.inner.Entries.{Run, lines_at, entries_at}
+use Rattle.closing.specs.inner.Steps.{Id, same_id}
+use Rattle.closing.specs.inner.Entry.{id_of}
+use Rattle.closing.specs.inner.Recording.{Listed}
 use Rattle.closing.specs.declared.why.Why.{Why}
 
 pub record Left : Type 0 where

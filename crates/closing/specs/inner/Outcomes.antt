@@ -9,7 +9,7 @@ use Rattle.journals.specs.declared.word.Word.TheVariants.{Report}
 use Rattle.journals.specs.declared.word.ReportWord.{ReportWord}
 use Rattle.journals.specs.declared.word.ReportWord.TheVariants as report
 use Rattle.journals.specs.Taking.{fields_at}
-use Rattle.closing.specs.Reported.{Message, message_in}
+use Rattle.closing.specs.inner.Reported.{Message, message_in}
 use Rattle.closing.specs.declared.outcomes.Outcome.{Outcome}
 use Rattle.closing.specs.declared.outcomes.Outcome.TheVariants.{Unknown, Done, Gone, Kept}
 use Rattle.closing.specs.declared.outcomes.Outcomes.{Outcomes}
@@ -44,11 +44,6 @@ outcome_by word fields place other before = before
 abbrev pub outcome_with : Word → List Field → ℕ → ℕ → Outcome → Outcome
 outcome_with (Report word) fields place request before = outcome_by word fields place request before
 outcome_with word fields place request before = before
-
--- after the line at a place, if there is one
-abbrev pub outcome_at_line : Option Line → ℕ → ℕ → Outcome → Outcome
-outcome_at_line None place request before = before
-outcome_at_line (Some line) place request before = outcome_with line.word line.fields place request before
 
 -- after lines, the first of which has this place
 abbrev pub outcome_after : List Line → ℕ → ℕ → Outcome → Outcome

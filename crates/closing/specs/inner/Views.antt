@@ -1,9 +1,9 @@
 -- What values of the code are in the definitions.
 use Rattle.std.specs.Prelude.{◌||◌, Option, Some, if◌then◌else◌}
-use Rattle.closing.specs.Called.{Called, Sent, Awaited, naturals_in}
-use Rattle.closing.specs.Called as say
+use Rattle.closing.specs.inner.Called.{Called, Sent, Awaited, naturals_in}
+use Rattle.closing.specs.inner.Called as say
 use Rattle.journals.specs.Known.{is_any}
-use Rattle.closing.specs.Reported.{Message, with_wildcards}
+use Rattle.closing.specs.inner.Reported.{Message, with_wildcards}
 use Rattle.closing.specs.declared.called.Called.{Called as CalledCode}
 use Rattle.closing.specs.declared.called.Called.TheVariants as code
 use Rattle.closing.specs.declared.called.Sent.{Sent as SentCode}

@@ -3,7 +3,7 @@ use Rattle.std.specs.Prelude.{List}
 use Rattle.journals.specs.declared.field.Field.{Field}
 use Rattle.journals.specs.declared.word.CallWord.{CallWord}
 use Rattle.journals.specs.declared.word.CallWord.TheVariants as call
-use Rattle.closing.specs.Called.{Called, Nothing, called}
+use Rattle.closing.specs.inner.Called.{Called, Nothing, called}
 
 -- a collective; of another call nothing
 abbrev pub by_collective : CallWord → List Field → Called

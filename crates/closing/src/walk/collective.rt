@@ -1,9 +1,5 @@
 //! Entries that call or start collectives.
 
-ghost use Rattle.std.specs.Prelude.{◌≡◌, IsTrue};
-ghost use Rattle.closing.specs.Entry.{kind_of};
-ghost use Rattle.closing.specs.Reported.{root_can_be};
-
 use super::{At, Walk};
 use crate::list::Start;
 use crate::message::{root_can_be, root_of};
@@ -12,9 +8,7 @@ use mpicall::call::{Call, Kind};
 use mpicall::word::Collective;
 
 /// What a collective is in the trace.
-fn kind_of(collective: Collective, root: Option<i32>) -> Kind
-    ensures { IsTrue (root_can_be 1024 collective root) → result ≡ kind_of collective root }
-{
+fn kind_of(collective: Collective, root: Option<i32>) -> Kind {
     match collective {
         Collective::Barrier => Kind::Barrier,
         Collective::Bcast => Kind::Bcast(root_of(root)),

@@ -1,7 +1,7 @@
 //! Entries by which all members of a communicator make new ones.
 
 ghost use Rattle.std.specs.Prelude.{◌≡◌};
-ghost use Rattle.closing.specs.Entry.{colour_of, split_key};
+ghost use Rattle.closing.specs.inner.Entry.{colour_of, split_key};
 ghost use Rattle.closing.specs.inner.Views.{called_view};
 
 use super::{At, Walk};

@@ -1,11 +1,5 @@
 //! Entries that send, receive or probe.
 
-ghost use Rattle.std.specs.Prelude.{◌≡◌, ℕ, IsTrue};
-ghost use Rattle.closing.specs.Entry.{start_receive, start_send};
-ghost use Rattle.closing.specs.Reported.{peer_can_be};
-ghost use Rattle.closing.specs.inner.Views.{message_view, sent_view};
-ghost use Rattle.closing.specs.inner.Walks.{start_view};
-
 use super::{At, Walk};
 use crate::called::{Awaited, Sent};
 use crate::list::Start;
@@ -25,9 +19,7 @@ pub(super) struct Halves {
 }
 
 /// The start of a send.
-fn start_of_send(mode: Mode, comm: u16, sent: &Sent) -> Start
-    ensures { IsTrue (peer_can_be 1024 sent.now.dest) → (request : ℕ) → start_view result request ≡ start_send mode comm (sent_view sent.now) request }
-{
+fn start_of_send(mode: Mode, comm: u16, sent: &Sent) -> Start {
     Start::Send {
         mode,
         comm,
@@ -38,9 +30,7 @@ fn start_of_send(mode: Mode, comm: u16, sent: &Sent) -> Start
 }
 
 /// The start of the receive of a message.
-fn start_of_receive(comm: u16, message: &Message) -> Start
-    ensures { IsTrue (peer_can_be 1024 message.now.source) → (request : ℕ) → start_view result request ≡ start_receive comm (message_view message.now) request }
-{
+fn start_of_receive(comm: u16, message: &Message) -> Start {
     Start::Receive {
         comm,
         source: rank_of(message.source),

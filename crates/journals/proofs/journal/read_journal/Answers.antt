@@ -9,8 +9,8 @@ use Rattle.journals.specs.Header.{heading_of}
 use Rattle.journals.specs.Inputs.{text_left}
 use Rattle.journals.specs.inner.Knows.{owner_of}
 use Rattle.journals.specs.inner.Reader.{IsLine, coming, ComesNext}
-use Rattle.journals.specs.JournalAnswers.{heading_in, FailsFrom}
-use Rattle.journals.specs.inner.JournalAnswers.{HeadsJournal, lines_to_come, AnswersComing, Passes}
+use Rattle.journals.specs.Reading.{heading_in, FailsFrom}
+use Rattle.journals.specs.inner.Reading.{HeadsJournal, lines_to_come, AnswersComing, Passes}
 use Rattle.journals.specs.declared.journal.Journal.{Journal}
 use Rattle.journals.proofs.JournalLemmas.{held_short, answers_memory, answers_begun, answers_wrong, answers_all}
 use Rattle.journals.proofs.PassLemmas.{cut_later}

@@ -4,7 +4,7 @@ use Rattle.journals.specs.Inputs.{text_left}
 use Rattle.journals.specs.Lines.{Line}
 use Rattle.journals.specs.inner.Knows.{owner_of}
 use Rattle.journals.specs.inner.Reader.{coming}
-use Rattle.journals.specs.inner.JournalAnswers.{lines_to_come, GoesOn, AnswersComing}
+use Rattle.journals.specs.inner.Reading.{lines_to_come, GoesOn, AnswersComing}
 use Rattle.journals.specs.Faults.{Owner}
 use Rattle.journals.proofs.JournalLemmas.{goes_same, goes_further, answers_back}
 use Rattle.journals.proofs.PassLemmas.{passes_none, passes_both, cut_within}

@@ -4,7 +4,7 @@ use Rattle.std.specs.Io.KnownBytes.{prepend_known}
 use Rattle.journals.specs.Inputs.{text_left}
 use Rattle.journals.specs.inner.Knows.{Knows, owner_of}
 use Rattle.journals.specs.inner.Reader.{coming}
-use Rattle.journals.specs.inner.JournalAnswers.{lines_to_come, GoesOn, Passes}
+use Rattle.journals.specs.inner.Reading.{lines_to_come, GoesOn, Passes}
 use Rattle.journals.proofs.journal.read_lines.Given as goal
 
 abbrev pub invariant-loop : goal.invariant-loop
