@@ -1,7 +1,7 @@
 -- The call of a name and of what follows it has that name and these arguments.
-use Rattle.std.proofs.Common.{◌≡◌, ℕ, true, List, [], length, sym, ap, ◌∙◌, refl, Some}
-use Rattle.mpicall.specs.CallArgs.{args_in_line}
-use Rattle.mpicall.specs.inner.CallArgs.{layout_by, has_args, call_from}
+use Rattle.std.proofs.Common.{◌≡◌, ℕ, true, List, [], length, sym, ap, ◌∙◌, refl, Some, None}
+use Rattle.mpicall.specs.CallArgs.{args_in_line, call_by}
+use Rattle.mpicall.specs.inner.CallArgs.{layout_by, has_args, call_from, call_without_option}
 use Rattle.mpicall.specs.Limits.{names_enough}
 use Rattle.mpicall.specs.Line.{Fixed, shape_by, shape_of}
 use Rattle.mpicall.specs.inner.Line.{args_forms}
@@ -10,6 +10,8 @@ use Rattle.mpicall.specs.inner.Parsing.{all_taken}
 use Rattle.mpicall.specs.Spelling.{arguments_of, word_of_call}
 use Rattle.mpicall.specs.Word.{layout_of}
 use Rattle.mpicall.specs.declared.call.Call.{Call}
+use Rattle.mpicall.specs.declared.call.Call.TheVariants.{Recv}
+use Rattle.mpicall.specs.declared.call.Peer.TheVariants.{Null}
 use Rattle.mpicall.specs.declared.call_args.CallArgs.{CallArgs}
 use Rattle.mpicall.specs.declared.call_args.CallArgs.TheVariants.{Nothing, Message, Exchange, Copy, Split}
 use Rattle.mpicall.specs.declared.word.Layout.{Layout}
@@ -47,3 +49,48 @@ args_shape _ count e = refl
 
 pub name_shape : (n : Name) (count : ℕ) → has_args (layout_of n) ≡ true → shape_of (Named n) count ≡ Fixed (args_forms (layout_of n) count)
 name_shape n count e = args_shape (layout_of n) count e
+
+-- `call_by` and what it was before it answered an option are one: a name and what goes with it have the same call,
+pub call_by_is_one : (n : Name) (it : CallArgs) → layout_by it ≡ layout_of n → call_by n it ≡ Some (call_without_option n it)
+call_by_is_one name.Sendrecv (Exchange comm dest send_tag source recv_tag bytes) e = refl
+call_by_is_one name.Dup (Copy comm new) e = refl
+call_by_is_one name.Split (Split comm colour key new) e = refl
+call_by_is_one name.Probe (Message comm source tag) e = refl
+call_by_is_one name.Finalize Nothing e = refl
+call_by_is_one name.Open Nothing e = refl
+call_by_is_one name.Waitall Nothing e = cc
+call_by_is_one name.Waitall (Message comm source tag) e = cc
+call_by_is_one name.Waitall (Exchange comm dest send_tag source recv_tag bytes) e = cc
+call_by_is_one name.Waitall (Copy comm new) e = cc
+call_by_is_one name.Waitall (Split comm colour key new) e = cc
+call_by_is_one name.Wait Nothing e = cc
+call_by_is_one name.Wait (Message comm source tag) e = cc
+call_by_is_one name.Wait (Exchange comm dest send_tag source recv_tag bytes) e = cc
+call_by_is_one name.Wait (Copy comm new) e = cc
+call_by_is_one name.Wait (Split comm colour key new) e = cc
+call_by_is_one name.Waitany Nothing e = cc
+call_by_is_one name.Waitany (Message comm source tag) e = cc
+call_by_is_one name.Waitany (Exchange comm dest send_tag source recv_tag bytes) e = cc
+call_by_is_one name.Waitany (Copy comm new) e = cc
+call_by_is_one name.Waitany (Split comm colour key new) e = cc
+call_by_is_one _ _ e = cc
+
+-- of a name and what doesn't go with it there is none, where there was a receive from nobody,
+pub call_by_is_none : (n : Name) (it : CallArgs) → (layout_by it ≡ layout_of n → ⊥) → (call_by n it ≡ None) × (call_without_option n it ≡ Recv 0 Null 0)
+call_by_is_none name.Sendrecv (Exchange comm dest send_tag source recv_tag bytes) other = absurd (other refl)
+call_by_is_none name.Dup (Copy comm new) other = absurd (other refl)
+call_by_is_none name.Split (Split comm colour key new) other = absurd (other refl)
+call_by_is_none name.Probe (Message comm source tag) other = absurd (other refl)
+call_by_is_none name.Finalize Nothing other = absurd (other refl)
+call_by_is_none name.Open Nothing other = absurd (other refl)
+call_by_is_none _ _ other = (refl, refl)
+
+-- and what code answers is what it was
+pub call_from_is_one : (n : Name) (it : CallArgs) → call_from n it ≡ call_without_option n it
+call_from_is_one name.Sendrecv (Exchange comm dest send_tag source recv_tag bytes) = refl
+call_from_is_one name.Dup (Copy comm new) = refl
+call_from_is_one name.Split (Split comm colour key new) = refl
+call_from_is_one name.Probe (Message comm source tag) = refl
+call_from_is_one name.Finalize Nothing = refl
+call_from_is_one name.Open Nothing = refl
+call_from_is_one _ _ = refl
