@@ -96,7 +96,7 @@ static bool is_recorded_function(const char *name) {
 
 /* Whether a relocation binds a function that the recorder defines to the library's. A slot that isn't bound
  * yet has an address in its own module. */
-static bool leads_past(const Dynamic *dynamic, const ElfW(Rela) * relocation,
+static bool leads_past(const Dynamic *dynamic, const ElfW(Rel) * relocation,
                        const struct dl_phdr_info *module) {
 #if __ELF_NATIVE_CLASS == 64
     size_t symbol = ELF64_R_SYM(relocation->r_info);
@@ -114,11 +114,10 @@ static bool leads_past(const Dynamic *dynamic, const ElfW(Rela) * relocation,
 static bool goes_past(const struct dl_phdr_info *module) {
     Dynamic dynamic = dynamic_of(module);
     bool found = false;
-    for (int table = 0; table < 2; table++) {
-        const ElfW(Rela) *relocation = dynamic.relocations[table];
-        const ElfW(Rela) *end = relocation + dynamic.sizes[table] / sizeof *relocation;
-        for (; relocation < end; relocation++)
-            found = leads_past(&dynamic, relocation, module) || found;
+    for (int i = 0; i < 3; i++) {
+        const Relocations *table = &dynamic.relocations[i];
+        for (size_t at = 0; table->step && at < table->size; at += table->step)
+            found = leads_past(&dynamic, (const ElfW(Rel) *)(table->start + at), module) || found;
     }
     return found;
 }

@@ -45,16 +45,24 @@ static uintptr_t value_of(const ElfW(Dyn) * entry, uintptr_t base) {
     return entry->d_un.d_ptr < base ? base + entry->d_un.d_ptr : entry->d_un.d_ptr;
 }
 
+static size_t size_of(size_t kind) { return kind == DT_REL ? sizeof(ElfW(Rel)) : sizeof(ElfW(Rela)); }
+
 static void take_entry(Dynamic *dynamic, const ElfW(Dyn) * entry) {
     const void *at = (const void *)value_of(entry, dynamic->base);
+    Relocations *tables = dynamic->relocations;
     switch (entry->d_tag) {
     case DT_SYMTAB: dynamic->symbols = at; break;
     case DT_STRTAB: dynamic->names = at; break;
     case DT_GNU_HASH: dynamic->hashes = at; break;
-    case DT_JMPREL: dynamic->relocations[0] = at; break;
-    case DT_PLTRELSZ: dynamic->sizes[0] = entry->d_un.d_val; break;
-    case DT_RELA: dynamic->relocations[1] = at; break;
-    case DT_RELASZ: dynamic->sizes[1] = entry->d_un.d_val; break;
+    case DT_JMPREL: tables[0].start = at; break;
+    case DT_PLTRELSZ: tables[0].size = entry->d_un.d_val; break;
+    case DT_PLTREL: tables[0].step = size_of(entry->d_un.d_val); break;
+    case DT_RELA: tables[1].start = at; break;
+    case DT_RELASZ: tables[1].size = entry->d_un.d_val; break;
+    case DT_RELAENT: tables[1].step = entry->d_un.d_val; break;
+    case DT_REL: tables[2].start = at; break;
+    case DT_RELSZ: tables[2].size = entry->d_un.d_val; break;
+    case DT_RELENT: tables[2].step = entry->d_un.d_val; break;
     }
 }
 
@@ -67,7 +75,7 @@ Dynamic dynamic_of(const struct dl_phdr_info *module) {
     for (; entry && entry->d_tag != DT_NULL; entry++)
         take_entry(&dynamic, entry);
     if (!dynamic.symbols || !dynamic.names)
-        dynamic.sizes[0] = dynamic.sizes[1] = 0;
+        memset(dynamic.relocations, 0, sizeof dynamic.relocations);
     return dynamic;
 }
 

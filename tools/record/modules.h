@@ -31,14 +31,20 @@ void forget_owners(void);
 
 /* ---- One module -------------------------------------------------------------------------------- */
 
+/* A table of relocations. Each entry begins with the same two fields. An addend may follow them, but not on
+ * most machines of 32 bits. */
+typedef struct {
+    const char *start;
+    size_t size, step;
+} Relocations;
+
 /* The parts of a module's dynamic section. */
 typedef struct {
     uintptr_t base;
     const ElfW(Sym) * symbols;
     const char *names;
-    const uint32_t *hashes; /* the GNU hash table */
-    const ElfW(Rela) * relocations[2];
-    size_t sizes[2];
+    const uint32_t *hashes;     /* the GNU hash table */
+    Relocations relocations[3]; /* of functions; of data with addends; of data without them */
 } Dynamic;
 
 Dynamic dynamic_of(const struct dl_phdr_info *module);
