@@ -3,9 +3,9 @@
 import json
 import unittest
 
-from support import Folders
+from support import Folders, Stored
 from companions import script
-from companions.story import MEANINGS, UNTIL_TESTS
+from companions.story import MEANINGS, UNTIL_TESTS, Story
 
 BOTH = ("send 0 1 0 4 @7 / recv 0 1 0 @8 / finalize", "send 0 0 0 4 @7 / recv 0 0 0 @8 / finalize")
 FREE = ("send 0 1 0 4 @1 / finalize", "recv 0 0 0 @2 / finalize")
@@ -64,6 +64,14 @@ class Statuses(Folders):
         self.again()
         found = self.judged(*FREE, faults=["judge"])
         self.assertEqual((found.status, found.title), (4, "out of memory"))
+
+    def test_one_question_by_unproved_code(self):
+        for ranks, asked in ((BOTH, "strict"), (CutOff.MASKED, "went")):
+            with self.subTest(asked):
+                self.again()
+                self.run_of(*ranks)
+                found = Story(self.folder / "journal", Stored(), is_short=True)
+                self.assertEqual((found.status, found.verdicts()), (1, {asked: "hang"}))
 
     def test_doubts_of_a_free_run(self):
         self.run_of(*FREE)

@@ -94,6 +94,8 @@ try_options() {
     expect_status "$library: --eager 4" 0
     run_with --eager 3 "${command[@]}"
     expect_status "$library: --eager 3" 1
+    run_with --unproved "${command[@]}"
+    expect_status "$library: --unproved" 1
     run_with --frames 0 "${command[@]}"
     grep -q 'line 3 of journal0' "$work/said" || fails "$library: --frames 0: no line of the journal"
     status=0
