@@ -317,6 +317,10 @@ class Alarms(Folders):
         )
         self.assertIn("rank 0 waits in MPI_Recv", self.said.getvalue())
 
+    def test_a_hang_of_one_rank(self):
+        self.assertLessEqual(self.answers(self.alarm("recv 0 1 5 @7", "finalize @8", state="io")), 12)
+        self.assertIn("rank 0 waits for ever, whatever the other ranks do; ", self.said.getvalue())
+
     def test_once_for_each_standstill(self):
         alarm = self.alarm(*self.HANG, stops=False)
         self.assertIsNone(self.answers(alarm))

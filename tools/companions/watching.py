@@ -81,9 +81,9 @@ class Alarm:
             watched.until = max(watched.rest, time.monotonic() + watched.pause)
             watched.pause *= 2
             return False
-        watched.reported = marks
+        watched.reported, wait = marks, "waits" if len(held) == 1 else "wait"
         end = "the run is ended" if self.stops else "the run goes on; --stop would end it"
-        said = [f"{ranks_named(held)} wait for ever, whatever the other ranks do; {end}:"]
+        said = [f"{ranks_named(held)} {wait} for ever, whatever the other ranks do; {end}:"]
         said += ["  " + line for rank in sorted(held)[:8] for line in stuck_lines(view.stuck[rank])]
         say("\n".join(said))
         return True

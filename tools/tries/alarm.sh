@@ -6,7 +6,8 @@ expect_quiet() {
     local name=$1
     shift
     run_with --stop --for 150 "${command[@]}" "$@"
-    if [[ $status != [056] ]] || grep -q 'wait for ever\|was ended\|nothing is reported' "$work/errors"; then
+    if [[ $status != [056] ]] ||
+        grep -q 'waits\? for ever\|was ended\|nothing is reported' "$work/errors"; then
         cat -- "$work/said" "$work/errors" >&2
         fails "$name: status $status"
     else
@@ -55,7 +56,7 @@ try_alarm_of_other_machines() {
     # shellcheck disable=SC2016
     run_with --quiet 2 --stop --for 15 "${command[@]}" hang 1 : -n 1 \
         unshare --uts sh -c 'hostname elsewhere && exec "$@"' sh "$work/program" hang 1
-    if [[ $status == 1 ]] && ! grep -q 'wait for ever' "$work/errors" &&
+    if [[ $status == 1 ]] && ! grep -q 'waits\? for ever' "$work/errors" &&
         grep -q 'nothing is reported before .*: some ranks are on other machines' "$work/errors"; then
         echo "$name: nothing is reported while it runs, and that is reported"
     else
