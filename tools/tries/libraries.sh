@@ -40,10 +40,15 @@ compile() {
     "$compiler" -g -O0 "$@"
 }
 
+not_built() {
+    fails "$1: $2 can't be built"
+}
+
 build_module() {
     has python3-config || { echo "$1: ring-module.py passed over: there is no python3-config"; return 1; }
     # shellcheck disable=SC2046
-    "mpicc.$1" -O1 -shared -fPIC $(python3-config --includes) -o "$work/ring_module.so" ring-module.c
+    "mpicc.$1" -O1 -shared -fPIC $(python3-config --includes) -o "$work/ring_module.so" ring-module.c ||
+        { not_built "$1" ring-module.c; return 1; }
     command=(env PYTHONPATH="$work" "${command[@]}" python3 ring-module.py)
 }
 
@@ -77,7 +82,8 @@ build() {
         [[ $source != *.cc ]] || compiler=mpicxx
         has "$compiler.$library" ||
             { echo "$library: $source passed over: there is no $compiler.$library"; return 1; }
-        build_with "$compiler.$library" "$source"
+        rm -f -- "$work/program"
+        build_with "$compiler.$library" "$source" || { not_built "$library" "$source"; return 1; }
         ;;
     esac
     command+=("$work/program")
