@@ -138,8 +138,9 @@ try_two_runs() {
     compare "$library: two runs, one after the other" "$programs/two-runs.report" \
         env SECOND="$(printf '%q ' "${hang[@]}")" sh -c '"$@"; eval "$SECOND"' sh "${free[@]}"
     name="$library: two runs at once"
+    mkdir -p -- "$work/1" "$work/2" # of two mpirun of Open MPI that make one folder at once, one fails
     # shellcheck disable=SC2016
-    run_with sh -c '"$@" & "$@" & wait' sh "${free[@]}"
+    run_with sh -c 'for at in 1 2; do TMPDIR=$0/$at "$@" & done; wait' "$work" "${free[@]}"
     check_journals "$name"
     if [[ $status == 0 && $(count_lines 'verdict free: every rank comes to its MPI_Finalize') == 2 ]]; then
         echo "$name: both are free"
