@@ -1,5 +1,5 @@
 -- Places of numbers in lists.
-use Rattle.std.proofs.Common.{◌≡◌, ◌≤◌, ◌<◌, ℕ, Bool, true, true≢false, ap, arith, List, length, Option, Some, None, inl, inr, lt-ltb}
+use Rattle.std.proofs.Common.{◌≡◌, ℕ, Bool, true≢false, ap, arith, List, length, Some, None, inl, inr, lt-ltb}
 use Rattle.std.specs.List.{position, position_or_len}
 use Rattle.std.specs.Option.{is_some}
 use Rattle.std.proofs.lemmas.Bool.{cases_lt}

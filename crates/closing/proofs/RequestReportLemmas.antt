@@ -23,7 +23,8 @@ use Rattle.closing.specs.Called.{naturals_in}
 use Rattle.closing.specs.Steps.{Id, Own}
 use Rattle.closing.specs.Entry.{id_of, ids_of}
 use Rattle.closing.specs.inner.Standings.{id_in, ids_in}
-use Rattle.closing.specs.inner.RequestReports.{reports_of, report_count, IsFormed, AreFormed, AreReadable, Tells, AllStandFor}
+use Rattle.closing.specs.Fit.{reports_of, report_count, IsFormed, AreFormed}
+use Rattle.closing.specs.inner.RequestReports.{AreReadable, Tells, AllStandFor}
 use Rattle.closing.specs.declared.standing.Standing.{Standing}
 use Rattle.closing.specs.declared.outcomes.Outcome.{Outcome}
 use Rattle.closing.specs.declared.outcomes.Outcome.TheVariants.{Unknown, Done, Gone, Kept}

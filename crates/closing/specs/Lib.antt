@@ -2,6 +2,8 @@ pub mod Called
 pub mod Endings
 pub mod Entries
 pub mod Entry
+pub mod Fit
+pub mod Groups
 pub mod RankComms
 pub mod Journals
 pub mod Keys
@@ -10,5 +12,6 @@ pub mod Numbers
 pub mod Recording
 pub mod Reported
 pub mod Steps
+pub mod Table
 pub mod Texts
 pub mod inner

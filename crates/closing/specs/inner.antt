@@ -1,9 +1,20 @@
--- What private clauses and proofs want; nobody has to believe it.
+-- What journals stand for. No public clause cites it yet.
 pub mod Left
 pub mod Views
 pub mod Words
 pub mod Outcomes
 pub mod Standings
+pub mod Free
+pub mod RequestReports
+pub mod Lists
 pub mod Walks
 pub mod Walked
-pub mod RequestReports
+pub mod Walking
+pub mod Noted
+pub mod Given
+pub mod Prefaces
+pub mod Table
+pub mod Holds
+pub mod Surveyed
+pub mod Numbered
+pub mod FitComms

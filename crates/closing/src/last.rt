@@ -1,8 +1,10 @@
 //! The reports of a call line, and the last call line of a journal.
 
-ghost use Rattle.std.specs.Prelude.{◌≡◌};
+ghost use Rattle.std.specs.Prelude.{◌≡◌, drop};
 ghost use Rattle.journals.specs.declared.word.Word.TheVariants.{Report};
+ghost use Rattle.journals.specs.Taking.{word_at};
 ghost use Rattle.closing.specs.Entries.{comes_always, says_back};
+ghost use Rattle.closing.specs.inner.Noted.{AreReports, HavePlaces, IsLastCall, first_place, noted, report_if, reports_in};
 
 use crate::places::count_of;
 use journals::lines::Lines;
@@ -18,20 +20,45 @@ pub(crate) struct Reports {
     pub end: u32,
 }
 
+/// The place of the first line of two.
+fn first_place(first: Option<u32>, line: u32) -> Option<u32>
+    ensures { result ≡ first_place first line }
+{
+    match first {
+        Some(place) => Some(place),
+        None => Some(line),
+    }
+}
+
 impl Reports {
-    fn note(&mut self, word: ReportWord, line: u32) {
+    fn note(&mut self, word: ReportWord, line: u32)
+        ensures { self.new ≡ noted self.old word line }
+    {
         match word {
-            ReportWord::Got => self.got = Some(line),
-            ReportWord::Chose => self.chose = Some(line),
-            ReportWord::Comm => self.comm = Some(line),
+            ReportWord::Got => self.got = first_place(self.got, line),
+            ReportWord::Chose => self.chose = first_place(self.chose, line),
+            ReportWord::Comm => self.comm = first_place(self.comm, line),
             ReportWord::Failed => self.has_failed = true,
             _ => {}
         }
     }
 }
 
+/// The word of a line, where that is a report.
+fn report_at(lines: &Lines, line: u32) -> Option<ReportWord>
+    ensures { result ≡ report_if (word_at lines.now line) }
+{
+    match lines.word(line) {
+        Some(Word::Report(word)) => Some(word),
+        Some(Word::Call(_)) => None,
+        None => None,
+    }
+}
+
 /// What is reported from a line on, up to the next call line.
-pub(crate) fn reports_from(lines: &Lines, start: u32) -> Reports {
+pub(crate) fn reports_from(lines: &Lines, start: u32) -> Reports
+    ensures { HavePlaces lines.now → AreReports lines.now start (reports_in (drop start lines.now)) result }
+{
     let mut reports = Reports {
         got: None,
         chose: None,
@@ -40,10 +67,10 @@ pub(crate) fn reports_from(lines: &Lines, start: u32) -> Reports {
         end: start,
     };
     for line in start..u32::MAX {
-        let Some(Word::Report(word)) = lines.word(line) else {
-            return reports;
-        };
-        reports.note(word, line);
+        match report_at(lines, line) {
+            Some(word) => reports.note(word, line),
+            None => return reports,
+        }
         reports.end = line + 1;
     }
     reports
@@ -74,7 +101,9 @@ fn comes_always(word: CallWord) -> bool
 }
 
 /// The last call line, and whether its call came back: the rank is outside it, or a report says so.
-pub(crate) fn last_call(lines: &Lines, is_outside: bool) -> Option<LastCall> {
+pub(crate) fn last_call(lines: &Lines, is_outside: bool) -> Option<LastCall>
+    ensures { HavePlaces lines.now → IsLastCall lines.now is_outside result }
+{
     let mut came_back = is_outside;
     for line in (0..count_of(lines)).rev() {
         match lines.word(line) {

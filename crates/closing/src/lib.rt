@@ -10,7 +10,7 @@
 //! |---|---|---|
 //! | `called` | what a call line says, by its word | `Called` |
 //! | `keys` | each key and each group once, by a place; two are the same exactly if their places are | `Keys` |
-//! | `comms` | what a rank has after some lines, with places of keys | `RankComms` |
+//! | `rank_comms` | what a rank has after some lines, with places of keys | `RankComms` |
 //! | `survey` | the keys that ranks got, which of them are named, and those that calls which never came back made | `Made` |
 //! | `numbers` | the numbers of the head, and the preface | `Numbers` |
 //! | `last` | the reports of an entry, and whether the last call came back | `Entries` |
@@ -20,9 +20,12 @@
 //!
 //! Each line is looked at twice: for the communicators of all ranks, and for the records of its own rank.
 //!
-//! What is proved so far: `called` says of each line what `Called` says, and `message` what can be, as
-//! `Reported` has it. Not yet: all of `keys`, `comms`, `survey`, `numbers`, `list`, `walk` and `recording`. Rows
-//! and random runs beside a second program say that these are right.
+//! What is proved so far: `called` says of each line what `Called` says, `message` what can be, as `Reported`
+//! has it, `keys` and `rank_comms` keep what `Keys` and `RankComms` say, by places, `outcomes` and `standing` what
+//! is reported of requests, and `list` each of `Steps`. In `walk`, an entry that sends, receives, probes or
+//! exchanges, that calls or starts a collective, or that cancels, does the steps of the definitions, or ends the
+//! list for their reason. Not yet: all of `survey`, `numbers` and `recording`, and the other entries of `walk`. Rows
+//! and random runs by a second program say that these are right.
 //!
 //! Nobody has to believe `inner`.
 #![tactic(auto)]

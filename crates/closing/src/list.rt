@@ -1,5 +1,12 @@
 //! The list of a rank: its records so far, and the numbers of its requests.
 
+ghost use Rattle.std.specs.Prelude.{◌≡◌, ◌<◌, ◌≤◌, ◌+◌, [], ◌∷◌, ◌++◌, ℕ, List as Items, nat_eq, map, take, drop, length, slice_index, true, IsTrue, OnOk};
+ghost use Rattle.std.specs.HashMap.{get};
+ghost use Rattle.mpicall.specs.Limits.{in_ranges};
+ghost use Rattle.closing.specs.inner.Free.{AreNumbered, KeepsFree, Requests, TakesLeast};
+ghost use Rattle.closing.specs.inner.Lists.{Adds, AreApart, AreHeld, AreSmall, ComesTo, FindsOnly, FreesOnly, IsUnnamed, KeepsLines, KeepsRecords, Owns, Puts, Stands, TakesFree, TakesNumbers, TakesOne, found_call, found_number, is_send_in, is_start_of_send, start_call};
+ghost use Rattle.closing.specs.Steps.{Does, Id, Own, Progress, Starts, WaitsForAll, WaitsForOne, after_step, has_number, number_in, numbers_of, wait_for, wait_for_one, waits_for, without, without_all};
+
 use crate::places::index_of;
 use crate::stop::Stop;
 use crate::why::Why;
@@ -46,7 +53,9 @@ pub(crate) enum Start {
 
 impl Start {
     /// The call that starts it as a request with a number.
-    fn call(self, req: u32) -> Call {
+    fn call(self, req: u32) -> Call
+        ensures { result ≡ start_call self req }
+    {
         match self {
             Start::Send {
                 mode,
@@ -72,7 +81,9 @@ impl Start {
         }
     }
 
-    fn is_send(self) -> bool {
+    fn is_send(self) -> bool
+        ensures { result ≡ is_start_of_send self }
+    {
         matches!(self, Start::Send { .. })
     }
 }
@@ -93,8 +104,64 @@ pub(crate) struct List {
     numbers: Vec<u32>,
 }
 
+/// So many of some numbers from a place on, or as many as there are.
+#[tactic(auto, using(crate::proofs::WaitLemmas::group_rest, std::proofs::lemmas::List::drop_all))]
+fn group_from(numbers: &[u32], start: usize, most: usize) -> &[u32]
+    ensures { result.now ≡ take most (drop start numbers.now) }
+{
+    if start >= numbers.len() {
+        return &[];
+    }
+    let rest = &numbers[start..];
+    if most < rest.len() {
+        &rest[..most]
+    } else {
+        rest
+    }
+}
+
+fn number_at(numbers: &[u32], place: usize) -> u32
+    requires { place < length numbers.now }
+    ensures { result ≡ slice_index numbers.now place }
+{
+    numbers[place]
+}
+
+/// The wait for so many requests, where there are some.
+#[tactic(auto, using(crate::proofs::WaitLemmas::one_wait, crate::proofs::WaitLemmas::several_wait, crate::proofs::WaitLemmas::none_wait))]
+fn wait_of(numbers: &[u32]) -> Option<Call>
+    ensures { length numbers.now ≤ MOST_REQUESTS → found_call result ≡ wait_for numbers.now }
+{
+    if numbers.len() == 1 {
+        return Some(Call::Wait { req: numbers[0] });
+    }
+    match Reqs::new(numbers) {
+        Some(reqs) => Some(Call::Waitall { reqs }),
+        None => None,
+    }
+}
+
+/// The wait for one of these, which completed it; a wait for it alone where it isn't among them.
+fn wait_for_one(numbers: &[u32], number: u32) -> Call
+    ensures { length numbers.now ≤ MOST_REQUESTS → result ≡ wait_for_one number numbers.now }
+{
+    let Some(index) = index_of(numbers, number) else {
+        return Call::Wait { req: number };
+    };
+    match Reqs::new(numbers) {
+        Some(reqs) => Call::Waitany {
+            chosen: index as u8,
+            reqs,
+        },
+        None => Call::Wait { req: number },
+    }
+}
+
 impl List {
-    pub(crate) fn new(alloc: Global) -> List {
+    #[tactic(auto, using(crate::proofs::ListLemmas::new_stands))]
+    pub(crate) fn new(alloc: Global) -> List
+        ensures { (late : Items Id) → Stands [] (record { records = []; active = []; late = late }) result }
+    {
         List {
             records: Vec::new(alloc),
             count: 0,
@@ -106,31 +173,57 @@ impl List {
     }
 
     /// The records that weren't handed on yet.
-    pub(crate) fn records(&self) -> &[Record] {
+    pub(crate) fn records(&self) -> &[Record]
+        ensures { result.now ≡ self.now.records.items }
+    {
         self.records.as_slice()
     }
 
     /// Those records were handed on.
-    pub(crate) fn forget_records(&mut self) {
+    #[tactic(auto, using(crate::proofs::ListLemmas::handed_on))]
+    pub(crate) fn forget_records(&mut self)
+        ensures records { self.new.records.items ≡ [] }
+        ensures stands { (handed : Items Call) (progress : Progress) → Stands handed progress self.old → Stands (handed ++ self.old.records.items) progress self.new }
+    {
         self.records.clear();
     }
 
     /// The request of the rank's own number that no line completed so far.
-    pub(crate) fn active(&self, id: u32) -> Option<Active> {
+    pub(crate) fn active(&self, id: u32) -> Option<Active>
+        ensures { result ≡ get nat_eq self.now.active id }
+    {
         self.active.get(&id).copied()
     }
 
-    /// Adds a line that has room in every list: its end, or a line of the preface.
-    pub(crate) fn put(&mut self, call: Call) -> Result<(), AllocError> {
-        if let Some(record) = Record::new(call) {
-            self.records.push(record)?;
-            self.count = self.count.saturating_add(1);
+    /// Whether it is that of a send.
+    pub(crate) fn is_send(&self, id: u32) -> bool
+        ensures { result ≡ is_send_in self.now id }
+    {
+        match self.active(id) {
+            Some(active) => active.is_send,
+            None => false,
         }
+    }
+
+    /// Adds a line that has room in every list: its end, or a line of the preface.
+    pub(crate) fn put(&mut self, call: Call) -> Result<(), AllocError>
+        ensures records { OnOk result (IsTrue (in_ranges call) → self.new.records.items ≡ self.old.records.items ++ call ∷ []) }
+        ensures puts { OnOk result (IsTrue (in_ranges call) → self.old.count < MOST_RECORDS → Puts self.old self.new (call ∷ [])) }
+        ensures stands { OnOk result ((handed : Items Call) (progress : Progress) (line : ℕ) → Stands handed progress self.old → IsTrue (in_ranges call) → self.old.count + 1 < MOST_RECORDS → Stands handed (after_step progress line (Does call)) self.new) }
+    {
+        let Some(record) = Record::new(call) else {
+            return Ok(());
+        };
+        self.records.push(record)?;
+        self.count = self.count.saturating_add(1);
         Ok(())
     }
 
     /// Adds a line, where the list isn't too long.
-    pub(crate) fn does(&mut self, call: Call) -> Result<(), Stop> {
+    #[tactic(auto, using(crate::proofs::ListLemmas::no_room, crate::proofs::ListLemmas::adds_put))]
+    fn add(&mut self, call: Call) -> Result<(), Stop>
+        ensures { IsTrue (in_ranges call) → self.old.count < MOST_RECORDS → Adds result self.old self.new (call ∷ []) }
+    {
         if self.count >= MOST_RECORDS - 1 {
             return Err(Stop::Left(Why::TooLong));
         }
@@ -138,10 +231,21 @@ impl List {
         Ok(())
     }
 
+    /// Puts a line that starts no request.
+    pub(crate) fn does(&mut self, call: Call) -> Result<(), Stop>
+        ensures { (handed : Items Call) (progress : Progress) (line : ℕ) → Stands handed progress self.old → IsTrue (in_ranges call) → ComesTo result handed (after_step progress line (Does call)) line self.new }
+    {
+        self.add(call)
+    }
+
     // ---- Requests ----
 
-    /// The least number that is free; it is so no longer.
-    fn take_number(&mut self) -> u32 {
+    /// The least number that isn't in use, which is so from now on.
+    #[tactic(auto, using(crate::proofs::FreeLemmas::popped, crate::proofs::FreeLemmas::given_next))]
+    fn pick_number(&mut self) -> u32
+        ensures takes { KeepsFree self.old → self.old.given < GREATEST_REQUEST → TakesLeast self.old self.new result }
+        ensures same { KeepsRecords self.old self.new }
+    {
         if let Some(Reverse(number)) = self.free.pop() {
             return number;
         }
@@ -152,117 +256,178 @@ impl List {
         number
     }
 
+    /// The least number that no active request has; it is so no longer.
+    fn take_number(&mut self) -> u32
+        ensures takes { (active : Requests) → AreNumbered active self.old → self.old.given < GREATEST_REQUEST → TakesFree active self.old self.new result }
+        ensures same { KeepsRecords self.old self.new }
+    {
+        self.pick_number()
+    }
+
     /// Puts a line that starts a request that no line names.
-    pub(crate) fn starts_unnamed(&mut self, start: Start) -> Result<(), Stop> {
+    pub(crate) fn starts_unnamed(&mut self, start: Start) -> Result<(), Stop>
+        ensures { (handed : Items Call) (progress : Progress) (line : ℕ) (id : Id) → Stands handed progress self.old → IsTrue (in_ranges (start_call start 0)) → IsUnnamed id → ComesTo result handed (after_step progress line (Starts id (start_call start))) line self.new }
+    {
         let number = self.take_number();
-        self.does(start.call(number))
+        self.add(start.call(number))
     }
 
     /// Puts a line that starts a request, by the rank's own number of it.
-    pub(crate) fn starts(&mut self, id: u32, start: Start) -> Result<(), Stop> {
+    pub(crate) fn starts(&mut self, id: u32, start: Start) -> Result<(), Stop>
+        ensures { (handed : Items Call) (progress : Progress) (line : ℕ) → Stands handed progress self.old → IsTrue (in_ranges (start_call start 0)) → number_in progress.active (Own id) ≡ None → ComesTo result handed (after_step progress line (Starts (Own id) (start_call start))) line self.new }
+    {
         let number = self.take_number();
         let active = Active {
             number,
             place: self.count,
             is_send: start.is_send(),
         };
-        self.does(start.call(number))?;
+        self.add(start.call(number))?;
         self.active.insert(id, active)?;
         Ok(())
     }
 
+    /// Takes the number of a request, if that is active, which it is no longer.
+    #[tactic(auto, using(crate::proofs::RequestLemmas::took_none, crate::proofs::RequestLemmas::took_line))]
+    fn take_request(&mut self, id: u32) -> Result<(), AllocError>
+        ensures takes { OnOk result ((left : Requests) → AreApart left → Owns left self.old → TakesOne left id self.old self.new) }
+        ensures same { OnOk result (KeepsLines self.old self.new) }
+    {
+        let Some(active) = self.active.remove(&id) else {
+            return Ok(());
+        };
+        self.numbers.push(active.number)?;
+        Ok(())
+    }
+
     /// Takes the numbers of some requests, each once, which are active no longer.
-    fn take_numbers(&mut self, ids: &[u32]) -> Result<(), AllocError> {
+    #[tactic(auto, using(crate::proofs::WaitLemmas::takes_first))]
+    fn take_numbers(&mut self, ids: &[u32]) -> Result<(), AllocError>
+        ensures takes { OnOk result ((active : Requests) → AreApart active → Owns active self.old → TakesNumbers active (map Own ids.now) self.new) }
+        ensures same { OnOk result (KeepsLines self.old self.new) }
+    {
         self.numbers.clear();
         for id in ids {
-            if let Some(active) = self.active.remove(id) {
-                self.numbers.push(active.number)?;
-            }
+            self.take_request(*id)?;
         }
         Ok(())
     }
 
+    /// The number of a request that was active is free again.
+    #[tactic(auto, using(crate::proofs::FreedLemmas::freed))]
+    fn free_number(&mut self, number: u32) -> Result<(), AllocError>
+        ensures frees { OnOk result ((active : Requests) → AreNumbered active self.old → has_number active number ≡ true → AreNumbered (without number active) self.new) }
+        ensures same { OnOk result (FreesOnly self.old self.new) }
+    {
+        self.free.push(Reverse(number))?;
+        Ok(())
+    }
+
     /// The numbers that were taken are free again.
-    fn free_numbers(&mut self) -> Result<(), AllocError> {
-        for number in &self.numbers {
-            self.free.push(Reverse(*number))?;
+    fn free_numbers(&mut self) -> Result<(), AllocError>
+        ensures frees { OnOk result ((active : Requests) → AreNumbered active self.old → AreHeld active self.old.numbers.items → AreNumbered (without_all self.old.numbers.items active) self.new) }
+        ensures same { OnOk result (FreesOnly self.old self.new) }
+    {
+        for place in 0..self.numbers.len() {
+            let numbers = self.numbers.as_slice();
+            let number = number_at(numbers, place);
+            self.free_number(number)?;
         }
         Ok(())
     }
 
     /// Puts the wait for at most as many requests as a line may name, by the numbers that were taken from a
     /// place on.
-    fn waits_from(&mut self, start: usize) -> Result<(), Stop> {
-        let end = self.numbers.len().min(start.saturating_add(MOST_REQUESTS));
-        match self.numbers.get(start..end) {
-            Some([number]) => {
-                let req = *number;
-                self.does(Call::Wait { req })
-            }
-            Some(numbers) => match Reqs::new(numbers) {
-                Some(reqs) => self.does(Call::Waitall { reqs }),
-                None => Ok(()),
-            },
+    fn waits_from(&mut self, start: usize) -> Result<(), Stop>
+        ensures { AreSmall self.old.numbers.items → self.old.count < MOST_RECORDS → Adds result self.old self.new (wait_for (take MOST_REQUESTS (drop start self.old.numbers.items))) }
+    {
+        match wait_of(group_from(self.numbers.as_slice(), start, MOST_REQUESTS)) {
+            Some(call) => self.add(call),
             None => Ok(()),
         }
     }
 
     /// Puts the waits for all requests whose numbers were taken, at most as many in each as a line may name.
-    fn waits_for_taken(&mut self) -> Result<(), Stop> {
+    #[tactic(auto, using(crate::proofs::WaitLemmas::puts_none))]
+    fn waits_for_taken(&mut self) -> Result<(), Stop>
+        ensures { AreSmall self.old.numbers.items → self.old.count < MOST_RECORDS → Adds result self.old self.new (waits_for (length self.old.numbers.items) self.old.numbers.items) }
+    {
         for turn in 0..self.numbers.len() / MOST_REQUESTS + 1 {
-            self.waits_from(turn.saturating_mul(MOST_REQUESTS))?;
+            self.waits_from(turn * MOST_REQUESTS)?;
         }
         Ok(())
     }
 
     /// Puts the waits for those of some requests that are active.
-    pub(crate) fn waits_for(&mut self, ids: &[u32]) -> Result<(), Stop> {
+    pub(crate) fn waits_for(&mut self, ids: &[u32]) -> Result<(), Stop>
+        ensures { (handed : Items Call) (progress : Progress) (line : ℕ) → Stands handed progress self.old → ComesTo result handed (after_step progress line (WaitsForAll (map Own ids.now))) line self.new }
+    {
         self.take_numbers(ids)?;
         self.waits_for_taken()?;
         self.free_numbers()?;
         Ok(())
     }
 
+    /// Has the number of a request too, if that is active.
+    #[tactic(auto, using(crate::proofs::ChoiceLemmas::finds_none))]
+    fn find_request(&mut self, id: u32) -> Result<(), AllocError>
+        ensures finds { OnOk result ((left : Requests) → AreApart left → Owns left self.old → self.new.numbers.items ≡ self.old.numbers.items ++ found_number (number_in (without_all self.old.numbers.items left) (Own id))) }
+        ensures most { OnOk result (length self.new.numbers.items ≤ length self.old.numbers.items + 1) }
+        ensures same { OnOk result (FindsOnly self.old self.new) }
+    {
+        let Some(active) = self.active(id) else {
+            return Ok(());
+        };
+        if index_of(self.numbers.as_slice(), active.number).is_some() {
+            return Ok(());
+        }
+        self.numbers.push(active.number)?;
+        Ok(())
+    }
+
     /// Has the numbers of those of some requests that are active, as many as a line may name.
-    fn find_numbers(&mut self, ids: &[u32]) -> Result<(), AllocError> {
+    fn find_numbers(&mut self, ids: &[u32]) -> Result<(), AllocError>
+        ensures finds { OnOk result ((left : Requests) → AreApart left → Owns left self.old → self.new.numbers.items ≡ take MOST_REQUESTS (numbers_of left (map Own ids.now))) }
+        ensures same { OnOk result (FindsOnly self.old self.new) }
+    {
         self.numbers.clear();
         for id in ids {
-            if self.numbers.len() == MOST_REQUESTS {
+            if self.numbers.len() >= MOST_REQUESTS {
                 return Ok(());
             }
-            if let Some(active) = self.active.get(id) {
-                if index_of(self.numbers.as_slice(), active.number).is_none() {
-                    self.numbers.push(active.number)?;
-                }
-            }
+            self.find_request(*id)?;
         }
         Ok(())
     }
 
     /// Puts the wait for one of the numbers that were found, which completed it; a wait for it alone where it
     /// isn't among them.
-    fn waits_for_number(&mut self, number: u32) -> Result<(), Stop> {
-        match (
-            index_of(self.numbers.as_slice(), number),
-            Reqs::new(self.numbers.as_slice()),
-        ) {
-            (Some(index), Some(reqs)) => self.does(Call::Waitany {
-                chosen: index as u8,
-                reqs,
-            }),
-            _ => self.does(Call::Wait { req: number }),
-        }
+    fn waits_for_number(&mut self, number: u32) -> Result<(), Stop>
+        ensures { AreSmall self.old.numbers.items → number ≤ GREATEST_REQUEST → length self.old.numbers.items ≤ MOST_REQUESTS → self.old.count < MOST_RECORDS → Adds result self.old self.new (wait_for_one number self.old.numbers.items ∷ []) }
+    {
+        let numbers = self.numbers.as_slice();
+        let call = wait_for_one(numbers, number);
+        self.add(call)
     }
 
-    /// Puts a wait for any of some requests, which completed one of them, if that is active.
-    pub(crate) fn waits_for_one(&mut self, wanted: u32, ids: &[u32]) -> Result<(), Stop> {
-        let Some(active) = self.active(wanted) else {
-            return Ok(());
-        };
+    /// Puts a wait for any of some requests, which completed this one that is active.
+    fn waits_for_active(&mut self, wanted: u32, active: Active, ids: &[u32]) -> Result<(), Stop>
+        ensures { (handed : Items Call) (progress : Progress) (line : ℕ) → Stands handed progress self.old → get nat_eq self.old.active wanted ≡ Some active → ComesTo result handed (after_step progress line (WaitsForOne (Own wanted) (map Own ids.now))) line self.new }
+    {
         self.find_numbers(ids)?;
         self.waits_for_number(active.number)?;
         self.active.remove(&wanted);
-        self.free.push(Reverse(active.number))?;
+        self.free_number(active.number)?;
         Ok(())
+    }
+
+    /// Puts a wait for any of some requests, which completed one of them, if that is active.
+    pub(crate) fn waits_for_one(&mut self, wanted: u32, ids: &[u32]) -> Result<(), Stop>
+        ensures { (handed : Items Call) (progress : Progress) (line : ℕ) → Stands handed progress self.old → ComesTo result handed (after_step progress line (WaitsForOne (Own wanted) (map Own ids.now))) line self.new }
+    {
+        match self.active(wanted) {
+            Some(active) => self.waits_for_active(wanted, active, ids),
+            None => Ok(()),
+        }
     }
 }

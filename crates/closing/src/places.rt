@@ -2,7 +2,8 @@
 
 ghost use Rattle.std.specs.Prelude.{◌≡◌, ◌==◌, position};
 ghost use Rattle.std.specs.List.{position_or_len};
-ghost use Rattle.std.specs.Prelude.{◌<◌, length, min, IfOk, IfSome};
+ghost use Rattle.std.specs.Prelude.{◌<◌, ◌≤◌, length, min, pos, IfOk, IfSome};
+ghost use Rattle.closing.specs.inner.Noted.{HavePlaces};
 
 use journals::lines::Lines;
 use std::alloc::AllocError;
@@ -30,9 +31,32 @@ pub(crate) fn checked_rank(place: usize) -> Result<u16, AllocError>
     Ok(place as u16)
 }
 
+/// A place as the key of a split, where it can be one.
+pub(crate) fn as_key(place: usize) -> i32
+    ensures { place ≤ 2147483647 → result ≡ pos place }
+{
+    if place <= 0x7fff_ffff {
+        place as i32
+    } else {
+        i32::MAX
+    }
+}
+
+/// A place as the colour of a split, where it can be one.
+pub(crate) fn as_colour(place: usize) -> u32
+    ensures { place ≤ 2147483647 → result ≡ place }
+{
+    if place <= 0x7fff_ffff {
+        place as u32
+    } else {
+        u32::MAX
+    }
+}
+
 /// How many lines a journal has; there are never more than that.
 pub(crate) fn count_of(lines: &Lines) -> u32
-    ensures { result ≡ min (length lines.now) MOST }
+    ensures exact { result ≡ min (length lines.now) MOST }
+    ensures all { HavePlaces lines.now → result ≡ length lines.now }
 {
     let count = lines.count();
     if count < MOST { count as u32 } else { u32::MAX }

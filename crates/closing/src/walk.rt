@@ -1,10 +1,12 @@
 //! The list of a rank, made entry by entry of its journal.
 
-ghost use Rattle.std.specs.Prelude.{◌≡◌, ◌+◌, ◌<◌};
+ghost use Rattle.std.specs.Prelude.{◌≡◌, ◌+◌, ◌<◌, [], ◌++◌, List as Items};
+ghost use Rattle.closing.specs.inner.Lists.{Stands};
+ghost use Rattle.closing.specs.Steps.{Progress};
 ghost use Rattle.closing.specs.Endings.{breaks_off};
 ghost use Rattle.closing.specs.Recording.{is_end};
 ghost use Rattle.closing.specs.inner.Views.{called_view};
-ghost use Rattle.closing.specs.inner.Walked.{number_at, number_or, size_at};
+ghost use Rattle.closing.specs.inner.Walked.{fields_of_line, number_at, number_or, size_at};
 
 use crate::called::{Called, read_call};
 use crate::choice::{Calls, Choice};
@@ -143,8 +145,13 @@ fn fields_if(lines: &Lines, line: Option<u32>) -> Option<&[Field]> {
 }
 
 /// The same; none where there is no line.
-fn fields_at(lines: &Lines, line: Option<u32>) -> &[Field] {
-    fields_if(lines, line).unwrap_or(&[])
+fn fields_at(lines: &Lines, line: Option<u32>) -> &[Field]
+    ensures { result.now ≡ fields_of_line lines.now line }
+{
+    match line {
+        Some(line) => lines.fields(line),
+        None => &[],
+    }
 }
 
 impl Walk {
@@ -220,25 +227,38 @@ impl Walk {
     // ---- What there is of the list ----
 
     /// The records that weren't handed on yet, all of one entry.
-    pub(crate) fn records(&self) -> &[Record] {
+    pub(crate) fn records(&self) -> &[Record]
+        ensures { result.now ≡ self.now.list.records.items }
+    {
         self.list.records()
     }
 
     /// Those records were handed on.
-    pub(crate) fn forget_records(&mut self) {
+    pub(crate) fn forget_records(&mut self)
+        ensures same { self.new ≡ record self.old { list = self.new.list } }
+        ensures none { self.new.list.records.items ≡ [] }
+        ensures stands { (handed : Items Call) (progress : Progress) → Stands handed progress self.old.list →
+            Stands (handed ++ self.old.list.records.items) progress self.new.list }
+    {
         self.list.forget_records();
     }
 
     /// The number of the line of their entry; 0 in the preface.
-    pub(crate) fn line(&self) -> u32 {
+    pub(crate) fn line(&self) -> u32
+        ensures { result ≡ self.now.line }
+    {
         self.line
     }
 
-    pub(crate) fn is_over(&self) -> bool {
+    pub(crate) fn is_over(&self) -> bool
+        ensures { result ≡ self.now.is_over }
+    {
         self.is_over
     }
 
-    pub(crate) fn left(&self) -> Option<Left> {
+    pub(crate) fn left(&self) -> Option<Left>
+        ensures { result ≡ self.now.left }
+    {
         self.left
     }
 

@@ -8,6 +8,7 @@ use Rattle.journals.specs.declared.word.Word.TheVariants.{Report}
 use Rattle.journals.specs.declared.word.ReportWord.TheVariants as report
 use Rattle.closing.specs.Reported.{done_in, done_of, says_gone, says_kept}
 use Rattle.closing.specs.Reported as say
+use Rattle.closing.specs.Fit.{AreFormed, report_count}
 use Rattle.closing.specs.Entry.{id_of}
 use Rattle.closing.specs.Steps.{Own}
 use Rattle.closing.specs.inner.Outcomes.{outcome_at, message_by}
@@ -15,26 +16,6 @@ use Rattle.closing.specs.inner.Outcomes as kept
 use Rattle.closing.specs.inner.Standings.{id_in}
 use Rattle.closing.specs.declared.outcomes.Outcomes.{Outcomes}
 use Rattle.closing.specs.declared.standing.Standing.{Standing}
-
--- the line reports what came of the request
-abbrev pub reports_of : ℕ → Word → List Field → Bool
-reports_of request word fields =
-    is_some (done_in request word fields) || says_gone request word fields || says_kept request word fields
-
--- how many lines do
-abbrev pub report_count : List Line → ℕ → ℕ
-report_count lines request = count_by (λ line. reports_of request line.word line.fields) lines
-
--- such a report has as many fields as its form
-abbrev pub IsFormed : Word → List Field → Type 0
-IsFormed (Report report.Done) fields = length fields ≡ 3
-IsFormed (Report report.Gone) fields = length fields ≡ 1
-IsFormed (Report report.Kept) fields = length fields ≡ 1
-IsFormed word fields = Unit {0}
-
-abbrev pub AreFormed : List Line → Type 0
-AreFormed [] = Unit {0}
-AreFormed (line ∷ lines) = IsFormed line.word line.fields × AreFormed lines
 
 -- there are no more lines than can be counted, and of each request it is reported once at most what came of it
 pub record AreReadable (lines : List Line) : Type 0 where

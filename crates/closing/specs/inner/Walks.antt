@@ -1,7 +1,7 @@
 -- What stands for an entry, by what is known of where its call stands: as `Endings` and `Entry` have it, by each call.
 use Rattle.std.specs.Prelude.{ℕ, ℤ, Bool, true, false, ◌&&◌, Option, Some, None, option_map, if◌then◌else◌, List, [], ◌∷◌, ◌++◌}
 use Rattle.mpicall.specs.declared.call.Call.{Call}
-use Rattle.mpicall.specs.declared.call.Call.TheVariants.{Isend, Irecv, Icoll, Coll, Open}
+use Rattle.mpicall.specs.declared.call.Call.TheVariants.{Coll, Open}
 use Rattle.mpicall.specs.declared.call.Mode.{Mode}
 use Rattle.mpicall.specs.declared.call.Mode.TheVariants.{Standard}
 use Rattle.mpicall.specs.declared.call.Kind.{Kind}
@@ -19,8 +19,6 @@ use Rattle.closing.specs.Entry.{Choice, send, start_send, receive, start_receive
 use Rattle.closing.specs.Recording.{Outcome, GoesOn, Ends}
 use Rattle.closing.specs.declared.why.Why.{Why}
 use Rattle.closing.specs.declared.why.Why.TheVariants.{NeverCameBack, NeverReported, NoNumber, CannotBe}
-use Rattle.closing.specs.declared.list.Start.{Start}
-use Rattle.closing.specs.declared.list.Start.TheVariants as code
 
 -- ---- Where an entry's call stands ----
 
@@ -201,11 +199,3 @@ outcome_on choice spot (Duplicates comm) = makes_on spot
 outcome_on choice spot (Splits comm colour key) = makes_on spot
 outcome_on choice spot (Makes comm) = makes_on spot
 outcome_on choice spot it = GoesOn []
-
--- ---- What the code has ----
-
--- what is started, by its request's number
-abbrev pub start_view : Start → ℕ → Call
-start_view (code.Send mode comm dest tag bytes) request = Isend request mode comm dest tag bytes
-start_view (code.Receive comm source tag) request = Irecv request comm source tag
-start_view (code.Collective comm it) request = Icoll request comm it

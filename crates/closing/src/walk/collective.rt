@@ -2,7 +2,11 @@
 
 ghost use Rattle.std.specs.Prelude.{◌≡◌, IsTrue};
 ghost use Rattle.closing.specs.Entry.{kind_of};
+ghost use Rattle.closing.specs.Recording.{GoesOn};
 ghost use Rattle.closing.specs.Reported.{root_can_be};
+ghost use Rattle.closing.specs.inner.RequestReports.{Tells};
+ghost use Rattle.closing.specs.inner.Walked.{IsAt, Takes};
+ghost use Rattle.closing.specs.inner.Walks.{Spot, collects_at, collects_on, makes_of_group_on, starts_collective_on, starts_duplicate_on};
 
 use super::{At, Walk};
 use crate::list::Start;
@@ -31,7 +35,10 @@ fn kind_of(collective: Collective, root: Option<i32>) -> Kind
 
 impl Walk {
     /// Puts a collective, or its start where it came back and stands for that.
-    fn collects_as(&mut self, at: &At<'_>, comm: u16, kind: Kind) -> Result<(), Stop> {
+    fn collects_as(&mut self, at: &At<'_>, comm: u16, kind: Kind) -> Result<(), Stop>
+        ensures same { self.new ≡ record self.old { list = self.new.list } }
+        ensures takes { (spot : Spot) → IsAt spot at.now → Takes spot (GoesOn (collects_at spot kind comm)) result self.old.list self.new.list }
+    {
         if at.is_past {
             return self.list.starts_unnamed(Start::Collective { comm, kind });
         }
@@ -43,7 +50,10 @@ impl Walk {
         at: &At<'_>,
         collective: Collective,
         root: Option<i32>,
-    ) -> Result<(), Stop> {
+    ) -> Result<(), Stop>
+        ensures same { self.new ≡ record self.old { list = self.new.list } }
+        ensures takes { (spot : Spot) → IsAt spot at.now → Takes spot (collects_on spot collective root) result self.old.list self.new.list }
+    {
         let comm = at.number_if(root_can_be(at.size(), collective, root))?;
         self.collects_as(at, comm, kind_of(collective, root))
     }
@@ -54,7 +64,11 @@ impl Walk {
         own: u32,
         collective: Collective,
         root: Option<i32>,
-    ) -> Result<(), Stop> {
+    ) -> Result<(), Stop>
+        ensures same { self.new ≡ record self.old { list = self.new.list } }
+        ensures takes { (spot : Spot) → IsAt spot at.now → Tells spot.lines self.old.requests.outcomes →
+            Takes spot (starts_collective_on spot own collective root) result self.old.list self.new.list }
+    {
         let comm = at.number_if(root_can_be(at.size(), collective, root))?;
         self.starts_unless_gone(
             own,
@@ -65,7 +79,11 @@ impl Walk {
         )
     }
 
-    pub(super) fn starts_duplicate(&mut self, at: &At<'_>, own: u32) -> Result<(), Stop> {
+    pub(super) fn starts_duplicate(&mut self, at: &At<'_>, own: u32) -> Result<(), Stop>
+        ensures same { self.new ≡ record self.old { list = self.new.list } }
+        ensures takes { (spot : Spot) → IsAt spot at.now → Tells spot.lines self.old.requests.outcomes →
+            Takes spot (starts_duplicate_on spot own) result self.old.list self.new.list }
+    {
         let comm = at.number_if(true)?;
         self.starts_unless_gone(
             own,
@@ -76,7 +94,10 @@ impl Walk {
         )
     }
 
-    pub(super) fn makes_of_group(&mut self, at: &At<'_>) -> Result<(), Stop> {
+    pub(super) fn makes_of_group(&mut self, at: &At<'_>) -> Result<(), Stop>
+        ensures same { self.new ≡ record self.old { list = self.new.list } }
+        ensures takes { (spot : Spot) → IsAt spot at.now → Takes spot (makes_of_group_on spot) result self.old.list self.new.list }
+    {
         let comm = at.number_if(true)?;
         self.collects_as(at, comm, Kind::Barrier)
     }

@@ -1,10 +1,15 @@
 //! Entries that send, receive or probe.
 
-ghost use Rattle.std.specs.Prelude.{◌≡◌, ℕ, IsTrue};
-ghost use Rattle.closing.specs.Entry.{start_receive, start_send};
-ghost use Rattle.closing.specs.Reported.{peer_can_be};
-ghost use Rattle.closing.specs.inner.Views.{message_view, sent_view};
-ghost use Rattle.closing.specs.inner.Walks.{start_view};
+ghost use Rattle.std.specs.Prelude.{◌≡◌, ◌&&◌, true, [], IsTrue, IfSome, option_map};
+ghost use Rattle.closing.specs.Entry.{exchange, probe, receive, send, start_receive, start_send};
+ghost use Rattle.closing.specs.inner.Lists.{start_call};
+ghost use Rattle.closing.specs.Reported.{message_can_be, message_of as message_said, peer_can_be, tag_can_be};
+ghost use Rattle.closing.specs.inner.Views.{awaited_view, message_view, sent_view};
+ghost use Rattle.closing.specs.inner.Walked.{AwaitedOr, IsAt, Takes, known_or, number_at as number_of_at, number_or, size_at};
+ghost use Rattle.closing.specs.inner.Walks.{Spot, exchanges_at, exchanges_on, probes_at, probes_matching_on, probes_on, receives_after, receives_on, sends_on, starts_at, starts_exchange_on, starts_receive_on, starts_send_on};
+ghost use Rattle.closing.specs.Recording.{GoesOn};
+ghost use Rattle.closing.specs.inner.RequestReports.{Tells};
+ghost use Rattle.closing.specs.Endings.{awaited_can_be as awaited_may_be, sent_can_be as sent_may_be};
 
 use super::{At, Walk};
 use crate::called::{Awaited, Sent};
@@ -26,7 +31,7 @@ pub(super) struct Halves {
 
 /// The start of a send.
 fn start_of_send(mode: Mode, comm: u16, sent: &Sent) -> Start
-    ensures { IsTrue (peer_can_be 1024 sent.now.dest) → (request : ℕ) → start_view result request ≡ start_send mode comm (sent_view sent.now) request }
+    ensures { IsTrue (peer_can_be 1024 sent.now.dest) → start_call result ≡ start_send mode comm (sent_view sent.now) }
 {
     Start::Send {
         mode,
@@ -39,7 +44,7 @@ fn start_of_send(mode: Mode, comm: u16, sent: &Sent) -> Start
 
 /// The start of the receive of a message.
 fn start_of_receive(comm: u16, message: &Message) -> Start
-    ensures { IsTrue (peer_can_be 1024 message.now.source) → (request : ℕ) → start_view result request ≡ start_receive comm (message_view message.now) request }
+    ensures { IsTrue (peer_can_be 1024 message.now.source) → start_call result ≡ start_receive comm (message_view message.now) }
 {
     Start::Receive {
         comm,
@@ -48,8 +53,62 @@ fn start_of_receive(comm: u16, message: &Message) -> Start
     }
 }
 
+fn send_line(mode: Mode, comm: u16, sent: &Sent) -> Call
+    ensures { IsTrue (peer_can_be 1024 sent.now.dest) → result ≡ send mode comm (sent_view sent.now) }
+{
+    Call::Send {
+        mode,
+        comm,
+        dest: rank_of(sent.dest),
+        tag: tag_of(sent.tag),
+        bytes: sent.bytes,
+    }
+}
+
+fn receive_line(comm: u16, message: &Message) -> Call
+    ensures { IsTrue (peer_can_be 1024 message.now.source) → result ≡ receive comm (message_view message.now) }
+{
+    Call::Recv {
+        comm,
+        source: rank_of(message.source),
+        tag: tag_of(message.tag),
+    }
+}
+
+fn exchange_line(comm: u16, sent: &Sent, message: &Message) -> Call
+    ensures { IsTrue (peer_can_be 1024 sent.now.dest) → IsTrue (peer_can_be 1024 message.now.source) → result ≡ exchange comm (sent_view sent.now) (message_view message.now) }
+{
+    Call::Sendrecv {
+        comm,
+        dest: rank_of(sent.dest),
+        send_tag: tag_of(sent.tag),
+        source: rank_of(message.source),
+        recv_tag: tag_of(message.tag),
+        bytes: sent.bytes,
+    }
+}
+
+fn probe_line(comm: u16, message: &Message) -> Call
+    ensures { IsTrue (peer_can_be 1024 message.now.source) → result ≡ probe comm (message_view message.now) }
+{
+    Call::Probe {
+        comm,
+        source: rank_of(message.source),
+        tag: tag_of(message.tag),
+    }
+}
+
+/// Whether what an exchange names can be.
+fn exchange_can_be(size: u32, sent: &Sent, awaited: &Awaited, message: Option<Message>) -> bool
+    ensures { result ≡ (sent_may_be size (sent_view sent.now) && (peer_can_be size awaited.now.source && (tag_can_be awaited.now.tag && message_can_be size (option_map message_view message)))) }
+{
+    sent_can_be(size, sent) && awaited_can_be(size, awaited, message)
+}
+
 /// The message, where it is known; else the call never came back.
-fn known(message: Option<Message>) -> Result<Message, Stop> {
+fn known(message: Option<Message>) -> Result<Message, Stop>
+    ensures { result ≡ known_or message }
+{
     match message {
         Some(message) => Ok(message),
         None => Err(Stop::Left(Why::NeverCameBack)),
@@ -57,18 +116,15 @@ fn known(message: Option<Message>) -> Result<Message, Stop> {
 }
 
 impl Walk {
-    pub(super) fn sends(&mut self, at: &At<'_>, mode: Mode, sent: &Sent) -> Result<(), Stop> {
+    pub(super) fn sends(&mut self, at: &At<'_>, mode: Mode, sent: &Sent) -> Result<(), Stop>
+        ensures same { self.new ≡ record self.old { list = self.new.list } }
+        ensures takes { (spot : Spot) → IsAt spot at.now → Takes spot (sends_on spot mode (sent_view sent.now)) result self.old.list self.new.list }
+    {
         let comm = at.number_if(sent_can_be(at.size(), sent))?;
         if at.is_past {
             return self.list.starts_unnamed(start_of_send(mode, comm, sent));
         }
-        self.list.does(Call::Send {
-            mode,
-            comm,
-            dest: rank_of(sent.dest),
-            tag: tag_of(sent.tag),
-            bytes: sent.bytes,
-        })
+        self.list.does(send_line(mode, comm, sent))
     }
 
     pub(super) fn starts_send(
@@ -77,13 +133,21 @@ impl Walk {
         own: u32,
         mode: Mode,
         sent: &Sent,
-    ) -> Result<(), Stop> {
+    ) -> Result<(), Stop>
+        ensures same { self.new ≡ record self.old { list = self.new.list } }
+        ensures takes { (spot : Spot) → IsAt spot at.now → Tells spot.lines self.old.requests.outcomes →
+            Takes spot (starts_send_on spot own mode (sent_view sent.now)) result self.old.list self.new.list }
+    {
         let comm = at.number_if(sent_can_be(at.size(), sent))?;
         self.starts_unless_gone(own, start_of_send(mode, comm, sent))
     }
 
     /// Puts a line that starts a request, unless that was cancelled.
-    pub(super) fn starts_unless_gone(&mut self, own: u32, start: Start) -> Result<(), Stop> {
+    pub(super) fn starts_unless_gone(&mut self, own: u32, start: Start) -> Result<(), Stop>
+        ensures same { self.new ≡ record self.old { list = self.new.list } }
+        ensures takes { (spot : Spot) → Tells spot.lines self.old.requests.outcomes →
+            Takes spot (GoesOn (starts_at spot own (start_call start))) result self.old.list self.new.list }
+    {
         if self.requests.is_gone(own) {
             return Ok(());
         }
@@ -91,22 +155,24 @@ impl Walk {
     }
 
     /// The number of the communicator and the message of a receive or probe that blocks.
-    fn awaited(&self, at: &At<'_>, awaited: &Awaited) -> Result<(u16, Message), Stop> {
+    fn awaited(&self, at: &At<'_>, awaited: &Awaited) -> Result<(u16, Message), Stop>
+        ensures { AwaitedOr result (number_or (awaited_may_be (size_at at.now) (awaited_view awaited.now, option_map message_view at.now.got)) (number_of_at at.now))
+            (message_said (awaited_view awaited.now) (option_map message_view at.now.got)) }
+    {
         let message = message_of(awaited, at.got);
         let comm = at.number_if(awaited_can_be(at.size(), awaited, message))?;
         Ok((comm, known(message)?))
     }
 
-    pub(super) fn receives(&mut self, at: &At<'_>, awaited: &Awaited) -> Result<(), Stop> {
+    pub(super) fn receives(&mut self, at: &At<'_>, awaited: &Awaited) -> Result<(), Stop>
+        ensures same { self.new ≡ record self.old { list = self.new.list } }
+        ensures takes { (spot : Spot) → IsAt spot at.now → Takes spot (receives_on spot (awaited_view awaited.now)) result self.old.list self.new.list }
+    {
         let (comm, message) = self.awaited(at, awaited)?;
         if at.is_past {
             return self.list.starts_unnamed(start_of_receive(comm, &message));
         }
-        self.list.does(Call::Recv {
-            comm,
-            source: rank_of(message.source),
-            tag: tag_of(message.tag),
-        })
+        self.list.does(receive_line(comm, &message))
     }
 
     pub(super) fn starts_receive(
@@ -115,7 +181,11 @@ impl Walk {
         at: &At<'_>,
         own: u32,
         awaited: &Awaited,
-    ) -> Result<(), Stop> {
+    ) -> Result<(), Stop>
+        ensures same { self.new ≡ record self.old { list = self.new.list } }
+        ensures takes { (spot : Spot) → IsAt spot at.now → spot.lines ≡ lines.now → Tells spot.lines self.old.requests.outcomes →
+            Takes spot (starts_receive_on spot own (awaited_view awaited.now)) result self.old.list self.new.list }
+    {
         let message = message_of(awaited, self.requests.message(lines, own));
         let comm = at.number_if(awaited_can_be(at.size(), awaited, message))?;
         self.starts_receive_of(comm, own, message)
@@ -127,7 +197,11 @@ impl Walk {
         comm: u16,
         own: u32,
         message: Option<Message>,
-    ) -> Result<(), Stop> {
+    ) -> Result<(), Stop>
+        ensures same { self.new ≡ record self.old { list = self.new.list } }
+        ensures takes { (spot : Spot) → Tells spot.lines self.old.requests.outcomes → IfSome message (λ it. IsTrue (peer_can_be 1024 it.source)) →
+            Takes spot (receives_after [] spot comm own (option_map message_view message)) result self.old.list self.new.list }
+    {
         if self.requests.is_gone(own) {
             return Ok(());
         }
@@ -137,29 +211,34 @@ impl Walk {
         }
     }
 
+    /// Puts the lines that start both halves of an exchange which came back.
+    fn starts_halves(&mut self, comm: u16, sent: &Sent, message: &Message) -> Result<(), Stop>
+        ensures same { self.new ≡ record self.old { list = self.new.list } }
+        ensures takes { (spot : Spot) → spot.is_past ≡ true → IsTrue (peer_can_be 1024 sent.now.dest) → IsTrue (peer_can_be 1024 message.now.source) →
+            Takes spot (GoesOn (exchanges_at spot comm (sent_view sent.now) (message_view message.now))) result self.old.list self.new.list }
+    {
+        self.list
+            .starts_unnamed(start_of_send(Mode::Standard, comm, sent))?;
+        self.list.starts_unnamed(start_of_receive(comm, message))
+    }
+
     pub(super) fn exchanges(
         &mut self,
         at: &At<'_>,
         sent: &Sent,
         awaited: &Awaited,
-    ) -> Result<(), Stop> {
-        let message = message_of(awaited, at.got);
-        let can_be = sent_can_be(at.size(), sent) && awaited_can_be(at.size(), awaited, message);
-        let comm = at.number_if(can_be)?;
-        let message = known(message)?;
+    ) -> Result<(), Stop>
+        ensures same { self.new ≡ record self.old { list = self.new.list } }
+        ensures takes { (spot : Spot) → IsAt spot at.now →
+            Takes spot (exchanges_on spot (sent_view sent.now) (awaited_view awaited.now)) result self.old.list self.new.list }
+    {
+        let found = message_of(awaited, at.got);
+        let comm = at.number_if(exchange_can_be(at.size(), sent, awaited, found))?;
+        let message = known(found)?;
         if at.is_past {
-            self.list
-                .starts_unnamed(start_of_send(Mode::Standard, comm, sent))?;
-            return self.list.starts_unnamed(start_of_receive(comm, &message));
+            return self.starts_halves(comm, sent, &message);
         }
-        self.list.does(Call::Sendrecv {
-            comm,
-            dest: rank_of(sent.dest),
-            send_tag: tag_of(sent.tag),
-            source: rank_of(message.source),
-            recv_tag: tag_of(message.tag),
-            bytes: sent.bytes,
-        })
+        self.list.does(exchange_line(comm, sent, &message))
     }
 
     pub(super) fn starts_exchange(
@@ -167,28 +246,34 @@ impl Walk {
         lines: &Lines,
         at: &At<'_>,
         it: &Halves,
-    ) -> Result<(), Stop> {
+    ) -> Result<(), Stop>
+        ensures same { self.new ≡ record self.old { list = self.new.list } }
+        ensures takes { (spot : Spot) → IsAt spot at.now → spot.lines ≡ lines.now → Tells spot.lines self.old.requests.outcomes →
+            Takes spot (starts_exchange_on spot it.now.own it.now.other (sent_view it.now.sent) (awaited_view it.now.awaited)) result self.old.list self.new.list }
+    {
         let message = message_of(&it.awaited, self.requests.message(lines, it.other));
-        let can_be = sent_can_be(at.size(), &it.sent)
-            && awaited_can_be(at.size(), &it.awaited, message);
+        let can_be = exchange_can_be(at.size(), &it.sent, &it.awaited, message);
         let comm = at.number_if(can_be)?;
         self.starts_unless_gone(it.own, start_of_send(Mode::Standard, comm, &it.sent))?;
         self.starts_receive_of(comm, it.other, message)
     }
 
     /// Puts a probe, unless it stands for nothing since it came back.
-    fn probes_for(&mut self, at: &At<'_>, comm: u16, message: &Message) -> Result<(), Stop> {
+    fn probes_for(&mut self, at: &At<'_>, comm: u16, message: &Message) -> Result<(), Stop>
+        ensures same { self.new ≡ record self.old { list = self.new.list } }
+        ensures takes { (spot : Spot) → IsAt spot at.now → IsTrue (peer_can_be 1024 message.now.source) →
+            Takes spot (GoesOn (probes_at spot comm (message_view message.now))) result self.old.list self.new.list }
+    {
         if at.is_past {
             return Ok(());
         }
-        self.list.does(Call::Probe {
-            comm,
-            source: rank_of(message.source),
-            tag: tag_of(message.tag),
-        })
+        self.list.does(probe_line(comm, message))
     }
 
-    pub(super) fn probes(&mut self, at: &At<'_>, awaited: &Awaited) -> Result<(), Stop> {
+    pub(super) fn probes(&mut self, at: &At<'_>, awaited: &Awaited) -> Result<(), Stop>
+        ensures same { self.new ≡ record self.old { list = self.new.list } }
+        ensures takes { (spot : Spot) → IsAt spot at.now → Takes spot (probes_on spot (awaited_view awaited.now)) result self.old.list self.new.list }
+    {
         let (comm, message) = self.awaited(at, awaited)?;
         self.probes_for(at, comm, &message)
     }
@@ -199,7 +284,10 @@ impl Walk {
         at: &At<'_>,
         own: u32,
         awaited: &Awaited,
-    ) -> Result<(), Stop> {
+    ) -> Result<(), Stop>
+        ensures same { self.new ≡ record self.old { list = self.new.list } }
+        ensures takes { (spot : Spot) → IsAt spot at.now → Takes spot (probes_matching_on spot own (awaited_view awaited.now)) result self.old.list self.new.list }
+    {
         let (comm, message) = self.awaited(at, awaited)?;
         self.probes_for(at, comm, &message)?;
         self.list.starts(own, start_of_receive(comm, &message))

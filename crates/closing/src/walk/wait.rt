@@ -2,6 +2,9 @@
 
 ghost use Rattle.std.specs.Prelude.{◌≡◌};
 ghost use Rattle.closing.specs.Entry.{passes_tests};
+ghost use Rattle.closing.specs.inner.RequestReports.{Tells};
+ghost use Rattle.closing.specs.inner.Walked.{Takes};
+ghost use Rattle.closing.specs.inner.Walks.{Spot, cancels_on};
 
 use super::{At, Walk};
 use crate::called::Called;
@@ -93,7 +96,10 @@ impl Walk {
     }
 
     /// A cancel of which it isn't known what came.
-    fn cancels(&mut self, request: u32) -> Result<(), Stop> {
+    fn cancels(&mut self, request: u32) -> Result<(), Stop>
+        ensures same { self.new ≡ self.old }
+        ensures takes { (spot : Spot) → Tells spot.lines self.old.requests.outcomes → Takes spot (cancels_on spot request) result self.old.list self.new.list }
+    {
         if self.requests.is_settled(request) {
             Ok(())
         } else {

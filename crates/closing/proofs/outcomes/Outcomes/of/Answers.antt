@@ -6,4 +6,4 @@ use Rattle.closing.proofs.outcomes.Outcomes.of.Goals as goal
 pub returns : goal.returns
 returns c = λ readable.
     tells_all c.args.lines.now c.loop-line.line c.loop-line.outcomes
-    (omega (arith, readable.few, c.loop-line-test.false, c.count_of-line-end.ensures)) readable c.loop-line.invariant
+    (omega (arith, readable.few, c.loop-line-test.false, c.count_of-line-end.ensures.exact)) readable c.loop-line.invariant
